@@ -1,0 +1,225 @@
+//! A source and a sink in memory, of which chosen calls fail.
+
+ghost use Rattle.std.specs.Prelude.{Some, ◌≡◌, ◌<◌, ◌≤◌, length, is_some, IfOk, []};
+ghost use Rattle.report_ports.specs.Memory.{source_answer, source_after, room_after, sink_answer, sink_after};
+ghost use Rattle.report_ports.specs.Ports.{Takes, TakeFailsBy, Gives, GiveFailsBy};
+
+use crate::sink::{Given, Sink};
+use crate::source::{Source, Taken};
+use std::alloc::{AllocError, Global};
+use std::marker::Model;
+
+/// A source that holds its bytes.
+///
+/// Its calls of `take` are numbered from 0, and those whose numbers were named when it was made fail. The number of a
+/// call stops at `u64::MAX`.
+#[derive(Drop)]
+pub struct MemorySource {
+    bytes: Vec<u8>,
+    at: usize,
+    failing: Vec<u64>,
+    calls: u64,
+    faults: u64,
+}
+
+impl Model for MemorySource {
+    ghost use Rattle.std.specs.Prelude.{◌≤◌, length, drop};
+    ghost use Rattle.report_ports.specs.Memory.{SourceData};
+
+    ghost Value = { SourceData };
+
+    ghost view = { λ s. record {
+      left = drop s.at s.bytes.items;
+      failing = s.failing.items;
+      calls = s.calls;
+      faults = s.faults;
+    } };
+
+    ghost invariant = { λ s. s.at ≤ length s.bytes.items };
+}
+
+impl MemorySource {
+    /// A source of `bytes`, of which the calls with the numbers in `failing` fail.
+    ///
+    /// # Errors
+    /// There is no memory for a copy of the two.
+    pub fn new(alloc: Global, bytes: &[u8], failing: &[u64]) -> Result<MemorySource, AllocError>
+        ensures { IfOk result (λ s. s ≡ record { left = bytes.now; failing = failing.now; calls = 0; faults = 0 }) }
+    {
+        Ok(MemorySource {
+            bytes: bytes.to_vec(alloc)?,
+            at: 0,
+            failing: failing.to_vec(alloc)?,
+            calls: 0,
+            faults: 0,
+        })
+    }
+}
+
+impl Source for MemorySource {
+    ghost left = { λ s. Some s.left };
+
+    ghost count = { λ s. s.faults };
+
+    /// How many calls of `take` failed, at most `u64::MAX`.
+    fn faults(&self) -> u64 {
+        self.faults
+    }
+
+    /// Gives as many bytes as are left and fit. A call that was named to fail gives none, and is a fault.
+    fn take(&mut self, into: &mut [u8]) -> Taken
+        requires { 0 < length into.old }
+        ensures takes { Takes (Some self.old.left) (Some self.new.left) result into.new }
+        ensures tells { is_some (Some self.new.left) ≡ is_some (Some self.old.left) }
+        ensures later { self.old.faults ≤ self.new.faults }
+        ensures cause { TakeFailsBy self.old.faults self.new.faults result }
+        ensures answer { result ≡ source_answer self.old (length into.old) }
+        ensures after { self.new ≡ source_after self.old result }
+        ensures room { into.new ≡ room_after self.old result into.old }
+    {
+        let call = self.calls;
+        self.calls = call.saturating_add(1);
+        if self.failing.contains(&call) {
+            self.faults = self.faults.saturating_add(1);
+            return Taken::Failed;
+        }
+        let left = self.bytes.len() - self.at;
+        if left == 0 {
+            return Taken::End;
+        }
+        let count = left.min(into.len());
+        into[..count].copy_from_slice(&self.bytes[self.at..self.at + count]);
+        self.at += count;
+        Taken::Got(count)
+    }
+}
+
+/// A sink that keeps the bytes that it takes, as many as it has room for.
+///
+/// Its calls of `give` are numbered from 0, and those whose numbers were named when it was made fail. The number of a
+/// call stops at `u64::MAX`. The memory for its room is taken when it is made, and no later call takes any.
+#[derive(Drop)]
+pub struct MemorySink {
+    bytes: Vec<u8>,
+    room: usize,
+    failing: Vec<u64>,
+    calls: u64,
+    faults: u64,
+}
+
+impl Model for MemorySink {
+    ghost use Rattle.std.specs.Prelude.{◌≤◌, length, vec_capacity};
+    ghost use Rattle.report_ports.specs.Memory.{SinkData};
+
+    ghost Value = { SinkData };
+
+    ghost view = { λ s. record {
+      taken = s.bytes.items;
+      failing = s.failing.items;
+      room = s.room;
+      calls = s.calls;
+      faults = s.faults;
+    } };
+
+    ghost invariant = { λ s. (length s.bytes.items ≤ s.room) × (s.room ≤ vec_capacity s.bytes) };
+}
+
+impl MemorySink {
+    /// An empty sink with room for `room` bytes, of which the calls with the numbers in `failing` fail.
+    ///
+    /// # Errors
+    /// There is no memory for the room and a copy of the numbers.
+    pub fn new(alloc: Global, failing: &[u64], room: usize) -> Result<MemorySink, AllocError>
+        ensures { IfOk result (λ s. s ≡
+            record { taken = []; failing = failing.now; room = room; calls = 0; faults = 0 }) }
+    {
+        Ok(MemorySink {
+            bytes: Vec::with_capacity(alloc, room)?,
+            room,
+            failing: failing.to_vec(alloc)?,
+            calls: 0,
+            faults: 0,
+        })
+    }
+
+    /// The bytes that were taken, in order.
+    pub fn bytes(&self) -> &[u8]
+        ensures { result.now ≡ self.now.taken }
+    {
+        self.bytes.as_slice()
+    }
+}
+
+impl Sink for MemorySink {
+    ghost taken = { λ s. Some s.taken };
+
+    ghost count = { λ s. s.faults };
+
+    /// How many calls of `give` failed, at most `u64::MAX`.
+    fn faults(&self) -> u64 {
+        self.faults
+    }
+
+    /// Appends the piece. A call that was named to fail, and one whose piece doesn't fit, appends nothing and is a fault.
+    fn give(&mut self, piece: &[u8]) -> Given
+        ensures gives { Gives (Some self.old.taken) (Some self.new.taken) result piece.now }
+        ensures tells { is_some (Some self.new.taken) ≡ is_some (Some self.old.taken) }
+        ensures later { self.old.faults ≤ self.new.faults }
+        ensures cause { GiveFailsBy self.old.faults self.new.faults result }
+        ensures answer { result ≡ sink_answer self.old piece.now }
+        ensures after { self.new ≡ sink_after self.old result piece.now }
+    {
+        let call = self.calls;
+        self.calls = call.saturating_add(1);
+        if self.failing.contains(&call) || self.room - self.bytes.len() < piece.len() {
+            self.faults = self.faults.saturating_add(1);
+            return Given::Failed;
+        }
+        match self.bytes.extend_from_slice(piece) {
+            Ok(()) => Given::All,
+            Err(_) => unreachable!(),
+        }
+    }
+}
+
+#[cfg(test)]
+mod tests {
+    use super::*;
+    use std::test::Fail;
+
+    #[test]
+    fn a_source_fails_gives_and_ends(rt: HostRuntime) -> Result<(), Fail> {
+        let mut source = MemorySource::new(rt.alloc(), b"disks", &[0])?;
+        let mut room = [0u8; 3];
+        let wanted = [
+            (Taken::Failed, [0, 0, 0]),
+            (Taken::Got(3), [b'd', b'i', b's']),
+            (Taken::Got(2), [b'k', b's', b's']),
+            (Taken::End, [b'k', b's', b's']),
+        ];
+        for (taken, held) in wanted {
+            assert_eq!(rt; source.take(&mut room), taken);
+            assert_eq!(rt; room, held);
+        }
+        assert_eq!(rt; source.faults(), 1);
+        Ok(())
+    }
+
+    #[test]
+    fn a_sink_fails_and_fills(rt: HostRuntime) -> Result<(), Fail> {
+        let mut sink = MemorySink::new(rt.alloc(), &[1], 5)?;
+        let pieces: [(&[u8], Given); 5] = [
+            (b"ab", Given::All),
+            (b"c", Given::Failed),
+            (b"cdef", Given::Failed),
+            (b"cde", Given::All),
+            (b"", Given::All),
+        ];
+        for (piece, given) in pieces {
+            assert_eq!(rt; sink.give(piece), given);
+        }
+        assert_eq!(rt; sink.bytes(), b"abcde".as_slice());
+        assert_eq!(rt; sink.faults(), 2);
+        Ok(())
+    }
+}

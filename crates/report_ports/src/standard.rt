@@ -1,0 +1,161 @@
+//! A source over any reader and a sink over any writer, as over standard input and output. As a source and a sink they
+//! tell no bytes; where the reader's or writer's own bytes are known, the clauses of `take` and `give` say what is done to
+//! them.
+
+ghost use Rattle.std.specs.Prelude.{None, ◌≡◌, ◌<◌, ◌≤◌, length};
+ghost use Rattle.report_ports.specs.Counters.{faults_after_take, faults_after_give};
+ghost use Rattle.report_ports.specs.Ports.{Takes, TakeFailsBy, Gives, GiveFailsBy};
+
+use crate::sink::{Given, Sink};
+use crate::source::{Source, Taken};
+use std::io::{Read, Write};
+use std::marker::Model;
+
+/// A source over a reader, as standard input.
+#[derive(Drop)]
+pub struct StdSource<R: Read> {
+    reader: R,
+    faults: u64,
+}
+
+impl<R: Read> Model for StdSource<R> {
+    ghost use Rattle.report_ports.specs.Standard.{ReaderData};
+
+    ghost Value = { ReaderData };
+
+    ghost view = { λ s. record { left = R.remaining s.reader; faults = s.faults } };
+}
+
+impl<R: Read> StdSource<R> {
+    /// The source of what the reader gives, with no fault yet.
+    pub fn new(reader: R) -> StdSource<R>
+        ensures { result ≡ record { left = R.remaining reader; faults = 0 } }
+    {
+        StdSource { reader, faults: 0 }
+    }
+}
+
+impl<R: Read> Source for StdSource<R> {
+    ghost left = { λ _. None };
+
+    ghost count = { λ s. s.faults };
+
+    /// How many reads failed, at most `u64::MAX`.
+    fn faults(&self) -> u64 {
+        self.faults
+    }
+
+    /// Reads once. A read of no bytes is the end, and each error of the reader is a fault, an interrupted read too; the
+    /// next call reads again.
+    fn take(&mut self, into: &mut [u8]) -> Taken
+        requires { 0 < length into.old }
+        ensures takes { Takes None None result into.new }
+        ensures later { self.old.faults ≤ self.new.faults }
+        ensures cause { TakeFailsBy self.old.faults self.new.faults result }
+        ensures faults { self.new.faults ≡ faults_after_take self.old.faults result }
+        ensures read { Takes self.old.left self.new.left result into.new }
+    {
+        match self.reader.read(into) {
+            Ok(0) => Taken::End,
+            Ok(count) => Taken::Got(count),
+            Err(_) => {
+                self.faults = self.faults.saturating_add(1);
+                Taken::Failed
+            }
+        }
+    }
+}
+
+/// A sink over a writer, as standard output.
+#[derive(Drop)]
+pub struct StdSink<W: Write> {
+    writer: W,
+    faults: u64,
+}
+
+impl<W: Write> Model for StdSink<W> {
+    ghost use Rattle.report_ports.specs.Standard.{WriterData};
+
+    ghost Value = { WriterData };
+
+    ghost view = { λ s. record { held = W.contents s.writer; faults = s.faults } };
+}
+
+impl<W: Write> StdSink<W> {
+    /// The sink that gives the writer what it takes, with no fault yet.
+    pub fn new(writer: W) -> StdSink<W>
+        ensures { result ≡ record { held = W.contents writer; faults = 0 } }
+    {
+        StdSink { writer, faults: 0 }
+    }
+}
+
+impl<W: Write> Sink for StdSink<W> {
+    ghost taken = { λ _. None };
+
+    ghost count = { λ s. s.faults };
+
+    /// How many pieces failed, at most `u64::MAX`.
+    fn faults(&self) -> u64 {
+        self.faults
+    }
+
+    /// Writes the whole piece and flushes the writer. A write that fails or takes no bytes is a fault, and so is a flush
+    /// that fails.
+    fn give(&mut self, piece: &[u8]) -> Given
+        ensures gives { Gives None None result piece.now }
+        ensures later { self.old.faults ≤ self.new.faults }
+        ensures cause { GiveFailsBy self.old.faults self.new.faults result }
+        ensures faults { self.new.faults ≡ faults_after_give self.old.faults result }
+        ensures written { Gives self.old.held self.new.held result piece.now }
+    {
+        let mut at = 0;
+        while at < piece.len() {
+            match self.writer.write(&piece[at..]) {
+                Ok(count) if count > 0 => at += count,
+                _ => {
+                    self.faults = self.faults.saturating_add(1);
+                    return Given::Failed;
+                }
+            }
+        }
+        if self.writer.flush().is_err() {
+            self.faults = self.faults.saturating_add(1);
+            return Given::Failed;
+        }
+        Given::All
+    }
+}
+
+#[cfg(test)]
+mod tests {
+    use super::*;
+    use std::test::Fail;
+
+    #[test]
+    fn reads_to_the_end(rt: HostRuntime) {
+        let mut source = StdSource::new(b"disks".as_slice());
+        let mut room = [0u8; 3];
+        for (taken, held) in [
+            (Taken::Got(3), b"dis"),
+            (Taken::Got(2), b"kss"),
+            (Taken::End, b"kss"),
+        ] {
+            assert_eq!(rt; source.take(&mut room), taken);
+            assert_eq!(rt; room, *held);
+        }
+        assert_eq!(rt; source.faults(), 0);
+    }
+
+    #[test]
+    fn writes_what_it_takes(rt: HostRuntime) -> Result<(), Fail> {
+        let mut written = Vec::new(rt.alloc());
+        let mut sink = StdSink::new(&mut written);
+        for piece in [b"di".as_slice(), b"", b"sks"] {
+            assert_eq!(rt; sink.give(piece), Given::All);
+        }
+        assert_eq!(rt; sink.faults(), 0);
+        assert_eq!(rt; written.as_slice(), b"disks".as_slice());
+        Ok(())
+    }
+}
