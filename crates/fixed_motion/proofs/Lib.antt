@@ -1,0 +1,5 @@
+pub mod Sizes
+pub mod Casts
+pub mod Distances
+pub mod Ways
+pub mod Joins
