@@ -1,0 +1,5 @@
+pub mod Signed
+pub mod Sizes
+pub mod Exact
+pub mod Energy
+pub mod Change

@@ -1,0 +1,110 @@
+-- Sums and products of signed numbers, as the code computes them.
+use Rattle.std.proofs.Common.{◌≡◌, ℕ, zero, suc, ◌+◌, ◌*◌, ◌^◌, ◌<◌, ◌≤◌, refl, arith}
+use Rattle.std.specs.Prelude.{ℤ, pos, negsuc, nat_abs, ◌+ℤ◌, ◌*ℤ◌, ◌<ℤ◌}
+use Rattle.std.proofs.lemmas.Int.{ints, to_z-of_z, unsigned_abs-mul, fits_signed_from_abs}
+use Rattle.std.specs.Int.{w64}
+use Rattle.std.proofs.Math.Nat.{mul-le-mul}
+use mir.Val.{SFits, of_z, to_z}
+use Rattle.impulse_rounding.specs.Impulse.{dot, signed, parting}
+
+pub size_of_sum : (a b : ℤ) → nat_abs (a +ℤ b) ≤ nat_abs a + nat_abs b
+size_of_sum a b = grind (arith, ints)
+
+-- a bound on two sizes bounds the product
+pub size_of_product : (a b : ℤ) (m n : ℕ) → nat_abs a ≤ m → nat_abs b ≤ n → nat_abs (a *ℤ b) ≤ m * n
+size_of_product a b m n ha hb = rw (unsigned_abs-mul a b) (mul-le-mul ha hb)
+
+-- what is below 2 ^ 63 in size fits 64 bits
+pub fits : (z : ℤ) → nat_abs z < 2 ^ 63 → SFits w64 z
+fits z h = fits_signed_from_abs w64 z h
+
+-- the code's product is exact
+pub product_bits : (a b : ℤ) → nat_abs a ≤ 2 ^ 30 → nat_abs b ≤ 2 ^ 30
+    → to_z w64 (of_z w64 (to_z w64 (of_z w64 a) *ℤ to_z w64 (of_z w64 b))) ≡ a *ℤ b
+product_bits a b ha hb =
+    let hab : nat_abs (a *ℤ b) ≤ 2 ^ 60 = size_of_product a b (2 ^ 30) (2 ^ 30) ha hb in
+    rw (to_z-of_z w64 a (fits a (omega arith)), to_z-of_z w64 b (fits b (omega arith)))
+    (to_z-of_z w64 (a *ℤ b) (fits (a *ℤ b) (omega arith)))
+
+pub dot_size : (a b c d : ℤ) → nat_abs (dot a b c d) ≤ nat_abs a * nat_abs c + nat_abs b * nat_abs d
+dot_size a b c d =
+    rw (← unsigned_abs-mul a c, ← unsigned_abs-mul b d) (size_of_sum (a *ℤ c) (b *ℤ d))
+
+pub dot_bound : (a b c d : ℤ) → nat_abs a ≤ 2 ^ 30 → nat_abs b ≤ 2 ^ 30 → nat_abs c ≤ 2 ^ 30 → nat_abs d ≤ 2 ^ 30
+    → nat_abs (dot a b c d) ≤ 2 ^ 61
+dot_bound a b c d ha hb hc hd =
+    let hac : nat_abs (a *ℤ c) ≤ 2 ^ 60 = size_of_product a c (2 ^ 30) (2 ^ 30) ha hc in
+    let hbd : nat_abs (b *ℤ d) ≤ 2 ^ 60 = size_of_product b d (2 ^ 30) (2 ^ 30) hb hd in
+    let hs : nat_abs (dot a b c d) ≤ nat_abs (a *ℤ c) + nat_abs (b *ℤ d) = size_of_sum (a *ℤ c) (b *ℤ d) in
+    omega arith
+
+pub square_of : (x : ℤ) → x *ℤ x ≡ pos (nat_abs x * nat_abs x)
+square_of (pos n) = refl
+square_of (negsuc n) = refl
+
+pub square_size : (x y : ℤ) → nat_abs (dot x y x y) ≡ nat_abs x * nat_abs x + nat_abs y * nat_abs y
+square_size x y = rw (square_of x, square_of y)
+
+-- a number times a size with its sign
+pub times_signed : (x : ℤ) (s : ℕ) → x *ℤ signed x s ≡ pos (nat_abs x * s)
+times_signed (pos n) s = refl
+times_signed (negsuc n) zero = omega (arith, ints)
+times_signed (negsuc n) (suc s) = refl
+
+-- twice a size that is at least z's turns the negative z round
+pub recedes_from : (z : ℤ) (a b : ℕ) → z <ℤ pos 0 → nat_abs z ≤ a + b → pos 0 <ℤ (z +ℤ (pos 2 *ℤ (pos a +ℤ pos b)))
+recedes_from z a b h k = grind (arith, ints)
+
+-- sizes that reach the closing speed along r part the two
+pub parting_up : (rx ry ux uy : ℤ) (s t : ℕ) → dot rx ry ux uy <ℤ pos 0
+    → nat_abs (dot rx ry ux uy) ≤ nat_abs rx * s + nat_abs ry * t → pos 0 <ℤ parting rx ry ux uy (signed rx s, signed ry t)
+parting_up rx ry ux uy s t h k =
+    rw (times_signed rx s, times_signed ry t) (recedes_from (dot rx ry ux uy) (nat_abs rx * s) (nat_abs ry * t) h k)
+
+pub size_positive : (z : ℤ) → z <ℤ pos 0 → 0 < nat_abs z
+size_positive z h = grind (arith, ints)
+
+-- a number passed as an `i64` stays itself
+pub bits : (z : ℤ) → nat_abs z ≤ 2 ^ 62 → to_z w64 (of_z w64 z) ≡ z
+bits z h = to_z-of_z w64 z (fits z (omega arith))
+
+-- the code's scalar product fits, and is exact
+pub dot_fits : (a b c d : ℤ) → nat_abs a ≤ 2 ^ 30 → nat_abs b ≤ 2 ^ 30 → nat_abs c ≤ 2 ^ 30 → nat_abs d ≤ 2 ^ 30
+    → SFits w64 (to_z w64 (of_z w64 (to_z w64 (of_z w64 a) *ℤ to_z w64 (of_z w64 c))) +ℤ to_z w64 (of_z w64 (to_z w64 (of_z w64 b) *ℤ to_z w64 (of_z w64 d))))
+dot_fits a b c d ha hb hc hd =
+    let h : nat_abs (dot a b c d) ≤ 2 ^ 61 = dot_bound a b c d ha hb hc hd in
+    rw (product_bits a c ha hc, product_bits b d hb hd) (fits (dot a b c d) (omega arith))
+
+pub dot_bits : (a b c d : ℤ) → nat_abs a ≤ 2 ^ 30 → nat_abs b ≤ 2 ^ 30 → nat_abs c ≤ 2 ^ 30 → nat_abs d ≤ 2 ^ 30
+    → to_z w64 (of_z w64 (to_z w64 (of_z w64 (to_z w64 (of_z w64 a) *ℤ to_z w64 (of_z w64 c))) +ℤ to_z w64 (of_z w64 (to_z w64 (of_z w64 b) *ℤ to_z w64 (of_z w64 d))))) ≡ dot a b c d
+dot_bits a b c d ha hb hc hd =
+    let h : nat_abs (dot a b c d) ≤ 2 ^ 61 = dot_bound a b c d ha hb hc hd in
+    rw (product_bits a c ha hc, product_bits b d hb hd) (bits (dot a b c d) (omega arith))
+
+-- the code's double fits, and is exact
+pub twice_fits : (s : ℤ) → nat_abs s ≤ 2 ^ 61 → SFits w64 (pos 2 *ℤ to_z w64 (of_z w64 s))
+twice_fits s h =
+    let k : nat_abs (pos 2 *ℤ s) ≤ 2 * 2 ^ 61 = size_of_product (pos 2) s 2 (2 ^ 61) (omega arith) h in
+    rw (bits s (omega arith)) (fits (pos 2 *ℤ s) (omega arith))
+
+pub twice_bits : (s : ℤ) → nat_abs s ≤ 2 ^ 61 → to_z w64 (of_z w64 (pos 2 *ℤ to_z w64 (of_z w64 s))) ≡ pos 2 *ℤ s
+twice_bits s h =
+    let k : nat_abs (pos 2 *ℤ s) ≤ 2 * 2 ^ 61 = size_of_product (pos 2) s 2 (2 ^ 61) (omega arith) h in
+    rw (bits s (omega arith)) (bits (pos 2 *ℤ s) (omega arith))
+
+twice_sum_size : (r s : ℤ) → nat_abs r ≤ 2 ^ 61 → nat_abs s ≤ 2 ^ 61 → nat_abs (r +ℤ (pos 2 *ℤ s)) < 2 ^ 63
+twice_sum_size r s hr hs =
+    let k : nat_abs (pos 2 *ℤ s) ≤ 2 * 2 ^ 61 = size_of_product (pos 2) s 2 (2 ^ 61) (omega arith) hs in
+    let h : nat_abs (r +ℤ (pos 2 *ℤ s)) ≤ nat_abs r + nat_abs (pos 2 *ℤ s) = size_of_sum r (pos 2 *ℤ s) in
+    omega arith
+
+-- the code's sum of a number and a double fits, and is exact
+pub twice_sum_fits : (r s : ℤ) → nat_abs r ≤ 2 ^ 61 → nat_abs s ≤ 2 ^ 61
+    → SFits w64 (to_z w64 (of_z w64 r) +ℤ to_z w64 (of_z w64 (pos 2 *ℤ to_z w64 (of_z w64 s))))
+twice_sum_fits r s hr hs =
+    rw (twice_bits s hs, bits r (omega arith)) (fits (r +ℤ (pos 2 *ℤ s)) (twice_sum_size r s hr hs))
+
+pub twice_sum_bits : (r s : ℤ) → nat_abs r ≤ 2 ^ 61 → nat_abs s ≤ 2 ^ 61
+    → to_z w64 (of_z w64 (to_z w64 (of_z w64 r) +ℤ to_z w64 (of_z w64 (pos 2 *ℤ to_z w64 (of_z w64 s))))) ≡ r +ℤ (pos 2 *ℤ s)
+twice_sum_bits r s hr hs =
+    rw (twice_bits s hs, bits r (omega arith)) (to_z-of_z w64 (r +ℤ (pos 2 *ℤ s)) (fits (r +ℤ (pos 2 *ℤ s)) (twice_sum_size r s hr hs)))
