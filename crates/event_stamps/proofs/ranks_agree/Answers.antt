@@ -1,0 +1,6 @@
+-- Ranks order stamps as their order does.
+use Rattle.event_stamps.proofs.Ranks as ranks
+use Rattle.event_stamps.proofs.ranks_agree.Goals as goal
+
+pub returns : goal.returns
+returns c = ranks.ranks_agree

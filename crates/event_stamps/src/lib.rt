@@ -1,0 +1,119 @@
+//! Stamps, the keys that order the events of a run.
+//!
+//! A stamp is what the literature on event-driven simulation calls an event key: a virtual time that orders all
+//! events totally (Jefferson, Virtual Time, 1985).
+#![tactic(auto)]
+
+ghost use Rattle.std.specs.Prelude.{◌≡◌};
+ghost use Rattle.std.specs.Cmp.{IsTotalOrder};
+ghost use Rattle.std.proofs.lemmas.Map.Lookups.{CmpEqualImpliesEq};
+ghost use Rattle.event_stamps.specs.Order.{stamp_cmp, first_stamp, end_stamp, RanksAgree};
+
+use std::cmp::Ordering;
+
+/// What happens at an event; the order of the variants is that of events of one tick and round.
+#[derive(Clone, Copy, Debug, PartialEq, Eq, PartialOrd, Ord)]
+pub enum Kind {
+    /// A disk leaves its recorded cell.
+    Cross,
+    /// A disk hits a side of the box.
+    Wall,
+    /// Two disks hit each other.
+    Pair,
+}
+
+/// The key of an event. Stamps are compared part by part, in the order of the fields.
+#[derive(Clone, Copy, Debug, PartialEq, Eq, PartialOrd, Ord)]
+pub struct Stamp {
+    /// The tick of the event, at most 2^40.
+    pub tick: u64,
+    /// How many causes it has within its tick, at most 65,536.
+    pub round: u32,
+    /// What happens.
+    pub kind: Kind,
+    /// The number of the disk; of two disks, the lower.
+    pub first: u32,
+    /// 0 for a crossing, the side of the box for a wall, and the higher disk for a pair.
+    pub second: u32,
+}
+
+impl Stamp {
+    /// The least stamp that an event of any kind can have.
+    pub fn first_of_all() -> Stamp
+        ensures { result ≡ first_stamp }
+    {
+        Stamp {
+            tick: 0,
+            round: 0,
+            kind: Kind::Cross,
+            first: 0,
+            second: 0,
+        }
+    }
+
+    /// The stamp at which a run that ends at the tick `end` ends: all its events are before it.
+    pub fn end_of(end: u64) -> Stamp
+        ensures { result ≡ end_stamp end }
+    {
+        Stamp {
+            tick: end,
+            ..Stamp::first_of_all()
+        }
+    }
+}
+
+/// How two stamps are ordered.
+pub fn compare(a: &Stamp, b: &Stamp) -> Ordering
+    ensures { result ≡ stamp_cmp a.now b.now }
+{
+    a.cmp(b)
+}
+
+/// Stamps are ordered totally.
+pub fn order_is_total()
+    ensures { IsTotalOrder stamp_cmp }
+{}
+
+/// Only equal stamps compare as equal.
+pub fn order_is_exact()
+    ensures { CmpEqualImpliesEq stamp_cmp }
+{}
+
+/// The rank of a stamp, one number, orders stamps as their order does.
+pub fn ranks_agree()
+    ensures { RanksAgree }
+{}
+
+#[cfg(test)]
+mod tests {
+    use super::*;
+
+    // Each stamp is before all that follow it, and a part decides before all parts after it.
+    #[test]
+    fn orders_stamps(rt: HostRuntime) {
+        let parts = [
+            (0, 0, Kind::Cross, 0, 0),
+            (0, 0, Kind::Cross, 0, 1),
+            (0, 0, Kind::Cross, 1, 0),
+            (0, 0, Kind::Wall, 0, 1),
+            (0, 0, Kind::Wall, 1, 0),
+            (0, 0, Kind::Pair, 0, 0),
+            (0, 1, Kind::Cross, 0, 0),
+            (1, 0, Kind::Cross, 0, 0),
+        ];
+        let stamps = parts.map(|(tick, round, kind, first, second)| Stamp {
+            tick,
+            round,
+            kind,
+            first,
+            second,
+        });
+        assert_eq!(rt; stamps[0], Stamp::first_of_all());
+        assert_eq!(rt; stamps[7], Stamp::end_of(1));
+        for (i, a) in stamps.iter().enumerate() {
+            for (j, b) in stamps.iter().enumerate() {
+                assert_eq!(rt; compare(a, b), i.cmp(&j), "stamps {i} and {j}");
+            }
+        }
+    }
+}
