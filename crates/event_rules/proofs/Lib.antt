@@ -1,0 +1,16 @@
+pub mod Apart
+pub mod Courses
+pub mod Decided
+pub mod Effects
+pub mod Exists
+pub mod LeastStamp
+pub mod Measured
+pub mod OneRun
+pub mod OneTick
+pub mod Ran
+pub mod Ranges
+pub mod Rise
+pub mod States
+pub mod Together
+pub mod Walls
+pub mod Widening
