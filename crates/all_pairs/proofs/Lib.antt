@@ -1,0 +1,4 @@
+pub mod Least
+pub mod Events
+pub mod Turns
+pub mod Scenes

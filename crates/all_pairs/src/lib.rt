@@ -1,0 +1,7 @@
+//! The slow engine: looks at all pairs of disks for each event, as the definition of a run does.
+#![tactic(auto)]
+
+pub mod search;
+pub mod simulate;
+
+pub use simulate::simulate_plain;

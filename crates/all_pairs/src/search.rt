@@ -1,0 +1,69 @@
+//! The next event of a state.
+
+ghost use Rattle.std.specs.Prelude.{◌≡◌, ◌<◌, ◌≤◌, ℕ, length, Some, slice_get};
+ghost use Rattle.fixed_motion.specs.Rules.{IsChecked};
+ghost use Rattle.fixed_motion.specs.declared.disk.Disk.{Disk};
+ghost use Rattle.event_rules.specs.Run.{IsCandidate, IsValidState};
+ghost use Rattle.all_pairs.specs.Search.{IsLeastOf, earlier_of, IsWallBelow, IsPairBelow, IsBelow};
+
+use event_rules::{pair_event, wall_event};
+use event_stamps::Stamp;
+use fixed_motion::{Disk, Rules};
+
+/// The sides of the box.
+const SIDES: u32 = 4;
+
+fn earlier(a: Option<Stamp>, b: Option<Stamp>) -> Option<Stamp>
+    ensures { result ≡ earlier_of a b }
+{
+    match (a, b) {
+        (None, b) => b,
+        (a, None) => a,
+        (Some(s), Some(t)) => Some(if t < s { t } else { s }),
+    }
+}
+
+/// The first event of disk `i` at any side.
+fn first_wall(rules: &Rules, disks: &[Disk], i: usize) -> Option<Stamp>
+    requires checked { IsChecked rules.now }
+    requires valid { IsValidState rules.now disks.now }
+    requires within { i < length disks.now }
+    ensures { (a : Disk) → slice_get disks.now i ≡ Some a → IsLeastOf (IsWallBelow rules.now i a 4) result }
+{
+    let mut first = None;
+    for side in 0..SIDES {
+        first = earlier(first, wall_event(rules, i as u32, &disks[i], side));
+    }
+    first
+}
+
+/// The first event of disk `i` with any higher disk.
+fn first_pair(rules: &Rules, disks: &[Disk], i: usize) -> Option<Stamp>
+    requires checked { IsChecked rules.now }
+    requires valid { IsValidState rules.now disks.now }
+    requires within { i < length disks.now }
+    ensures { (a : Disk) → slice_get disks.now i ≡ Some a → IsLeastOf (IsPairBelow rules.now disks.now i a (length disks.now)) result }
+{
+    let mut first = None;
+    for j in i + 1..disks.len() {
+        first = earlier(
+            first,
+            pair_event(rules, i as u32, &disks[i], j as u32, &disks[j]),
+        );
+    }
+    first
+}
+
+/// The next event of a state.
+pub fn next(rules: &Rules, disks: &[Disk]) -> Option<Stamp>
+    requires checked { IsChecked rules.now }
+    requires valid { IsValidState rules.now disks.now }
+    ensures { IsLeastOf (IsCandidate rules.now disks.now) result }
+{
+    let mut first = None;
+    for i in 0..disks.len() {
+        let own = earlier(first_wall(rules, disks, i), first_pair(rules, disks, i));
+        first = earlier(first, own);
+    }
+    first
+}
