@@ -1,0 +1,10 @@
+pub mod Unknown
+pub mod Shown
+pub mod Stated
+pub mod RowByRow
+pub mod Counts
+pub mod Pieces
+pub mod Pairs
+pub mod InRange
+pub mod Valid
+pub mod Causes

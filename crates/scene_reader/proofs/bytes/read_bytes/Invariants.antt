@@ -1,0 +1,16 @@
+-- What lasts over the pieces.
+use Rattle.std.proofs.Common.{◌≡◌, ◌-◌, ◌≤◌, vec_len}
+use Rattle.std.specs.Option.{is_some}
+use Rattle.std.specs.Io.KnownBytes.{Consumes}
+use Rattle.scene_reader.proofs.bytes.read_bytes.Given as goal
+
+abbrev pub invariant-loop-source : goal.invariant-loop-source
+invariant-loop-source g l = let S = g.S.Source in record {
+  room : vec_len l.room ≡ 65536;
+  taken : Consumes (S.left l.fn.source) (S.left l.source) l.bytes.items;
+  tells : is_some (S.left l.source) ≡ is_some (S.left l.fn.source);
+  later : S.count l.fn.source ≤ S.count l.source;
+}
+
+abbrev pub decreases-loop-source : goal.decreases-loop-source
+decreases-loop-source g l = 67108865 - vec_len l.bytes
