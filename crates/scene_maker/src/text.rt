@@ -1,0 +1,188 @@
+//! The canonical text of a scene.
+
+use fixed_motion::{Disk, Rules, Scene};
+use itoa::Buffer;
+use std::alloc::{AllocError, Global};
+use std::marker::Model;
+
+/// A text, seen as its bytes.
+#[derive(Drop)]
+pub struct Text {
+    bytes: Vec<u8>,
+}
+
+impl Model for Text {
+    ghost use Rattle.std.specs.Prelude.{List, ℕ};
+
+    ghost Value = { List ℕ };
+
+    ghost view = { λ t. t.bytes.items };
+}
+
+ghost use Rattle.std.specs.Prelude.{◌≡◌, ◌++◌, pos, codes, IfOk, OnOk};
+ghost use Rattle.std.specs.Fmt.{signed_decimal};
+ghost use Rattle.std.specs.List.{flat_map};
+ghost use Rattle.fixed_motion.specs.Rules.{IsChecked};
+ghost use Rattle.scene_maker.specs.Canonical.{canonical_text, rules_text, row_line, key_line, ended};
+
+impl Text {
+    /// Its bytes.
+    pub fn as_bytes(&self) -> &[u8]
+        ensures { result.now ≡ self.now }
+    {
+        self.bytes.as_slice()
+    }
+}
+
+/// The canonical text of a scene: TOML that says exactly this scene, a line for each number and each disk.
+pub fn scene_text(alloc: Global, scene: &Scene) -> Result<Text, AllocError>
+    ensures { IfOk result (λ text. text ≡ canonical_text scene.now) }
+{
+    let mut bytes = Vec::new(alloc);
+    push_rules(&mut bytes, &scene.rules)?;
+    push_disks(&mut bytes, &scene.disks)?;
+    Ok(Text { bytes })
+}
+
+fn push_rules(bytes: &mut Vec<u8>, rules: &Rules) -> Result<(), AllocError>
+    requires { IsChecked rules.now }
+    ensures { OnOk result (bytes.new.items ≡ bytes.old.items ++ rules_text rules.now) }
+{
+    push_key_line(bytes, "width", rules.width)?;
+    push_key_line(bytes, "height", rules.height)?;
+    push_key_line(bytes, "diameter", rules.diameter)?;
+    push_limits(bytes, rules)
+}
+
+// The lines of the last three rules, in a function of their own to keep both chains short.
+fn push_limits(bytes: &mut Vec<u8>, rules: &Rules) -> Result<(), AllocError>
+    requires { IsChecked rules.now }
+    ensures { OnOk result (bytes.new.items ≡ bytes.old.items
+        ++ (key_line (codes "speed_limit") rules.now.speed_limit
+        ++ (key_line (codes "round_limit") (pos rules.now.round_limit)
+        ++ key_line (codes "end") (pos rules.now.end)))) }
+{
+    push_key_line(bytes, "speed_limit", rules.speed_limit)?;
+    push_key_line(bytes, "round_limit", rules.round_limit as i64)?;
+    push_key_line(bytes, "end", rules.end as i64)
+}
+
+// All that follows the rules.
+fn push_disks(bytes: &mut Vec<u8>, disks: &[Disk]) -> Result<(), AllocError>
+    ensures { OnOk result (bytes.new.items ≡ bytes.old.items
+        ++ (ended (codes "disks = [") ++ (flat_map row_line disks.now ++ ended (codes "]")))) }
+{
+    push_text(bytes, "disks = [\n")?;
+    push_rows(bytes, disks)?;
+    push_text(bytes, "]\n")
+}
+
+fn push_rows(bytes: &mut Vec<u8>, disks: &[Disk]) -> Result<(), AllocError>
+    ensures { OnOk result (bytes.new.items ≡ bytes.old.items ++ flat_map row_line disks.now) }
+{
+    for disk in disks {
+        push_row(bytes, disk)?;
+    }
+    Ok(())
+}
+
+fn push_row(bytes: &mut Vec<u8>, disk: &Disk) -> Result<(), AllocError>
+    ensures { OnOk result (bytes.new.items ≡ bytes.old.items ++ row_line disk.now) }
+{
+    push_text(bytes, "  [")?;
+    push_number(bytes, disk.x)?;
+    push_text(bytes, ", ")?;
+    push_number(bytes, disk.y)?;
+    push_text(bytes, ", ")?;
+    push_velocity(bytes, disk)
+}
+
+// The end of a disk's row, from the velocity on.
+fn push_velocity(bytes: &mut Vec<u8>, disk: &Disk) -> Result<(), AllocError>
+    ensures { OnOk result (bytes.new.items ≡ bytes.old.items
+        ++ ended (signed_decimal disk.now.vx ++ (codes ", " ++ (signed_decimal disk.now.vy ++ codes "],")))) }
+{
+    push_number(bytes, disk.vx)?;
+    push_text(bytes, ", ")?;
+    push_number(bytes, disk.vy)?;
+    push_text(bytes, "],\n")
+}
+
+fn push_key_line(bytes: &mut Vec<u8>, key: &str, value: i64) -> Result<(), AllocError>
+    ensures { OnOk result (bytes.new.items ≡ bytes.old.items ++ key_line key.now value) }
+{
+    push_text(bytes, key)?;
+    push_text(bytes, " = ")?;
+    push_number(bytes, value)?;
+    push_text(bytes, "\n")
+}
+
+fn push_number(bytes: &mut Vec<u8>, n: i64) -> Result<(), AllocError>
+    ensures { OnOk result (bytes.new.items ≡ bytes.old.items ++ signed_decimal n) }
+{
+    let mut buffer = Buffer::new();
+    push_text(bytes, buffer.format(n))
+}
+
+fn push_text(bytes: &mut Vec<u8>, text: &str) -> Result<(), AllocError>
+    ensures { OnOk result (bytes.new.items ≡ bytes.old.items ++ text.now) }
+{
+    bytes.extend_from_slice(text.as_bytes())
+}
+
+#[cfg(test)]
+mod tests {
+    use super::*;
+
+    const RULES: Rules = Rules {
+        width: 40,
+        height: 20,
+        diameter: 4,
+        speed_limit: 8,
+        round_limit: 8,
+        end: 5,
+    };
+
+    #[test]
+    fn prints_no_disks(rt: HostRuntime) -> Result<(), AllocError> {
+        let rules = RULES;
+        assert!(rt; rules.check().is_ok());
+        let scene = Scene::new(rules, Vec::new(rt.alloc()));
+        let text = scene_text(rt.alloc(), &scene)?;
+        let want =
+            "width = 40\nheight = 20\ndiameter = 4\nspeed_limit = 8\nround_limit = 8\nend = 5\ndisks = [\n]\n";
+        assert_eq!(rt; text.as_bytes(), want.as_bytes());
+        Ok(())
+    }
+
+    #[test]
+    fn prints_two_disks(rt: HostRuntime) -> Result<(), AllocError> {
+        let disks = [
+            Disk {
+                x: 10,
+                y: 10,
+                vx: 1,
+                vy: 0,
+                base: 0,
+                mark: 0,
+            },
+            Disk {
+                x: 20,
+                y: 10,
+                vx: -1,
+                vy: 0,
+                base: 0,
+                mark: 0,
+            },
+        ];
+        let rules = RULES;
+        assert!(rt; rules.check().is_ok());
+        let mut bytes = Vec::new(rt.alloc());
+        push_rules(&mut bytes, &rules)?;
+        push_disks(&mut bytes, &disks)?;
+        let want =
+            "width = 40\nheight = 20\ndiameter = 4\nspeed_limit = 8\nround_limit = 8\nend = 5\ndisks = [\n  [10, 10, 1, 0],\n  [20, 10, -1, 0],\n]\n";
+        assert_eq!(rt; bytes.as_slice(), want.as_bytes());
+        Ok(())
+    }
+}
