@@ -1,0 +1,4 @@
+pub mod WordLists
+pub mod Shown
+pub mod Reportable
+pub mod Outputs

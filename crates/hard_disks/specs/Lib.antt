@@ -1,0 +1,6 @@
+pub mod Words
+pub mod Refusals
+pub mod Output
+pub mod Answers
+pub mod Codes
+pub mod Shows

@@ -1,0 +1,89 @@
+//! What is done with a scene.
+
+ghost use Rattle.std.specs.Prelude.{◌≡◌, ◌≢◌, codes, length};
+ghost use Rattle.collision_report.specs.Lines.{number_line};
+ghost use Rattle.hard_disks.specs.Output.{status_of};
+ghost use Rattle.hard_disks.specs.Shows.{Shows, TellsText, WriteFailsBy};
+
+use crate::status::Status;
+use crate::words::{Mode, Settings};
+use all_pairs::simulate_plain;
+use collision_report::{Format, Line, Reporter};
+use event_rules::{Limit, Outcome, RunFault};
+use fixed_motion::Scene;
+use report_ports::{Given, Sink};
+use scene_maker::scene_text;
+use std::alloc::Global;
+
+/// Gives a text as one piece; the status is `own` where all of it was taken.
+pub fn tell<K: Sink>(sink: &mut K, text: &[u8], own: Status) -> Status
+    ensures text { TellsText text.now own (K.taken sink.old) (K.taken sink.new) result }
+    ensures cause { own ≢ Status.WriteFault → WriteFailsBy (K.count sink.old) (K.count sink.new) result }
+{
+    match sink.give(text) {
+        Given::All => own,
+        Given::Failed => Status::WriteFault,
+    }
+}
+
+/// Does what the settings ask for.
+pub fn show<K: Sink>(alloc: Global, settings: Settings, scene: &Scene, sink: &mut K) -> Status
+    ensures shows { Shows settings scene.now (K.taken sink.old) (K.taken sink.new) result }
+    ensures cause { WriteFailsBy (K.count sink.old) (K.count sink.new) result }
+{
+    match settings.mode {
+        Mode::Plain => run_plain(alloc, settings.format, scene, sink),
+        Mode::Check => write_scene(alloc, settings.format, scene, sink),
+    }
+}
+
+/// Runs the scene by the slow engine, and writes the report.
+fn run_plain<K: Sink>(alloc: Global, format: Format, scene: &Scene, sink: &mut K) -> Status
+    ensures shows { Shows (record { mode = Mode.Plain; format = format }) scene.now (K.taken sink.old) (K.taken sink.new) result }
+    ensures cause { WriteFailsBy (K.count sink.old) (K.count sink.new) result }
+{
+    let _rules = &scene.rules;
+    let mut reporter = Reporter::new(sink, format);
+    match simulate_plain(alloc, scene, &mut reporter) {
+        Ok(outcome) => match reporter.finish(scene, &outcome) {
+            Ok(()) => status_of(&outcome),
+            Err(_) => Status::WriteFault,
+        },
+        Err(RunFault::Listener) => Status::WriteFault,
+        Err(RunFault::NoMemory) => Status::NoMemory,
+    }
+}
+
+fn status_of(outcome: &Outcome) -> Status
+    ensures { result ≡ status_of outcome.now }
+{
+    match outcome {
+        Outcome::Done(_) => Status::Done,
+        Outcome::Limit(Limit::Speed(_)) => Status::SpeedLimit,
+        Outcome::Limit(Limit::Rounds(_)) => Status::RoundLimit,
+    }
+}
+
+/// Writes the scene itself, or the number of its disks.
+fn write_scene<K: Sink>(alloc: Global, format: Format, scene: &Scene, sink: &mut K) -> Status
+    ensures shows { Shows (record { mode = Mode.Check; format = format }) scene.now (K.taken sink.old) (K.taken sink.new) result }
+    ensures cause { WriteFailsBy (K.count sink.old) (K.count sink.new) result }
+{
+    match format {
+        Format::Lines => match scene_text(alloc, scene) {
+            Ok(text) => tell(sink, text.as_bytes(), Status::Done),
+            Err(_) => Status::NoMemory,
+        },
+        Format::Summary => tell(sink, count_line(scene).as_bytes(), Status::Done),
+    }
+}
+
+fn count_line(scene: &Scene) -> Line
+    ensures { result ≡ number_line (codes "scene") (length scene.now.disks) }
+{
+    let mut line = Line::new();
+    line.push_text("scene");
+    line.push_number_field(u64::from(scene.count()));
+    line.push_newline();
+    line
+}
