@@ -3,6 +3,8 @@
 //! It reads a scene in TOML on standard input and writes the report of its run on standard output.
 #![tactic(auto)]
 
+#[cfg(test)]
+mod predictor_tests;
 pub mod refusals;
 pub mod show;
 pub mod status;

@@ -31,6 +31,20 @@ fn scene(
     )
 }
 
+// A report without its lines of events and of disks.
+fn without_lists(alloc: Global, report: &str) -> Result<String, AllocError> {
+    let mut sums = String::new(alloc);
+    for line in report.lines() {
+        let listed = line.starts_with("disk ")
+            || line.as_bytes().first().is_some_and(|b| b.is_ascii_digit());
+        if !listed {
+            sums.push_str(line)?;
+            sums.push_str("\n")?;
+        }
+    }
+    Ok(sums)
+}
+
 // What the top call writes to memory, where the calls named fail, and its status.
 fn output(
     alloc: Global,
@@ -43,6 +57,13 @@ fn output(
     let mut sink = MemorySink::new(alloc, gives_failing, 4096)?;
     let status = top(alloc, words, &mut source, &mut sink);
     Ok((sink, status))
+}
+
+// Whether the summary is the report without its lists.
+fn has_sums(alloc: Global, text: &str, report: &str) -> Result<bool, AllocError> {
+    let sums = without_lists(alloc, report)?;
+    let (sink, _) = output(alloc, &SUMMARY, text, &[], &[])?;
+    Ok(sink.bytes() == sums.as_bytes())
 }
 
 #[test]
@@ -158,6 +179,8 @@ fn reports(rt: HostRuntime) -> Result<(), Fail> {
         let (sink, found) = output(rt.alloc(), &PLAIN, text.as_str(), &[], &[])?;
         assert_eq!(rt; found, status, "{disks}");
         assert_eq!(rt; sink.bytes(), want.as_bytes(), "{disks}");
+        let sums = has_sums(rt.alloc(), text.as_str(), want)?;
+        assert!(rt; sums, "summary of {disks}");
     }
     Ok(())
 }
@@ -175,25 +198,32 @@ fn rounds_up(rt: HostRuntime) -> Result<(), Fail> {
 }
 
 #[test]
-fn forms(rt: HostRuntime) -> Result<(), Fail> {
-    let cradle = scene(rt.alloc(), 40, 8, 4, CRADLE)?;
-    let pair = scene(rt.alloc(), 40, 8, 5, PAIR)?;
-    let canonical =
-        "width = 40\nheight = 20\ndiameter = 4\nspeed_limit = 8\nround_limit = 8\nend = 5\ndisks = [\n  [10, 10, 1, 0],\n  [20, 10, -1, 0],\n]\n";
-    let (sink, status) = output(rt.alloc(), &SUMMARY, cradle.as_str(), &[], &[])?;
+fn summaries(rt: HostRuntime) -> Result<(), Fail> {
+    let text = scene(rt.alloc(), 40, 8, 4, CRADLE)?;
+    let (sink, status) = output(rt.alloc(), &SUMMARY, text.as_str(), &[], &[])?;
     assert_eq!(rt; status, Status::Done);
-    assert_eq!(rt;
-        sink.bytes(),
-        "done 4\nwalls 0\npairs 2\nmomentum 2 0\nenergy 4 4\n".as_bytes()
-    );
-    let (sink, status) = output(rt.alloc(), &COUNT, pair.as_str(), &[], &[])?;
+    let want = "done 4\nwalls 0\npairs 2\nmomentum 2 0\nenergy 4 4\n";
+    assert_eq!(rt; sink.bytes(), want.as_bytes());
+    Ok(())
+}
+
+#[test]
+fn canonical_texts(rt: HostRuntime) -> Result<(), Fail> {
+    let text = scene(rt.alloc(), 40, 8, 5, PAIR)?;
+    let (sink, status) = output(rt.alloc(), &CHECK, text.as_str(), &[], &[])?;
+    assert_eq!(rt; status, Status::Done);
+    let want =
+        "width = 40\nheight = 20\ndiameter = 4\nspeed_limit = 8\nround_limit = 8\nend = 5\ndisks = [\n  [10, 10, 1, 0],\n  [20, 10, -1, 0],\n]\n";
+    assert_eq!(rt; sink.bytes(), want.as_bytes());
+    Ok(())
+}
+
+#[test]
+fn numbers_of_disks(rt: HostRuntime) -> Result<(), Fail> {
+    let text = scene(rt.alloc(), 40, 8, 5, PAIR)?;
+    let (sink, status) = output(rt.alloc(), &COUNT, text.as_str(), &[], &[])?;
     assert_eq!(rt; status, Status::Done);
     assert_eq!(rt; sink.bytes(), "scene 2\n".as_bytes());
-    for text in [pair.as_str(), canonical] {
-        let (sink, status) = output(rt.alloc(), &CHECK, text, &[], &[])?;
-        assert_eq!(rt; status, Status::Done);
-        assert_eq!(rt; sink.bytes(), canonical.as_bytes());
-    }
     Ok(())
 }
 
@@ -296,41 +326,51 @@ fn reads_back(rt: HostRuntime) -> Result<(), Fail> {
     Ok(())
 }
 
-// Whichever call fails, what was written is a prefix of the report.
+// The status where the calls named fail, if what was written then is a prefix of the report.
+fn status_of_prefix(
+    alloc: Global,
+    text: &str,
+    takes_failing: &[u64],
+    gives_failing: &[u64],
+) -> Result<Option<Status>, AllocError> {
+    let (whole, _) = output(alloc, &PLAIN, text, &[], &[])?;
+    let (part, status) = output(alloc, &PLAIN, text, takes_failing, gives_failing)?;
+    Ok(if whole.bytes().starts_with(part.bytes()) {
+        Some(status)
+    } else {
+        None
+    })
+}
+
 #[test]
-fn each_call_fails(rt: HostRuntime) -> Result<(), Fail> {
+fn each_give_fails(rt: HostRuntime) -> Result<(), Fail> {
     for (end, disks, pieces) in [(5, PAIR, 8), (4, CRADLE, 10)] {
         let text = scene(rt.alloc(), 40, 8, end, disks)?;
-        let (whole, status) = output(rt.alloc(), &PLAIN, text.as_str(), &[], &[])?;
-        assert_eq!(rt; status, Status::Done);
         for call in 0..12 {
-            let (part, status) = output(rt.alloc(), &PLAIN, text.as_str(), &[], &[call])?;
             let want = if call < pieces {
                 Status::WriteFault
             } else {
                 Status::Done
             };
-            assert_eq!(rt; status, want, "give {call}");
-            assert!(rt; whole.bytes().starts_with(part.bytes()), "give {call}");
-            assert_eq!(rt;
-                part.bytes() == whole.bytes(),
-                pieces <= call,
-                "give {call}"
-            );
+            let found = status_of_prefix(rt.alloc(), text.as_str(), &[], &[call])?;
+            assert_eq!(rt; found, Some(want), "give {call}");
         }
+    }
+    Ok(())
+}
+
+#[test]
+fn each_take_fails(rt: HostRuntime) -> Result<(), Fail> {
+    for (end, disks) in [(5, PAIR), (4, CRADLE)] {
+        let text = scene(rt.alloc(), 40, 8, end, disks)?;
         for call in 0..4 {
-            let (part, status) = output(rt.alloc(), &PLAIN, text.as_str(), &[call], &[])?;
             let want = if call < 2 {
                 Status::ReadFault
             } else {
                 Status::Done
             };
-            assert_eq!(rt; status, want, "take {call}");
-            assert_eq!(rt;
-                part.bytes(),
-                if call < 2 { &[] } else { whole.bytes() },
-                "take {call}"
-            );
+            let found = status_of_prefix(rt.alloc(), text.as_str(), &[call], &[])?;
+            assert_eq!(rt; found, Some(want), "take {call}");
         }
     }
     Ok(())
