@@ -1,11 +1,12 @@
 -- Small numbers and their bits.
 use Rattle.std.proofs.Common.{◌≡◌, ℕ, ◌+◌, ◌*◌, ◌<◌, ◌≤◌, ℤ, pos, nat_abs, ◌+ℤ◌, List, length, take, get_or, arith, ap, sym, ◌∙◌, fold}
-use Rattle.std.proofs.lemmas.Int.{ints, to_z-of_z}
+use Rattle.std.proofs.lemmas.Int.{to_z-of_z}
 use Rattle.std.proofs.lemmas.Option.{slice_get-get_or}
 use Rattle.std.proofs.lemmas.List.Sums.{fold_more}
 use mir.Syntax.{w64}
 use mir.Val.{SFits, to_z, of_z}
 use lib.IntN.{negsuc}
+use Rattle.scalar_product.proofs.Sizes.{size_of_sum}
 use Rattle.collision_report.specs.Bounds.{IsSmall, AreSmall}
 
 -- a number of no more than 2^62 in size has 64 bits
@@ -24,9 +25,6 @@ passes_small v h = let e : nat_abs (to_z w64 (of_z w64 v)) ≡ nat_abs v = ap na
 pub small_at : {A : Type 0} (vx vy : A → ℤ) (items : List A) (i : ℕ) (d : A) → AreSmall vx vy items → i < length items →
     IsSmall (vx (get_or items i d)) × IsSmall (vy (get_or items i d))
 small_at vx vy items i d small h = small.small i (get_or items i d) (slice_get-get_or items i d h)
-
-size_of_sum : (a b : ℤ) → nat_abs (a +ℤ b) ≤ nat_abs a + nat_abs b
-size_of_sum a b = omega (arith, ints)
 
 -- a sum of at most 65,536 small numbers fits
 pub sum_fits : (p v : ℤ) (i n : ℕ) → nat_abs p ≤ 1048576 * i → IsSmall v → i < n → n ≤ 65536 → SFits w64 (p +ℤ to_z w64 (of_z w64 v))

@@ -2,12 +2,13 @@
 use Rattle.std.proofs.Common.{◌≡◌, ◌↔◌, IsTrue, ℕ, ◌+◌, ◌*◌, ◌^◌, ◌≤◌, Bool, true, false, T, refl, sym, subst, ap, arith, lit<}
 use lib.Signed.{lt_z}
 use Rattle.std.specs.Prelude.{ℤ, pos, negsuc, nat_abs, FitsSigned, ◌+ℤ◌, ◌-ℤ◌, ◌*ℤ◌, ◌≤ℤ◌, ◌<ℤ◌}
-use Rattle.std.proofs.lemmas.Int.{ints, to_z-of_z, fits_signed_mul, unsigned_abs-mul}
+use Rattle.std.proofs.lemmas.Int.{ints, to_z-of_z, to_z_pos, fits_signed_mul}
 use Rattle.std.proofs.Math.Nat.{mul-le-mul}
 use borrow.Author.Differences.{up, down, sum_is_lem}
 use mir.Syntax.{w64, w128}
 use mir.Val.{to_z, of_z}
-use Rattle.contact_predictor.specs.Contact.{dot}
+use Rattle.scalar_product.proofs.Sizes.{size_of_product}
+use Rattle.contact_predictor.specs.Contact.{after}
 
 pub distributes : (a b c : ℤ) → (a +ℤ b) *ℤ c ≡ (a *ℤ c) +ℤ (b *ℤ c)
 distributes a b c = omega (arith, ints, ap (λ (n : ℕ). n * up c) (sum_is_lem a b), ap (λ (n : ℕ). n * down c) (sum_is_lem a b))
@@ -19,38 +20,47 @@ pub square_not_negative : (a : ℤ) → pos 0 ≤ℤ (a *ℤ a)
 square_not_negative (pos n) = omega (arith, ints)
 square_not_negative (negsuc n) = omega (arith, ints)
 
-pub product_size : (a b : ℤ) (m n : ℕ) → nat_abs a ≤ m → nat_abs b ≤ n → nat_abs (a *ℤ b) ≤ m * n
-product_size a b m n p q = rw unsigned_abs-mul (mul-le-mul p q)
-
 -- ---- what the machine computes, where nothing overflows
--- at the sizes of a separation each product of a dot product fits, and so does their sum
-pub dot_fits : (a b u v : ℤ) → nat_abs a ≤ 2 ^ 30 + 2 ^ 21 → nat_abs b ≤ 2 ^ 30 + 2 ^ 21 → nat_abs u ≤ 2 ^ 30 + 2 ^ 21
-    → nat_abs v ≤ 2 ^ 30 + 2 ^ 21 → FitsSigned w64 (a *ℤ u) × FitsSigned w64 (b *ℤ v) × FitsSigned w64 (dot a b u v) × (nat_abs (dot a b u v) ≤ 2 ^ 62)
-dot_fits a b u v p q r s =
-    let m : nat_abs (a *ℤ u) ≤ (2 ^ 30 + 2 ^ 21) * (2 ^ 30 + 2 ^ 21) = product_size a u (2 ^ 30 + 2 ^ 21) (2 ^ 30 + 2 ^ 21) p r in
-    let n : nat_abs (b *ℤ v) ≤ (2 ^ 30 + 2 ^ 21) * (2 ^ 30 + 2 ^ 21) = product_size b v (2 ^ 30 + 2 ^ 21) (2 ^ 30 + 2 ^ 21) q s in
-    summed (a *ℤ u) (b *ℤ v) m n
+-- where the machine says that a coordinate is after some ticks
+pub record IsCourse (x v : ℤ) (t : ℕ) : Type 0 where
+  pub way_fits : FitsSigned w64 (to_z w64 (of_z w64 v) *ℤ to_z w64 t)
+  pub sum_fits : FitsSigned w64 (to_z w64 (of_z w64 x) +ℤ to_z w64 (of_z w64 (to_z w64 (of_z w64 v) *ℤ to_z w64 t)))
+  pub place : to_z w64 (of_z w64 (to_z w64 (of_z w64 x) +ℤ to_z w64 (of_z w64 (to_z w64 (of_z w64 v) *ℤ to_z w64 t)))) ≡ after x v t
+
+pub course : (x v : ℤ) (t : ℕ) → nat_abs x ≤ 2 ^ 30 → nat_abs v ≤ 2 ^ 21 → t ≤ 2 ^ 30 + 1 → IsCourse x v t
+course x v t hx hv ht =
+    let fx : to_z w64 (of_z w64 x) ≡ x = to_z-of_z w64 x (omega (arith, ints)) in
+    let fv : to_z w64 (of_z w64 v) ≡ v = to_z-of_z w64 v (omega (arith, ints)) in
+    let ft : to_z w64 t ≡ pos t = to_z_pos w64 t (omega arith) in
+    let size : nat_abs (v *ℤ pos t) ≤ 2 ^ 21 * (2 ^ 30 + 1) = size_of_product v (pos t) (2 ^ 21) (2 ^ 30 + 1) hv ht in
+    let way : FitsSigned w64 (v *ℤ pos t) = small_fits (v *ℤ pos t) size in
+    let product : to_z w64 (of_z w64 (v *ℤ pos t)) ≡ (v *ℤ pos t) = to_z-of_z w64 (v *ℤ pos t) way in
+    let sum : FitsSigned w64 (after x v t) = sum_of_small x (v *ℤ pos t) hx size in
+    record {
+      way_fits = rw (fv, ft) way;
+      sum_fits = rw (fx, fv, ft, product) sum;
+      place = rw (fx, fv, ft, product) (to_z-of_z w64 (after x v t) sum);
+    }
   where
-    summed : (x y : ℤ) → nat_abs x ≤ (2 ^ 30 + 2 ^ 21) * (2 ^ 30 + 2 ^ 21) → nat_abs y ≤ (2 ^ 30 + 2 ^ 21) * (2 ^ 30 + 2 ^ 21)
-        → FitsSigned w64 x × FitsSigned w64 y × FitsSigned w64 (x +ℤ y) × (nat_abs (x +ℤ y) ≤ 2 ^ 62)
-    summed x y m n = (omega (arith, ints), omega (arith, ints), omega (arith, ints), omega (arith, ints))
+    small_fits : (z : ℤ) → nat_abs z ≤ 2 ^ 21 * (2 ^ 30 + 1) → FitsSigned w64 z
+    small_fits z h = omega (arith, ints)
 
--- the same for the sum of the products as the machine has them
-pub dot_terms_fit : (a b u v : ℤ) → FitsSigned w64 a → FitsSigned w64 b → FitsSigned w64 u → FitsSigned w64 v
-    → FitsSigned w64 (a *ℤ u) → FitsSigned w64 (b *ℤ v) → FitsSigned w64 (dot a b u v)
-    → FitsSigned w64 (to_z w64 (of_z w64 (to_z w64 (of_z w64 a) *ℤ to_z w64 (of_z w64 u))) +ℤ to_z w64 (of_z w64 (to_z w64 (of_z w64 b) *ℤ to_z w64 (of_z w64 v))))
-dot_terms_fit a b u v fa fb fu fv fp fq fs = simp to_z-of_z fs
+    sum_of_small : (x z : ℤ) → nat_abs x ≤ 2 ^ 30 → nat_abs z ≤ 2 ^ 21 * (2 ^ 30 + 1) → FitsSigned w64 (x +ℤ z)
+    sum_of_small x z h k = omega (arith, ints)
 
--- the machine's dot product and gap are those of the definitions
-pub dot_is : (a b u v : ℤ) → FitsSigned w64 a → FitsSigned w64 b → FitsSigned w64 u → FitsSigned w64 v
-    → FitsSigned w64 (a *ℤ u) → FitsSigned w64 (b *ℤ v) → FitsSigned w64 (dot a b u v)
-    → to_z w64 (of_z w64 (to_z w64 (of_z w64 (to_z w64 (of_z w64 a) *ℤ to_z w64 (of_z w64 u))) +ℤ to_z w64 (of_z w64 (to_z w64 (of_z w64 b) *ℤ to_z w64 (of_z w64 v))))) ≡ dot a b u v
-dot_is a b u v fa fb fu fv fp fq fs = simp to_z-of_z
+-- the square of a separation's length
+pub square_bound : (n x y : ℕ) → n ≤ x * x + y * y → x ≤ 2 ^ 30 + 2 ^ 21 → y ≤ 2 ^ 30 + 2 ^ 21 → n ≤ 2 ^ 62
+square_bound n x y h hx hy =
+    let xx = mul-le-mul hx hx in
+    let yy = mul-le-mul hy hy in
+    omega arith
 
-pub gap_is : (p d : ℤ) → FitsSigned w64 p → FitsSigned w64 d → nat_abs p ≤ 2 ^ 62 → nat_abs d ≤ 2 ^ 30
+-- a gap, of the scalar product of a separation with itself
+pub gap_is : (p d : ℤ) → FitsSigned w64 d → nat_abs p ≤ 2 ^ 62 → nat_abs d ≤ 2 ^ 30
     → to_z w64 (of_z w64 (to_z w64 (of_z w64 p) -ℤ to_z w64 (of_z w64 (to_z w64 (of_z w64 d) *ℤ to_z w64 (of_z w64 d))))) ≡ p -ℤ (d *ℤ d)
-gap_is p d fp fd small_p small_d =
-    let size : nat_abs (d *ℤ d) ≤ 2 ^ 30 * 2 ^ 30 = product_size d d (2 ^ 30) (2 ^ 30) small_d small_d in
+gap_is p d fd small_p small_d =
+    let fp : FitsSigned w64 p = omega (arith, ints) in
+    let size : nat_abs (d *ℤ d) ≤ 2 ^ 30 * 2 ^ 30 = size_of_product d d (2 ^ 30) (2 ^ 30) small_d small_d in
     let fs : FitsSigned w64 (d *ℤ d) = fits_signed_mul w64 d d (2 ^ 30) (2 ^ 30) small_d small_d (lit< tt) in
     let fg : FitsSigned w64 (p -ℤ (d *ℤ d)) = difference_fits p (d *ℤ d) small_p size in
     simp to_z-of_z

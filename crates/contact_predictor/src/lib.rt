@@ -5,8 +5,10 @@
 #![tactic(auto)]
 
 ghost use Rattle.std.specs.Prelude.{◌≡◌, ◌↔◌, ◌^◌, ◌+◌, ◌≤◌, ℕ, pos, ◌≤ℤ◌, ◌<ℤ◌, ◌*ℤ◌, nat_abs, IsTrue, MatchOption, IfSome, IsNone};
-ghost use Rattle.contact_predictor.specs.Contact.{after, dot, gap, IsContactAfter, StaysUntil};
+ghost use Rattle.contact_predictor.specs.Contact.{after, gap, IsContactAfter, StaysUntil};
 ghost use Rattle.contact_predictor.specs.Approaching.{IsApproaching, IsApproachingAfter, IsCrossing};
+
+use scalar_product::scalar_product;
 
 /// How many ticks the coordinate `x`, in units of length, keeps within `lo` and `hi` at `v` units per tick.
 ///
@@ -94,7 +96,10 @@ fn is_approaching_after(rx: i64, ry: i64, ux: i64, uy: i64, diameter: i64, ticks
     )
 }
 
-fn coordinate_after(x: i64, v: i64, ticks: u64) -> i64
+/// Where the coordinate `x`, in units of length, is after so many ticks at `v` units per tick.
+///
+/// `x` is at most 2^30 and `v` at most 2^21 in size, and the ticks are at most 2^30 + 1.
+pub fn coordinate_after(x: i64, v: i64, ticks: u64) -> i64
     requires x_size { nat_abs x ≤ 2 ^ 30 }
     requires v_size { nat_abs v ≤ 2 ^ 21 }
     requires ticks_size { ticks ≤ 2 ^ 30 + 1 }
@@ -111,7 +116,7 @@ fn is_approaching(rx: i64, ry: i64, ux: i64, uy: i64, diameter: i64) -> bool
     requires diameter_size { nat_abs diameter ≤ 2 ^ 30 }
     ensures { IsTrue result ↔ IsApproaching rx ry ux uy diameter }
 {
-    squared_gap(rx, ry, diameter) >= 0 && dot_product(rx, ry, ux, uy) < 0
+    squared_gap(rx, ry, diameter) >= 0 && scalar_product(rx, ry, ux, uy) < 0
 }
 
 fn is_crossing(rx: i64, ry: i64, ux: i64, uy: i64, diameter: i64) -> bool
@@ -123,8 +128,8 @@ fn is_crossing(rx: i64, ry: i64, ux: i64, uy: i64, diameter: i64) -> bool
     ensures { IsTrue result ↔ IsCrossing rx ry ux uy diameter }
 {
     has_positive_discriminant(
-        dot_product(ux, uy, ux, uy),
-        dot_product(rx, ry, ux, uy),
+        scalar_product(ux, uy, ux, uy),
+        scalar_product(rx, ry, ux, uy),
         squared_gap(rx, ry, diameter),
     )
 }
@@ -142,115 +147,5 @@ fn squared_gap(rx: i64, ry: i64, diameter: i64) -> i64
     requires diameter_size { nat_abs diameter ≤ 2 ^ 30 }
     ensures { result ≡ gap rx ry diameter }
 {
-    dot_product(rx, ry, rx, ry) - diameter * diameter
-}
-
-fn dot_product(rx: i64, ry: i64, ux: i64, uy: i64) -> i64
-    requires rx_size { nat_abs rx ≤ 2 ^ 30 + 2 ^ 21 }
-    requires ry_size { nat_abs ry ≤ 2 ^ 30 + 2 ^ 21 }
-    requires ux_size { nat_abs ux ≤ 2 ^ 30 + 2 ^ 21 }
-    requires uy_size { nat_abs uy ≤ 2 ^ 30 + 2 ^ 21 }
-    ensures { result ≡ dot rx ry ux uy }
-{
-    rx * ux + ry * uy
-}
-
-#[cfg(test)]
-mod tests {
-    use super::*;
-    use std::process::Abort;
-
-    // 2^30, 2^21 and 2^31, the greatest sizes.
-    const FAR: i64 = 1_073_741_824;
-
-    const FAST: i64 = 2_097_152;
-
-    const WIDE: i64 = 2_147_483_648;
-
-    #[test]
-    fn contacts(rt: HostRuntime) {
-        let rows = [
-            // head on: at x = -4 they touch, and one tick later overlap
-            ((-10, 0), (2, 0), 4, 100, Some(3)),
-            ((-10, 0), (2, 0), 4, 3, Some(3)),
-            ((-10, 0), (2, 0), 4, 2, None),
-            ((0, 10), (0, -2), 4, 100, Some(3)),
-            // tangent, one unit nearer, one unit farther
-            ((-10, -4), (2, 0), 4, 100, None),
-            ((-10, -3), (2, 0), 4, 100, Some(3)),
-            ((-10, -5), (2, 0), 4, 100, None),
-            // the disks cross between two ticks at which they are apart
-            ((-8, -3), (16, 0), 4, 4, Some(0)),
-            ((-9, -3), (6, 0), 4, 10, Some(1)),
-            // aslant: apart at (2, -2), and overlapping at (1, -1)
-            ((10, -10), (-1, 1), 2, 100, Some(8)),
-            // touching at the start, and a span of 0
-            ((-4, 0), (1, 0), 4, 0, Some(0)),
-            ((-6, 0), (1, 0), 4, 0, None),
-            // the last tick of the span, and one tick past it
-            ((-6, 0), (1, 0), 4, 2, Some(2)),
-            ((-6, 0), (1, 0), 4, 1, None),
-            // overlapping, receding, at rest
-            ((-3, 0), (2, 0), 4, 100, None),
-            ((10, 0), (2, 0), 4, 100, None),
-            ((-10, 0), (0, 0), 4, 100, None),
-            // the greatest sizes
-            ((-FAR, 0), (FAST, 0), 1024, 2, None),
-            ((-FAR, 0), (FAST, 0), 1024, 512, Some(511)),
-            ((-FAR, 0), (FAST, 0), 2, 1024, Some(511)),
-            ((-FAR, -FAR), (FAST, FAST), FAR, 1024, Some(149)),
-            ((-FAR, 0), (1, 0), 2, 1_073_741_824, Some(1_073_741_822)),
-            ((FAR, 0), (-2, 0), 2, 1_073_741_824, Some(536_870_911)),
-        ];
-        for (separation, velocity, diameter, span, expected) in rows {
-            let (rx, ry) = separation;
-            let (ux, uy) = velocity;
-            let found = contact_of(&rt, separation, velocity, diameter, span);
-            assert_eq!(rt; found, expected, "at {rx} {ry} {ux} {uy} {diameter} {span}");
-        }
-    }
-
-    // The rows of a table say nothing of their sizes, so this tests what `contact` requires.
-    fn contact_of(
-        rt: &impl Abort,
-        (rx, ry): (i64, i64),
-        (ux, uy): (i64, i64),
-        diameter: i64,
-        span: u64,
-    ) -> Option<u64> {
-        assert!(rt; -FAR <= rx && rx <= FAR && -FAR <= ry && ry <= FAR);
-        assert!(rt; -FAST <= ux && ux <= FAST && -FAST <= uy && uy <= FAST);
-        assert!(rt; 2 <= diameter && diameter <= FAR && span <= 1_073_741_824);
-        let x = coordinate_after(rx, ux, span);
-        let y = coordinate_after(ry, uy, span);
-        assert!(rt; -FAR <= x && x <= FAR && -FAR <= y && y <= FAR);
-        contact(rx, ry, ux, uy, diameter, span)
-    }
-
-    #[test]
-    fn stays(rt: HostRuntime) {
-        let rows = [
-            (2, 38, 10, -3, Some(2)),
-            (2, 38, 10, 0, None),
-            // at each edge, with either sign
-            (2, 38, 2, -1, Some(0)),
-            (2, 38, 2, 1, Some(36)),
-            (2, 38, 38, 1, Some(0)),
-            (2, 38, 38, -1, Some(36)),
-            (2, 38, 37, 1, Some(1)),
-            // the edge is reached, just not reached, and jumped over
-            (0, 10, 0, 5, Some(2)),
-            (0, 10, 0, 4, Some(2)),
-            (0, 10, 0, 11, Some(0)),
-            (-9, -1, -5, 2, Some(2)),
-            (5, 5, 5, -1, Some(0)),
-            // the greatest sizes
-            (-WIDE, WIDE, -WIDE, 1, Some(4_294_967_296)),
-            (-WIDE, WIDE, WIDE, -WIDE, Some(2)),
-        ];
-        for (lo, hi, x, v, expected) in rows {
-            assert!(rt; -WIDE <= lo && lo <= x && x <= hi && hi <= WIDE && -WIDE <= v && v <= WIDE);
-            assert_eq!(rt; stay(lo, hi, x, v), expected, "at {lo} {hi} {x} {v}");
-        }
-    }
+    scalar_product(rx, ry, rx, ry) - diameter * diameter
 }

@@ -4,7 +4,8 @@ ghost use Rattle.std.specs.Prelude.{◌≡◌, ◌+◌, ◌*◌, ◌^◌, ◌<�
 ghost use Rattle.std.specs.Option.{ForSome};
 ghost use Rattle.fixed_motion.specs.Rules.{IsChecked};
 ghost use Rattle.fixed_motion.specs.Motion.{IsValidDisk, IsInside};
-ghost use Rattle.impulse_rounding.specs.Impulse.{impulse_of, dot, parting, energy_change};
+ghost use Rattle.scalar_product.specs.Product.{dot};
+ghost use Rattle.impulse_rounding.specs.Impulse.{impulse_of, parting, energy_change};
 ghost use Rattle.event_rules.specs.Events.{IsEventOf, IsWallEvent, IsPairEvent};
 ghost use Rattle.event_rules.specs.Effect.{applied, change_of, keeps_speed, is_slow_disk, KeepsMomentum, Recedes, NearlyKeepsEnergy};
 
@@ -152,117 +153,4 @@ fn is_slow_disk(rules: &Rules, disk: &Disk) -> bool
     ensures { result ≡ is_slow_disk rules.now disk.now }
 {
     rules.is_slow(disk.vx) && rules.is_slow(disk.vy)
-}
-
-#[cfg(test)]
-mod tests {
-    use super::*;
-    use crate::{pair_event, wall_event};
-    use event_stamps::Kind;
-
-    const RULES: Rules = Rules {
-        width: 40,
-        height: 20,
-        diameter: 4,
-        speed_limit: 8,
-        round_limit: 8,
-        end: 5,
-    };
-
-    // A disk with the base tick 0.
-    fn disk_of(x: i64, y: i64, vx: i64, vy: i64, mark: u32) -> Disk {
-        Disk {
-            x,
-            y,
-            vx,
-            vy,
-            base: 0,
-            mark,
-        }
-    }
-
-    fn stamp_of(round: u32, kind: Kind, second: u32) -> Stamp {
-        Stamp {
-            tick: 0,
-            round,
-            kind,
-            first: 0,
-            second,
-        }
-    }
-
-    #[test]
-    fn collisions(rt: HostRuntime) {
-        let early = stamp_of(0, Kind::Pair, 1);
-        let late = stamp_of(1, Kind::Pair, 1);
-        let near = disk_of(18, 13, -8, 0, 0);
-        let one_round = Rules {
-            round_limit: 1,
-            ..RULES
-        };
-        let wide = Rules {
-            width: 100,
-            height: 100,
-            diameter: 10,
-            ..RULES
-        };
-        let cases = [
-            (
-                RULES,
-                (disk_of(10, 10, 8, 0, 0), near),
-                Ok(Change {
-                    stamp: early,
-                    first: disk_of(10, 10, -6, -5, 1),
-                    second: Some(disk_of(18, 13, 6, 5, 1)),
-                }),
-            ),
-            // To the nearest whole numbers the impulse would be nothing.
-            (
-                wide,
-                (disk_of(40, 40, 1, 0, 0), disk_of(45, 49, 0, 0, 0)),
-                Ok(Change {
-                    stamp: early,
-                    first: disk_of(40, 40, 0, -1, 1),
-                    second: Some(disk_of(45, 49, 1, 1, 1)),
-                }),
-            ),
-            // The second velocity would be (2, 9).
-            (
-                RULES,
-                (disk_of(20, 10, 8, 1, 0), disk_of(24, 13, -8, 1, 0)),
-                Err(Limit::Speed(early)),
-            ),
-            (
-                one_round,
-                (disk_of(10, 10, 8, 0, 1), near),
-                Err(Limit::Rounds(late)),
-            ),
-        ];
-        for (rules, (a, b), want) in cases {
-            assert!(rt; rules.check().is_ok());
-            assert!(rt; a.is_valid(&rules));
-            assert!(rt; b.is_valid(&rules));
-            match pair_event(&rules, 0, &a, 1, &b) {
-                None => panic!(rt; "no event of {a:?}"),
-                Some(stamp) => assert_eq!(rt; apply(&rules, &stamp, &a, Some(&b)), want),
-            }
-        }
-    }
-
-    #[test]
-    fn corner(rt: HostRuntime) {
-        let rules = RULES;
-        let a = disk_of(3, 3, -2, -2, 0);
-        let want = Change {
-            stamp: stamp_of(0, Kind::Wall, 0),
-            first: disk_of(3, 3, 2, -2, 1),
-            second: None,
-        };
-        assert!(rt; rules.check().is_ok());
-        assert!(rt; a.is_valid(&rules));
-        match wall_event(&rules, 0, &a, 0) {
-            None => panic!(rt; "no event"),
-            Some(stamp) => assert_eq!(rt; apply(&rules, &stamp, &a, None), Ok(want)),
-        }
-    }
 }

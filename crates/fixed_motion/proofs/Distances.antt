@@ -1,9 +1,11 @@
 -- Differences of places inside, their squares, and the ways that disks go in 64 bits.
-use Rattle.std.proofs.Common.{◌≡◌, ℕ, ◌≤◌, ℤ, pos, nat_abs, ◌+ℤ◌, ◌-ℤ◌, ◌*ℤ◌, int_lt, FitsSigned, w64, to_z, arith}
-use Rattle.std.proofs.lemmas.Int.{ints, to_z-of_z, to_z_pos, unsigned_abs-mul}
+use Rattle.std.proofs.Common.{◌≡◌, ℕ, ◌*◌, ◌^◌, ◌<◌, ◌≤◌, ℤ, pos, nat_abs, ◌+ℤ◌, ◌-ℤ◌, ◌*ℤ◌, int_lt, FitsSigned, w64, to_z, arith}
+use Rattle.std.proofs.lemmas.Int.{ints, to_z-of_z, to_z_pos}
+use Rattle.scalar_product.specs.Product.{dot}
+use Rattle.scalar_product.proofs.Sizes.{size_of_product}
 use Rattle.fixed_motion.specs.declared.rules.Rules.{Rules}
 use Rattle.fixed_motion.specs.Rules.{IsChecked}
-use Rattle.fixed_motion.specs.Motion.{Place, contact_distance, IsInside, overlaps, IsSlow}
+use Rattle.fixed_motion.specs.Motion.{Place, contact_distance, IsInside, squared_distance, overlaps, IsSlow}
 use Rattle.fixed_motion.proofs.Sizes.{IsWithinSide, inside_x, inside_y, contact_is_diameter}
 use Rattle.fixed_motion.proofs.Casts.{sent}
 
@@ -13,18 +15,6 @@ side_fits n h = omega (arith, ints)
 pub difference_size : (m n : ℤ) → IsWithinSide m → IsWithinSide n → nat_abs (m -ℤ n) ≤ 1073741824
 difference_size m n h k = omega (arith, ints)
 
-square_size : (d : ℤ) → nat_abs d ≤ 1073741824 → nat_abs (d *ℤ d) ≤ 1152921504606846976
-square_size d h = rw (unsigned_abs-mul d d) (grind arith)
-
-pub square_fits : (d : ℤ) → nat_abs d ≤ 1073741824 → FitsSigned w64 (d *ℤ d)
-square_fits d h = let s : nat_abs (d *ℤ d) ≤ 1152921504606846976 = square_size d h in omega (arith, ints)
-
-pub squares_fit : (d e : ℤ) → nat_abs d ≤ 1073741824 → nat_abs e ≤ 1073741824 → FitsSigned w64 ((d *ℤ d) +ℤ (e *ℤ e))
-squares_fit d e h k =
-    let s : nat_abs (d *ℤ d) ≤ 1152921504606846976 = square_size d h in
-    let t : nat_abs (e *ℤ e) ≤ 1152921504606846976 = square_size e k in
-    omega (arith, ints)
-
 -- the code's difference is the difference
 pub difference_sent : (m n : ℤ) → IsWithinSide m → IsWithinSide n → sent (sent m -ℤ sent n) ≡ (m -ℤ n)
 difference_sent m n h k = omega (arith, ints)
@@ -32,34 +22,28 @@ difference_sent m n h k = omega (arith, ints)
 pub difference_fits : (m n : ℤ) → IsWithinSide m → IsWithinSide n → FitsSigned w64 (sent m -ℤ sent n)
 difference_fits m n h k = omega (arith, ints)
 
--- the code's square of a difference
-pub square_sent : (d s : ℤ) → s ≡ d → nat_abs d ≤ 1073741824 → sent (s *ℤ s) ≡ (d *ℤ d)
-square_sent d s e h = rw e (to_z-of_z w64 (d *ℤ d) (square_fits d h))
+pub difference_small : (m n : ℤ) → IsWithinSide m → IsWithinSide n → nat_abs (sent (sent m -ℤ sent n)) < 2 ^ 31
+difference_small m n h k = omega (arith, ints)
 
-pub sent_square_fits : (d s : ℤ) → s ≡ d → nat_abs d ≤ 1073741824 → FitsSigned w64 (s *ℤ s)
-sent_square_fits d s e h = rw e (square_fits d h)
-
--- the code's sum of two squares
-pub squares_sent : (d e s t : ℤ) → s ≡ (d *ℤ d) → t ≡ (e *ℤ e) → nat_abs d ≤ 1073741824 → nat_abs e ≤ 1073741824 → sent (s +ℤ t) ≡ ((d *ℤ d) +ℤ (e *ℤ e))
-squares_sent d e s t p q h k = rw (p, q) (to_z-of_z w64 ((d *ℤ d) +ℤ (e *ℤ e)) (squares_fit d e h k))
-
-pub sent_squares_fit : (d e s t : ℤ) → s ≡ (d *ℤ d) → t ≡ (e *ℤ e) → nat_abs d ≤ 1073741824 → nat_abs e ≤ 1073741824 → FitsSigned w64 (s +ℤ t)
-sent_squares_fit d e s t p q h k = rw (p, q) (squares_fit d e h k)
-
--- the code's distance is the distance
-pub distance_sent : (rules : Rules) (r : ℤ) → IsChecked rules → r ≡ contact_distance rules → (nat_abs (contact_distance rules) ≤ 1073741824) × (sent r ≡ contact_distance rules)
-distance_sent rules r h e =
+-- the code's square of the distance is exact
+pub distance_square : (rules : Rules) (r : ℤ) → IsChecked rules → r ≡ contact_distance rules →
+    FitsSigned w64 (sent r *ℤ sent r) × (sent (sent r *ℤ sent r) ≡ (contact_distance rules *ℤ contact_distance rules))
+distance_square rules r h e =
     let d : contact_distance rules ≡ rules.diameter = contact_is_diameter rules in
     let least = h.diameter.0 in
     let most = h.diameter.1 in
     let side = h.width.1 in
-    (omega (arith, ints), omega (arith, ints))
+    let size : nat_abs (contact_distance rules) ≤ 2 ^ 30 = omega (arith, ints) in
+    let same : sent r ≡ contact_distance rules = omega (arith, ints) in
+    let square = size_of_product (contact_distance rules) (contact_distance rules) (2 ^ 30) (2 ^ 30) size size in
+    let fits : FitsSigned w64 (contact_distance rules *ℤ contact_distance rules) = omega (arith, ints) in
+    (rw same fits, rw same (to_z-of_z w64 (contact_distance rules *ℤ contact_distance rules) fits))
 
 pub slow_size : (rules : Rules) (v : ℤ) → IsChecked rules → IsSlow rules v → nat_abs v ≤ 1048576
 slow_size rules v h k = let limit = h.speed_limit.1 in omega (arith, ints)
 
 way_size : (v : ℤ) (t : ℕ) → nat_abs v ≤ 1048576 → t ≤ 1099511627776 → nat_abs (v *ℤ pos t) ≤ 1152921504606846976
-way_size v t h k = rw (unsigned_abs-mul v (pos t)) (grind arith)
+way_size v t h l = size_of_product v (pos t) 1048576 1099511627776 h l
 
 -- where a coordinate is after some ticks
 pub record IsWay (x v : ℤ) (t : ℕ) : Type 0 where
@@ -84,28 +68,20 @@ way x v t h k l =
     }
 
 -- the code's test of two places
-pub record IsMeasured (rules : Rules) (p q : Place) (r : ℤ) : Type 0 where
-  pub dx_fits : FitsSigned w64 (sent (sent p.0 -ℤ sent q.0) *ℤ sent (sent p.0 -ℤ sent q.0))
-  pub dy_fits : FitsSigned w64 (sent (sent p.1 -ℤ sent q.1) *ℤ sent (sent p.1 -ℤ sent q.1))
-  pub sum_fits : FitsSigned w64 (sent (sent (sent p.0 -ℤ sent q.0) *ℤ sent (sent p.0 -ℤ sent q.0)) +ℤ sent (sent (sent p.1 -ℤ sent q.1) *ℤ sent (sent p.1 -ℤ sent q.1)))
-  pub distance_fits : FitsSigned w64 (sent r *ℤ sent r)
-  pub test : int_lt (sent (sent (sent (sent p.0 -ℤ sent q.0) *ℤ sent (sent p.0 -ℤ sent q.0)) +ℤ sent (sent (sent p.1 -ℤ sent q.1) *ℤ sent (sent p.1 -ℤ sent q.1)))) (sent (sent r *ℤ sent r)) ≡ overlaps rules p q
-
-pub measure : (rules : Rules) (p q : Place) (r : ℤ) → IsChecked rules → IsInside rules p → IsInside rules q → r ≡ contact_distance rules → IsMeasured rules p q r
-measure rules p q r h hp hq e =
-    let dx : sent (sent p.0 -ℤ sent q.0) ≡ (p.0 -ℤ q.0) = difference_sent p.0 q.0 (inside_x rules p h hp) (inside_x rules q h hq) in
-    let dy : sent (sent p.1 -ℤ sent q.1) ≡ (p.1 -ℤ q.1) = difference_sent p.1 q.1 (inside_y rules p h hp) (inside_y rules q h hq) in
-    let dx_size : nat_abs (p.0 -ℤ q.0) ≤ 1073741824 = difference_size p.0 q.0 (inside_x rules p h hp) (inside_x rules q h hq) in
-    let dy_size : nat_abs (p.1 -ℤ q.1) ≤ 1073741824 = difference_size p.1 q.1 (inside_y rules p h hp) (inside_y rules q h hq) in
-    let distance = distance_sent rules r h e in
-    let xx = square_sent (p.0 -ℤ q.0) (sent (sent p.0 -ℤ sent q.0)) dx dx_size in
-    let yy = square_sent (p.1 -ℤ q.1) (sent (sent p.1 -ℤ sent q.1)) dy dy_size in
-    let rr = square_sent (contact_distance rules) (sent r) distance.1 distance.0 in
-    let sum = squares_sent (p.0 -ℤ q.0) (p.1 -ℤ q.1) (sent (sent (sent p.0 -ℤ sent q.0) *ℤ sent (sent p.0 -ℤ sent q.0))) (sent (sent (sent p.1 -ℤ sent q.1) *ℤ sent (sent p.1 -ℤ sent q.1))) xx yy dx_size dy_size in
-    record {
-      dx_fits = sent_square_fits (p.0 -ℤ q.0) (sent (sent p.0 -ℤ sent q.0)) dx dx_size;
-      dy_fits = sent_square_fits (p.1 -ℤ q.1) (sent (sent p.1 -ℤ sent q.1)) dy dy_size;
-      sum_fits = sent_squares_fit (p.0 -ℤ q.0) (p.1 -ℤ q.1) (sent (sent (sent p.0 -ℤ sent q.0) *ℤ sent (sent p.0 -ℤ sent q.0))) (sent (sent (sent p.1 -ℤ sent q.1) *ℤ sent (sent p.1 -ℤ sent q.1))) xx yy dx_size dy_size;
-      distance_fits = sent_square_fits (contact_distance rules) (sent r) distance.1 distance.0;
-      test = λ i. int_lt (sum i) (rr i);
-    }
+pub test_sent : (rules : Rules) (p q : Place) (d r : ℤ) → IsChecked rules → IsInside rules p → IsInside rules q →
+    d ≡ dot (sent (sent p.0 -ℤ sent q.0)) (sent (sent p.1 -ℤ sent q.1)) (sent (sent p.0 -ℤ sent q.0)) (sent (sent p.1 -ℤ sent q.1)) →
+    r ≡ contact_distance rules → int_lt (sent d) (sent (sent r *ℤ sent r)) ≡ overlaps rules p q
+test_sent rules p q d r h hp hq e er =
+    let px = inside_x rules p h hp in
+    let qx = inside_x rules q h hq in
+    let py = inside_y rules p h hp in
+    let qy = inside_y rules q h hq in
+    let same : d ≡ squared_distance p q = rw (difference_sent p.0 q.0 px qx, difference_sent p.1 q.1 py qy) at e in
+    let xx = size_of_product (p.0 -ℤ q.0) (p.0 -ℤ q.0) (2 ^ 30) (2 ^ 30) (difference_size p.0 q.0 px qx) (difference_size p.0 q.0 px qx) in
+    let yy = size_of_product (p.1 -ℤ q.1) (p.1 -ℤ q.1) (2 ^ 30) (2 ^ 30) (difference_size p.1 q.1 py qy) (difference_size p.1 q.1 py qy) in
+    let sum : sent d ≡ squared_distance p q = rw same (sum_sent ((p.0 -ℤ q.0) *ℤ (p.0 -ℤ q.0)) ((p.1 -ℤ q.1) *ℤ (p.1 -ℤ q.1)) xx yy) in
+    let square = (distance_square rules r h er).1 in
+    λ i. int_lt (sum i) (square i)
+  where
+    sum_sent : (m n : ℤ) → nat_abs m ≤ 2 ^ 30 * 2 ^ 30 → nat_abs n ≤ 2 ^ 30 * 2 ^ 30 → sent (m +ℤ n) ≡ (m +ℤ n)
+    sum_sent m n h k = omega (arith, ints)

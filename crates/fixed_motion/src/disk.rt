@@ -5,6 +5,7 @@ ghost use Rattle.fixed_motion.specs.Rules.{IsChecked, is_between};
 ghost use Rattle.fixed_motion.specs.Motion.{IsInside, is_inside, IsValidDisk, place_of, Overlaps, overlaps, IsSlow, is_slow};
 
 use crate::Rules;
+use scalar_product::scalar_product;
 
 /// The record of a disk: where it was at its base tick, and how it has moved since.
 #[derive(Clone, Copy, Debug, PartialEq, Eq)]
@@ -113,79 +114,5 @@ pub fn overlap(rules: &Rules, first: (i64, i64), second: (i64, i64)) -> bool
     let distance = rules.contact_distance();
     let dx = first.0 - second.0;
     let dy = first.1 - second.1;
-    dx * dx + dy * dy < distance * distance
-}
-
-#[cfg(test)]
-mod tests {
-    use super::*;
-
-    const RULES: Rules = Rules {
-        width: 40,
-        height: 20,
-        diameter: 4,
-        speed_limit: 8,
-        round_limit: 8,
-        end: 5,
-    };
-
-    #[test]
-    fn places(rt: HostRuntime) {
-        let rules = RULES;
-        let disk = Disk {
-            x: 10,
-            y: 5,
-            vx: 3,
-            vy: -1,
-            base: 2,
-            mark: 1,
-        };
-        assert!(rt; rules.check().is_ok());
-        assert!(rt; disk.is_valid(&rules));
-        let cases = [
-            (1, None),
-            (2, Some((10, 5))),
-            (4, Some((16, 3))),
-            (5, Some((19, 2))),
-            (6, None),
-        ];
-        for (tick, want) in cases {
-            assert_eq!(rt; disk.place(&rules, tick), want, "at tick {tick}");
-        }
-    }
-
-    #[test]
-    fn overlaps(rt: HostRuntime) {
-        let rules = RULES;
-        assert!(rt; rules.check().is_ok());
-        let middle = (20, 10);
-        let cases = [
-            ((24, 10), false),
-            ((23, 10), true),
-            ((20, 6), false),
-            ((20, 7), true),
-            ((23, 13), false),
-            ((17, 12), true),
-        ];
-        for (place, want) in cases {
-            assert!(rt; rules.contains(middle));
-            assert!(rt; rules.contains(place));
-            assert_eq!(rt; overlap(&rules, middle, place), want, "{place:?}");
-        }
-    }
-
-    #[test]
-    fn speeds(rt: HostRuntime) {
-        let rules = RULES;
-        assert!(rt; rules.check().is_ok());
-        for (v, want) in [
-            (8, true),
-            (-8, true),
-            (9, false),
-            (-9, false),
-            (i64::MIN, false),
-        ] {
-            assert_eq!(rt; rules.is_slow(v), want, "{v}");
-        }
-    }
+    scalar_product(dx, dy, dx, dy) < distance * distance
 }

@@ -43,24 +43,3 @@ impl Scene {
         self.disks.len() as u32
     }
 }
-
-#[cfg(test)]
-mod tests {
-    use super::*;
-
-    #[test]
-    fn counts_no_disks(rt: HostRuntime) {
-        let rules = Rules {
-            width: 40,
-            height: 20,
-            diameter: 4,
-            speed_limit: 8,
-            round_limit: 8,
-            end: 5,
-        };
-        assert!(rt; rules.check().is_ok());
-        let scene = Scene::new(rules, Vec::new(rt.alloc()));
-        assert_eq!(rt; scene.count(), 0);
-        assert_eq!(rt; scene.rules, rules);
-    }
-}

@@ -2,7 +2,8 @@
 use Rattle.std.proofs.Common.{◌≡◌, subst, ℕ, zero, suc, ◌+◌, ◌*◌, ◌<◌, ◌≤◌, refl, sym, ap, ◌∙◌, arith}
 use Rattle.std.specs.Prelude.{ℤ, pos, negsuc, nat_abs, ◌+ℤ◌, ◌-ℤ◌, ◌*ℤ◌, ◌<ℤ◌}
 use Rattle.std.proofs.lemmas.Int.{ints}
-use Rattle.impulse_rounding.specs.Impulse.{dot, nearest, ceiling, signed, rounded_impulse, energy_change}
+use Rattle.scalar_product.specs.Product.{dot}
+use Rattle.impulse_rounding.specs.Impulse.{nearest, ceiling, signed, rounded_impulse, energy_change}
 use Rattle.impulse_rounding.proofs.Signed.{square_size}
 use Rattle.impulse_rounding.proofs.Exact.{square_positive}
 use Rattle.impulse_rounding.proofs.Energy.{kept}

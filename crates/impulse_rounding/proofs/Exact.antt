@@ -1,8 +1,10 @@
 -- The exact impulse's sizes, and that the two part after the sizes are rounded up.
 use Rattle.std.proofs.Common.{◌≡◌, subst, ◌*◌, ◌^◌, ◌<◌, ◌≤◌, sym}
 use Rattle.std.specs.Prelude.{ℤ, pos, nat_abs, ◌<ℤ◌}
-use Rattle.impulse_rounding.specs.Impulse.{dot, ceiling, rounded_impulse, parting}
-use Rattle.impulse_rounding.proofs.Signed.{dot_size, square_size, size_positive, parting_up}
+use Rattle.scalar_product.specs.Product.{dot}
+use Rattle.impulse_rounding.specs.Impulse.{ceiling, rounded_impulse, parting}
+use Rattle.scalar_product.proofs.Sizes.{dot_size}
+use Rattle.impulse_rounding.proofs.Signed.{square_size, size_positive, parting_up}
 use Rattle.impulse_rounding.proofs.Sizes.{quotient_bound, quotient_bound_other, some_square, ceiling_above, rounded_up_reach}
 
 -- disks that approach each other don't have one centre

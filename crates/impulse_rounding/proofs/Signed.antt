@@ -1,41 +1,24 @@
 -- Sums and products of signed numbers, as the code computes them.
 use Rattle.std.proofs.Common.{◌≡◌, ℕ, zero, suc, ◌+◌, ◌*◌, ◌^◌, ◌<◌, ◌≤◌, refl, arith}
 use Rattle.std.specs.Prelude.{ℤ, pos, negsuc, nat_abs, ◌+ℤ◌, ◌*ℤ◌, ◌<ℤ◌}
-use Rattle.std.proofs.lemmas.Int.{ints, to_z-of_z, unsigned_abs-mul, fits_signed_from_abs}
+use Rattle.std.proofs.lemmas.Int.{ints, to_z-of_z, fits_signed_from_abs}
 use Rattle.std.specs.Int.{w64}
 use Rattle.std.proofs.Math.Nat.{mul-le-mul}
 use mir.Val.{SFits, of_z, to_z}
-use Rattle.impulse_rounding.specs.Impulse.{dot, signed, parting}
-
-pub size_of_sum : (a b : ℤ) → nat_abs (a +ℤ b) ≤ nat_abs a + nat_abs b
-size_of_sum a b = grind (arith, ints)
-
--- a bound on two sizes bounds the product
-pub size_of_product : (a b : ℤ) (m n : ℕ) → nat_abs a ≤ m → nat_abs b ≤ n → nat_abs (a *ℤ b) ≤ m * n
-size_of_product a b m n ha hb = rw (unsigned_abs-mul a b) (mul-le-mul ha hb)
+use Rattle.scalar_product.specs.Product.{dot}
+use Rattle.scalar_product.proofs.Sizes.{size_of_sum, size_of_product, dot_size}
+use Rattle.impulse_rounding.specs.Impulse.{signed, parting}
 
 -- what is below 2 ^ 63 in size fits 64 bits
 pub fits : (z : ℤ) → nat_abs z < 2 ^ 63 → SFits w64 z
 fits z h = fits_signed_from_abs w64 z h
 
--- the code's product is exact
-pub product_bits : (a b : ℤ) → nat_abs a ≤ 2 ^ 30 → nat_abs b ≤ 2 ^ 30
-    → to_z w64 (of_z w64 (to_z w64 (of_z w64 a) *ℤ to_z w64 (of_z w64 b))) ≡ a *ℤ b
-product_bits a b ha hb =
-    let hab : nat_abs (a *ℤ b) ≤ 2 ^ 60 = size_of_product a b (2 ^ 30) (2 ^ 30) ha hb in
-    rw (to_z-of_z w64 a (fits a (omega arith)), to_z-of_z w64 b (fits b (omega arith)))
-    (to_z-of_z w64 (a *ℤ b) (fits (a *ℤ b) (omega arith)))
-
-pub dot_size : (a b c d : ℤ) → nat_abs (dot a b c d) ≤ nat_abs a * nat_abs c + nat_abs b * nat_abs d
-dot_size a b c d =
-    rw (← unsigned_abs-mul a c, ← unsigned_abs-mul b d) (size_of_sum (a *ℤ c) (b *ℤ d))
-
 pub dot_bound : (a b c d : ℤ) → nat_abs a ≤ 2 ^ 30 → nat_abs b ≤ 2 ^ 30 → nat_abs c ≤ 2 ^ 30 → nat_abs d ≤ 2 ^ 30
     → nat_abs (dot a b c d) ≤ 2 ^ 61
 dot_bound a b c d ha hb hc hd =
-    let hac : nat_abs (a *ℤ c) ≤ 2 ^ 60 = size_of_product a c (2 ^ 30) (2 ^ 30) ha hc in
-    let hbd : nat_abs (b *ℤ d) ≤ 2 ^ 60 = size_of_product b d (2 ^ 30) (2 ^ 30) hb hd in
-    let hs : nat_abs (dot a b c d) ≤ nat_abs (a *ℤ c) + nat_abs (b *ℤ d) = size_of_sum (a *ℤ c) (b *ℤ d) in
+    let ac : nat_abs a * nat_abs c ≤ 2 ^ 30 * 2 ^ 30 = mul-le-mul ha hc in
+    let bd : nat_abs b * nat_abs d ≤ 2 ^ 30 * 2 ^ 30 = mul-le-mul hb hd in
+    let h = dot_size a b c d in
     omega arith
 
 pub square_of : (x : ℤ) → x *ℤ x ≡ pos (nat_abs x * nat_abs x)
@@ -68,18 +51,13 @@ size_positive z h = grind (arith, ints)
 pub bits : (z : ℤ) → nat_abs z ≤ 2 ^ 62 → to_z w64 (of_z w64 z) ≡ z
 bits z h = to_z-of_z w64 z (fits z (omega arith))
 
--- the code's scalar product fits, and is exact
-pub dot_fits : (a b c d : ℤ) → nat_abs a ≤ 2 ^ 30 → nat_abs b ≤ 2 ^ 30 → nat_abs c ≤ 2 ^ 30 → nat_abs d ≤ 2 ^ 30
-    → SFits w64 (to_z w64 (of_z w64 (to_z w64 (of_z w64 a) *ℤ to_z w64 (of_z w64 c))) +ℤ to_z w64 (of_z w64 (to_z w64 (of_z w64 b) *ℤ to_z w64 (of_z w64 d))))
-dot_fits a b c d ha hb hc hd =
-    let h : nat_abs (dot a b c d) ≤ 2 ^ 61 = dot_bound a b c d ha hb hc hd in
-    rw (product_bits a c ha hc, product_bits b d hb hd) (fits (dot a b c d) (omega arith))
-
-pub dot_bits : (a b c d : ℤ) → nat_abs a ≤ 2 ^ 30 → nat_abs b ≤ 2 ^ 30 → nat_abs c ≤ 2 ^ 30 → nat_abs d ≤ 2 ^ 30
-    → to_z w64 (of_z w64 (to_z w64 (of_z w64 (to_z w64 (of_z w64 a) *ℤ to_z w64 (of_z w64 c))) +ℤ to_z w64 (of_z w64 (to_z w64 (of_z w64 b) *ℤ to_z w64 (of_z w64 d))))) ≡ dot a b c d
-dot_bits a b c d ha hb hc hd =
-    let h : nat_abs (dot a b c d) ≤ 2 ^ 61 = dot_bound a b c d ha hb hc hd in
-    rw (product_bits a c ha hc, product_bits b d hb hd) (bits (dot a b c d) (omega arith))
+-- the code's scalar product of small numbers is exact, and small
+pub small_dot : (r a b c d : ℤ) → nat_abs a ≤ 2 ^ 30 → nat_abs b ≤ 2 ^ 30 → nat_abs c ≤ 2 ^ 30 → nat_abs d ≤ 2 ^ 30
+    → r ≡ dot (to_z w64 (of_z w64 a)) (to_z w64 (of_z w64 b)) (to_z w64 (of_z w64 c)) (to_z w64 (of_z w64 d))
+    → (r ≡ dot a b c d) × (nat_abs r ≤ 2 ^ 61)
+small_dot r a b c d ha hb hc hd e =
+    let same : r ≡ dot a b c d = rw (bits a (omega arith), bits b (omega arith), bits c (omega arith), bits d (omega arith)) at e in
+    (same, rw same (dot_bound a b c d ha hb hc hd))
 
 -- the code's double fits, and is exact
 pub twice_fits : (s : ℤ) → nat_abs s ≤ 2 ^ 61 → SFits w64 (pos 2 *ℤ to_z w64 (of_z w64 s))

@@ -5,8 +5,11 @@
 #![tactic(auto)]
 
 ghost use Rattle.std.specs.Prelude.{◌≡◌, ◌+◌, ◌*◌, ◌^◌, ◌≤◌, ◌<◌, ℕ, pos, ◌<ℤ◌, nat_abs};
-ghost use Rattle.impulse_rounding.specs.Impulse.{dot, nearest, ceiling, signed, impulse_of, parting, energy_change};
+ghost use Rattle.scalar_product.specs.Product.{dot};
+ghost use Rattle.impulse_rounding.specs.Impulse.{nearest, ceiling, signed, impulse_of, parting, energy_change};
 ghost use Rattle.impulse_rounding.specs.Laws.{RoundsRight};
+
+use scalar_product::scalar_product;
 
 /// The impulse, in units per tick, that the first of two disks gets and the second loses.
 ///
@@ -76,18 +79,6 @@ fn exact_sizes(rx: i64, ry: i64, ux: i64, uy: i64) -> ExactSizes
     }
 }
 
-// The scalar product of (ax, ay) and (bx, by).
-fn scalar_product(ax: i64, ay: i64, bx: i64, by: i64) -> i64
-    requires ax_size { nat_abs ax ≤ 2 ^ 30 }
-    requires ay_size { nat_abs ay ≤ 2 ^ 30 }
-    requires bx_size { nat_abs bx ≤ 2 ^ 30 }
-    requires by_size { nat_abs by ≤ 2 ^ 30 }
-    ensures value { result ≡ dot ax ay bx by }
-    ensures size { nat_abs result ≤ 2 ^ 61 }
-{
-    ax * bx + ay * by
-}
-
 // How fast the two would part along (rx, ry) after the impulse.
 fn parting_speed(rx: i64, ry: i64, ux: i64, uy: i64, impulse: (i64, i64)) -> i64
     requires rx_size { nat_abs rx ≤ 2 ^ 30 }
@@ -132,38 +123,4 @@ fn with_sign(x: i64, size: u64) -> i64
     ensures size { nat_abs result ≤ 2 ^ 22 }
 {
     if x >= 0 { size as i64 } else { -(size as i64) }
-}
-
-#[cfg(test)]
-mod tests {
-    use super::*;
-
-    #[test]
-    fn rounds_the_exact_impulse(rt: HostRuntime) {
-        let cases = [
-            // 14.03 and 5.26
-            (impulse(-8, -3, 16, 0), (-14, -5)),
-            // 0.24 and 0.42: rounded to nearest the two wouldn't part
-            (impulse(-5, -9, 1, 0), (-1, -1)),
-            // head on
-            (impulse(-4, 0, 2, 0), (-2, 0)),
-            // 9.76 and 7.32
-            (impulse(-4, 3, 16, 1), (-10, 7)),
-            // 1.5 and 1.5
-            (impulse(-1, 1, 3, 0), (-2, 2)),
-            // 4.5 and 1.5
-            (impulse(3, -1, -5, 0), (5, -2)),
-            // the largest numbers
-            (
-                impulse(-1073741824, -1073741824, 2097152, 2097152),
-                (-2097152, -2097152),
-            ),
-            // just above a half and just below, and both just below
-            (impulse(1073741824, 1073741823, -1, 0), (1, 0)),
-            (impulse(1073741824, 1073741823, 0, -1), (1, 1)),
-        ];
-        for (got, want) in cases {
-            assert_eq!(rt; got, want);
-        }
-    }
 }

@@ -1,7 +1,8 @@
 -- The quotients exist and are small.
 use Rattle.std.proofs.Common.{rules, ◌≡◌, ◌*◌}
 use Rattle.std.specs.Prelude.{nat_abs}
-use Rattle.impulse_rounding.specs.Impulse.{dot}
+use Rattle.scalar_product.specs.Product.{dot}
+use Rattle.impulse_rounding.proofs.Signed.{dot_bound}
 use Rattle.impulse_rounding.proofs.Exact.{square_positive, x_small, y_small}
 use Rattle.impulse_rounding.proofs.exact_sizes.Goals as goal
 
@@ -21,3 +22,8 @@ pub returns-clause-positive : goal.returns-clause-positive
 returns-clause-positive c =
     let divisor : c.unsigned_abs-4.result ≡ nat_abs (dot c.args.rx c.args.ry c.args.rx c.args.ry) = search rules in
     rw divisor (square_positive c.args.rx c.args.ry c.args.ux c.args.uy c.requires.approaching)
+
+pub returns-clause-divisor_size : goal.returns-clause-divisor_size
+returns-clause-divisor_size c =
+    let divisor : c.unsigned_abs-4.result ≡ nat_abs (dot c.args.rx c.args.ry c.args.rx c.args.ry) = search rules in
+    rw divisor (dot_bound c.args.rx c.args.ry c.args.rx c.args.ry c.requires.rx_size c.requires.ry_size c.requires.rx_size c.requires.ry_size)
