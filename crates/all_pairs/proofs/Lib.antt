@@ -1,4 +1,3 @@
 pub mod Least
 pub mod Events
 pub mod Turns
-pub mod Scenes

@@ -19,8 +19,6 @@ pub mod laws;
 pub mod line;
 mod lines;
 pub mod reporter;
-#[cfg(test)]
-mod tests;
 mod totals;
 mod writing;
 

@@ -3,8 +3,6 @@
 //! It reads a scene in TOML on standard input and writes the report of its run on standard output.
 #![tactic(auto)]
 
-#[cfg(test)]
-mod predictor_tests;
 pub mod refusals;
 pub mod show;
 pub mod status;

@@ -24,7 +24,7 @@ pub trait Sink {
     fn faults(&self) -> u64
         ensures { result ≡ count self.now };
 
-    /// Gives a piece; an empty one is taken at once.
+    /// Gives a piece, which may be empty.
     fn give(&mut self, piece: &[u8]) -> Given
         ensures gives { Gives (taken self.old) (taken self.new) result piece.now }
         ensures tells { is_some (taken self.new) ≡ is_some (taken self.old) }

@@ -126,36 +126,3 @@ impl<W: Write> Sink for StdSink<W> {
         Given::All
     }
 }
-
-#[cfg(test)]
-mod tests {
-    use super::*;
-    use std::test::Fail;
-
-    #[test]
-    fn reads_to_the_end(rt: HostRuntime) {
-        let mut source = StdSource::new(b"disks".as_slice());
-        let mut room = [0u8; 3];
-        for (taken, held) in [
-            (Taken::Got(3), b"dis"),
-            (Taken::Got(2), b"kss"),
-            (Taken::End, b"kss"),
-        ] {
-            assert_eq!(rt; source.take(&mut room), taken);
-            assert_eq!(rt; room, *held);
-        }
-        assert_eq!(rt; source.faults(), 0);
-    }
-
-    #[test]
-    fn writes_what_it_takes(rt: HostRuntime) -> Result<(), Fail> {
-        let mut written = Vec::new(rt.alloc());
-        let mut sink = StdSink::new(&mut written);
-        for piece in [b"di".as_slice(), b"", b"sks"] {
-            assert_eq!(rt; sink.give(piece), Given::All);
-        }
-        assert_eq!(rt; sink.faults(), 0);
-        assert_eq!(rt; written.as_slice(), b"disks".as_slice());
-        Ok(())
-    }
-}

@@ -14,6 +14,3 @@ mod values;
 pub use fault::{KeyText, SceneFault};
 pub use key::Key;
 pub use reader::read_scene;
-
-#[cfg(test)]
-mod tests;

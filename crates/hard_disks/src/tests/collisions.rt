@@ -1,0 +1,125 @@
+//! What collisions do, and at which limits they fail.
+
+use event_rules::{Change, Limit, apply, pair_event, wall_event};
+use event_stamps::{Kind, Stamp};
+use fixed_motion::{Disk, Rules};
+
+const RULES: Rules = Rules {
+    width: 40,
+    height: 20,
+    diameter: 4,
+    speed_limit: 8,
+    round_limit: 8,
+    end: 5,
+};
+
+// A place, a velocity and a mark, at the base tick 0.
+type Record = (i64, i64, i64, i64, u32);
+
+fn disk_of((x, y, vx, vy, mark): Record) -> Disk {
+    Disk {
+        x,
+        y,
+        vx,
+        vy,
+        base: 0,
+        mark,
+    }
+}
+
+const WIDE: Rules = Rules {
+    width: 100,
+    height: 100,
+    diameter: 10,
+    ..RULES
+};
+
+const ONE_ROUND: Rules = Rules {
+    round_limit: 1,
+    ..RULES
+};
+
+const EARLY: Stamp = Stamp {
+    tick: 0,
+    round: 0,
+    kind: Kind::Pair,
+    first: 0,
+    second: 1,
+};
+
+const LATE: Stamp = Stamp { round: 1, ..EARLY };
+
+// The rules, two disks, and the two after they hit each other in the first tick.
+const COLLISIONS: &[(Rules, Record, Record, Result<(Record, Record), Limit>)] = &[
+    (
+        RULES,
+        (10, 10, 8, 0, 0),
+        (18, 13, -8, 0, 0),
+        Ok(((10, 10, -6, -5, 1), (18, 13, 6, 5, 1))),
+    ),
+    // To the nearest whole numbers the impulse would be nothing.
+    (
+        WIDE,
+        (40, 40, 1, 0, 0),
+        (45, 49, 0, 0, 0),
+        Ok(((40, 40, 0, -1, 1), (45, 49, 1, 1, 1))),
+    ),
+    // The second velocity would be (2, 9).
+    (
+        RULES,
+        (20, 10, 8, 1, 0),
+        (24, 13, -8, 1, 0),
+        Err(Limit::Speed(EARLY)),
+    ),
+    (
+        ONE_ROUND,
+        (10, 10, 8, 0, 1),
+        (18, 13, -8, 0, 0),
+        Err(Limit::Rounds(LATE)),
+    ),
+];
+
+fn change_to((first, second): (Record, Record)) -> Change {
+    Change {
+        stamp: EARLY,
+        first: disk_of(first),
+        second: Some(disk_of(second)),
+    }
+}
+
+#[test]
+fn collisions(rt: HostRuntime) {
+    for &(rules, first, second, want) in COLLISIONS {
+        let (a, b) = (disk_of(first), disk_of(second));
+        assert!(rt; rules.check().is_ok());
+        assert!(rt; a.is_valid(&rules));
+        assert!(rt; b.is_valid(&rules));
+        match pair_event(&rules, 0, &a, 1, &b) {
+            None => panic!(rt; "no event of {a:?}"),
+            Some(stamp) => {
+                assert_eq!(rt; apply(&rules, &stamp, &a, Some(&b)), want.map(change_to))
+            }
+        }
+    }
+}
+
+#[test]
+fn corner(rt: HostRuntime) {
+    let rules = RULES;
+    let a = disk_of((3, 3, -2, -2, 0));
+    let want = Change {
+        stamp: Stamp {
+            kind: Kind::Wall,
+            second: 0,
+            ..EARLY
+        },
+        first: disk_of((3, 3, 2, -2, 1)),
+        second: None,
+    };
+    assert!(rt; rules.check().is_ok());
+    assert!(rt; a.is_valid(&rules));
+    match wall_event(&rules, 0, &a, 0) {
+        None => panic!(rt; "no event"),
+        Some(stamp) => assert_eq!(rt; apply(&rules, &stamp, &a, None), Ok(want)),
+    }
+}

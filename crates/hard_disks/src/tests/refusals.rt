@@ -1,0 +1,132 @@
+//! Words and scenes that are refused.
+
+use super::{PLAIN, output};
+use crate::status::Status;
+use std::alloc::{AllocError, Global};
+use std::test::Fail;
+
+// The scene of two disks that meet.
+const MEETING: &str =
+    "width = 40\nheight = 20\ndiameter = 4\nspeed_limit = 8\nround_limit = 8\nend = 5\ndisks = [\n  [10, 10, 1, 0],\n  [20, 10, -1, 0],\n]\n";
+
+const DISKS: &str = "disks = [\n  [10, 10, 1, 0],\n  [20, 10, -1, 0],\n]\n";
+
+// What is changed in that scene, into what, and the line of the refusal.
+const REFUSALS: &[(&str, &str, &str)] = &[
+    (MEETING, "", "refused 4 missing key width\n"),
+    (MEETING, "width = 40\nheight =", "refused 2 not toml\n"),
+    (
+        "width = 40",
+        "width = 9223372036854775808",
+        "refused 2 not toml\n",
+    ),
+    (
+        "disks =",
+        "gravity = 1\ndisks =",
+        "refused 3 unknown key gravity\n",
+    ),
+    ("disks =", "\"\" = 1\ndisks =", "refused 3 unknown key \n"),
+    (
+        "disks =",
+        "\"gra\u{e9}vity in a key that is longer than sixty-four bytes, by a few of them\" = 1\ndisks =",
+        "refused 3 unknown key gra??vity?in?a?key?that?is?longer?than?sixty-four?bytes,?by?a?fe\n",
+    ),
+    ("end = 5\n", "", "refused 4 missing key end\n"),
+    (
+        "width = 40",
+        "width = \"40\"",
+        "refused 5 wrong type width\n",
+    ),
+    ("width = 40", "width = 40.0", "refused 5 wrong type width\n"),
+    (
+        "40\nheight = 20\ndiameter = 4",
+        "\"40\"\nheight = 20\ndiameter = 5",
+        "refused 5 wrong type width\n",
+    ),
+    (DISKS, "[disks]\n", "refused 5 wrong type disks\n"),
+    (
+        "diameter = 4",
+        "diameter = 5",
+        "refused 6 out of range diameter\n",
+    ),
+    (
+        "round_limit = 8",
+        "round_limit = 4294967297",
+        "refused 6 out of range round_limit\n",
+    ),
+    ("end = 5", "end = -1", "refused 6 out of range end\n"),
+    (DISKS, "[[disks]]\n", "refused 8 bad row 0\n"),
+    ("[20, 10, -1, 0]", "[20, 10, -1]", "refused 8 bad row 1\n"),
+    ("[10, 10, 1, 0]", "[1, 10, 1, 0]", "refused 9 outside 0\n"),
+    (
+        "[10, 10, 1, 0]",
+        "[10, 10, 9, 0]",
+        "refused 10 too fast 0\n",
+    ),
+    (
+        "[20, 10, -1, 0]",
+        "[12, 10, -1, 0]",
+        "refused 11 overlap 0 1\n",
+    ),
+];
+
+// The scene with one place changed.
+fn changed(alloc: Global, old: &str, new: &str) -> Result<String, AllocError> {
+    let mut text = String::new(alloc);
+    match MEETING.split_once(old) {
+        Some((before, after)) => {
+            text.push_str(before)?;
+            text.push_str(new)?;
+            text.push_str(after)?;
+        }
+        None => text.push_str("no such place")?,
+    }
+    Ok(text)
+}
+
+#[test]
+fn scenes(rt: HostRuntime) -> Result<(), Fail> {
+    for &(old, new, want) in REFUSALS {
+        let text = changed(rt.alloc(), old, new)?;
+        let (sink, status) = output(rt.alloc(), PLAIN, text.as_bytes(), &[], &[])?;
+        assert_eq!(rt; status, Status::SceneRefused, "{want}");
+        assert_eq!(rt; sink.bytes(), want.as_bytes(), "{want}");
+    }
+    Ok(())
+}
+
+#[test]
+fn too_many_disks(rt: HostRuntime) -> Result<(), Fail> {
+    let mut rows = String::new(rt.alloc());
+    rows.push_str("disks = [")?;
+    for _ in 0..65_537 {
+        rows.push_str("[],")?;
+    }
+    rows.push_str("]\n")?;
+    let text = changed(rt.alloc(), DISKS, rows.as_str())?;
+    let (sink, status) = output(rt.alloc(), PLAIN, text.as_bytes(), &[], &[])?;
+    assert_eq!(rt; status, Status::SceneRefused);
+    assert_eq!(rt; sink.bytes(), "refused 7 too many disks 65537\n".as_bytes());
+    Ok(())
+}
+
+const NO_SETTINGS: &[&[&str]] = &[
+    &[],
+    &["--mode"],
+    &["--mode", "fast"],
+    &["--mode", "run"],
+    &["--format", "lines"],
+    &["plain", "--mode"],
+    &["--mode", "plain", "--format", "rows"],
+    &["--mode", "plain", "extra"],
+];
+
+#[test]
+fn words(rt: HostRuntime) -> Result<(), Fail> {
+    for words in NO_SETTINGS {
+        let (sink, status) = output(rt.alloc(), words, MEETING.as_bytes(), &[], &[])?;
+        assert_eq!(rt; status, Status::BadWords);
+        assert_eq!(rt; sink.bytes(), "bad words\n".as_bytes());
+    }
+    Ok(())
+}
