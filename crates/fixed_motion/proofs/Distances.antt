@@ -1,8 +1,8 @@
 -- Differences of places inside, their squares, and the ways that disks go in 64 bits.
-use Rattle.std.proofs.Common.{◌≡◌, ℕ, ◌*◌, ◌^◌, ◌<◌, ◌≤◌, ℤ, pos, nat_abs, ◌+ℤ◌, ◌-ℤ◌, ◌*ℤ◌, int_lt, FitsSigned, w64, to_z, arith}
-use Rattle.std.proofs.lemmas.Int.{ints, to_z-of_z, to_z_pos}
+use Rattle.std.proofs.Common.{◌≡◌, ℕ, ◌*◌, ◌^◌, ◌<◌, ◌≤◌, ℤ, nat_abs, ◌+ℤ◌, ◌-ℤ◌, ◌*ℤ◌, int_lt, FitsSigned, w64, arith}
+use Rattle.std.proofs.lemmas.Int.{ints, to_z-of_z}
 use Rattle.scalar_product.specs.Product.{dot}
-use Rattle.scalar_product.proofs.Sizes.{size_of_product}
+use Rattle.scalar_product.proofs.Sizes.{IsWay, way, size_of_product}
 use Rattle.fixed_motion.specs.declared.rules.Rules.{Rules}
 use Rattle.fixed_motion.specs.Rules.{IsChecked}
 use Rattle.fixed_motion.specs.Motion.{Place, contact_distance, IsInside, squared_distance, overlaps, IsSlow}
@@ -42,30 +42,9 @@ distance_square rules r h e =
 pub slow_size : (rules : Rules) (v : ℤ) → IsChecked rules → IsSlow rules v → nat_abs v ≤ 1048576
 slow_size rules v h k = let limit = h.speed_limit.1 in omega (arith, ints)
 
-way_size : (v : ℤ) (t : ℕ) → nat_abs v ≤ 1048576 → t ≤ 1099511627776 → nat_abs (v *ℤ pos t) ≤ 1152921504606846976
-way_size v t h l = size_of_product v (pos t) 1048576 1099511627776 h l
-
--- where a coordinate is after some ticks
-pub record IsWay (x v : ℤ) (t : ℕ) : Type 0 where
-  pub way_fits : FitsSigned w64 (sent v *ℤ to_z w64 t)
-  pub sum_fits : FitsSigned w64 (sent x +ℤ sent (sent v *ℤ to_z w64 t))
-  pub place : sent (sent x +ℤ sent (sent v *ℤ to_z w64 t)) ≡ (x +ℤ (v *ℤ pos t))
-
-pub way : (x v : ℤ) (t : ℕ) → IsWithinSide x → nat_abs v ≤ 1048576 → t ≤ 1099511627776 → IsWay x v t
-way x v t h k l =
-    let start : sent x ≡ x = to_z-of_z w64 x (side_fits x h) in
-    let speed_fits : FitsSigned w64 v = omega (arith, ints) in
-    let speed : sent v ≡ v = to_z-of_z w64 v speed_fits in
-    let ticks : to_z w64 t ≡ pos t = to_z_pos w64 t (omega arith) in
-    let size : nat_abs (v *ℤ pos t) ≤ 1152921504606846976 = way_size v t k l in
-    let fits : FitsSigned w64 (v *ℤ pos t) = omega (arith, ints) in
-    let product : sent (v *ℤ pos t) ≡ (v *ℤ pos t) = to_z-of_z w64 (v *ℤ pos t) fits in
-    let sum : FitsSigned w64 (x +ℤ (v *ℤ pos t)) = omega (arith, ints) in
-    record {
-      way_fits = rw (speed, ticks) fits;
-      sum_fits = rw (start, speed, ticks, product) sum;
-      place = rw (start, speed, ticks, product) (to_z-of_z w64 (x +ℤ (v *ℤ pos t)) sum);
-    }
+-- where a coordinate of a disk inside is after some ticks
+pub way_inside : (x v : ℤ) (t : ℕ) → IsWithinSide x → nat_abs v ≤ 1048576 → t ≤ 1099511627776 → IsWay x v t
+way_inside x v t h k l = way x v t (omega (arith, ints)) (omega arith) l
 
 -- the code's test of two places
 pub test_sent : (rules : Rules) (p q : Place) (d r : ℤ) → IsChecked rules → IsInside rules p → IsInside rules q →

@@ -6,13 +6,14 @@ use Rattle.fixed_motion.specs.Rules.{IsChecked}
 use Rattle.fixed_motion.specs.Motion.{Place, IsValidDisk, place_of, centre_of}
 use Rattle.fixed_motion.proofs.Sizes.{inside_x, inside_y}
 use Rattle.fixed_motion.proofs.Casts.{sent}
-use Rattle.fixed_motion.proofs.Distances.{IsWay, way, slow_size}
+use Rattle.scalar_product.proofs.Sizes.{IsWay}
+use Rattle.fixed_motion.proofs.Distances.{way_inside, slow_size}
 
 pub way_x : (rules : Rules) (disk : Disk) (t : ℕ) → IsChecked rules → IsValidDisk rules disk → t ≤ 1099511627776 → IsWay disk.x disk.vx t
-way_x rules disk t h k l = way disk.x disk.vx t (inside_x rules (centre_of disk) h k.centre) (slow_size rules disk.vx h k.vx) l
+way_x rules disk t h k l = way_inside disk.x disk.vx t (inside_x rules (centre_of disk) h k.centre) (slow_size rules disk.vx h k.vx) l
 
 pub way_y : (rules : Rules) (disk : Disk) (t : ℕ) → IsChecked rules → IsValidDisk rules disk → t ≤ 1099511627776 → IsWay disk.y disk.vy t
-way_y rules disk t h k l = way disk.y disk.vy t (inside_y rules (centre_of disk) h k.centre) (slow_size rules disk.vy h k.vy) l
+way_y rules disk t h k l = way_inside disk.y disk.vy t (inside_y rules (centre_of disk) h k.centre) (slow_size rules disk.vy h k.vy) l
 
 -- where the code goes from a coordinate
 abbrev pub moved : ℤ → ℤ → ℕ → ℤ
