@@ -1,10 +1,10 @@
 //! The next event of a state.
 
-ghost use Rattle.std.specs.Prelude.{◌≡◌, ◌<◌, ◌≤◌, ℕ, length, Some, slice_get};
+ghost use Rattle.std.specs.Prelude.{◌≡◌, ◌<◌, length, Some, slice_get};
 ghost use Rattle.fixed_motion.specs.Rules.{IsChecked};
 ghost use Rattle.fixed_motion.specs.declared.disk.Disk.{Disk};
 ghost use Rattle.event_rules.specs.Run.{IsCandidate, IsValidState};
-ghost use Rattle.all_pairs.specs.Search.{IsLeastOf, earlier_of, IsWallBelow, IsPairBelow, IsBelow};
+ghost use Rattle.all_pairs.specs.Search.{IsLeastOf, earlier_of, IsWallBelow, IsPairBelow};
 
 use event_rules::{pair_event, wall_event};
 use event_stamps::Stamp;

@@ -1,7 +1,6 @@
 //! The lines of a report, each made of what it tells.
 
-ghost use Rattle.std.specs.Prelude.{◌≡◌, ◌+◌, ◌≤◌, ◌<◌, ◌^◌, ◌∷◌, ◌++◌, [], None, Some, codes, decimal, length};
-ghost use Rattle.std.specs.Fmt.{signed_decimal};
+ghost use Rattle.std.specs.Prelude.{◌≡◌, ◌≤◌, ◌∷◌, [], None, Some, decimal, length};
 ghost use Rattle.std.specs.List.{join_with_byte};
 ghost use Rattle.collision_report.specs.Lines as the;
 ghost use Rattle.collision_report.specs.Report as of;

@@ -1,10 +1,9 @@
 //! A listener that writes a report.
 
-ghost use Rattle.std.specs.Prelude.{◌≡◌, ◌≤◌, ◌∷◌, [], Some, OnOk, OnErr};
+ghost use Rattle.std.specs.Prelude.{◌≡◌, ◌≤◌, Some, OnOk, OnErr};
 ghost use Rattle.std.specs.Io.KnownBytes.{Appends};
 ghost use Rattle.report_ports.specs.Ports.{Rose, AppendsPrefix};
 ghost use Rattle.event_rules.specs.declared.change.Change.{Change};
-ghost use Rattle.event_rules.specs.Told.{Told, Torn, IsTellable};
 ghost use Rattle.collision_report.specs.Report.{end_block, IsReportable};
 ghost use Rattle.collision_report.specs.Meaning.{LentReport, told_on_loan, IsTornOnLoan};
 

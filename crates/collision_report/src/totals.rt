@@ -1,6 +1,6 @@
 //! The sums of a report.
 
-ghost use Rattle.std.specs.Prelude.{◌≡◌, ◌+◌, ◌*◌, ◌≤◌, sum_by, nat_abs};
+ghost use Rattle.std.specs.Prelude.{◌≡◌, ◌+◌, ◌*◌, ◌≤◌, sum_by};
 ghost use Rattle.fixed_motion.specs.declared.disk.Disk.{Disk};
 ghost use Rattle.event_rules.specs.declared.outcome.Spot.{Spot};
 ghost use Rattle.collision_report.specs.Bounds.{IsSmall, AreSmall};

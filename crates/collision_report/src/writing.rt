@@ -1,6 +1,5 @@
 //! The parts of a report, written to a sink.
 
-ghost use Rattle.std.specs.Prelude.{◌≡◌, ◌≤◌, length, codes};
 ghost use Rattle.fixed_motion.specs.declared.disk.Disk.{Disk};
 ghost use Rattle.event_rules.specs.declared.outcome.Spot.{Spot};
 ghost use Rattle.event_rules.specs.declared.outcome.Outcome.TheVariants.{Done};

@@ -1,6 +1,6 @@
 //! Disks that move on straight lines.
 
-ghost use Rattle.std.specs.Prelude.{◌≡◌, ℕ, ◌≤◌, ◌↔◌, ◌^◌, MatchOption, IsTrue};
+ghost use Rattle.std.specs.Prelude.{◌≡◌, ◌≤◌, ◌↔◌, ◌^◌, MatchOption, IsTrue};
 ghost use Rattle.fixed_motion.specs.Rules.{IsChecked, is_between};
 ghost use Rattle.fixed_motion.specs.Motion.{IsInside, is_inside, IsValidDisk, place_of, Overlaps, overlaps, IsSlow, is_slow};
 

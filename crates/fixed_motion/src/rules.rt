@@ -1,8 +1,8 @@
 //! The rules of a scene.
 
-ghost use Rattle.std.specs.Prelude.{◌≡◌, ℕ, None, Some, pos, ◌≤ℤ◌, MatchResult, IsTrue, ◌↔◌};
+ghost use Rattle.std.specs.Prelude.{◌≡◌, None, Some, pos, ◌≤ℤ◌, MatchResult};
 ghost use Rattle.fixed_motion.specs.Rules.{IsChecked, rule_fault, numbers_of, is_diameter};
-ghost use Rattle.fixed_motion.specs.Motion.{radius_of, contact_distance, IsInside};
+ghost use Rattle.fixed_motion.specs.Motion.{radius_of, contact_distance};
 
 /// The greatest width and height, in units of length.
 pub const MAX_SIDE: i64 = 1_073_741_824;

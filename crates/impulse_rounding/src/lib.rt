@@ -4,7 +4,7 @@
 //! rounded to whole numbers, so that momentum is kept exactly and energy nearly.
 #![tactic(auto)]
 
-ghost use Rattle.std.specs.Prelude.{◌≡◌, ◌+◌, ◌*◌, ◌^◌, ◌≤◌, ◌<◌, ℕ, pos, ◌<ℤ◌, nat_abs};
+ghost use Rattle.std.specs.Prelude.{◌≡◌, ◌+◌, ◌*◌, ◌^◌, ◌≤◌, ◌<◌, pos, ◌<ℤ◌, nat_abs};
 ghost use Rattle.scalar_product.specs.Product.{dot};
 ghost use Rattle.impulse_rounding.specs.Impulse.{nearest, ceiling, signed, impulse_of, parting, energy_change};
 ghost use Rattle.impulse_rounding.specs.Laws.{RoundsRight};

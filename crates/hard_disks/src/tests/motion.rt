@@ -1,6 +1,6 @@
 //! Rules, places, and the scalar product.
 
-use fixed_motion::{Disk, RuleFault, Rules, Scene, overlap};
+use fixed_motion::{Disk, RuleFault, Rules, overlap};
 use scalar_product::scalar_product;
 
 // A box of 40 x 20 with disks of diameter 4 is sound; each row changes one number.
