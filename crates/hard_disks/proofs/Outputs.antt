@@ -1,7 +1,6 @@
 -- What the parts of the program do makes what the program does.
-use Rattle.std.proofs.Common.{◌≡◌, ◌≢◌, ◌⊎◌, inl, inr, ℕ, List, [], Option, Some, None, Result, Ok, Err, ap, sym, subst, refl}
-use Rattle.std.specs.Io.KnownBytes.{Appends, Keeps}
-use Rattle.report_ports.specs.Ports.{AppendsPrefix}
+use Rattle.std.proofs.Common.{◌≡◌, ◌≢◌, ◌⊎◌, inl, inr, ℕ, List, Option, Some, None, Result, Ok, Err, sym, subst, refl}
+use Rattle.std.specs.Io.KnownBytes.{Keeps}
 use Rattle.fixed_motion.specs.Scene.{SceneData}
 use Rattle.scene_reader.specs.declared.fault.SceneFault.{SceneFault}
 use Rattle.scene_reader.specs.declared.fault.SceneFault.TheVariants.{TooLong, NotToml, UnknownKey, MissingKey, WrongType, Rules, TooManyDisks, BadRow, Outside, TooFast, Overlap, ReadFault as SourceFailed, NoMemory as ReadNoMemory}

@@ -1,5 +1,5 @@
 -- The outcome of a run can be reported.
-use Rattle.std.proofs.Common.{◌≡◌, ◌≢◌, ℕ, List, [], ◌∷◌, Bool, true, false, Option, Some, None, Result, Ok, Err, slice_get, length, map, option_map, inl, inr, ◌⊎◌, ap, sym, subst, refl, ◌∙◌, arith, ℤ}
+use Rattle.std.proofs.Common.{◌≡◌, ℕ, List, [], ◌∷◌, Bool, true, false, Option, Some, None, Result, Ok, Err, slice_get, length, option_map, inl, inr, ◌⊎◌, ap, sym, subst, refl, ◌∙◌, arith, ℤ}
 use Rattle.std.specs.Prelude.{◌==◌, ◌&&◌, nat_lt, neg_ℤ, nat_abs, pos, int_le, if◌then◌else◌}
 use Rattle.std.proofs.lemmas.Grind.{common_steps}
 use Rattle.std.proofs.lemmas.Int.{ints}
@@ -10,7 +10,7 @@ use Rattle.fixed_motion.specs.Motion.{IsSlow, is_slow, IsValidDisk}
 use Rattle.fixed_motion.specs.Scene.{SceneData, IsValidScene}
 use Rattle.event_stamps.specs.declared.Stamp.{Stamp}
 use Rattle.event_stamps.specs.declared.Kind.{Kind}
-use Rattle.event_stamps.specs.declared.Kind.TheVariants.{Cross, Wall, Pair}
+use Rattle.event_stamps.specs.declared.Kind.TheVariants.{Wall, Pair}
 use Rattle.event_rules.specs.declared.change.Change.{Change}
 use Rattle.event_rules.specs.declared.change.Limit.{Limit}
 use Rattle.event_rules.specs.declared.change.Limit.TheVariants.{Rounds, Speed}

@@ -1,5 +1,5 @@
 -- What a reporter has written that was told a run.
-use Rattle.std.proofs.Common.{◌≡◌, ℕ, List, [], ◌∷◌, ◌++◌, Option, Some, None, option_map, take, drop, length, inl, inr, ◌⊎◌, append_assoc, ap, sym, subst, refl, ◌∙◌, count_by, ◌≤◌, Ok, arith}
+use Rattle.std.proofs.Common.{◌≡◌, ℕ, List, ◌∷◌, ◌++◌, Option, Some, None, option_map, take, drop, inl, inr, append_assoc, ap, sym, subst, refl, ◌∙◌, count_by, ◌≤◌, Ok, arith}
 use Rattle.std.specs.List.{flat_map}
 use Rattle.std.proofs.lemmas.Grind.{flat_map-append}
 use Rattle.std.proofs.lemmas.List.{take-append-drop}
@@ -21,7 +21,7 @@ use Rattle.event_rules.specs.Told.{told, Told, Torn, PrefixTold}
 use Rattle.collision_report.specs.declared.format.Format.{Format}
 use Rattle.collision_report.specs.Report.{change_text, is_wall, is_pair, counted, end_block, report}
 use Rattle.collision_report.specs.Meaning.{ReportSoFar, LentReport, told_on_loan, IsTornOnLoan}
-use Rattle.collision_report.specs.Laws.{uncounted, with_changes}
+use Rattle.collision_report.specs.Laws.{uncounted}
 use Rattle.collision_report.proofs.Told.{told_lent, changes_join}
 
 -- the lines of changes

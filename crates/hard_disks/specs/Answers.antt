@@ -1,5 +1,5 @@
 -- What the program has done at its exit.
-use Rattle.std.specs.Prelude.{◌≡◌, ◌⊎◌, ℕ, List, [], ◌∷◌, ⊤, Option, Some, None, Result, Ok, Err}
+use Rattle.std.specs.Prelude.{◌≡◌, ◌⊎◌, ℕ, List, [], ⊤, Option, Some, None, Result}
 use Rattle.std.specs.Io.KnownBytes.{Appends, Keeps}
 use Rattle.report_ports.specs.Ports.{AppendsPrefix}
 use Rattle.fixed_motion.specs.Scene.{SceneData}

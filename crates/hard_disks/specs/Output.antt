@@ -1,5 +1,5 @@
 -- The output of the program: a text and a status.
-use Rattle.std.specs.Prelude.{◌≡◌, ℕ, List, length, codes, Option, Some, None, Result, Ok, Err}
+use Rattle.std.specs.Prelude.{◌≡◌, ℕ, List, length, codes, Result, Ok, Err}
 use Rattle.fixed_motion.specs.Scene.{SceneData}
 use Rattle.event_rules.specs.declared.change.Change.{Change}
 use Rattle.event_rules.specs.declared.change.Limit.TheVariants.{Rounds, Speed}

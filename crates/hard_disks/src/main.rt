@@ -11,6 +11,9 @@ mod tests;
 pub mod top;
 pub mod words;
 
+ghost use Rattle.std.specs.Prelude.{◌≡◌, ◌⊎◌, map, None};
+ghost use Rattle.hard_disks.specs.Words.{settings_of};
+
 use report_ports::{StdSink, StdSource};
 use status::Status;
 use std::process::ExitCode;
@@ -47,7 +50,11 @@ fn run_args<R: AllocGlobal + Input + Print>(rt: &R, args: env::Args) -> Status {
     }
 }
 
-fn run_words<R: AllocGlobal + Input + Print>(rt: &R, words: &[&str]) -> Status {
+/// Calls [`top::top`] with these words, of which alone something is known here: standard input and output tell no bytes.
+fn run_words<R: AllocGlobal + Input + Print>(rt: &R, words: &[&str]) -> Status
+    ensures bad_words { result ≡ Status.BadWords → settings_of (map (λ w. w.now) words.now) ≡ None }
+    ensures refused { settings_of (map (λ w. w.now) words.now) ≡ None → (result ≡ Status.BadWords) ⊎ (result ≡ Status.WriteFault) }
+{
     let mut source = StdSource::new(rt.reader());
     let mut sink = StdSink::new(io::writer(rt));
     top::top(rt.alloc(), words, &mut source, &mut sink)

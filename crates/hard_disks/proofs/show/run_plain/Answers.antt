@@ -1,8 +1,7 @@
-use Rattle.std.proofs.Common.{◌≡◌, ◌≤◌, ◌∙◌, ℕ, List, Option, Some, Result, Err, ap, sym, subst, refl, arith, rules}
+use Rattle.std.proofs.Common.{◌≡◌, ◌≤◌, ◌∙◌, Some, Result, Err, ap, sym, subst, arith, rules}
 use Rattle.std.specs.Io.KnownBytes.{Appends}
 use Rattle.report_ports.specs.Ports.{AppendsPrefix, Rose}
 use Rattle.fixed_motion.specs.Scene.{IsValidScene}
-use Rattle.event_rules.specs.declared.change.Change.{Change}
 use Rattle.event_rules.specs.declared.outcome.Outcome.{Outcome}
 use Rattle.event_rules.specs.declared.outcome.RunFault.{RunFault}
 use Rattle.event_rules.specs.Told.{told, PrefixTold}
@@ -12,7 +11,6 @@ use Rattle.collision_report.specs.Laws.{uncounted}
 use Rattle.collision_report.proofs.Told.{told_lent}
 use Rattle.hard_disks.specs.declared.status.Status.{Status}
 use Rattle.hard_disks.specs.declared.words.Mode.TheVariants.{Plain}
-use Rattle.hard_disks.specs.Output.{status_of}
 use Rattle.hard_disks.specs.Shows.{Shows}
 use Rattle.hard_disks.proofs.Reportable.{reportable}
 use Rattle.hard_disks.proofs.Shown.{whole_report, ended_early, begun_report, shown_report, shown_prefix, never_write_fault, rose_since}
