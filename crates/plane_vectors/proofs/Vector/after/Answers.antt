@@ -1,0 +1,9 @@
+use Rattle.plane_vectors.specs.Vectors.{vector}
+use Rattle.plane_vectors.proofs.Sizes.{way}
+use Rattle.plane_vectors.proofs.Vector.after.Goals as goal
+
+pub returns : goal.returns
+returns c =
+    let x = (way c.args.self.x c.args.velocity.x c.args.ticks c.requires.own.x c.requires.velocity.x c.requires.ticks).place in
+    let y = (way c.args.self.y c.args.velocity.y c.args.ticks c.requires.own.y c.requires.velocity.y c.requires.ticks).place in
+    λ i. vector (x i) (y i)
