@@ -1,0 +1,151 @@
+//! Lines of text, made on the stack.
+#![tactic(auto)]
+
+ghost use Rattle.std.specs.Prelude.{◌≡◌, ◌+◌, ◌≤◌, ◌∷◌, ◌++◌, [], decimal, length};
+ghost use Rattle.std.specs.Fmt.{signed_decimal};
+
+use itoa::Buffer;
+use std::marker::Model;
+
+/// The bytes of one line of text, in a buffer of 256 bytes.
+#[derive(Drop)]
+pub struct Line {
+    bytes: [u8; 256],
+    len: usize,
+}
+
+impl Model for Line {
+    ghost use Rattle.std.specs.Prelude.{List, ℕ, take, ◌≤◌};
+
+    ghost Value = { List ℕ };
+
+    ghost view = { λ l. take l.len l.bytes };
+
+    ghost invariant = { λ l. l.len ≤ 256 };
+}
+
+impl Line {
+    /// A line with no bytes.
+    pub fn new() -> Line
+        ensures { result ≡ [] }
+    {
+        Line {
+            bytes: [0; 256],
+            len: 0,
+        }
+    }
+
+    /// The number of bytes, at most 256.
+    pub fn len(&self) -> usize
+        ensures len { result ≡ length self.now }
+        ensures most { result ≤ 256 }
+    {
+        self.len
+    }
+
+    /// The bytes so far.
+    pub fn as_bytes(&self) -> &[u8]
+        ensures { result.now ≡ self.now }
+    {
+        &self.bytes[..self.len]
+    }
+
+    /// Appends bytes, for which there is room.
+    pub fn push_bytes(&mut self, piece: &[u8])
+        requires { length self.old + length piece.now ≤ 256 }
+        ensures after { self.new ≡ self.old ++ piece.now }
+        ensures len { length self.new ≡ length self.old + length piece.now }
+    {
+        let end = self.len + piece.len();
+        self.bytes[self.len..end].copy_from_slice(piece);
+        self.len = end;
+    }
+
+    /// Appends a text, for which there is room.
+    pub fn push_text(&mut self, text: &str)
+        requires { length self.old + length text.now ≤ 256 }
+        ensures after { self.new ≡ self.old ++ text.now }
+        ensures len { length self.new ≡ length self.old + length text.now }
+    {
+        self.push_bytes(text.as_bytes());
+    }
+
+    /// Appends the digits of a number, at most 20 bytes.
+    pub fn push_number(&mut self, n: u64)
+        requires { length self.old + 20 ≤ 256 }
+        ensures after { self.new ≡ self.old ++ decimal n }
+        ensures len { length self.new ≤ length self.old + 20 }
+    {
+        let mut buffer = Buffer::new();
+        self.push_text(buffer.format(n));
+    }
+
+    /// Appends the digits of a number, at most 39 bytes.
+    pub fn push_wide(&mut self, n: u128)
+        requires { length self.old + 39 ≤ 256 }
+        ensures after { self.new ≡ self.old ++ decimal n }
+        ensures len { length self.new ≤ length self.old + 39 }
+    {
+        let mut buffer = Buffer::new();
+        self.push_text(buffer.format(n));
+    }
+
+    /// Appends a number with the sign of a negative one, at most 20 bytes.
+    pub fn push_signed(&mut self, n: i64)
+        requires { length self.old + 20 ≤ 256 }
+        ensures after { self.new ≡ self.old ++ signed_decimal n }
+        ensures len { length self.new ≤ length self.old + 20 }
+    {
+        let mut buffer = Buffer::new();
+        self.push_text(buffer.format(n));
+    }
+
+    /// Appends a space and the digits of a number, at most 21 bytes.
+    pub fn push_number_field(&mut self, n: u64)
+        requires { length self.old + 21 ≤ 256 }
+        ensures after { self.new ≡ self.old ++ (32 ∷ decimal n) }
+        ensures len { length self.new ≤ length self.old + 21 }
+    {
+        self.push_text(" ");
+        self.push_number(n);
+    }
+
+    /// Appends a space and a number with the sign of a negative one, at most 21 bytes.
+    pub fn push_signed_field(&mut self, n: i64)
+        requires { length self.old + 21 ≤ 256 }
+        ensures after { self.new ≡ self.old ++ (32 ∷ signed_decimal n) }
+        ensures len { length self.new ≤ length self.old + 21 }
+    {
+        self.push_text(" ");
+        self.push_signed(n);
+    }
+
+    /// Appends two fields of signed numbers, each after a space, at most 42 bytes.
+    pub fn push_signed_pair(&mut self, x: i64, y: i64)
+        requires { length self.old + 42 ≤ 256 }
+        ensures after { self.new ≡ self.old ++ (32 ∷ signed_decimal x ++ 32 ∷ signed_decimal y) }
+        ensures len { length self.new ≤ length self.old + 42 }
+    {
+        self.push_signed_field(x);
+        self.push_signed_field(y);
+    }
+
+    /// Appends a space and a text, for which there is room.
+    pub fn push_text_field(&mut self, text: &str)
+        requires { length self.old + length text.now + 1 ≤ 256 }
+        ensures after { self.new ≡ self.old ++ (32 ∷ text.now) }
+        ensures len { length self.new ≡ length self.old + length text.now + 1 }
+    {
+        self.push_text(" ");
+        self.push_text(text);
+    }
+
+    /// Ends the line, with one byte.
+    pub fn push_newline(&mut self)
+        requires { length self.old + 1 ≤ 256 }
+        ensures after { self.new ≡ self.old ++ 10 ∷ [] }
+        ensures len { length self.new ≡ length self.old + 1 }
+    {
+        self.push_text("\n");
+    }
+}
