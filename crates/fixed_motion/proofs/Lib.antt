@@ -1,5 +1,3 @@
 pub mod Sizes
-pub mod Casts
-pub mod Distances
-pub mod Ways
-pub mod Joins
+pub mod Places
+pub mod Ranges

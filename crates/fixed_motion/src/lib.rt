@@ -2,9 +2,11 @@
 #![tactic(auto)]
 
 pub mod disk;
+pub mod laws;
 pub mod rules;
 pub mod scene;
 
 pub use disk::{Disk, overlap};
-pub use rules::{RuleFault, Rules};
-pub use scene::Scene;
+pub use laws::{ranges_agree, sizes_are_bounded};
+pub use rules::{MAX_END, MAX_ROUNDS, MAX_SIDE, MAX_SPEED, RuleFault, Rules};
+pub use scene::{MAX_DISKS, Scene};

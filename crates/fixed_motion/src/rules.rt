@@ -1,8 +1,7 @@
 //! The rules of a scene.
 
-ghost use Rattle.std.specs.Prelude.{◌≡◌, None, Some, pos, ◌≤ℤ◌, MatchResult};
-ghost use Rattle.fixed_motion.specs.Rules.{IsChecked, rule_fault, numbers_of, is_diameter};
-ghost use Rattle.fixed_motion.specs.Motion.{radius_of, contact_distance};
+ghost use Rattle.std.specs.Prelude.{◌≡◌, ◌&&◌, int_le, None, Some, MatchResult};
+ghost use Rattle.fixed_motion.specs.Rules.{IsChecked, is_in, is_size, rule_fault, numbers_of};
 
 /// The greatest width and height, in units of length.
 pub const MAX_SIDE: i64 = 1_073_741_824;
@@ -16,14 +15,14 @@ pub const MAX_ROUNDS: u32 = 65_536;
 /// The greatest last tick.
 pub const MAX_END: u64 = 1_099_511_627_776;
 
-/// The box, the disks' size, and the limits of a run.
+/// The box, the greatest size of a disk, and the limits of a run.
 #[derive(Clone, Copy, Debug, PartialEq, Eq)]
 pub struct Rules {
     /// The width of the box, 2 to [`MAX_SIDE`] units of length.
     pub width: i64,
     /// The height of the box, 2 to [`MAX_SIDE`] units of length.
     pub height: i64,
-    /// The diameter of each disk, even, 2 to the smaller side of the box, in units of length.
+    /// The greatest diameter of a disk, even, 2 to the smaller side of the box, in units of length.
     pub diameter: i64,
     /// The greatest size of a velocity component, 1 to [`MAX_SPEED`] units of length per tick.
     pub speed_limit: i64,
@@ -56,16 +55,16 @@ impl Rules {
         ensures { MatchResult result (λ _. (rule_fault (numbers_of self.now) ≡ None) × IsChecked self.now)
             (λ fault. rule_fault (numbers_of self.now) ≡ Some fault) }
     {
-        if self.width < 2 || self.width > MAX_SIDE {
+        if !is_in(2, MAX_SIDE, self.width) {
             return Err(RuleFault::Width);
         }
-        if self.height < 2 || self.height > MAX_SIDE {
+        if !is_in(2, MAX_SIDE, self.height) {
             return Err(RuleFault::Height);
         }
         if !self.has_fitting_diameter() {
             return Err(RuleFault::Diameter);
         }
-        if self.speed_limit < 1 || self.speed_limit > MAX_SPEED {
+        if !is_in(1, MAX_SPEED, self.speed_limit) {
             return Err(RuleFault::Speed);
         }
         if self.round_limit < 1 || self.round_limit > MAX_ROUNDS {
@@ -78,31 +77,22 @@ impl Rules {
     }
 
     fn has_fitting_diameter(&self) -> bool
-        ensures { result ≡ is_diameter self.now.width self.now.height self.now.diameter }
+        ensures { result ≡ (is_size self.now.width self.now.diameter && int_le self.now.diameter self.now.height) }
     {
-        self.diameter >= 2
-            && self.diameter <= self.width
-            && self.diameter <= self.height
-            && self.diameter % 2 == 0
+        is_size(self.width, self.diameter) && self.diameter <= self.height
     }
+}
 
-    /// The radius of a disk, in units of length.
-    pub fn radius(&self) -> i64
-        requires { IsChecked self.now }
-        ensures value { result ≡ radius_of self.now }
-        ensures least { pos 1 ≤ℤ result }
-        ensures most { result ≤ℤ self.now.diameter }
-    {
-        self.diameter / 2
-    }
+/// Whether a number is from the least to the greatest of a range.
+pub(crate) fn is_in(least: i64, greatest: i64, n: i64) -> bool
+    ensures { result ≡ is_in (least, greatest) n }
+{
+    least <= n && n <= greatest
+}
 
-    /// The distance of the centres at which two disks touch, in units of length.
-    pub fn contact_distance(&self) -> i64
-        requires { IsChecked self.now }
-        ensures value { result ≡ contact_distance self.now }
-        ensures least { pos 2 ≤ℤ result }
-        ensures most { result ≤ℤ self.now.width }
-    {
-        self.diameter
-    }
+/// Whether a diameter, in units of length, is even, at least 2, and at most the greatest one.
+pub(crate) fn is_size(greatest: i64, n: i64) -> bool
+    ensures { result ≡ is_size greatest n }
+{
+    is_in(2, greatest, n) && n % 2 == 0
 }

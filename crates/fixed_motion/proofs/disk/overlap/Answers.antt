@@ -1,39 +1,50 @@
--- Differences of places inside are below 2^30.
-use Rattle.fixed_motion.proofs.Sizes.{inside_x, inside_y, overlap_tested}
-use Rattle.fixed_motion.proofs.Distances.{difference_fits, difference_small, distance_square, test_sent}
+-- Differences of places in the box are at most 2^30 in each component.
+use Rattle.std.proofs.Common.{◌≡◌, ◌∙◌, ◌≤◌, ◌^◌, nat_abs, arith}
+use Rattle.std.proofs.lemmas.Int.{ints}
+use Rattle.plane_vectors.specs.declared.Vector.{Vector}
+use Rattle.plane_vectors.specs.Vectors.{vector, difference, IsWithin}
+use Rattle.plane_vectors.proofs.Sizes.{sent}
+use Rattle.fixed_motion.specs.Motion.{IsInBox}
+use Rattle.fixed_motion.proofs.Sizes.{difference_size, in_box_sent, within_more}
+use Rattle.fixed_motion.proofs.Places.{square_sent, test_sent, overlap_tested}
 use Rattle.fixed_motion.proofs.disk.overlap.Goals as goal
 
-pub overflow_sub-dx : goal.overflow_sub-dx
-overflow_sub-dx c =
-    difference_fits c.args.first.0 c.args.second.0 (inside_x c.args.rules.now c.args.first c.requires.checked c.requires.first_inside) (inside_x c.args.rules.now c.args.second c.requires.checked c.requires.second_inside)
+-- the code's difference of two places
+between_is : (p q r : Vector) → IsInBox p → IsInBox q → r ≡ difference (vector (sent p.x) (sent p.y)) (vector (sent q.x) (sent q.y)) → r ≡ difference p q
+between_is p q r h k e = e ∙ (λ i. difference (in_box_sent p h i) (in_box_sent q k i))
 
-pub overflow_sub-dy : goal.overflow_sub-dy
-overflow_sub-dy c =
-    difference_fits c.args.first.1 c.args.second.1 (inside_y c.args.rules.now c.args.first c.requires.checked c.requires.first_inside) (inside_y c.args.rules.now c.args.second c.requires.checked c.requires.second_inside)
+between_size : (p q r : Vector) → IsInBox p → IsInBox q → r ≡ difference p q → IsWithin (2 ^ 30) r
+between_size p q r h k e = rw e (difference_size p q h k)
 
-pub scalar_product-requires-clause-ax_size : goal.scalar_product-requires-clause-ax_size
-scalar_product-requires-clause-ax_size c =
-    difference_small c.args.first.0 c.args.second.0 (inside_x c.args.rules.now c.args.first c.requires.checked c.requires.first_inside) (inside_x c.args.rules.now c.args.second c.requires.checked c.requires.second_inside)
+pub dot-requires-clause-own : goal.dot-requires-clause-own
+dot-requires-clause-own c =
+    let p = vector c.args.first.0 c.args.first.1 in
+    let q = vector c.args.second.0 c.args.second.1 in
+    let r = c.minus-between.result in
+    within_more (2 ^ 30) 2147483647 r (omega arith)
+    (between_size p q r c.requires.first c.requires.second (between_is p q r c.requires.first c.requires.second c.minus-between.ensures))
 
-pub scalar_product-requires-clause-ay_size : goal.scalar_product-requires-clause-ay_size
-scalar_product-requires-clause-ay_size c =
-    difference_small c.args.first.1 c.args.second.1 (inside_y c.args.rules.now c.args.first c.requires.checked c.requires.first_inside) (inside_y c.args.rules.now c.args.second c.requires.checked c.requires.second_inside)
-
-pub scalar_product-requires-clause-bx_size : goal.scalar_product-requires-clause-bx_size
-scalar_product-requires-clause-bx_size c =
-    difference_small c.args.first.0 c.args.second.0 (inside_x c.args.rules.now c.args.first c.requires.checked c.requires.first_inside) (inside_x c.args.rules.now c.args.second c.requires.checked c.requires.second_inside)
-
-pub scalar_product-requires-clause-by_size : goal.scalar_product-requires-clause-by_size
-scalar_product-requires-clause-by_size c =
-    difference_small c.args.first.1 c.args.second.1 (inside_y c.args.rules.now c.args.first c.requires.checked c.requires.first_inside) (inside_y c.args.rules.now c.args.second c.requires.checked c.requires.second_inside)
+pub dot-requires-clause-other : goal.dot-requires-clause-other
+dot-requires-clause-other c = dot-requires-clause-own c
 
 pub overflow_mul-result : goal.overflow_mul-result
-overflow_mul-result c = (distance_square c.args.rules.now c.contact_distance-distance.result c.requires.checked c.contact_distance-distance.ensures.value).0
+overflow_mul-result c =
+    let least = c.requires.least in
+    let most = c.requires.most in
+    let size : nat_abs c.args.distance ≤ 2 ^ 30 = omega (arith, ints) in
+    (square_sent c.args.distance size).0
 
 pub returns-clause-test : goal.returns-clause-test
 returns-clause-test c =
-    test_sent c.args.rules.now c.args.first c.args.second c.scalar_product.result c.contact_distance-distance.result c.requires.checked c.requires.first_inside c.requires.second_inside
-    c.scalar_product.ensures.value c.contact_distance-distance.ensures.value
+    let p = vector c.args.first.0 c.args.first.1 in
+    let q = vector c.args.second.0 c.args.second.1 in
+    let r = c.minus-between.result in
+    let least = c.requires.least in
+    let most = c.requires.most in
+    let size : nat_abs c.args.distance ≤ 2 ^ 30 = omega (arith, ints) in
+    let is = between_is p q r c.requires.first c.requires.second c.minus-between.ensures in
+    test_sent c.args.distance c.dot.result p q r size (between_size p q r c.requires.first c.requires.second is) is c.dot.ensures.value
 
 pub returns-clause-fact : goal.returns-clause-fact
-returns-clause-fact c = overlap_tested c.args.rules.now c.args.first c.args.second _ (returns-clause-test c)
+returns-clause-fact c =
+    overlap_tested c.args.distance (vector c.args.first.0 c.args.first.1) (vector c.args.second.0 c.args.second.1) _ (returns-clause-test c)

@@ -1,19 +1,17 @@
--- The speeds and the ticks are bounded, so each way fits.
-use Rattle.std.proofs.Common.{◌-◌, arith}
-use Rattle.fixed_motion.proofs.Ways.{way_x, way_y, place_sent}
+use Rattle.std.proofs.Common.{arith, ◌^◌}
+use Rattle.fixed_motion.specs.Motion.{centre_of, velocity_of}
+use Rattle.fixed_motion.proofs.Sizes.{inside_in_box, in_box_size, slow_size, within_more}
 use Rattle.fixed_motion.proofs.disk.Disk.centre_at.Goals as goal
 
-pub overflow_mul-result : goal.overflow_mul-result
-overflow_mul-result c = (way_x c.args.rules.now c.args.self.now (c.args.tick - c.args.self.now.base) c.requires.checked c.requires.valid (omega arith)).way_fits
+pub after-requires-clause-own : goal.after-requires-clause-own
+after-requires-clause-own c =
+    let box = c.args.rules.now in
+    let a = c.args.self.now in
+    rw c.centre.ensures (within_more (2 ^ 30) (2 ^ 31) (centre_of a) (omega arith)
+    (in_box_size (centre_of a) (inside_in_box box a (centre_of a) c.requires.checked c.requires.valid.size c.requires.valid.centre)))
 
-pub overflow_add-result : goal.overflow_add-result
-overflow_add-result c = (way_x c.args.rules.now c.args.self.now (c.args.tick - c.args.self.now.base) c.requires.checked c.requires.valid (omega arith)).sum_fits
-
-pub overflow_mul-result-2 : goal.overflow_mul-result-2
-overflow_mul-result-2 c = (way_y c.args.rules.now c.args.self.now (c.args.tick - c.args.self.now.base) c.requires.checked c.requires.valid (omega arith)).way_fits
-
-pub overflow_add-result-2 : goal.overflow_add-result-2
-overflow_add-result-2 c = (way_y c.args.rules.now c.args.self.now (c.args.tick - c.args.self.now.base) c.requires.checked c.requires.valid (omega arith)).sum_fits
-
-pub returns : goal.returns
-returns c = place_sent c.args.rules.now c.args.self.now c.args.tick c.requires.checked c.requires.valid c.requires.tick
+pub after-requires-clause-velocity : goal.after-requires-clause-velocity
+after-requires-clause-velocity c =
+    let box = c.args.rules.now in
+    let a = c.args.self.now in
+    rw c.velocity.ensures (within_more (2 ^ 20) (2 ^ 21) (velocity_of a) (omega arith) (slow_size box (velocity_of a) c.requires.checked c.requires.valid.velocity))

@@ -1,0 +1,21 @@
+use Rattle.std.proofs.Common.{◌≡◌, ◌∙◌, sym, w64, FitsSigned, rules, arith}
+use Rattle.std.proofs.lemmas.Int.{ints, to_z-of_z}
+use Rattle.std.specs.Prelude.{None}
+use Rattle.fixed_motion.specs.Rules.{numbers_of, rule_fault, is_in, sides, speed_limits}
+use Rattle.fixed_motion.proofs.Ranges.{no_fault_by_tests, in_range}
+use Rattle.fixed_motion.proofs.rules.Rules.check.Goals as goal
+
+pub returns : goal.returns
+returns c =
+    let box = c.args.self.now in
+    let fw : FitsSigned w64 box.width = search rules in
+    let fh : FitsSigned w64 box.height = search rules in
+    let fs : FitsSigned w64 box.speed_limit = search rules in
+    let width : c.is_in.result ≡ is_in sides box.width = simp to_z-of_z at c.is_in.ensures in
+    let height : c.is_in-2.result ≡ is_in sides box.height = simp to_z-of_z at c.is_in-2.ensures in
+    let speed : c.is_in-3.result ≡ is_in speed_limits box.speed_limit = simp to_z-of_z at c.is_in-3.ensures in
+    let none : rule_fault (numbers_of box) ≡ None = no_fault_by_tests (numbers_of box)
+    (sym width ∙ c.if-not-is_in.false) (sym height ∙ c.if-not-is_in-2.false)
+    (sym c.has_fitting_diameter.ensures ∙ c.if-not-has_fitting_diameter.false) (sym speed ∙ c.if-not-is_in-3.false)
+    (grind (arith, ints)) (grind (arith, ints)) in
+    (none, in_range (numbers_of box) none)
