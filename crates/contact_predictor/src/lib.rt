@@ -1,16 +1,26 @@
 //! When two disks on straight paths touch, and how long a coordinate keeps within its bounds.
 //!
-//! The contact is the last whole tick not after the touching, in place of the smaller root of the quadratic of
-//! Alder and Wainwright (Studies in Molecular Dynamics I, 1959).
+//! The contact is the last whole tick not after the touching, in place of the smaller root of the
+//! quadratic of Alder and Wainwright (Studies in Molecular Dynamics I, 1959).
+//!
+//! Two disks are given by the separation `r` of their centres in units of length, their relative
+//! velocity `u` in units of length per tick, and the distance of their centres at which they touch.
 #![tactic(auto)]
 
-ghost use Rattle.std.specs.Prelude.{◌≡◌, ◌↔◌, ◌^◌, ◌+◌, ◌≤◌, ℕ, pos, ◌≤ℤ◌, ◌<ℤ◌, ◌*ℤ◌, nat_abs, IsTrue, MatchOption, IfSome, IsNone};
-ghost use Rattle.contact_predictor.specs.Contact.{after, gap, IsContactAfter, StaysUntil};
-ghost use Rattle.contact_predictor.specs.Approaching.{IsApproaching, IsApproachingAfter, IsCrossing};
+ghost use Rattle.std.specs.Prelude.{◌≡◌, ◌↔◌, ◌^◌, ◌+◌, ◌≤◌, ℕ, pos, ◌≤ℤ◌, ◌<ℤ◌, ◌*ℤ◌, ◌-ℤ◌, nat_abs, IsTrue, false, MatchOption, IfSome, IsNone};
+ghost use Rattle.plane_vectors.specs.Vectors.{vector, after, IsWithin};
+ghost use Rattle.contact_predictor.specs.Contact.{coordinate_after, gap, IsApproaching, IsApproachingAfter, IsCrossing, MayMeet, IsContactAfter, IsOnlyContactAfter, StaysUntil};
+ghost use Rattle.contact_predictor.specs.Laws.{FarPairsDontMeet};
 
-use scalar_product::scalar_product;
+use plane_vectors::Vector;
 
-/// How many ticks the coordinate `x`, in units of length, keeps within `lo` and `hi` at `v` units per tick.
+// In units of length, on each axis.
+const MAX_SEPARATION: u64 = 1 << 30;
+
+const MAX_TICKS: u64 = 1 << 30;
+
+/// How many ticks the coordinate `x`, in units of length, keeps within `lo` and `hi` at `v` units
+/// per tick.
 ///
 /// None where it stands still. All four are at most 2^31 in size.
 pub fn stay(lo: i64, hi: i64, x: i64, v: i64) -> Option<u64>
@@ -35,12 +45,12 @@ pub fn stay(lo: i64, hi: i64, x: i64, v: i64) -> Option<u64>
 
 /// After how many ticks, at most `span`, two disks are at their last whole tick before they touch.
 ///
-/// The separation of the centres is (`rx`, `ry`) units of length now and at most 2^30 in each component now and
-/// after `span` ticks; the relative velocity is (`ux`, `uy`) units per tick, at most 2^21 in each component. The
-/// diameter is 2 to 2^30 units, the span at most 2^30 ticks.
+/// The separation of the centres is (`rx`, `ry`) units of length now and at most 2^30 in each
+/// component now and after `span` ticks; the relative velocity is (`ux`, `uy`) units per tick, at
+/// most 2^21 in each component. The diameter is 2 to 2^30 units, the span at most 2^30 ticks.
 ///
-/// None where no tick up to `span` is the last before a contact: the disks overlap already, don't approach, pass each
-/// other, are merely tangent, or touch later. It takes as many steps as the span has bits.
+/// None where no tick up to `span` is the last before a contact: the disks overlap already, don't
+/// approach, pass each other, are merely tangent, or touch later.
 pub fn contact(rx: i64, ry: i64, ux: i64, uy: i64, diameter: i64, span: u64) -> Option<u64>
     requires rx_size { nat_abs rx ≤ 2 ^ 30 }
     requires ry_size { nat_abs ry ≤ 2 ^ 30 }
@@ -49,16 +59,149 @@ pub fn contact(rx: i64, ry: i64, ux: i64, uy: i64, diameter: i64, span: u64) -> 
     requires diameter_least { pos 2 ≤ℤ diameter }
     requires diameter_size { nat_abs diameter ≤ 2 ^ 30 }
     requires span_size { span ≤ 2 ^ 30 }
-    requires rx_later { nat_abs (after rx ux span) ≤ 2 ^ 30 }
-    requires ry_later { nat_abs (after ry uy span) ≤ 2 ^ 30 }
-    ensures found { MatchOption result ((s : ℕ) → s ≤ span → IsContactAfter rx ry ux uy diameter s → ⊥)
-        (λ s. (s ≤ span) × IsContactAfter rx ry ux uy diameter s) }
-    ensures only { IfSome result (λ s. (t : ℕ) → IsContactAfter rx ry ux uy diameter t → t ≡ s) }
+    requires rx_later { nat_abs (coordinate_after rx ux span) ≤ 2 ^ 30 }
+    requires ry_later { nat_abs (coordinate_after ry uy span) ≤ 2 ^ 30 }
+    ensures found { MatchOption result ((s : ℕ) → s ≤ span → ¬ IsContactAfter (vector rx ry) (vector ux uy) diameter s)
+        (λ s. (s ≤ span) × IsContactAfter (vector rx ry) (vector ux uy) diameter s) }
+    ensures only { IfSome result (λ s. (t : ℕ) → IsContactAfter (vector rx ry) (vector ux uy) diameter t → t ≡ s) }
 {
-    if !is_approaching(rx, ry, ux, uy, diameter) || !is_crossing(rx, ry, ux, uy, diameter) {
+    contact_between(
+        Vector { x: rx, y: ry },
+        Vector { x: ux, y: uy },
+        diameter,
+        span,
+    )
+}
+
+/// The same as [`contact`], of disks at the separation `r` with the relative velocity `u`.
+///
+/// The separation is at most 2^30 units in each component now and after `span` ticks, the velocity
+/// at most 2^21 units per tick, the distance at most 2^30 units, the span at most 2^30 ticks.
+pub fn contact_between(r: Vector, u: Vector, distance: i64, span: u64) -> Option<u64>
+    requires separation { IsWithin (2 ^ 30) r }
+    requires velocity { IsWithin (2 ^ 21) u }
+    requires distance { nat_abs distance ≤ 2 ^ 30 }
+    requires span { span ≤ 2 ^ 30 }
+    requires later { IsWithin (2 ^ 30) (after r u span) }
+    ensures found { MatchOption result ((s : ℕ) → s ≤ span → ¬ IsContactAfter r u distance s)
+        (λ s. (s ≤ span) × IsContactAfter r u distance s) }
+    ensures only { IfSome result (λ s. (t : ℕ) → IsContactAfter r u distance t → t ≡ s) }
+{
+    if !may_meet(r, u, distance) {
         return None;
     }
-    if is_approaching_after(rx, ry, ux, uy, diameter, span + 1) {
+    if let Some(ticks) = quick_contact(r, u, distance) {
+        return if ticks <= span { Some(ticks) } else { None };
+    }
+    contact_by_halving(r, u, distance, span)
+}
+
+/// Whether two disks are apart and approach each other on paths that cross. If not, no tick from
+/// now on is the last before a contact.
+///
+/// The separation and the distance are at most 2^30 units, the velocity at most 2^21 units per tick.
+pub fn may_meet(r: Vector, u: Vector, distance: i64) -> bool
+    requires separation { IsWithin (2 ^ 30) r }
+    requires velocity { IsWithin (2 ^ 21) u }
+    requires distance { nat_abs distance ≤ 2 ^ 30 }
+    ensures fact { IsTrue result ↔ MayMeet r u distance }
+    ensures never { result ≡ false → (s : ℕ) → ¬ IsContactAfter r u distance s }
+{
+    is_approaching(r, u, distance) && is_crossing(r, u, distance)
+}
+
+/// After how many ticks, at most 2^30, two disks whose paths cross are at their last whole tick
+/// before they touch. None says nothing: a guess wasn't confirmed, which is seldom.
+///
+/// The separation and the distance are at most 2^30 units, the velocity at most 2^21 units per tick.
+pub fn quick_contact(r: Vector, u: Vector, distance: i64) -> Option<u64>
+    requires separation { IsWithin (2 ^ 30) r }
+    requires velocity { IsWithin (2 ^ 21) u }
+    requires distance { nat_abs distance ≤ 2 ^ 30 }
+    requires crossing { IsCrossing r u distance }
+    ensures found { IfSome result (IsOnlyContactAfter r u distance) }
+    ensures near { IfSome result (λ s. s ≤ 2 ^ 30) }
+{
+    let ticks = guess(r, u, distance);
+    if ticks <= MAX_TICKS && is_near(r.after(u, ticks)) && is_contact_after(r, u, distance, ticks) {
+        Some(ticks)
+    } else {
+        None
+    }
+}
+
+/// Two disks have no contact now where their separation on an axis is at least the distance at which
+/// they touch and the way of one tick on that axis together.
+pub fn far_pairs_dont_meet()
+    ensures { FarPairsDontMeet }
+{}
+
+// The smaller root of the quadratic, but for rounding: nothing need be known of it.
+fn guess(r: Vector, u: Vector, distance: i64) -> u64
+    requires separation { IsWithin (2 ^ 30) r }
+    requires velocity { IsWithin (2 ^ 21) u }
+    requires distance { nat_abs distance ≤ 2 ^ 30 }
+{
+    smaller_root(u.dot(u), r.dot(u), squared_gap(r, distance))
+}
+
+// Of the quadratic a s^2 + 2 b s + c, where b is negative and c isn't, in the form without cancelling.
+fn smaller_root(a: i64, b: i64, c: i64) -> u64 {
+    let root = rough_root(discriminant(a, b, c).unsigned_abs());
+    c.unsigned_abs() / root.saturating_add(b.unsigned_abs()).max(1)
+}
+
+// The square root of a number, but for a millionth of it, or for one.
+fn rough_root(square: u128) -> u64 {
+    let shift = 64u32.saturating_sub(square.leading_zeros()).div_ceil(2);
+    let high = u64::try_from(square >> (2 * shift)).unwrap_or(u64::MAX);
+    rough_root_of_high(high) << shift
+}
+
+// Two of Newton's steps, from the mean of a power of two and the quotient by it, which is up to 6 %
+// above the root.
+fn rough_root_of_high(square: u64) -> u64 {
+    let half = (64 - square.leading_zeros()) / 2;
+    let mean = (1 << half) / 2 + (square >> half) / 2;
+    newton_step(square, newton_step(square, mean - mean / 32))
+}
+
+fn newton_step(square: u64, root: u64) -> u64 {
+    root.saturating_add(square / root.max(1)) / 2
+}
+
+// Of disks whose paths cross, whose separation is at most 2^30 in each component now and then.
+fn is_contact_after(r: Vector, u: Vector, distance: i64, ticks: u64) -> bool
+    requires separation { IsWithin (2 ^ 30) r }
+    requires velocity { IsWithin (2 ^ 21) u }
+    requires distance { nat_abs distance ≤ 2 ^ 30 }
+    requires ticks { ticks ≤ 2 ^ 30 }
+    requires later { IsWithin (2 ^ 30) (after r u ticks) }
+    requires crossing { IsCrossing r u distance }
+    ensures { IsTrue result → IsOnlyContactAfter r u distance ticks }
+{
+    is_approaching_after(r, u, distance, ticks) && !is_approaching_after(r, u, distance, ticks + 1)
+}
+
+fn is_near(place: Vector) -> bool
+    ensures { IsTrue result ↔ IsWithin (2 ^ 30) place }
+{
+    place.x.unsigned_abs() <= MAX_SEPARATION && place.y.unsigned_abs() <= MAX_SEPARATION
+}
+
+// In as many steps as the span has bits.
+fn contact_by_halving(r: Vector, u: Vector, distance: i64, span: u64) -> Option<u64>
+    requires separation { IsWithin (2 ^ 30) r }
+    requires velocity { IsWithin (2 ^ 21) u }
+    requires distance { nat_abs distance ≤ 2 ^ 30 }
+    requires span { span ≤ 2 ^ 30 }
+    requires later { IsWithin (2 ^ 30) (after r u span) }
+    requires may_meet { MayMeet r u distance }
+    ensures found { MatchOption result ((s : ℕ) → s ≤ span → ¬ IsContactAfter r u distance s)
+        (λ s. (s ≤ span) × IsContactAfter r u distance s) }
+    ensures only { IfSome result (λ s. (t : ℕ) → IsContactAfter r u distance t → t ≡ s) }
+{
+    if is_approaching_after(r, u, distance, span + 1) {
         return None;
     }
     // The ticks at which the disks approach are the first ones, up to the contact.
@@ -66,7 +209,7 @@ pub fn contact(rx: i64, ry: i64, ux: i64, uy: i64, diameter: i64, span: u64) -> 
     let mut high = span + 1;
     while high - low > 1 {
         let middle = low + (high - low) / 2;
-        if is_approaching_after(rx, ry, ux, uy, diameter, middle) {
+        if is_approaching_after(r, u, distance, middle) {
             low = middle;
         } else {
             high = middle;
@@ -76,76 +219,46 @@ pub fn contact(rx: i64, ry: i64, ux: i64, uy: i64, diameter: i64, span: u64) -> 
 }
 
 // Up to one tick past the span of `contact`, which the separation may pass its bound by.
-fn is_approaching_after(rx: i64, ry: i64, ux: i64, uy: i64, diameter: i64, ticks: u64) -> bool
-    requires rx_size { nat_abs rx ≤ 2 ^ 30 }
-    requires ry_size { nat_abs ry ≤ 2 ^ 30 }
-    requires ux_size { nat_abs ux ≤ 2 ^ 21 }
-    requires uy_size { nat_abs uy ≤ 2 ^ 21 }
-    requires diameter_size { nat_abs diameter ≤ 2 ^ 30 }
-    requires ticks_size { ticks ≤ 2 ^ 30 + 1 }
-    requires rx_later { nat_abs (after rx ux ticks) ≤ 2 ^ 30 + 2 ^ 21 }
-    requires ry_later { nat_abs (after ry uy ticks) ≤ 2 ^ 30 + 2 ^ 21 }
-    ensures { IsTrue result ↔ IsApproachingAfter rx ry ux uy diameter ticks }
+fn is_approaching_after(r: Vector, u: Vector, distance: i64, ticks: u64) -> bool
+    requires separation { IsWithin (2 ^ 30) r }
+    requires velocity { IsWithin (2 ^ 21) u }
+    requires distance { nat_abs distance ≤ 2 ^ 30 }
+    requires ticks { ticks ≤ 2 ^ 30 + 1 }
+    requires later { IsWithin (2 ^ 30 + 2 ^ 21) (after r u ticks) }
+    ensures { IsTrue result ↔ IsApproachingAfter r u distance ticks }
 {
-    is_approaching(
-        coordinate_after(rx, ux, ticks),
-        coordinate_after(ry, uy, ticks),
-        ux,
-        uy,
-        diameter,
-    )
+    is_approaching(r.after(u, ticks), u, distance)
 }
 
-/// Where the coordinate `x`, in units of length, is after so many ticks at `v` units per tick.
-///
-/// `x` is at most 2^30 and `v` at most 2^21 in size, and the ticks are at most 2^30 + 1.
-pub fn coordinate_after(x: i64, v: i64, ticks: u64) -> i64
-    requires x_size { nat_abs x ≤ 2 ^ 30 }
-    requires v_size { nat_abs v ≤ 2 ^ 21 }
-    requires ticks_size { ticks ≤ 2 ^ 30 + 1 }
-    ensures { result ≡ after x v ticks }
+fn is_approaching(r: Vector, u: Vector, distance: i64) -> bool
+    requires separation { IsWithin (2 ^ 30 + 2 ^ 21) r }
+    requires velocity { IsWithin (2 ^ 21) u }
+    requires distance { nat_abs distance ≤ 2 ^ 30 }
+    ensures { IsTrue result ↔ IsApproaching r u distance }
 {
-    x + v * ticks as i64
+    squared_gap(r, distance) >= 0 && r.dot(u) < 0
 }
 
-fn is_approaching(rx: i64, ry: i64, ux: i64, uy: i64, diameter: i64) -> bool
-    requires rx_size { nat_abs rx ≤ 2 ^ 30 + 2 ^ 21 }
-    requires ry_size { nat_abs ry ≤ 2 ^ 30 + 2 ^ 21 }
-    requires ux_size { nat_abs ux ≤ 2 ^ 21 }
-    requires uy_size { nat_abs uy ≤ 2 ^ 21 }
-    requires diameter_size { nat_abs diameter ≤ 2 ^ 30 }
-    ensures { IsTrue result ↔ IsApproaching rx ry ux uy diameter }
+fn is_crossing(r: Vector, u: Vector, distance: i64) -> bool
+    requires separation { IsWithin (2 ^ 30) r }
+    requires velocity { IsWithin (2 ^ 21) u }
+    requires distance { nat_abs distance ≤ 2 ^ 30 }
+    ensures { IsTrue result ↔ IsCrossing r u distance }
 {
-    squared_gap(rx, ry, diameter) >= 0 && scalar_product(rx, ry, ux, uy) < 0
+    discriminant(u.dot(u), r.dot(u), squared_gap(r, distance)) > 0
 }
 
-fn is_crossing(rx: i64, ry: i64, ux: i64, uy: i64, diameter: i64) -> bool
-    requires rx_size { nat_abs rx ≤ 2 ^ 30 + 2 ^ 21 }
-    requires ry_size { nat_abs ry ≤ 2 ^ 30 + 2 ^ 21 }
-    requires ux_size { nat_abs ux ≤ 2 ^ 21 }
-    requires uy_size { nat_abs uy ≤ 2 ^ 21 }
-    requires diameter_size { nat_abs diameter ≤ 2 ^ 30 }
-    ensures { IsTrue result ↔ IsCrossing rx ry ux uy diameter }
+// Of the quadratic a s^2 + 2 b s + c. The products need more than 64 bits.
+fn discriminant(a: i64, b: i64, c: i64) -> i128
+    ensures { result ≡ (b *ℤ b) -ℤ (a *ℤ c) }
 {
-    has_positive_discriminant(
-        scalar_product(ux, uy, ux, uy),
-        scalar_product(rx, ry, ux, uy),
-        squared_gap(rx, ry, diameter),
-    )
+    i128::from(b) * i128::from(b) - i128::from(a) * i128::from(c)
 }
 
-// Of the quadratic a s^2 + 2 b s + c in s. The products need more than 64 bits.
-fn has_positive_discriminant(a: i64, b: i64, c: i64) -> bool
-    ensures { IsTrue result ↔ ((a *ℤ c) <ℤ (b *ℤ b)) }
+fn squared_gap(r: Vector, distance: i64) -> i64
+    requires separation { IsWithin (2 ^ 30 + 2 ^ 21) r }
+    requires distance { nat_abs distance ≤ 2 ^ 30 }
+    ensures { result ≡ gap r distance }
 {
-    i128::from(b) * i128::from(b) > i128::from(a) * i128::from(c)
-}
-
-fn squared_gap(rx: i64, ry: i64, diameter: i64) -> i64
-    requires rx_size { nat_abs rx ≤ 2 ^ 30 + 2 ^ 21 }
-    requires ry_size { nat_abs ry ≤ 2 ^ 30 + 2 ^ 21 }
-    requires diameter_size { nat_abs diameter ≤ 2 ^ 30 }
-    ensures { result ≡ gap rx ry diameter }
-{
-    scalar_product(rx, ry, rx, ry) - diameter * diameter
+    r.dot(r) - distance * distance
 }

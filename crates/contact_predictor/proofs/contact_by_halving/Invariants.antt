@@ -1,14 +1,14 @@
 -- The disks approach after `low` ticks and not after `high`.
 use Rattle.std.proofs.Common.{◌+◌, ◌-◌, ◌<◌, ◌≤◌}
-use Rattle.contact_predictor.specs.Approaching.{IsApproachingAfter}
-use Rattle.contact_predictor.proofs.contact.Given as goal
+use Rattle.contact_predictor.specs.Contact.{IsApproachingAfter}
+use Rattle.contact_predictor.proofs.contact_by_halving.Given as goal
 
 abbrev pub invariant-loop-high : goal.invariant-loop-high
 invariant-loop-high l = record {
   order : l.low < l.high;
   within : l.high ≤ l.span + 1;
-  approaches : IsApproachingAfter l.rx l.ry l.ux l.uy l.diameter l.low;
-  ends : IsApproachingAfter l.rx l.ry l.ux l.uy l.diameter l.high → ⊥;
+  approaches : IsApproachingAfter l.r l.u l.distance l.low;
+  ends : ¬ IsApproachingAfter l.r l.u l.distance l.high;
 }
 
 abbrev pub decreases-loop-high : goal.decreases-loop-high

@@ -1,0 +1,30 @@
+-- A contact that is found quickly is the only one; else it is found by halving.
+use Rattle.std.proofs.Common.{◌≡◌, ℕ, false, arith}
+use Rattle.std.specs.Prelude.{FitsSigned}
+use Rattle.std.proofs.lemmas.Int.{to_z-of_z}
+use mir.Syntax.{w64}
+use Rattle.contact_predictor.specs.Contact.{IsContactAfter, IsOnlyContactAfter}
+use Rattle.contact_predictor.proofs.contact_between.Goals as goal
+
+pub returns-then-not-may_meet-clause-found : goal.returns-then-not-may_meet-clause-found
+returns-then-not-may_meet-clause-found c =
+    let f : FitsSigned w64 c.args.distance = c.ranges.distance in
+    let never : c.may_meet.result ≡ false → (s : ℕ) → ¬ IsContactAfter c.args.r c.args.u c.args.distance s = simp to_z-of_z at c.may_meet.ensures.never in
+    λ s le. never c.if-not-may_meet.true s
+
+pub returns-then-ticks-span-clause-only : goal.returns-then-ticks-span-clause-only
+returns-then-ticks-span-clause-only c =
+    let f : FitsSigned w64 c.args.distance = c.ranges.distance in
+    let found : IsOnlyContactAfter c.args.r c.args.u c.args.distance c.in-Some.ticks = simp to_z-of_z at c.in-Some.ensures.found in
+    found.only
+
+pub returns-else-ticks-span-clause-found : goal.returns-else-ticks-span-clause-found
+returns-else-ticks-span-clause-found c =
+    let f : FitsSigned w64 c.args.distance = c.ranges.distance in
+    let found : IsOnlyContactAfter c.args.r c.args.u c.args.distance c.in-Some.ticks = simp to_z-of_z at c.in-Some.ensures.found in
+    λ s le contact. let e : s ≡ c.in-Some.ticks = found.only s contact in omega (arith, c.if-ticks-span.false)
+
+pub returns-clause-found : goal.returns-clause-found
+returns-clause-found c =
+    let f : FitsSigned w64 c.args.distance = c.ranges.distance in
+    simp to_z-of_z at c.contact_by_halving.ensures.found

@@ -1,0 +1,47 @@
+-- The contact is the last tick at which disks whose paths cross approach.
+use Rattle.std.proofs.Common.{◌≡◌, ◌+◌, ◌-◌, ◌/◌, ℕ, true, false, IsTrue, ◌↔◌, arith, subst}
+use Rattle.std.specs.Prelude.{FitsSigned}
+use Rattle.std.proofs.lemmas.Int.{to_z-of_z}
+use mir.Syntax.{w64}
+use Rattle.contact_predictor.specs.Contact.{IsApproachingAfter}
+use Rattle.contact_predictor.proofs.Approaching.{approaching_now, contact_at_last, no_contact_before, only_contact, after_size}
+use Rattle.contact_predictor.proofs.contact_by_halving.Goals as goal
+
+pub returns-then-is_approaching_after-clause-found : goal.returns-then-is_approaching_after-clause-found
+returns-then-is_approaching_after-clause-found c =
+    let f : FitsSigned w64 c.args.distance = c.ranges.distance in
+    let later : IsTrue c.is_approaching_after.result ↔ IsApproachingAfter c.args.r c.args.u c.args.distance (c.args.span + 1) =
+    simp to_z-of_z at c.is_approaching_after.ensures in
+    λ s le. no_contact_before c.args.r c.args.u c.args.distance s (c.args.span + 1) (omega arith) (later.0 c.if-is_approaching_after.true)
+
+pub loop-high-init : goal.loop-high-init
+loop-high-init c =
+    let f : FitsSigned w64 c.args.distance = c.ranges.distance in
+    let later : IsTrue c.is_approaching_after.result ↔ IsApproachingAfter c.args.r c.args.u c.args.distance (c.args.span + 1) =
+    simp to_z-of_z at c.is_approaching_after.ensures in
+    simp to_z-of_z (record {
+      order = omega arith;
+      within = omega arith;
+      approaches = (approaching_now c.args.r c.args.u c.args.distance).1 c.requires.may_meet.approaching;
+      ends = λ h. let t : c.is_approaching_after.result ≡ true = later.1 h in
+          let f : c.is_approaching_after.result ≡ false = c.if-is_approaching_after.false in cc;
+    })
+
+pub is_approaching_after-requires-in-loop-high-clause-later : goal.is_approaching_after-requires-in-loop-high-clause-later
+is_approaching_after-requires-in-loop-high-clause-later c =
+    after_size c.args.r c.args.u (c.loop-high.low + (c.loop-high.high - c.loop-high.low) / 2) c.args.span
+    c.requires.separation c.requires.velocity c.requires.later (omega arith)
+
+pub returns-clause-found : goal.returns-clause-found
+returns-clause-found c =
+    let f : FitsSigned w64 c.args.distance = c.ranges.distance in
+    let next : c.loop-high.low + 1 ≡ c.loop-high.high = omega arith in
+    let approaches : IsApproachingAfter c.args.r c.args.u c.args.distance c.loop-high.low = simp to_z-of_z at c.loop-high.invariant.approaches in
+    let ends : ¬ IsApproachingAfter c.args.r c.args.u c.args.distance c.loop-high.high = simp to_z-of_z at c.loop-high.invariant.ends in (
+      omega arith,
+      contact_at_last c.args.r c.args.u c.args.distance c.loop-high.low c.requires.may_meet.crossing approaches
+          (λ h. ends (subst (λ (n : ℕ). IsApproachingAfter c.args.r c.args.u c.args.distance n) next h)),
+    )
+
+pub returns-clause-only : goal.returns-clause-only
+returns-clause-only c = (only_contact c.args.r c.args.u c.args.distance c.loop-high.low (returns-clause-found c).1).only
