@@ -1,42 +1,58 @@
 -- The exact impulse's sizes, and that the two part after the sizes are rounded up.
-use Rattle.std.proofs.Common.{◌≡◌, subst, ◌*◌, ◌^◌, ◌<◌, ◌≤◌, sym}
-use Rattle.std.specs.Prelude.{ℤ, pos, nat_abs, ◌<ℤ◌}
-use Rattle.scalar_product.specs.Product.{dot}
-use Rattle.impulse_rounding.specs.Impulse.{ceiling, rounded_impulse, parting}
-use Rattle.scalar_product.proofs.Sizes.{dot_size}
+use Rattle.std.proofs.Common.{◌≡◌, ◌*◌, ◌^◌, ◌<◌, ◌≤◌, Bool, true, false, refl, arith}
+use Rattle.std.specs.Prelude.{pos, nat_abs, int_lt, if◌then◌else◌, ◌<ℤ◌}
+use Rattle.std.proofs.lemmas.Int.{ints}
+use Rattle.plane_vectors.specs.declared.Vector.{Vector}
+use Rattle.plane_vectors.specs.Vectors.{dot, IsWithin}
+use Rattle.plane_vectors.proofs.Sizes.{dot_size}
+use Rattle.impulse_rounding.specs.Impulse.{nearest, ceiling, rounded_impulse, impulse_of, parting}
 use Rattle.impulse_rounding.proofs.Signed.{square_size, size_positive, parting_up}
-use Rattle.impulse_rounding.proofs.Sizes.{quotient_bound, quotient_bound_other, some_square, ceiling_above, rounded_up_reach}
+use Rattle.impulse_rounding.proofs.Sizes.{quotient_bounds, some_square}
+use Rattle.impulse_rounding.proofs.Sizes.{ceiling_above, rounded_up_reach}
 
 -- disks that approach each other don't have one centre
-pub square_positive : (rx ry ux uy : ℤ) → dot rx ry ux uy <ℤ pos 0 → 0 < nat_abs (dot rx ry rx ry)
-square_positive rx ry ux uy h =
-    rw (square_size rx ry)
-    (some_square (nat_abs rx) (nat_abs ry) (nat_abs ux) (nat_abs uy) (nat_abs (dot rx ry ux uy))
-    (size_positive (dot rx ry ux uy) h) (dot_size rx ry ux uy))
+pub square_positive : (r u : Vector) → dot r u <ℤ pos 0 → 0 < nat_abs (dot r r)
+square_positive r u h =
+    rw (square_size r)
+    (some_square (nat_abs r.x) (nat_abs r.y) (nat_abs u.x) (nat_abs u.y) (nat_abs (dot r u))
+    (size_positive (dot r u) h) (dot_size r u))
 
 -- the sizes are at most 2 ^ 22
-pub x_small : (rx ry ux uy : ℤ) → nat_abs ux ≤ 2 ^ 21 → nat_abs uy ≤ 2 ^ 21
-    → nat_abs (dot rx ry ux uy) * nat_abs rx ≤ 2 ^ 22 * nat_abs (dot rx ry rx ry)
-x_small rx ry ux uy hx hy =
-    rw (square_size rx ry)
-    (quotient_bound (nat_abs rx) (nat_abs ry) (nat_abs ux) (nat_abs uy) (nat_abs (dot rx ry ux uy)) hx hy (dot_size rx ry ux uy))
+pub record IsSmall (r u : Vector) : Type 0 where
+  pub x : nat_abs (dot r u) * nat_abs r.x ≤ 2 ^ 22 * nat_abs (dot r r)
+  pub y : nat_abs (dot r u) * nat_abs r.y ≤ 2 ^ 22 * nat_abs (dot r r)
 
-pub y_small : (rx ry ux uy : ℤ) → nat_abs ux ≤ 2 ^ 21 → nat_abs uy ≤ 2 ^ 21
-    → nat_abs (dot rx ry ux uy) * nat_abs ry ≤ 2 ^ 22 * nat_abs (dot rx ry rx ry)
-y_small rx ry ux uy hx hy =
-    rw (square_size rx ry)
-    (quotient_bound_other (nat_abs rx) (nat_abs ry) (nat_abs ux) (nat_abs uy) (nat_abs (dot rx ry ux uy)) hx hy (dot_size rx ry ux uy))
+pub small : (r u : Vector) → IsWithin (2 ^ 21) u → IsSmall r u
+small r u h =
+    let bounds = quotient_bounds (nat_abs r.x) (nat_abs r.y) (nat_abs u.x) (nat_abs u.y)
+    (nat_abs (dot r u)) h.x h.y (dot_size r u) in
+    record { x = rw (square_size r) bounds.0; y = rw (square_size r) bounds.1 }
 
-pub ceiling_recedes : (rx ry ux uy : ℤ) → dot rx ry ux uy <ℤ pos 0
-    → pos 0 <ℤ parting rx ry ux uy (rounded_impulse ceiling rx ry ux uy)
-ceiling_recedes rx ry ux uy h =
-    let b = nat_abs (dot rx ry ux uy) in
-    let n = nat_abs (dot rx ry rx ry) in
-    let positive : 0 < n = square_positive rx ry ux uy h in
-    parting_up rx ry ux uy (ceiling (b * nat_abs rx) n) (ceiling (b * nat_abs ry) n) h
-    (rounded_up_reach (nat_abs rx) (nat_abs ry) b (ceiling (b * nat_abs rx) n) (ceiling (b * nat_abs ry) n) n
-    (square_size rx ry) positive (ceiling_above (b * nat_abs rx) n positive) (ceiling_above (b * nat_abs ry) n positive))
+-- what holds of the nearest impulse where the two then recede, and of that rounded up, holds
+pub of_either : (P : Vector → Type 0) (r u : Vector) →
+    (pos 0 <ℤ parting r u (rounded_impulse nearest r u) → P (rounded_impulse nearest r u)) →
+    P (rounded_impulse ceiling r u) → P (impulse_of r u)
+of_either P r u near up = by (int_lt (pos 0) (parting r u (rounded_impulse nearest r u))) refl
+  where
+    by : (b : Bool) → int_lt (pos 0) (parting r u (rounded_impulse nearest r u)) ≡ b →
+        P (if b then rounded_impulse nearest r u else rounded_impulse ceiling r u)
+    by true e = near (omega (arith, ints))
+    by false e = up
 
--- what holds of an impulse holds of an equal one
-pub recedes_along : (rx ry ux uy : ℤ) (j k : ℤ × ℤ) → j ≡ k → pos 0 <ℤ parting rx ry ux uy k → pos 0 <ℤ parting rx ry ux uy j
-recedes_along rx ry ux uy j k e h = let P : ℤ × ℤ → Type 0 = λ i. pos 0 <ℤ parting rx ry ux uy i in subst P (sym e) h
+ceiling_recedes : (r u : Vector) → dot r u <ℤ pos 0 →
+    pos 0 <ℤ parting r u (rounded_impulse ceiling r u)
+ceiling_recedes r u h =
+    let b = nat_abs (dot r u) in
+    let n = nat_abs (dot r r) in
+    let s = ceiling (b * nat_abs r.x) n in
+    let t = ceiling (b * nat_abs r.y) n in
+    let positive : 0 < n = square_positive r u h in
+    let x = ceiling_above (b * nat_abs r.x) n positive in
+    let y = ceiling_above (b * nat_abs r.y) n positive in
+    parting_up r u s t h
+    (rounded_up_reach (nat_abs r.x) (nat_abs r.y) b s t n (square_size r) positive x y)
+
+-- the two recede after the impulse
+pub recedes : (r u : Vector) → dot r u <ℤ pos 0 → pos 0 <ℤ parting r u (impulse_of r u)
+recedes r u h =
+    of_either (λ (j : Vector). pos 0 <ℤ parting r u j) r u (λ near. near) (ceiling_recedes r u h)

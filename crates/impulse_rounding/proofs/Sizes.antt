@@ -15,26 +15,23 @@ some_square zero zero u v b h k = omega arith
 some_square (suc x) y u v b h k = omega arith
 some_square zero (suc y) u v b h k = omega arith
 
--- b x / r·r, where b is at most |x u| + |y v|: the first component's size
-pub quotient_bound : (x y u v b : ℕ) → u ≤ 2 ^ 21 → v ≤ 2 ^ 21 → b ≤ x * u + y * v → b * x ≤ 2 ^ 22 * (x * x + y * y)
-quotient_bound x y u v b hu hv hb =
+-- b x / r·r and b y / r·r, where b is at most |x u| + |y v|: the components' sizes
+pub quotient_bounds : (x y u v b : ℕ) → u ≤ 2 ^ 21 → v ≤ 2 ^ 21 → b ≤ x * u + y * v →
+    (b * x ≤ 2 ^ 22 * (x * x + y * y)) × (b * y ≤ 2 ^ 22 * (x * x + y * y))
+quotient_bounds x y u v b hu hv hb =
     let hx : x * u ≤ x * 2 ^ 21 = mul-le-mul_left x hu in
     let hy : y * v ≤ y * 2 ^ 21 = mul-le-mul_left y hv in
     let h : b ≤ 2 ^ 21 * (x + y) = omega arith in
-    let k : b * x ≤ (2 ^ 21 * (x + y)) * x = mul-le-mul_right x h in
-    omega (arith, twice_product x y)
-
--- and the second component's
-pub quotient_bound_other : (x y u v b : ℕ) → u ≤ 2 ^ 21 → v ≤ 2 ^ 21 → b ≤ x * u + y * v → b * y ≤ 2 ^ 22 * (x * x + y * y)
-quotient_bound_other x y u v b hu hv hb =
-    let h : b * y ≤ 2 ^ 22 * (y * y + x * x) = quotient_bound y x v u b hv hu (omega arith) in
-    omega arith
+    let kx : b * x ≤ (2 ^ 21 * (x + y)) * x = mul-le-mul_right x h in
+    let ky : b * y ≤ (2 ^ 21 * (x + y)) * y = mul-le-mul_right y h in
+    (omega (arith, twice_product x y), omega (arith, twice_product x y))
 
 pub ceiling_above : (n d : ℕ) → 0 < d → n ≤ ceiling n d * d
 ceiling_above n d h = grind arith
 
 -- sizes rounded up part the two at least as fast as they came
-pub rounded_up_reach : (x y b s t n : ℕ) → n ≡ x * x + y * y → 0 < n → b * x ≤ s * n → b * y ≤ t * n → b ≤ x * s + y * t
+pub rounded_up_reach : (x y b s t n : ℕ) → n ≡ x * x + y * y → 0 < n → b * x ≤ s * n →
+    b * y ≤ t * n → b ≤ x * s + y * t
 rounded_up_reach x y b s t n e h hx hy =
     let kx : x * (b * x) ≤ x * (s * n) = mul-le-mul_left x hx in
     let ky : y * (b * y) ≤ y * (t * n) = mul-le-mul_left y hy in

@@ -1,52 +1,85 @@
 //! The impulse of two disks that collide, in whole numbers.
 //!
-//! The exact impulse acts along the line of centres and mirrors the relative velocity; here its components are
-//! rounded to whole numbers, so that momentum is kept exactly and energy nearly.
+//! The exact impulse acts along the line of centres and mirrors the relative velocity; here its
+//! components are rounded to whole numbers, so that momentum is kept exactly and energy nearly.
 #![tactic(auto)]
 
 ghost use Rattle.std.specs.Prelude.{◌≡◌, ◌+◌, ◌*◌, ◌^◌, ◌≤◌, ◌<◌, pos, ◌<ℤ◌, nat_abs};
-ghost use Rattle.scalar_product.specs.Product.{dot};
-ghost use Rattle.impulse_rounding.specs.Impulse.{nearest, ceiling, signed, impulse_of, parting, energy_change};
+ghost use Rattle.plane_vectors.specs.Vectors.{vector, dot, IsWithin};
+ghost use Rattle.impulse_rounding.specs.Impulse.{nearest, ceiling, signed, with_signs};
+ghost use Rattle.impulse_rounding.specs.Impulse.{impulse_of, parting, energy_change};
 ghost use Rattle.impulse_rounding.specs.Laws.{RoundsRight};
 
-use scalar_product::scalar_product;
+use plane_vectors::Vector;
 
 /// The impulse, in units per tick, that the first of two disks gets and the second loses.
 ///
-/// (`rx`, `ry`) is the first centre less the second in units of length, at most 2^30 in each component, and
-/// (`ux`, `uy`) the first velocity less the second in units per tick, at most 2^21 in each component. The two
-/// approach each other, so the centres differ.
+/// (`rx`, `ry`) is the first centre less the second in units of length, at most 2^30 in each
+/// component, and (`ux`, `uy`) the first velocity less the second in units per tick, at most 2^21
+/// in each component. The two approach each other, so the centres differ.
 pub fn impulse(rx: i64, ry: i64, ux: i64, uy: i64) -> (i64, i64)
-    requires approaching { dot rx ry ux uy <ℤ pos 0 }
+    requires approaching { dot (vector rx ry) (vector ux uy) <ℤ pos 0 }
     requires rx_size { nat_abs rx ≤ 2 ^ 30 }
     requires ry_size { nat_abs ry ≤ 2 ^ 30 }
     requires ux_size { nat_abs ux ≤ 2 ^ 21 }
     requires uy_size { nat_abs uy ≤ 2 ^ 21 }
-    ensures value { result ≡ impulse_of rx ry ux uy }
-    ensures recedes { pos 0 <ℤ parting rx ry ux uy result }
+    ensures value { vector result.0 result.1 ≡ impulse_of (vector rx ry) (vector ux uy) }
+    ensures recedes { pos 0 <ℤ parting (vector rx ry) (vector ux uy) (vector result.0 result.1) }
     ensures x_size { nat_abs result.0 ≤ 2 ^ 23 }
     ensures y_size { nat_abs result.1 ≤ 2 ^ 23 }
-    ensures energy { nat_abs (energy_change ux uy result) ≤ 3 * (nat_abs ux + nat_abs uy) + 4 }
+    ensures energy { nat_abs (energy_change (vector ux uy) (vector result.0 result.1))
+        ≤ 3 * (nat_abs ux + nat_abs uy) + 4 }
 {
-    let exact = exact_sizes(rx, ry, ux, uy);
-    let near = (
-        with_sign(rx, divide_to_nearest(exact.x, exact.divisor)),
-        with_sign(ry, divide_to_nearest(exact.y, exact.divisor)),
-    );
-    if parting_speed(rx, ry, ux, uy, near) > 0 {
-        near
-    } else {
-        (
-            with_sign(rx, divide_up(exact.x, exact.divisor)),
-            with_sign(ry, divide_up(exact.y, exact.divisor)),
-        )
-    }
+    let change = impulse_between(Vector { x: rx, y: ry }, Vector { x: ux, y: uy });
+    (change.x, change.y)
+}
+
+/// The impulse, in units per tick, that the first of two disks gets and the second loses.
+///
+/// `r` is the first centre less the second in units of length, at most 2^30 in each component, and
+/// `u` the first velocity less the second in units per tick, at most 2^21 in each component. The
+/// two approach each other, so the centres differ.
+pub fn impulse_between(r: Vector, u: Vector) -> Vector
+    requires approaching { dot r u <ℤ pos 0 }
+    requires r_size { IsWithin (2 ^ 30) r }
+    requires u_size { IsWithin (2 ^ 21) u }
+    ensures value { result ≡ impulse_of r u }
+    ensures recedes { pos 0 <ℤ parting r u result }
+    ensures size { IsWithin (2 ^ 23) result }
+    ensures energy { nat_abs (energy_change u result) ≤ 3 * (nat_abs u.x + nat_abs u.y) + 4 }
+{
+    rounded(r, u)
 }
 
 /// The roundings of [`impulse`]: to the nearest whole number with ties up, and up.
 pub fn rounds_right()
     ensures { RoundsRight }
 {}
+
+// The exact impulse rounded to nearest, or up where the two wouldn't recede.
+fn rounded(r: Vector, u: Vector) -> Vector
+    requires approaching { dot r u <ℤ pos 0 }
+    requires r_size { IsWithin (2 ^ 30) r }
+    requires u_size { IsWithin (2 ^ 21) u }
+    ensures value { result ≡ impulse_of r u }
+    ensures size { IsWithin (2 ^ 22) result }
+{
+    let exact = exact_sizes(r, u);
+    let near = with_signs(
+        r,
+        divide_to_nearest(exact.x, exact.divisor),
+        divide_to_nearest(exact.y, exact.divisor),
+    );
+    if parting_speed(r, u, near) > 0 {
+        near
+    } else {
+        with_signs(
+            r,
+            divide_up(exact.x, exact.divisor),
+            divide_up(exact.y, exact.divisor),
+        )
+    }
+}
 
 // The sizes of the exact impulse's components, x / divisor and y / divisor.
 #[derive(Clone, Copy)]
@@ -57,39 +90,34 @@ struct ExactSizes {
 }
 
 // The exact impulse of two disks that approach each other.
-fn exact_sizes(rx: i64, ry: i64, ux: i64, uy: i64) -> ExactSizes
-    requires approaching { dot rx ry ux uy <ℤ pos 0 }
-    requires rx_size { nat_abs rx ≤ 2 ^ 30 }
-    requires ry_size { nat_abs ry ≤ 2 ^ 30 }
-    requires ux_size { nat_abs ux ≤ 2 ^ 21 }
-    requires uy_size { nat_abs uy ≤ 2 ^ 21 }
-    ensures x { result.x ≡ nat_abs (dot rx ry ux uy) * nat_abs rx }
-    ensures y { result.y ≡ nat_abs (dot rx ry ux uy) * nat_abs ry }
-    ensures divisor { result.divisor ≡ nat_abs (dot rx ry rx ry) }
+fn exact_sizes(r: Vector, u: Vector) -> ExactSizes
+    requires approaching { dot r u <ℤ pos 0 }
+    requires r_size { IsWithin (2 ^ 30) r }
+    requires u_size { IsWithin (2 ^ 21) u }
+    ensures x { result.x ≡ nat_abs (dot r u) * nat_abs r.x }
+    ensures y { result.y ≡ nat_abs (dot r u) * nat_abs r.y }
+    ensures divisor { result.divisor ≡ nat_abs (dot r r) }
     ensures x_size { result.x ≤ 2 ^ 22 * result.divisor }
     ensures y_size { result.y ≤ 2 ^ 22 * result.divisor }
     ensures divisor_size { result.divisor ≤ 2 ^ 61 }
     ensures positive { 0 < result.divisor }
 {
-    let closing = u128::from(scalar_product(rx, ry, ux, uy).unsigned_abs());
+    let closing = u128::from(r.dot(u).unsigned_abs());
     ExactSizes {
-        x: closing * u128::from(rx.unsigned_abs()),
-        y: closing * u128::from(ry.unsigned_abs()),
-        divisor: scalar_product(rx, ry, rx, ry).unsigned_abs(),
+        x: closing * u128::from(r.x.unsigned_abs()),
+        y: closing * u128::from(r.y.unsigned_abs()),
+        divisor: r.dot(r).unsigned_abs(),
     }
 }
 
-// How fast the two would part along (rx, ry) after the impulse.
-fn parting_speed(rx: i64, ry: i64, ux: i64, uy: i64, impulse: (i64, i64)) -> i64
-    requires rx_size { nat_abs rx ≤ 2 ^ 30 }
-    requires ry_size { nat_abs ry ≤ 2 ^ 30 }
-    requires ux_size { nat_abs ux ≤ 2 ^ 30 }
-    requires uy_size { nat_abs uy ≤ 2 ^ 30 }
-    requires x_size { nat_abs impulse.0 ≤ 2 ^ 30 }
-    requires y_size { nat_abs impulse.1 ≤ 2 ^ 30 }
-    ensures { result ≡ parting rx ry ux uy impulse }
+// How fast the two would part along r after the impulse.
+fn parting_speed(r: Vector, u: Vector, impulse: Vector) -> i64
+    requires r_size { IsWithin (2 ^ 30) r }
+    requires u_size { IsWithin (2 ^ 30) u }
+    requires impulse_size { IsWithin (2 ^ 30) impulse }
+    ensures { result ≡ parting r u impulse }
 {
-    scalar_product(rx, ry, ux, uy) + 2 * scalar_product(rx, ry, impulse.0, impulse.1)
+    r.dot(u) + 2 * r.dot(impulse)
 }
 
 // n / d to the nearest whole number, ties up.
@@ -114,6 +142,19 @@ fn divide_up(n: u128, d: u64) -> u64
 {
     let wide = u128::from(d);
     ((n + (wide - 1)) / wide) as u64
+}
+
+// The vector of these sizes, with the signs of r.
+fn with_signs(r: Vector, x: u64, y: u64) -> Vector
+    requires x_size { x ≤ 2 ^ 22 }
+    requires y_size { y ≤ 2 ^ 22 }
+    ensures value { result ≡ with_signs r x y }
+    ensures size { IsWithin (2 ^ 22) result }
+{
+    Vector {
+        x: with_sign(r.x, x),
+        y: with_sign(r.y, y),
+    }
 }
 
 // This size, with the sign of x.
