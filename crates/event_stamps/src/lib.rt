@@ -1,15 +1,20 @@
 //! Stamps, the keys that order the events of a run.
 //!
-//! A stamp is what the literature on event-driven simulation calls an event key: a virtual time that orders all
-//! events totally (Jefferson, Virtual Time, 1985).
+//! A stamp is what the literature on event-driven simulation calls an event key: a virtual time
+//! that orders all events totally (Jefferson, Virtual Time, 1985).
 #![tactic(auto)]
 
 ghost use Rattle.std.specs.Prelude.{◌≡◌};
-ghost use Rattle.std.specs.Cmp.{IsTotalOrder};
-ghost use Rattle.std.proofs.lemmas.Map.Lookups.{CmpEqualImpliesEq};
-ghost use Rattle.event_stamps.specs.Order.{stamp_cmp, first_stamp, end_stamp, RanksAgree};
+ghost use Rattle.event_stamps.specs.Order.{stamp_cmp, first_stamp, end_stamp};
+ghost use Rattle.event_stamps.specs.Least.{earlier_of};
 
 use std::cmp::Ordering;
+
+mod laws;
+
+pub use laws::{
+    cross_before, least_or_none, none_before_first, order_is_exact, order_is_total, ranks_agree,
+};
 
 /// What happens at an event; the order of the variants is that of events of one tick and round.
 #[derive(Clone, Copy, Debug, PartialEq, Eq, PartialOrd, Ord)]
@@ -69,17 +74,13 @@ pub fn compare(a: &Stamp, b: &Stamp) -> Ordering
     a.cmp(b)
 }
 
-/// Stamps are ordered totally.
-pub fn order_is_total()
-    ensures { IsTotalOrder stamp_cmp }
-{}
-
-/// Only equal stamps compare as equal.
-pub fn order_is_exact()
-    ensures { CmpEqualImpliesEq stamp_cmp }
-{}
-
-/// The rank of a stamp, one number, orders stamps as their order does.
-pub fn ranks_agree()
-    ensures { RanksAgree }
-{}
+/// The earlier of two stamps that are both there; else the one that is there, if any.
+pub fn earlier(a: Option<Stamp>, b: Option<Stamp>) -> Option<Stamp>
+    ensures { result ≡ earlier_of a b }
+{
+    match (a, b) {
+        (None, b) => b,
+        (a, None) => a,
+        (Some(s), Some(t)) => Some(if t < s { t } else { s }),
+    }
+}

@@ -1,6 +1,5 @@
--- Ranks order stamps as their order does.
 use Rattle.event_stamps.proofs.Ranks as ranks
-use Rattle.event_stamps.proofs.ranks_agree.Goals as goal
+use Rattle.event_stamps.proofs.laws.ranks_agree.Goals as goal
 
 pub returns : goal.returns
 returns c = ranks.ranks_agree
