@@ -1,20 +1,24 @@
 //! When disks hit each other and the sides of the box next.
 
-ghost use Rattle.std.specs.Prelude.{◌≡◌, ◌↔◌, ℕ, ◌+◌, ◌^◌, ◌<◌, ◌≤◌, pos, IsTrue, IsNone, IfSome, MatchOption};
+ghost use Rattle.std.specs.Prelude.{◌≡◌, ◌↔◌, ℕ, ◌+◌, ◌^◌, ◌<◌, ◌≤◌, pos, IsTrue, false, IsNone, IfSome, MatchOption};
 ghost use Rattle.fixed_motion.specs.Rules.{IsChecked};
 ghost use Rattle.fixed_motion.specs.Motion.{IsValidDisk};
 ghost use Rattle.event_stamps.specs.declared.Stamp.{Stamp};
-ghost use Rattle.event_rules.specs.Events.{IsWallEvent, IsPairEvent, IsContactTick, IsOnly, IsPast, IsLastInside, mark_at};
-ghost use Rattle.event_rules.specs.Predict.{IsUpTo, IsLastTogether, IsOnlyContactTick, Widens};
+ghost use Rattle.event_stamps.specs.Least.{IsOnly};
+ghost use Rattle.event_rules.specs.Events.{IsWallEvent, IsPairEvent, IsContactTick, IsPast, IsLastInside};
+ghost use Rattle.event_rules.specs.Predict.{IsUpTo, IsLastTogether, IsOnlyContactTick, IsMeeting, IsSeparation, PathsCross, PathsMeetAfter};
 
-use contact_predictor::{contact, stay};
+use contact_predictor::{contact_between, may_meet, quick_contact, stay};
 use event_stamps::{Kind, Stamp};
 use fixed_motion::{Disk, Rules};
+use plane_vectors::Vector;
 use std::cmp::{max, min};
 
-/// The stamp at which a disk next hits a side of the box if it keeps its course, before the last tick of the run.
+/// The stamp at which a disk next hits a side of the box if it keeps its course, before the last tick of
+/// the run.
 ///
-/// `disk` is the number of the disk, and `side` is 0 left, 1 right, 2 bottom, 3 top. None where there is none.
+/// `disk` is the number of the disk, and `side` is 0 left, 1 right, 2 bottom, 3 top. None where there is
+/// none.
 pub fn wall_event(rules: &Rules, disk: u32, a: &Disk, side: u32) -> Option<Stamp>
     requires checked { IsChecked rules.now }
     requires valid { IsValidDisk rules.now a.now }
@@ -23,10 +27,10 @@ pub fn wall_event(rules: &Rules, disk: u32, a: &Disk, side: u32) -> Option<Stamp
         (IsOnly (IsWallEvent rules.now disk a.now side)) }
 {
     let tick = last_inside(rules, a)?;
-    if tick < rules.end && is_past(rules, side, a.centre_at(rules, tick + 1)) {
+    if tick < rules.end && is_past(rules, a, side, a.centre_at(rules, tick + 1)) {
         Some(Stamp {
             tick,
-            round: mark_at(a, tick),
+            round: a.mark_at(tick),
             kind: Kind::Wall,
             first: disk,
             second: side,
@@ -36,7 +40,8 @@ pub fn wall_event(rules: &Rules, disk: u32, a: &Disk, side: u32) -> Option<Stamp
     }
 }
 
-/// The stamp at which two disks next hit each other if they keep their courses, before the last tick of the run.
+/// The stamp at which two disks next hit each other if they keep their courses, before the last tick of
+/// the run.
 ///
 /// `first` and `second` are the numbers of the disks. None where they don't hit each other.
 pub fn pair_event(rules: &Rules, first: u32, a: &Disk, second: u32, b: &Disk) -> Option<Stamp>
@@ -47,18 +52,128 @@ pub fn pair_event(rules: &Rules, first: u32, a: &Disk, second: u32, b: &Disk) ->
     ensures { MatchOption result ((s : Stamp) → IsPairEvent rules.now first a.now second b.now s → ⊥)
         (IsOnly (IsPairEvent rules.now first a.now second b.now)) }
 {
-    if move_apart(rules, a, b) {
-        return None;
-    }
-    let last = last_together(rules, a, b)?;
-    let tick = contact_tick(rules, a, b, last)?;
+    let tick = meeting_tick(rules, a, b)?;
     Some(Stamp {
         tick,
-        round: max(mark_at(a, tick), mark_at(b, tick)),
+        round: max(a.mark_at(tick), b.mark_at(tick)),
         kind: Kind::Pair,
         first,
         second,
     })
+}
+
+// Where one disk is from another at the later of their base ticks, how fast that changes, and how far
+// apart they are where they touch.
+#[derive(Clone, Copy)]
+struct Separation {
+    start: u64,
+    places: Vector,
+    velocities: Vector,
+    distance: i64,
+}
+
+fn meeting_tick(rules: &Rules, a: &Disk, b: &Disk) -> Option<u64>
+    requires checked { IsChecked rules.now }
+    requires first_valid { IsValidDisk rules.now a.now }
+    requires second_valid { IsValidDisk rules.now b.now }
+    ensures { MatchOption result ((tick : ℕ) → tick < rules.now.end → IsContactTick rules.now a.now b.now tick → ⊥)
+        (IsMeeting rules.now a.now b.now) }
+{
+    let s = separate(rules, a, b)?;
+    if !are_on_course(rules, a, b, &s) {
+        return None;
+    }
+    match quick_ticks(rules, a, b, &s) {
+        Some(ticks) => tick_inside(rules, a, b, &s, ticks),
+        None => searched_tick(rules, a, b),
+    }
+}
+
+// None where one of the disks isn't inside the box at the later base tick, and so at no later tick.
+fn separate(rules: &Rules, a: &Disk, b: &Disk) -> Option<Separation>
+    requires checked { IsChecked rules.now }
+    requires first_valid { IsValidDisk rules.now a.now }
+    requires second_valid { IsValidDisk rules.now b.now }
+    ensures { MatchOption result ((tick : ℕ) → IsContactTick rules.now a.now b.now tick → ⊥)
+        (IsSeparation rules.now a.now b.now) }
+{
+    let start = max(a.base, b.base);
+    let p = a.centre_at(rules, start);
+    let q = b.centre_at(rules, start);
+    if a.is_inside(rules, p) && b.is_inside(rules, q) {
+        Some(Separation {
+            start,
+            places: p.minus(q),
+            velocities: a.velocity().minus(b.velocity()),
+            distance: a.contact_distance(b),
+        })
+    } else {
+        None
+    }
+}
+
+// Most pairs are told by this, by products alone.
+fn are_on_course(rules: &Rules, a: &Disk, b: &Disk, s: &Separation) -> bool
+    requires checked { IsChecked rules.now }
+    requires first_valid { IsValidDisk rules.now a.now }
+    requires second_valid { IsValidDisk rules.now b.now }
+    requires separation { IsSeparation rules.now a.now b.now s.now }
+    ensures yes { IsTrue result → PathsCross s.now }
+    ensures no { result ≡ false → (tick : ℕ) → IsContactTick rules.now a.now b.now tick → ⊥ }
+{
+    let _first = a;
+    let _second = b;
+    may_meet(s.places, s.velocities, s.distance)
+}
+
+// After how many ticks the paths bring the disks into contact, whatever the end and the walls; seldom
+// none.
+fn quick_ticks(rules: &Rules, a: &Disk, b: &Disk, s: &Separation) -> Option<u64>
+    requires checked { IsChecked rules.now }
+    requires first_valid { IsValidDisk rules.now a.now }
+    requires second_valid { IsValidDisk rules.now b.now }
+    requires separation { IsSeparation rules.now a.now b.now s.now }
+    requires paths { PathsCross s.now }
+    ensures found { IfSome result (PathsMeetAfter s.now) }
+    ensures near { IfSome result (λ ticks. ticks ≤ 2 ^ 30) }
+{
+    let _first = a;
+    let _second = b;
+    quick_contact(s.places, s.velocities, s.distance)
+}
+
+// The tick of that contact, if it is before the end and both disks are inside the box then.
+fn tick_inside(rules: &Rules, a: &Disk, b: &Disk, s: &Separation, ticks: u64) -> Option<u64>
+    requires checked { IsChecked rules.now }
+    requires first_valid { IsValidDisk rules.now a.now }
+    requires second_valid { IsValidDisk rules.now b.now }
+    requires separation { IsSeparation rules.now a.now b.now s.now }
+    requires found { PathsMeetAfter s.now ticks }
+    requires near { ticks ≤ 2 ^ 30 }
+    ensures { MatchOption result ((tick : ℕ) → tick < rules.now.end → IsContactTick rules.now a.now b.now tick → ⊥)
+        (IsMeeting rules.now a.now b.now) }
+{
+    let tick = s.start + ticks;
+    if tick < rules.end
+        && a.is_inside(rules, a.centre_at(rules, tick))
+        && b.is_inside(rules, b.centre_at(rules, tick))
+    {
+        Some(tick)
+    } else {
+        None
+    }
+}
+
+// The contact tick of any two disks, by the last tick at which both are inside.
+fn searched_tick(rules: &Rules, a: &Disk, b: &Disk) -> Option<u64>
+    requires checked { IsChecked rules.now }
+    requires first_valid { IsValidDisk rules.now a.now }
+    requires second_valid { IsValidDisk rules.now b.now }
+    ensures { MatchOption result ((tick : ℕ) → tick < rules.now.end → IsContactTick rules.now a.now b.now tick → ⊥)
+        (IsMeeting rules.now a.now b.now) }
+{
+    let last = last_together(rules, a, b)?;
+    contact_tick(rules, a, b, last)
 }
 
 // The last tick at which a disk that keeps its course is inside the box; none where it stands still.
@@ -69,7 +184,7 @@ fn last_inside(rules: &Rules, a: &Disk) -> Option<u64>
     ensures last { IfSome result (IsLastInside rules.now a.now) }
     ensures near { IfSome result (λ last. last ≤ a.now.base + 2 ^ 30) }
 {
-    let radius = rules.radius();
+    let radius = a.radius();
     let across = stay(radius, rules.width - radius, a.x, a.vx);
     let upwards = stay(radius, rules.height - radius, a.y, a.vy);
     let ticks = lesser(across, upwards)?;
@@ -90,44 +205,19 @@ fn lesser(first: Option<u64>, second: Option<u64>) -> Option<u64>
     }
 }
 
-fn is_past(rules: &Rules, side: u32, place: (i64, i64)) -> bool
+fn is_past(rules: &Rules, a: &Disk, side: u32, place: Vector) -> bool
     requires checked { IsChecked rules.now }
+    requires valid { IsValidDisk rules.now a.now }
     requires side { side < 4 }
-    ensures { IsTrue result ↔ IsPast rules.now side place }
+    ensures { IsTrue result ↔ IsPast rules.now a.now side place }
 {
-    let radius = rules.radius();
+    let radius = a.radius();
     match side {
-        0 => place.0 < radius,
-        1 => place.0 > rules.width - radius,
-        2 => place.1 < radius,
-        _ => place.1 > rules.height - radius,
+        0 => place.x < radius,
+        1 => place.x > rules.width - radius,
+        2 => place.y < radius,
+        _ => place.y > rules.height - radius,
     }
-}
-
-fn mark_at(a: &Disk, tick: u64) -> u32
-    ensures { result ≡ mark_at a.now tick }
-{
-    if a.base == tick { a.mark } else { 0 }
-}
-
-// Whether the disks come no nearer on either axis, by signs alone. Most pairs are told by this, without a division.
-fn move_apart(rules: &Rules, a: &Disk, b: &Disk) -> bool
-    requires checked { IsChecked rules.now }
-    requires first_valid { IsValidDisk rules.now a.now }
-    requires second_valid { IsValidDisk rules.now b.now }
-    ensures { IsTrue result → ((tick : ℕ) → IsContactTick rules.now a.now b.now tick → ⊥) }
-{
-    let later = max(a.base, b.base);
-    let p = a.centre_at(rules, later);
-    let q = b.centre_at(rules, later);
-    widens(p.0, q.0, a.vx, b.vx) && widens(p.1, q.1, a.vy, b.vy)
-}
-
-// Whether two coordinates with these velocities come no nearer.
-fn widens(p: i64, q: i64, u: i64, v: i64) -> bool
-    ensures { IsTrue result → Widens p q u v }
-{
-    if p < q { u <= v } else { p == q || u >= v }
 }
 
 // None also where both stand still, since then they don't meet.
@@ -159,15 +249,8 @@ fn contact_tick(rules: &Rules, a: &Disk, b: &Disk, last: u64) -> Option<u64>
         (IsOnlyContactTick rules.now a.now b.now last) }
 {
     let start = max(a.base, b.base);
-    let p = a.centre_at(rules, start);
-    let q = b.centre_at(rules, start);
-    let ticks = contact(
-        p.0 - q.0,
-        p.1 - q.1,
-        a.vx - b.vx,
-        a.vy - b.vy,
-        rules.contact_distance(),
-        last - start,
-    )?;
+    let places = a.centre_at(rules, start).minus(b.centre_at(rules, start));
+    let velocities = a.velocity().minus(b.velocity());
+    let ticks = contact_between(places, velocities, a.contact_distance(b), last - start)?;
     Some(start + ticks)
 }

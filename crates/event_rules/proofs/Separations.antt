@@ -1,0 +1,277 @@
+-- What the separation of two disks at the later of their base ticks tells of their contact.
+use Rattle.std.proofs.Common.{◌≡◌, ◌↔◌, ℕ, suc, ◌+◌, ◌-◌, ◌^◌, ◌<◌, ◌≤◌, max, arith, ap, sym, subst, ◌∙◌}
+use Rattle.std.specs.Prelude.{ℤ, pos, negsuc, nat_abs, ◌+ℤ◌, ◌-ℤ◌, ◌*ℤ◌, ◌≤ℤ◌}
+use Rattle.std.proofs.lemmas.Int.{ints}
+use Rattle.std.proofs.Math.Nat.{mul-le-mul_left}
+use Rattle.plane_vectors.specs.declared.Vector.{Vector}
+use Rattle.plane_vectors.specs.Vectors.{vector, difference, after, IsWithin}
+use Rattle.plane_vectors.proofs.Sizes.{sent, sent_same}
+use Rattle.fixed_motion.specs.declared.rules.Rules.{Rules}
+use Rattle.fixed_motion.specs.declared.disk.Disk.{Disk}
+use Rattle.fixed_motion.specs.Rules.{IsChecked}
+use Rattle.fixed_motion.specs.Motion.{IsInside, IsValidDisk, centre_of, velocity_of, place_of, radius_of, contact_distance}
+use Rattle.fixed_motion.proofs.Sizes.{inside_in_box, in_box_size, difference_size, slow_size, within_more, contact_least, contact_most}
+use Rattle.contact_predictor.specs.Contact.{coordinate_after, IsBetween, IsContact, IsContactAfter}
+use Rattle.plane_vectors.proofs.Products.{distributes}
+use Rattle.event_rules.specs.declared.predict.Separation.{Separation}
+use Rattle.event_rules.specs.Events.{IsContactTick, MeetAt}
+use Rattle.event_rules.specs.Predict.{HaveBegun, AreInside, IsLastTogether, MeetAfter, IsMeeting, IsOnlyContactTick, IsSeparation, PathsMeetAfter}
+
+-- ---- inside
+-- a coordinate within its bounds now and later is so at each tick between
+between : (lo hi x v : ℤ) (m n : ℕ) → lo ≤ℤ x → x ≤ℤ hi → lo ≤ℤ coordinate_after x v n → coordinate_after x v n ≤ℤ hi → m ≤ n →
+    IsBetween lo hi (coordinate_after x v m)
+between lo hi x (pos k) m n h0 h1 l0 l1 le = (omega (arith, ints, mul-le-mul_left k le), omega (arith, ints, mul-le-mul_left k le))
+between lo hi x (negsuc k) m n h0 h1 l0 l1 le =
+    (omega (arith, ints, mul-le-mul_left (suc k) le), omega (arith, ints, mul-le-mul_left (suc k) le))
+
+-- a disk that is inside at a later tick is inside until then
+inside_until : (rules : Rules) (a : Disk) (start tick : ℕ) → IsInside rules a (centre_of a) → start ≤ tick →
+    IsInside rules a (place_of a tick) → IsInside rules a (place_of a start)
+inside_until rules a start tick now le later =
+    let r = radius_of a in
+    let x = between r (rules.width -ℤ r) a.x a.vx (start - a.base) (tick - a.base) now.left now.right later.left later.right (omega arith) in
+    let y = between r (rules.height -ℤ r) a.y a.vy (start - a.base) (tick - a.base) now.bottom now.top later.bottom later.top (omega arith) in
+    record { left = x.0; right = x.1; bottom = y.0; top = y.1 }
+
+-- disks of which one is outside at the later base tick don't meet
+pub never_outside : (rules : Rules) (a b : Disk) (start : ℕ) → IsInside rules a (centre_of a) → IsInside rules b (centre_of b) →
+    start ≡ max a.base b.base → ¬ AreInside rules a b start → (tick : ℕ) → IsContactTick rules a b tick → ⊥
+never_outside rules a b start ia ib e outside tick contact =
+    let x : a.base ≤ tick = contact.first_base in
+    let y : b.base ≤ tick = contact.second_base in
+    outside (inside_until rules a start tick ia (omega arith) contact.first_inside, inside_until rules b start tick ib (omega arith) contact.second_inside)
+
+-- ---- sizes
+pub place_size : (rules : Rules) (a : Disk) (p : Vector) → IsChecked rules → IsValidDisk rules a → IsInside rules a p → IsWithin (2 ^ 62 - 1) p
+place_size rules a p checked valid inside =
+    within_more (2 ^ 30) (2 ^ 62 - 1) p (omega arith) (in_box_size p (inside_in_box rules a p checked valid.size inside))
+
+-- the separation of two disks that are inside
+inside_size : (rules : Rules) (a b : Disk) (p q : Vector) → IsChecked rules → IsValidDisk rules a → IsValidDisk rules b →
+    IsInside rules a p → IsInside rules b q → IsWithin (2 ^ 30) (difference p q)
+inside_size rules a b p q checked va vb ia ib =
+    difference_size p q (inside_in_box rules a p checked va.size ia) (inside_in_box rules b q checked vb.size ib)
+
+relative_size : (u v : Vector) → IsWithin (2 ^ 20) u → IsWithin (2 ^ 20) v → IsWithin (2 ^ 21) (difference u v)
+relative_size u v h k = record { x = size u.x v.x h.x k.x; y = size u.y v.y h.y k.y }
+  where
+    size : (m n : ℤ) → nat_abs m ≤ 2 ^ 20 → nat_abs n ≤ 2 ^ 20 → nat_abs (m -ℤ n) ≤ 2 ^ 21
+    size m n h k = omega (arith, ints)
+
+distance_size : (rules : Rules) (a b : Disk) → IsChecked rules → IsValidDisk rules a → IsValidDisk rules b → nat_abs (contact_distance a b) ≤ 2 ^ 30
+distance_size rules a b checked va vb =
+    let least = contact_least rules a b va.size vb.size in
+    let most = contact_most rules a b va.size vb.size in
+    let fits = checked.diameter.1 in
+    let side = checked.width.1 in
+    omega (arith, ints)
+
+small_same : (n : ℤ) → nat_abs n ≤ 2 ^ 30 → sent n ≡ n
+small_same n h = sent_same n (omega (arith, ints))
+
+pub record AreSmall (s : Separation) : Type 0 where
+  pub places : IsWithin (2 ^ 30) s.places
+  pub velocities : IsWithin (2 ^ 21) s.velocities
+  pub distance : nat_abs s.distance ≤ 2 ^ 30
+  pub same : sent s.distance ≡ s.distance
+
+pub are_small : (rules : Rules) (a b : Disk) (s : Separation) → IsChecked rules → IsValidDisk rules a → IsValidDisk rules b →
+    IsSeparation rules a b s → AreSmall s
+are_small rules a b s checked va vb h =
+    let places = inside_size rules a b (place_of a s.start) (place_of b s.start) checked va vb h.first_inside h.second_inside in
+    let velocities = relative_size (velocity_of a) (velocity_of b)
+    (slow_size rules (velocity_of a) checked va.velocity) (slow_size rules (velocity_of b) checked vb.velocity) in
+    let distance = subst (λ (d : ℤ). nat_abs d ≤ 2 ^ 30) (sym h.distance) (distance_size rules a b checked va vb) in
+    record {
+      places = subst (λ (r : Vector). IsWithin (2 ^ 30) r) (sym h.places) places;
+      velocities = subst (λ (u : Vector). IsWithin (2 ^ 21) u) (sym h.velocities) velocities;
+      distance = distance;
+      same = small_same s.distance distance;
+    }
+
+-- the code's numbers are those meant
+pub separated : (rules : Rules) (a b : Disk) (start : ℕ) (p q v w r u : Vector) (d : ℤ) → IsChecked rules → IsValidDisk rules a → IsValidDisk rules b →
+    start ≡ max a.base b.base → p ≡ place_of a start → q ≡ place_of b start → v ≡ velocity_of a → w ≡ velocity_of b →
+    r ≡ difference p q → u ≡ difference v w → d ≡ contact_distance a b → IsInside rules a p → IsInside rules b q →
+    IsSeparation rules a b (record { start = start; places = r; velocities = u; distance = sent d })
+separated rules a b start p q v w r u d checked va vb e ep eq ev ew er eu ed ia ib =
+    let distance : sent (contact_distance a b) ≡ contact_distance a b = small_same (contact_distance a b) (distance_size rules a b checked va vb) in
+    record {
+      start = e;
+      first_inside = subst (λ (z : Vector). IsInside rules a z) ep ia;
+      second_inside = subst (λ (z : Vector). IsInside rules b z) eq ib;
+      places = er ∙ (λ i. difference (ep i) (eq i));
+      velocities = eu ∙ (λ i. difference (ev i) (ew i));
+      distance = ap sent ed ∙ distance;
+    }
+
+-- disks that are both inside at a last tick are so at the later base tick
+start_inside : (rules : Rules) (a b : Disk) (start last : ℕ) → start ≡ max a.base b.base → IsLastTogether rules a b last →
+    AreInside rules a b start
+start_inside rules a b start last e together =
+    let begun : HaveBegun a b last = together.begun in
+    let x : a.base ≤ last = begun.0 in
+    let y : b.base ≤ last = begun.1 in
+    let end : last < rules.end = together.end in
+    (together.inside start (omega arith, omega arith) (omega arith)).1 (omega arith)
+
+pub sizes_at_start : (rules : Rules) (a b : Disk) (start last : ℕ) (p q : Vector) → IsChecked rules → IsValidDisk rules a → IsValidDisk rules b →
+    start ≡ max a.base b.base → IsLastTogether rules a b last → p ≡ place_of a start → q ≡ place_of b start →
+    IsWithin (2 ^ 62 - 1) p × IsWithin (2 ^ 62 - 1) q
+sizes_at_start rules a b start last p q checked va vb e together ep eq =
+    let now = start_inside rules a b start last e together in (
+      place_size rules a p checked va (subst (λ (z : Vector). IsInside rules a z) (sym ep) now.0),
+      place_size rules b q checked vb (subst (λ (z : Vector). IsInside rules b z) (sym eq) now.1),
+    )
+
+pub separated_while : (rules : Rules) (a b : Disk) (start last : ℕ) (p q v w r u : Vector) (d : ℤ) → IsChecked rules → IsValidDisk rules a → IsValidDisk rules b →
+    start ≡ max a.base b.base → IsLastTogether rules a b last → p ≡ place_of a start → q ≡ place_of b start → v ≡ velocity_of a → w ≡ velocity_of b →
+    r ≡ difference p q → u ≡ difference v w → d ≡ contact_distance a b →
+    IsSeparation rules a b (record { start = start; places = r; velocities = u; distance = sent d })
+separated_while rules a b start last p q v w r u d checked va vb e together ep eq ev ew er eu ed =
+    let now = start_inside rules a b start last e together in
+    separated rules a b start p q v w r u d checked va vb e ep eq ev ew er eu ed
+    (subst (λ (z : Vector). IsInside rules a z) (sym ep) now.0) (subst (λ (z : Vector). IsInside rules b z) (sym eq) now.1)
+
+-- ---- later ticks
+coordinate_later : (x v : ℤ) (m n : ℕ) → coordinate_after x v (m + n) ≡ coordinate_after (coordinate_after x v m) v n
+coordinate_later x v m n = let way : v *ℤ pos (m + n) ≡ (v *ℤ pos m) +ℤ (v *ℤ pos n) = omega (arith, ints) in omega (arith, ints)
+
+-- a disk's place s ticks after another tick
+place_later : (a : Disk) (start s : ℕ) → a.base ≤ start → place_of a (start + s) ≡ after (place_of a start) (velocity_of a) s
+place_later a start s le =
+    let e : (start + s) - a.base ≡ (start - a.base) + s = omega arith in
+    let x = coordinate_later a.x a.vx (start - a.base) s in
+    let y = coordinate_later a.y a.vy (start - a.base) s in
+    ap (after (centre_of a) (velocity_of a)) e ∙ (λ i. vector (x i) (y i))
+
+coordinates_apart : (x y u v : ℤ) (s : ℕ) → (coordinate_after x u s -ℤ coordinate_after y v s) ≡ coordinate_after (x -ℤ y) (u -ℤ v) s
+coordinates_apart x y u v s =
+    let e : u ≡ (u -ℤ v) +ℤ v = omega (arith, ints) in
+    let way : (u *ℤ pos s) ≡ ((u -ℤ v) *ℤ pos s) +ℤ (v *ℤ pos s) = ap (λ (z : ℤ). z *ℤ pos s) e ∙ distributes (u -ℤ v) v (pos s) in
+    sums x y (u *ℤ pos s) (v *ℤ pos s) ((u -ℤ v) *ℤ pos s) way
+  where
+    sums : (x y p q r : ℤ) → p ≡ r +ℤ q → ((x +ℤ p) -ℤ (y +ℤ q)) ≡ ((x -ℤ y) +ℤ r)
+    sums x y p q r e = omega (arith, ints)
+
+-- the separation of two disks s ticks later
+separation_later : (a b : Disk) (start s : ℕ) → HaveBegun a b start →
+    difference (place_of a (start + s)) (place_of b (start + s))
+    ≡ after (difference (place_of a start) (place_of b start)) (difference (velocity_of a) (velocity_of b)) s
+separation_later a b start s begun =
+    let first = place_later a start s begun.0 in
+    let second = place_later b start s begun.1 in
+    let x = coordinates_apart (place_of a start).x (place_of b start).x a.vx b.vx s in
+    let y = coordinates_apart (place_of a start).y (place_of b start).y a.vy b.vy s in
+    (λ i. difference (first i) (second i)) ∙ (λ i. vector (x i) (y i))
+
+-- to meet at a tick is to meet so many ticks after the start
+meet_after : (a b : Disk) (start s : ℕ) → HaveBegun a b start →
+    MeetAt a (place_of a (start + s)) b (place_of b (start + s)) ↔ MeetAfter a (place_of a start) b (place_of b start) s
+meet_after a b start s begun =
+    let e = separation_later a b start s begun in
+    let u = difference (velocity_of a) (velocity_of b) in (
+      λ h. subst (λ (r : Vector). IsContact r u (contact_distance a b)) e h,
+      λ h. subst (λ (r : Vector). IsContact r u (contact_distance a b)) (sym e) h,
+    )
+
+-- the separation is small also at the last tick at which both are inside
+pub later_small : (rules : Rules) (a b : Disk) (s : Separation) (last : ℕ) → IsChecked rules → IsValidDisk rules a → IsValidDisk rules b →
+    IsSeparation rules a b s → IsLastTogether rules a b last → IsWithin (2 ^ 30) (after s.places s.velocities (last - s.start))
+later_small rules a b s last checked va vb h together =
+    let e = h.start in
+    let begun : HaveBegun a b last = together.begun in
+    let x : a.base ≤ last = begun.0 in
+    let y : b.base ≤ last = begun.1 in
+    let end : last < rules.end = together.end in
+    let at : s.start + (last - s.start) ≡ last = omega arith in
+    let inside : AreInside rules a b (s.start + (last - s.start)) =
+    (together.inside (s.start + (last - s.start)) (omega arith, omega arith) (omega arith)).1 (omega arith) in
+    let later = inside_size rules a b (place_of a (s.start + (last - s.start))) (place_of b (s.start + (last - s.start))) checked va vb inside.0 inside.1 in
+    let same = separation_later a b s.start (last - s.start) (omega arith, omega arith) in
+    let places = h.places in
+    let velocities = h.velocities in
+    subst (λ (r : Vector). IsWithin (2 ^ 30) r) (same ∙ sym (λ i. after (places i) (velocities i) (last - s.start))) later
+
+-- ---- contacts
+-- so many ticks after the separation is to be in contact then
+contact_same : (rules : Rules) (a b : Disk) (s : Separation) (n : ℕ) → IsSeparation rules a b s →
+    IsContactAfter s.places s.velocities s.distance n ↔ MeetAfter a (place_of a s.start) b (place_of b s.start) n
+contact_same rules a b s n h = alike s.places s.velocities _ _ s.distance _ h.places h.velocities h.distance
+  where
+    alike : (r u r' u' : Vector) (d d' : ℤ) → r ≡ r' → u ≡ u' → d ≡ d' → IsContactAfter r u d n ↔ IsContactAfter r' u' d' n
+    alike r u r' u' d d' p q t = rw (p, q, t) (λ h. h, λ h. h)
+
+-- a contact tick is a contact so many ticks after the later base tick
+ticks_until : (rules : Rules) (a b : Disk) (s : Separation) (tick : ℕ) → IsSeparation rules a b s → IsContactTick rules a b tick →
+    (tick ≡ s.start + (tick - s.start)) × IsContactAfter s.places s.velocities s.distance (tick - s.start)
+ticks_until rules a b s tick h contact =
+    let x : a.base ≤ tick = contact.first_base in
+    let y : b.base ≤ tick = contact.second_base in
+    let e = h.start in
+    let t : tick ≡ s.start + (tick - s.start) = omega arith in (
+      t,
+      (contact_same rules a b s (tick - s.start) h).1 ((meet_after a b s.start (tick - s.start) (omega arith, omega arith)).0
+          (subst (λ (n : ℕ). MeetAt a (place_of a n) b (place_of b n)) t contact.contact)),
+    )
+
+-- and the other way about, if both disks are inside then
+contact_tick_from : (rules : Rules) (a b : Disk) (s : Separation) (n : ℕ) → IsSeparation rules a b s →
+    IsContactAfter s.places s.velocities s.distance n → AreInside rules a b (s.start + n) → IsContactTick rules a b (s.start + n)
+contact_tick_from rules a b s n h contact inside =
+    let e = h.start in
+    record {
+      first_base = omega arith;
+      second_base = omega arith;
+      first_inside = inside.0;
+      second_inside = inside.1;
+      contact = (meet_after a b s.start n (omega arith, omega arith)).1 ((contact_same rules a b s n h).0 contact);
+    }
+
+-- the only contact is at the only contact tick
+only_tick : (rules : Rules) (a b : Disk) (s : Separation) (n : ℕ) → IsSeparation rules a b s →
+    ((m : ℕ) → IsContactAfter s.places s.velocities s.distance m → m ≡ n) → (tick : ℕ) → IsContactTick rules a b tick → tick ≡ s.start + n
+only_tick rules a b s n h only tick contact =
+    let at = ticks_until rules a b s tick h contact in
+    let e : tick ≡ s.start + (tick - s.start) = at.0 in
+    let t : tick - s.start ≡ n = only (tick - s.start) at.1 in
+    omega arith
+
+pub never_from : (rules : Rules) (a b : Disk) (s : Separation) → IsSeparation rules a b s →
+    ((n : ℕ) → IsContactAfter s.places s.velocities s.distance n → ⊥) → (tick : ℕ) → IsContactTick rules a b tick → ⊥
+never_from rules a b s h never tick contact = never (tick - s.start) (ticks_until rules a b s tick h contact).1
+
+-- the contact of the paths is the contact of the disks, if they are inside then
+pub meeting_from : (rules : Rules) (a b : Disk) (s : Separation) (n : ℕ) → IsSeparation rules a b s → PathsMeetAfter s n →
+    (s.start + n) < rules.end → AreInside rules a b (s.start + n) → IsMeeting rules a b (s.start + n)
+meeting_from rules a b s n h found before inside =
+    (contact_tick_from rules a b s n h found.contact inside, before, only_tick rules a b s n h found.only)
+
+-- and no tick else
+pub no_meeting : (rules : Rules) (a b : Disk) (s : Separation) (n : ℕ) → IsSeparation rules a b s → PathsMeetAfter s n →
+    ((s.start + n) < rules.end → AreInside rules a b (s.start + n) → ⊥) → (tick : ℕ) → tick < rules.end → IsContactTick rules a b tick → ⊥
+no_meeting rules a b s n h found never tick before contact =
+    let e : tick ≡ s.start + n = only_tick rules a b s n h found.only tick contact in
+    never (omega arith) (subst (λ (t : ℕ). AreInside rules a b t) e (contact.first_inside, contact.second_inside))
+
+-- the contact up to the last tick at which both are inside
+pub only_contact_tick : (rules : Rules) (a b : Disk) (s : Separation) (last n : ℕ) → IsSeparation rules a b s → IsLastTogether rules a b last →
+    n ≤ last - s.start → IsContactAfter s.places s.velocities s.distance n →
+    ((m : ℕ) → IsContactAfter s.places s.velocities s.distance m → m ≡ n) → IsOnlyContactTick rules a b last (s.start + n)
+only_contact_tick rules a b s last n h together le contact only =
+    let e = h.start in
+    let begun : HaveBegun a b last = together.begun in
+    let x : a.base ≤ last = begun.0 in
+    let y : b.base ≤ last = begun.1 in
+    let end : last < rules.end = together.end in
+    let within : s.start + n ≤ last = omega arith in
+    let inside = (together.inside (s.start + n) (omega arith, omega arith) (omega arith)).1 within in
+    (contact_tick_from rules a b s n h contact inside, within, only_tick rules a b s n h only)
+
+pub no_contact_tick : (rules : Rules) (a b : Disk) (s : Separation) (last : ℕ) → IsSeparation rules a b s →
+    ((n : ℕ) → n ≤ last - s.start → IsContactAfter s.places s.velocities s.distance n → ⊥) →
+    (tick : ℕ) → tick ≤ last → IsContactTick rules a b tick → ⊥
+no_contact_tick rules a b s last h never tick le contact =
+    let e = h.start in
+    never (tick - s.start) (omega arith) (ticks_until rules a b s tick h contact).1

@@ -1,0 +1,29 @@
+-- The paths meet then alone.
+use Rattle.std.proofs.Common.{◌≡◌, true, arith, sym, subst}
+use Rattle.plane_vectors.specs.declared.Vector.{Vector}
+use Rattle.fixed_motion.specs.Motion.{IsInside}
+use Rattle.event_rules.proofs.Separations.{meeting_from, no_meeting}
+use Rattle.event_rules.proofs.predict.tick_inside.Goals as goal
+use Rattle.event_rules.proofs.predict.tick_inside.Goals.{else-tick-rules-via-then-tick-rules+then-is_inside+else-is_inside-2, else-tick-rules-via-then-tick-rules+else-is_inside, else-tick-rules-via-else-tick-rules}
+
+pub returns-then-is_inside-2 : goal.returns-then-is_inside-2
+returns-then-is_inside-2 c =
+    meeting_from c.args.rules.now c.args.a.now c.args.b.now c.args.s.now c.args.ticks c.requires.separation c.requires.found c.if-tick-rules.true (
+      subst (λ (p : Vector). IsInside c.args.rules.now c.args.a.now p) c.centre_at.ensures (c.is_inside.ensures.fact.0 c.if-is_inside.true),
+      subst (λ (p : Vector). IsInside c.args.rules.now c.args.b.now p) c.centre_at-then-is_inside.ensures (c.is_inside-then-is_inside.ensures.fact.0 c.if-is_inside-2.true),
+    )
+
+pub returns-else-tick-rules : goal.returns-else-tick-rules
+returns-else-tick-rules c =
+    no_meeting c.args.rules.now c.args.a.now c.args.b.now c.args.s.now c.args.ticks c.requires.separation c.requires.found
+    (λ before inside. elim c.else-tick-rules.branch [
+      | else-tick-rules-via-then-tick-rules+then-is_inside+else-is_inside-2 w ↦
+          let yes : w.is_inside-then-is_inside.result ≡ true =
+          w.is_inside-then-is_inside.ensures.fact.1 (subst (λ (p : Vector). IsInside c.args.rules.now c.args.b.now p) (sym w.centre_at-then-is_inside.ensures) inside.1) in
+          let no = w.if-is_inside-2.false in cc
+      | else-tick-rules-via-then-tick-rules+else-is_inside w ↦
+          let yes : w.is_inside.result ≡ true =
+          w.is_inside.ensures.fact.1 (subst (λ (p : Vector). IsInside c.args.rules.now c.args.a.now p) (sym w.centre_at.ensures) inside.0) in
+          let no = w.if-is_inside.false in cc
+      | else-tick-rules-via-else-tick-rules w ↦ absurd (omega (arith, w.if-tick-rules.false))
+    ])
