@@ -1,54 +1,17 @@
--- The least of the events found so far.
-use Rattle.std.proofs.Common.{◌≡◌, ◌⊎◌, inl, inr, ℕ, ◌+◌, ◌<◌, ◌≤◌, List, sym, ap, subst, refl, arith, Option, Some, None, slice_get, get_or, length, ◌∙◌, pos}
-use Rattle.std.specs.Prelude.{MatchOption, if◌then◌else◌}
-use Rattle.std.specs.Ordering.{is_lt}
-use Rattle.std.specs.declared.cmp.Ordering.{Ordering}
-use Rattle.std.specs.declared.cmp.Ordering.TheVariants.{Less, Equal, Greater}
+-- The least of the events that a search found so far.
+use Rattle.std.proofs.Common.{◌≡◌, ◌⊎◌, inl, inr, ℕ, ◌+◌, ◌<◌, ◌≤◌, List, sym, ap, subst, arith}
+use Rattle.std.proofs.Common.{Option, Some, None, slice_get, get_or, length, ◌∙◌, pos}
+use Rattle.std.specs.Prelude.{MatchOption}
 use Rattle.std.proofs.lemmas.Option.{slice_get_within, same_Some, slice_get-get_or}
 use Rattle.fixed_motion.specs.declared.rules.Rules.{Rules}
 use Rattle.fixed_motion.specs.declared.disk.Disk.{Disk}
 use Rattle.event_stamps.specs.declared.Stamp.{Stamp}
-use Rattle.event_stamps.specs.Order.{Before, stamp_cmp}
-use Rattle.event_stamps.proofs.StampOrder.{before_decides, before_trans, same_stamp, not_before_itself}
-use Rattle.event_rules.specs.Events.{IsOnly, IsWallEvent, IsPairEvent}
+use Rattle.event_stamps.specs.Least.{IsOnly, IsLeastOf, earlier_of}
+use Rattle.event_stamps.proofs.Least.{only_least, least_of_either, least_same}
+use Rattle.event_rules.specs.Events.{IsWallEvent, IsPairEvent}
 use Rattle.event_rules.specs.Run.{IsCandidate}
 use Rattle.event_rules.proofs.Ranges.{side_range}
-use Rattle.all_pairs.specs.Search.{IsLeastOf, earlier_of, IsWallBelow, IsPairBelow, IsBelow}
-
--- the only one is the least
-pub only_least : (P : Stamp → Type 0) (o : Option Stamp) → MatchOption o ((s : Stamp) → P s → ⊥) (IsOnly P) → IsLeastOf P o
-only_least P None h = h
-only_least P (Some s) h = (h.0, λ t p before. not_before_itself s (subst (λ (v : Stamp). Before v s) (h.1 t p) before))
-
--- the least of those of which P or Q holds
-pub least_of_either : (P Q R : Stamp → Type 0) (a b : Option Stamp) → ((t : Stamp) → P t → R t) → ((t : Stamp) → Q t → R t) → ((t : Stamp) → R t → P t ⊎ Q t) →
-    IsLeastOf P a → IsLeastOf Q b → IsLeastOf R (earlier_of a b)
-least_of_either P Q R None None p q split ha hb = λ t r. elim (split t r) [ inl x ↦ ha t x | inr y ↦ hb t y ]
-least_of_either P Q R None (Some t) p q split ha hb = (q t hb.0, λ u r before. elim (split u r) [ inl x ↦ ha u x | inr y ↦ hb.1 u y before ])
-least_of_either P Q R (Some s) None p q split ha hb = (p s ha.0, λ u r before. elim (split u r) [ inl x ↦ ha.1 u x before | inr y ↦ hb u y ])
-least_of_either P Q R (Some s) (Some t) p q split ha hb = by_order (stamp_cmp t s) refl
-  where
-    second : Before t s → IsLeastOf R (Some t)
-    second less = (q t hb.0, λ u r before. elim (split u r) [ inl x ↦ ha.1 u x (before_trans u t s before less) | inr y ↦ hb.1 u y before ])
-
-    not_below : ¬ Before t s → (u : Stamp) → Q u → ¬ Before u s
-    not_below more u y before = elim (before_decides t u) [
-      | inl less ↦ more (before_trans t u s less before)
-      | inr not ↦ more (subst (λ (v : Stamp). Before v s) (same_stamp u t (hb.1 u y) not) before)
-    ]
-
-    first : ¬ Before t s → IsLeastOf R (Some s)
-    first more = (p s ha.0, λ u r before. elim (split u r) [ inl x ↦ ha.1 u x before | inr y ↦ not_below more u y before ])
-
-    by_order : (o : Ordering) → stamp_cmp t s ≡ o → IsLeastOf R (if is_lt o then Some t else Some s)
-    by_order Less e = second e
-    by_order Equal e = first (λ less. let same : Less ≡ Equal = sym less ∙ e in cc)
-    by_order Greater e = first (λ less. let same : Less ≡ Greater = sym less ∙ e in cc)
-
--- what is the least of P is the least of whatever holds of the same
-pub least_same : (P R : Stamp → Type 0) (o : Option Stamp) → ((t : Stamp) → P t → R t) → ((t : Stamp) → R t → P t) → IsLeastOf P o → IsLeastOf R o
-least_same P R None to from h = λ t r. h t (from t r)
-least_same P R (Some s) to from h = (to s h.0, λ t r. h.1 t (from t r))
+use Rattle.all_pairs.specs.Search.{IsWallBelow, IsPairBelow, IsBelow}
 
 below_one_more : (k n : ℕ) → k < n + 1 → (k < n) ⊎ (k ≡ n)
 below_one_more k n lt = grind arith
@@ -57,10 +20,14 @@ pub no_wall : (rules : Rules) (i : ℕ) (a : Disk) → IsLeastOf (IsWallBelow ru
 no_wall rules i a = λ s h. let lt = h.1 in omega arith
 
 -- one more side
-pub one_more_wall : (rules : Rules) (i : ℕ) (a : Disk) (n : ℕ) (first own : Option Stamp) → IsLeastOf (IsWallBelow rules i a n) first →
-    MatchOption own ((s : Stamp) → IsWallEvent rules i a n s → ⊥) (IsOnly (IsWallEvent rules i a n)) → IsLeastOf (IsWallBelow rules i a (n + 1)) (earlier_of first own)
+pub one_more_wall : (rules : Rules) (i : ℕ) (a : Disk) (n : ℕ) (first own : Option Stamp) →
+    IsLeastOf (IsWallBelow rules i a n) first →
+    MatchOption own ((s : Stamp) → IsWallEvent rules i a n s → ⊥)
+    (IsOnly (IsWallEvent rules i a n)) →
+    IsLeastOf (IsWallBelow rules i a (n + 1)) (earlier_of first own)
 one_more_wall rules i a n first own h k =
-    least_of_either (IsWallBelow rules i a n) (IsWallEvent rules i a n) (IsWallBelow rules i a (n + 1)) first own
+    least_of_either (IsWallBelow rules i a n) (IsWallEvent rules i a n)
+    (IsWallBelow rules i a (n + 1)) first own
     (λ t p. (p.0, (let lt = p.1 in omega arith), p.2))
     (λ t q. (n, omega arith, q))
     (λ t r. elim (below_one_more r.0 n r.1) [
@@ -69,15 +36,20 @@ one_more_wall rules i a n first own h k =
     ])
     h (only_least (IsWallEvent rules i a n) own k)
 
-pub no_pair : (rules : Rules) (disks : List Disk) (i : ℕ) (a : Disk) → IsLeastOf (IsPairBelow rules disks i a (i + 1)) None
+pub no_pair : (rules : Rules) (disks : List Disk) (i : ℕ) (a : Disk) →
+    IsLeastOf (IsPairBelow rules disks i a (i + 1)) None
 no_pair rules disks i a = λ s h. let gt = h.1 in let lt = h.2 in omega arith
 
 -- one more disk
-pub one_more_pair : (rules : Rules) (disks : List Disk) (i : ℕ) (a : Disk) (j : ℕ) (b : Disk) (first own : Option Stamp) → i < j → slice_get disks j ≡ Some b →
+pub one_more_pair : (rules : Rules) (disks : List Disk) (i : ℕ) (a : Disk) (j : ℕ) (b : Disk)
+    (first own : Option Stamp) → i < j → slice_get disks j ≡ Some b →
     IsLeastOf (IsPairBelow rules disks i a j) first →
-    MatchOption own ((s : Stamp) → IsPairEvent rules i a j b s → ⊥) (IsOnly (IsPairEvent rules i a j b)) → IsLeastOf (IsPairBelow rules disks i a (j + 1)) (earlier_of first own)
+    MatchOption own ((s : Stamp) → IsPairEvent rules i a j b s → ⊥)
+    (IsOnly (IsPairEvent rules i a j b)) →
+    IsLeastOf (IsPairBelow rules disks i a (j + 1)) (earlier_of first own)
 one_more_pair rules disks i a j b first own order at h k =
-    least_of_either (IsPairBelow rules disks i a j) (IsPairEvent rules i a j b) (IsPairBelow rules disks i a (j + 1)) first own
+    least_of_either (IsPairBelow rules disks i a j) (IsPairEvent rules i a j b)
+    (IsPairBelow rules disks i a (j + 1)) first own
     (λ t p. (p.0, p.1, (let lt = p.2 in omega arith), p.3))
     (λ t q. (j, order, omega arith, (b, at, q)))
     (λ t r. elim (below_one_more r.0 j r.2) [
@@ -86,24 +58,32 @@ one_more_pair rules disks i a j b first own order at h k =
     ])
     h (only_least (IsPairEvent rules i a j b) own k)
   where
-    at_last : (t : Stamp) (m : ℕ) → m ≡ j → ((d : Disk) × (slice_get disks m ≡ Some d) × IsPairEvent rules i a m d t) → IsPairEvent rules i a j b t
+    at_last : (t : Stamp) (m : ℕ) → m ≡ j →
+        ((d : Disk) × (slice_get disks m ≡ Some d) × IsPairEvent rules i a m d t) →
+        IsPairEvent rules i a j b t
     at_last t m same found =
-        let there : slice_get disks j ≡ Some found.0 = ap (λ (v : ℕ). slice_get disks v) (sym same) ∙ found.1 in
+        let there : slice_get disks j ≡ Some found.0 = ap (λ (v : ℕ). slice_get disks v) (sym same)
+        ∙ found.1 in
         let disk : found.0 ≡ b = same_Some found.0 b (sym there ∙ at) in
-        subst (λ (d : Disk). IsPairEvent rules i a j d t) disk (subst (λ (v : ℕ). IsPairEvent rules i a v found.0 t) same found.2)
+        subst (λ (d : Disk). IsPairEvent rules i a j d t) disk
+        (subst (λ (v : ℕ). IsPairEvent rules i a v found.0 t) same found.2)
 
 -- the events whose first disk is i: at its walls, and with higher disks
-pub own_events : (rules : Rules) (disks : List Disk) (i : ℕ) (a : Disk) (wall pair : Option Stamp) → slice_get disks i ≡ Some a →
-    IsLeastOf (IsWallBelow rules i a 4) wall → IsLeastOf (IsPairBelow rules disks i a (length disks)) pair →
+pub own_events : (rules : Rules) (disks : List Disk) (i : ℕ) (a : Disk) (wall pair : Option Stamp) →
+    slice_get disks i ≡ Some a →
+    IsLeastOf (IsWallBelow rules i a 4) wall →
+    IsLeastOf (IsPairBelow rules disks i a (length disks)) pair →
     IsLeastOf (λ t. IsCandidate rules disks t × (t.first ≡ i)) (earlier_of wall pair)
 own_events rules disks i a wall pair at hw hp =
-    least_of_either (IsWallBelow rules i a 4) (IsPairBelow rules disks i a (length disks)) (λ t. IsCandidate rules disks t × (t.first ≡ i)) wall pair
+    least_of_either (IsWallBelow rules i a 4) (IsPairBelow rules disks i a (length disks))
+    (λ t. IsCandidate rules disks t × (t.first ≡ i)) wall pair
     (λ t w. let is = w.2.2 in let first : t.first ≡ i = ap (λ (v : Stamp). v.first) is in
     let side : t.second ≡ w.0 = ap (λ (v : Stamp). v.second) is in (
       inl (
         a,
         ap (λ (v : ℕ). slice_get disks v) first ∙ at,
-        subst (λ (v : ℕ). IsWallEvent rules v a t.second t) (sym first) (subst (λ (v : ℕ). IsWallEvent rules i a v t) (sym side) w.2),
+        subst (λ (v : ℕ). IsWallEvent rules v a t.second t) (sym first)
+            (subst (λ (v : ℕ). IsWallEvent rules i a v t) (sym side) w.2),
       ),
       first,
     ))
@@ -117,7 +97,8 @@ own_events rules disks i a wall pair at hw hp =
           (
             p.3.0,
             ap (λ (v : ℕ). slice_get disks v) second ∙ p.3.1,
-            subst (λ (v : ℕ). IsPairEvent rules v a t.second p.3.0 t) (sym first) (subst (λ (v : ℕ). IsPairEvent rules i a v p.3.0 t) (sym second) p.3.2),
+            subst (λ (v : ℕ). IsPairEvent rules v a t.second p.3.0 t) (sym first)
+                (subst (λ (v : ℕ). IsPairEvent rules i a v p.3.0 t) (sym second) p.3.2),
           ),
         ),
       ),
@@ -126,18 +107,22 @@ own_events rules disks i a wall pair at hw hp =
     (λ t c. by_kind t c.0 c.1)
     hw hp
   where
-    by_kind : (t : Stamp) → IsCandidate rules disks t → t.first ≡ i → IsWallBelow rules i a 4 t ⊎ IsPairBelow rules disks i a (length disks) t
+    by_kind : (t : Stamp) → IsCandidate rules disks t → t.first ≡ i → IsWallBelow rules i a 4 t
+        ⊎ IsPairBelow rules disks i a (length disks) t
     by_kind t h first = elim h [
       | inl wall ↦
-          let there : slice_get disks i ≡ Some wall.0 = ap (λ (v : ℕ). slice_get disks v) (sym first) ∙ wall.1 in
+          let there : slice_get disks i ≡ Some wall.0 =
+          ap (λ (v : ℕ). slice_get disks v) (sym first) ∙ wall.1 in
           let disk : wall.0 ≡ a = same_Some wall.0 a (sym there ∙ at) in
           inl (
             t.second,
-            side_range rules t.second _ wall.2.0.past,
-            subst (λ (d : Disk). IsWallEvent rules i d t.second t) disk (subst (λ (v : ℕ). IsWallEvent rules v wall.0 t.second t) first wall.2),
+            side_range rules wall.0 t.second _ wall.2.0.past,
+            subst (λ (d : Disk). IsWallEvent rules i d t.second t) disk
+                (subst (λ (v : ℕ). IsWallEvent rules v wall.0 t.second t) first wall.2),
           )
       | inr pair ↦
-          let there : slice_get disks i ≡ Some pair.1.0 = ap (λ (v : ℕ). slice_get disks v) (sym first) ∙ pair.1.1 in
+          let there : slice_get disks i ≡ Some pair.1.0 =
+          ap (λ (v : ℕ). slice_get disks v) (sym first) ∙ pair.1.1 in
           let disk : pair.1.0 ≡ a = same_Some pair.1.0 a (sym there ∙ at) in
           let order = pair.0 in
           inr (
@@ -147,36 +132,53 @@ own_events rules disks i a wall pair at hw hp =
             (
               pair.1.2.0,
               pair.1.2.1,
-              subst (λ (d : Disk). IsPairEvent rules i d t.second pair.1.2.0 t) disk (subst (λ (v : ℕ). IsPairEvent rules v pair.1.0 t.second pair.1.2.0 t) first pair.1.2.2),
+              subst (λ (d : Disk). IsPairEvent rules i d t.second pair.1.2.0 t) disk
+                  (subst (λ (v : ℕ). IsPairEvent rules v pair.1.0 t.second pair.1.2.0 t) first
+                  pair.1.2.2),
             ),
           )
     ]
 
-pub no_disk_before : (rules : Rules) (disks : List Disk) → IsLeastOf (IsBelow (IsCandidate rules disks) 0) None
+pub no_disk_before : (rules : Rules) (disks : List Disk) →
+    IsLeastOf (IsBelow (IsCandidate rules disks) 0) None
 no_disk_before rules disks = λ s h. let lt = h.1 in omega arith
 
 -- one more first disk
-pub one_more_disk : (rules : Rules) (disks : List Disk) (i : ℕ) (first own : Option Stamp) → IsLeastOf (IsBelow (IsCandidate rules disks) i) first →
-    IsLeastOf (λ t. IsCandidate rules disks t × (t.first ≡ i)) own → IsLeastOf (IsBelow (IsCandidate rules disks) (i + 1)) (earlier_of first own)
+pub one_more_disk : (rules : Rules) (disks : List Disk) (i : ℕ) (first own : Option Stamp) →
+    IsLeastOf (IsBelow (IsCandidate rules disks) i) first →
+    IsLeastOf (λ t. IsCandidate rules disks t × (t.first ≡ i)) own →
+    IsLeastOf (IsBelow (IsCandidate rules disks) (i + 1)) (earlier_of first own)
 one_more_disk rules disks i first own h k =
-    least_of_either (IsBelow (IsCandidate rules disks) i) (λ t. IsCandidate rules disks t × (t.first ≡ i)) (IsBelow (IsCandidate rules disks) (i + 1)) first own
+    least_of_either (IsBelow (IsCandidate rules disks) i)
+    (λ t. IsCandidate rules disks t × (t.first ≡ i)) (IsBelow (IsCandidate rules disks) (i + 1))
+    first own
     (λ t p. (p.0, let lt = p.1 in omega arith))
     (λ t q. (q.0, let same = q.1 in omega arith))
-    (λ t r. elim (below_one_more t.first i r.1) [ inl below ↦ inl (r.0, below) | inr same ↦ inr (r.0, same) ])
+    (λ t r. elim (below_one_more t.first i r.1)
+    [ inl below ↦ inl (r.0, below) | inr same ↦ inr (r.0, same) ])
     h k
 
-first_within : (rules : Rules) (disks : List Disk) (t : Stamp) → IsCandidate rules disks t → t.first < length disks
-first_within rules disks t h = elim h [ inl wall ↦ slice_get_within disks t.first wall.0 wall.1 | inr pair ↦ slice_get_within disks t.first pair.1.0 pair.1.1 ]
+first_within : (rules : Rules) (disks : List Disk) (t : Stamp) → IsCandidate rules disks t →
+    t.first < length disks
+first_within rules disks t h = elim h [
+  | inl wall ↦ slice_get_within disks t.first wall.0 wall.1
+  | inr pair ↦
+      slice_get_within disks t.first pair.1.0 pair.1.1
+]
 
 -- all disks
-pub all_disks : (rules : Rules) (disks : List Disk) (n : ℕ) (first : Option Stamp) → length disks ≤ n → IsLeastOf (IsBelow (IsCandidate rules disks) n) first → IsLeastOf (IsCandidate rules disks) first
-all_disks rules disks n first le h = least_same (IsBelow (IsCandidate rules disks) n) (IsCandidate rules disks) first (λ t p. p.0)
+pub all_disks : (rules : Rules) (disks : List Disk) (n : ℕ) (first : Option Stamp) →
+    length disks ≤ n → IsLeastOf (IsBelow (IsCandidate rules disks) n) first →
+    IsLeastOf (IsCandidate rules disks) first
+all_disks rules disks n first le h =
+    least_same (IsBelow (IsCandidate rules disks) n) (IsCandidate rules disks) first (λ t p. p.0)
     (λ t c. (c, let lt = first_within rules disks t c in omega arith)) h
 
 -- what a read past the end of a list of disks would give
 abbrev pub no_disk : Disk
-no_disk = record { x = pos 0; y = pos 0; vx = pos 0; vy = pos 0; base = 0; mark = 0 }
+no_disk = record { x = pos 0; y = pos 0; vx = pos 0; vy = pos 0; size = pos 0; base = 0; mark = 0 }
 
 -- the disk that a read gives
-pub disk_at : (disks : List Disk) (i : ℕ) → i < length disks → slice_get disks i ≡ Some (get_or disks i no_disk)
+pub disk_at : (disks : List Disk) (i : ℕ) → i < length disks →
+    slice_get disks i ≡ Some (get_or disks i no_disk)
 disk_at disks i lt = slice_get-get_or disks i no_disk lt

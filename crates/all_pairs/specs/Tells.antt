@@ -1,29 +1,39 @@
--- What the listener was told by a simulator.
-use Rattle.std.specs.Prelude.{List, Option}
+-- What a listener was told of the steps of a run so far.
+use Rattle.std.specs.Prelude.{◌≡◌, ℕ, ◌≤◌, List, take, Option, None, Result, Ok, Err}
+use Rattle.report_ports.specs.Ports.{Rose}
 use Rattle.fixed_motion.specs.Scene.{SceneData}
+use Rattle.fixed_motion.specs.declared.rules.Rules.{Rules}
+use Rattle.fixed_motion.specs.declared.disk.Disk.{Disk}
 use Rattle.event_rules.specs.declared.change.Change.{Change}
 use Rattle.event_rules.specs.declared.outcome.Outcome.{Outcome}
-use Rattle.fixed_motion.specs.declared.disk.Disk.{Disk}
+use Rattle.event_rules.specs.declared.outcome.RunFault.{RunFault}
+use Rattle.event_rules.specs.declared.outcome.RunFault.TheVariants.{Listener, NoMemory}
 use Rattle.event_rules.specs.Run.{IsRun, Steps}
 use Rattle.event_rules.specs.Told.{Told, PrefixTold}
-use Rattle.event_rules.specs.Laws.{KeepsApart}
 
--- the changes of the scene's run were told, in order, and this is how it ends; at each of its ticks all disks are inside
--- the box and no two overlap
-abbrev pub RunTold : {M : Type 0} → (M → Change → M) → SceneData → Outcome → Option M → Option M → Type 0
-RunTold after scene outcome old new =
-    (changes : List Change) × IsRun scene changes outcome × Told after old changes new × KeepsApart scene changes outcome
+-- the scene of these rules and disks, without state blocks
+abbrev pub scene_of : Rules → List Disk → SceneData
+scene_of rules disks = record { rules = rules; disks = disks; every = None }
 
--- the same, without what holds of all runs
-abbrev pub RunDone : {M : Type 0} → (M → Change → M) → SceneData → Outcome → Option M → Option M → Type 0
-RunDone after scene outcome old new = (changes : List Change) × IsRun scene changes outcome × Told after old changes new
+-- the changes of the scene's run were told, in order, and this is how it ends
+abbrev pub RunDone : {M : Type 0} → (M → Change → M) → SceneData → Outcome → Option M → Option M →
+    Type 0
+RunDone after scene outcome old new =
+    (changes : List Change) × IsRun scene changes outcome × Told after old changes new
 
--- a prefix of the changes of the scene's run was told
-abbrev pub RunBegun : {M : Type 0} → (M → Change → M) → (M → Change → M → Type 0) → SceneData → Option M → Option M → Type 0
-RunBegun after torn scene old new =
-    (changes : List Change) × (outcome : Outcome) × IsRun scene changes outcome × PrefixTold after torn old changes new
+-- what was told of changes that lead on from the scene, where a run breaks off
+abbrev pub StepsCutShort : {M : Type 0} → (M → Change → M) → (M → Change → M → Type 0) → SceneData →
+    RunFault → Option M → Option M → Type 0
+StepsCutShort after torn scene Listener old new =
+    (changes : List Change) × (later : List Disk) × Steps scene.rules scene.disks changes later
+    × PrefixTold after torn old changes new
+StepsCutShort after torn scene NoMemory old new =
+    (changes : List Change) × (later : List Disk) × Steps scene.rules scene.disks changes later
+    × ((n : ℕ) × Told after old (take n changes) new)
 
--- a prefix of changes that lead on from the scene was told
-abbrev pub StepsBegun : {M : Type 0} → (M → Change → M) → (M → Change → M → Type 0) → SceneData → Option M → Option M → Type 0
-StepsBegun after torn scene old new =
-    (changes : List Change) × (later : List Disk) × Steps scene.rules scene.disks changes later × PrefixTold after torn old changes new
+-- a listener's count of refusals before and after: it rose where the listener refused a change, and
+-- else is what it was
+abbrev pub CountsRun : ℕ → ℕ → Result Outcome RunFault → Type 0
+CountsRun before after (Ok outcome) = after ≡ before
+CountsRun before after (Err Listener) = (before ≤ after) × Rose before after
+CountsRun before after (Err NoMemory) = after ≡ before

@@ -1,4 +1,5 @@
-//! The slow engine: looks at all pairs of disks for each event, as the definition of a run does.
+//! The reference engine: looks at all pairs of disks for each event, as the definition of a run
+//! does.
 #![tactic(auto)]
 
 pub mod search;

@@ -4,31 +4,23 @@ ghost use Rattle.std.specs.Prelude.{◌≡◌, ◌<◌, length, Some, slice_get}
 ghost use Rattle.fixed_motion.specs.Rules.{IsChecked};
 ghost use Rattle.fixed_motion.specs.declared.disk.Disk.{Disk};
 ghost use Rattle.event_rules.specs.Run.{IsCandidate, IsValidState};
-ghost use Rattle.all_pairs.specs.Search.{IsLeastOf, earlier_of, IsWallBelow, IsPairBelow};
+ghost use Rattle.event_stamps.specs.Least.{IsLeastOf};
+ghost use Rattle.all_pairs.specs.Search.{IsWallBelow, IsPairBelow};
 
 use event_rules::{pair_event, wall_event};
-use event_stamps::Stamp;
+use event_stamps::{Stamp, earlier};
 use fixed_motion::{Disk, Rules};
 
-/// The sides of the box.
+// The sides of the box.
 const SIDES: u32 = 4;
 
-fn earlier(a: Option<Stamp>, b: Option<Stamp>) -> Option<Stamp>
-    ensures { result ≡ earlier_of a b }
-{
-    match (a, b) {
-        (None, b) => b,
-        (a, None) => a,
-        (Some(s), Some(t)) => Some(if t < s { t } else { s }),
-    }
-}
-
-/// The first event of disk `i` at any side.
+// The first event of disk `i` at any side.
 fn first_wall(rules: &Rules, disks: &[Disk], i: usize) -> Option<Stamp>
     requires checked { IsChecked rules.now }
     requires valid { IsValidState rules.now disks.now }
     requires within { i < length disks.now }
-    ensures { (a : Disk) → slice_get disks.now i ≡ Some a → IsLeastOf (IsWallBelow rules.now i a 4) result }
+    ensures { (a : Disk) → slice_get disks.now i ≡ Some a →
+        IsLeastOf (IsWallBelow rules.now i a 4) result }
 {
     let mut first = None;
     for side in 0..SIDES {
@@ -37,12 +29,13 @@ fn first_wall(rules: &Rules, disks: &[Disk], i: usize) -> Option<Stamp>
     first
 }
 
-/// The first event of disk `i` with any higher disk.
+// The first event of disk `i` with any higher disk.
 fn first_pair(rules: &Rules, disks: &[Disk], i: usize) -> Option<Stamp>
     requires checked { IsChecked rules.now }
     requires valid { IsValidState rules.now disks.now }
     requires within { i < length disks.now }
-    ensures { (a : Disk) → slice_get disks.now i ≡ Some a → IsLeastOf (IsPairBelow rules.now disks.now i a (length disks.now)) result }
+    ensures { (a : Disk) → slice_get disks.now i ≡ Some a →
+        IsLeastOf (IsPairBelow rules.now disks.now i a (length disks.now)) result }
 {
     let mut first = None;
     for j in i + 1..disks.len() {

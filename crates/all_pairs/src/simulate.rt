@@ -1,10 +1,10 @@
 //! The run of a scene.
 
-ghost use Rattle.std.specs.Prelude.{◌≡◌, ◌≤◌, ◌<◌, length, IfOk, IfSome, OnErr, IsErrOf};
-ghost use Rattle.report_ports.specs.Ports.{Rose};
+ghost use Rattle.std.specs.Prelude.{◌≡◌, ◌<◌, length, IfOk, IfErr, IfSome};
 ghost use Rattle.fixed_motion.specs.Rules.{IsChecked};
 ghost use Rattle.event_rules.specs.Run.{IsNext, IsValidState, ComesTo, effect, spots_of};
-ghost use Rattle.all_pairs.specs.Tells.{RunTold, RunDone, RunBegun, StepsBegun};
+ghost use Rattle.event_rules.specs.Tellings.{RunTold, RunCutShort};
+ghost use Rattle.all_pairs.specs.Tells.{RunDone, StepsCutShort, CountsRun, scene_of};
 
 use crate::search::next;
 use event_rules::{Change, FinalState, Limit, Listener, Outcome, RunFault, Spot, apply};
@@ -12,7 +12,7 @@ use event_stamps::{Kind, Stamp};
 use fixed_motion::{Disk, Rules, Scene};
 use std::alloc::{AllocError, Global};
 
-/// What the next event comes to.
+// What the next event comes to.
 fn run_event(rules: &Rules, disks: &[Disk], stamp: &Stamp) -> Result<Change, Limit>
     requires checked { IsChecked rules.now }
     requires valid { IsValidState rules.now disks.now }
@@ -26,7 +26,7 @@ fn run_event(rules: &Rules, disks: &[Disk], stamp: &Stamp) -> Result<Change, Lim
     }
 }
 
-/// Puts the new records of a change in their places.
+// Puts the new records of a change in their places.
 fn put(disks: &mut Vec<Disk>, change: &Change)
     requires first { change.now.stamp.first < length disks.old.items }
     requires second { IfSome change.now.second (λ _. change.now.stamp.second < length disks.old.items) }
@@ -38,7 +38,7 @@ fn put(disks: &mut Vec<Disk>, change: &Change)
     }
 }
 
-/// Where all disks are in the end.
+// Where all disks are in the end.
 fn final_state(alloc: Global, rules: &Rules, disks: &[Disk]) -> Result<FinalState, AllocError>
     requires checked { IsChecked rules.now }
     requires valid { IsValidState rules.now disks.now }
@@ -46,10 +46,10 @@ fn final_state(alloc: Global, rules: &Rules, disks: &[Disk]) -> Result<FinalStat
 {
     let mut spots = Vec::new(alloc);
     for disk in disks {
-        let (x, y) = disk.centre_at(rules, rules.end);
+        let centre = disk.centre_at(rules, rules.end);
         spots.push(Spot {
-            x,
-            y,
+            x: centre.x,
+            y: centre.y,
             vx: disk.vx,
             vy: disk.vy,
         })?;
@@ -59,20 +59,24 @@ fn final_state(alloc: Global, rules: &Rules, disks: &[Disk]) -> Result<FinalStat
 
 /// Runs a scene, and tells each change in the order of the stamps.
 ///
-/// A fault of the kind `Listener` comes only where the listener refused a change.
+/// # Errors
+/// The listener refused a change, and its count of refusals rose; or out of memory.
 pub fn simulate_plain<L: Listener>(
     alloc: Global,
     scene: &Scene,
     listener: &mut L,
 ) -> Result<Outcome, RunFault>
-    ensures run { IfOk result (λ outcome. RunTold L.after scene.now outcome (L.meaning listener.old) (L.meaning listener.new)) }
-    ensures prefix { OnErr result (RunBegun L.after L.torn scene.now (L.meaning listener.old) (L.meaning listener.new)) }
-    ensures cause { IsErrOf result RunFault.Listener → Rose (L.count listener.old) (L.count listener.new) }
-    ensures later { L.count listener.old ≤ L.count listener.new }
+    ensures run { IfOk result (λ outcome.
+        RunTold L.after scene.now outcome (L.meaning listener.old) (L.meaning listener.new)) }
+    ensures cut_short { IfErr result (λ fault.
+        RunCutShort L.after L.torn scene.now fault
+        (L.meaning listener.old) (L.meaning listener.new)) }
+    ensures counts { CountsRun (L.faults listener.old) (L.faults listener.new) result }
 {
     run(alloc, &scene.rules, &scene.disks, listener)
 }
 
+// The run of these disks; what else a scene asks for has no bearing on it.
 fn run<L: Listener>(
     alloc: Global,
     rules: &Rules,
@@ -81,29 +85,25 @@ fn run<L: Listener>(
 ) -> Result<Outcome, RunFault>
     requires checked { IsChecked rules.now }
     requires valid { IsValidState rules.now start.now }
-    ensures run { IfOk result (λ outcome. RunDone L.after (record { rules = rules.now; disks = start.now }) outcome (L.meaning listener.old) (L.meaning listener.new)) }
-    ensures prefix { OnErr result (StepsBegun L.after L.torn (record { rules = rules.now; disks = start.now }) (L.meaning listener.old) (L.meaning listener.new)) }
-    ensures cause { IsErrOf result RunFault.Listener → Rose (L.count listener.old) (L.count listener.new) }
-    ensures later { L.count listener.old ≤ L.count listener.new }
+    ensures run { IfOk result (λ outcome.
+        RunDone L.after (scene_of rules.now start.now) outcome
+        (L.meaning listener.old) (L.meaning listener.new)) }
+    ensures cut_short { IfErr result (λ fault.
+        StepsCutShort L.after L.torn (scene_of rules.now start.now) fault
+        (L.meaning listener.old) (L.meaning listener.new)) }
+    ensures counts { CountsRun (L.faults listener.old) (L.faults listener.new) result }
 {
-    let mut disks = match Vec::from_slice(alloc, start) {
-        Ok(copy) => copy,
-        Err(_) => return Err(RunFault::NoMemory),
-    };
+    let mut disks = Vec::from_slice(alloc, start)?;
     let mut upcoming = next(rules, &disks);
     while let Some(stamp) = upcoming {
         let change = match run_event(rules, &disks, &stamp) {
             Ok(change) => change,
             Err(limit) => return Ok(Outcome::Limit(limit)),
         };
-        match listener.event(&change) {
-            Ok(()) => put(&mut disks, &change),
-            Err(_) => return Err(RunFault::Listener),
-        }
+        listener.event(&change)?;
+        put(&mut disks, &change);
         upcoming = next(rules, &disks);
     }
-    match final_state(alloc, rules, &disks) {
-        Ok(spots) => Ok(Outcome::Done(spots)),
-        Err(_) => Err(RunFault::NoMemory),
-    }
+    let spots = final_state(alloc, rules, &disks)?;
+    Ok(Outcome::Done(spots))
 }

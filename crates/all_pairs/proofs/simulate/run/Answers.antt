@@ -1,138 +1,180 @@
-use Rattle.std.proofs.Common.{◌≡◌, ◌<◌, List, [], ◌∷◌, ◌++◌, Ok, Err, Some, arith, subst, sym}
+use Rattle.std.proofs.Common.{◌≡◌, ◌<◌, ◌∙◌, List, [], ◌∷◌, ◌++◌, Err, Some, sym, subst, refl}
+use Rattle.std.proofs.lemmas.Result.{err_from_is_err_and}
 use Rattle.fixed_motion.specs.declared.disk.Disk.{Disk}
 use Rattle.event_stamps.specs.declared.Stamp.{Stamp}
+use Rattle.event_stamps.specs.Least.{HasNone, IsLeastOf}
 use Rattle.event_rules.specs.declared.outcome.Outcome.TheVariants.{Done, Limit as Passes}
-use Rattle.event_rules.specs.Run.{IsCandidate, IsNext, ComesTo, effect, HasNone, IsValidState, Steps, spots_of}
-use Rattle.all_pairs.specs.Search.{IsLeastOf}
-use Rattle.all_pairs.proofs.Events.{turn}
-use Rattle.all_pairs.proofs.Turns.{one_more, runs_from, told_more, told_none, torn_next, all_told, work_falls, work_left, none_left}
+use Rattle.event_rules.specs.Run.{IsCandidate, IsNext, ComesTo, effect, IsValidState, Steps}
+use Rattle.event_rules.specs.Run.{spots_of}
+use Rattle.event_rules.proofs.Telling.{told_more, told_none, torn_next, all_told}
+use Rattle.all_pairs.proofs.Events.{found_turn}
+use Rattle.all_pairs.proofs.Turns.{one_more, runs_from, work_falls, work_left, none_left}
 use Rattle.all_pairs.proofs.simulate.run.Goals as goal
 
 pub loop-upcoming-init : goal.loop-upcoming-init
-loop-upcoming-init g c = let L = g.L.Listener in
-    let copied : c.in-Ok.copy.items ≡ c.args.start.now = c.in-Ok.ensures.items in
+loop-upcoming-init g c =
+    let L = g.L.Listener in
+    let rules = c.args.rules.now in
+    let copied : c.in_ok-disks.disks.items ≡ c.args.start.now = c.in_ok-disks.ensures.items in
     record {
       so_far = ([], copied, told_none L.after (L.meaning c.args.listener.now));
-      upcoming = subst (λ (v : List Disk). IsLeastOf (IsCandidate c.args.rules.now v) c.next-upcoming.result) c.deref.ensures.value c.next-upcoming.ensures;
-      valid = subst (IsValidState c.args.rules.now) (sym copied) c.requires.valid;
-      later = omega arith;
+      upcoming = subst (λ (v : List Disk). IsLeastOf (IsCandidate rules v) c.next-upcoming.result)
+          c.deref.ensures.value c.next-upcoming.ensures;
+      valid = subst (IsValidState rules) (sym copied) c.requires.valid;
+      count = refl;
     }
-
-pub run_event-requires-clause-valid : goal.run_event-requires-clause-valid
-run_event-requires-clause-valid g c = subst (IsValidState c.args.rules.now) (sym c.deref-in-Some.ensures.value) c.loop-upcoming.invariant.valid
 
 pub run_event-requires-clause-next : goal.run_event-requires-clause-next
 run_event-requires-clause-next g c =
-    let here : IsNext c.args.rules.now c.loop-upcoming.disks.items c.in-Some.stamp = rw c.in-Some.is at c.loop-upcoming.invariant.upcoming in
-    subst (λ (v : List Disk). IsNext c.args.rules.now v c.in-Some.stamp) (sym c.deref-in-Some.ensures.value) here
+    let rules = c.args.rules.now in
+    let here : IsNext rules c.loop-upcoming.disks.items c.in-Some.stamp =
+    rw c.in-Some.is at c.loop-upcoming.invariant.upcoming in
+    subst (λ (v : List Disk). IsNext rules v c.in-Some.stamp) (sym c.deref-in-Some.ensures.value)
+    here
 
-pub returns-in-Err-run_event-clause-run : goal.returns-in-Err-run_event-clause-run
-returns-in-Err-run_event-clause-run g c =
-    let here : IsNext c.args.rules.now c.loop-upcoming.disks.items c.in-Some.stamp = rw c.in-Some.is at c.loop-upcoming.invariant.upcoming in
-    let comes : ComesTo c.args.rules.now c.loop-upcoming.disks.items c.in-Some.stamp (Err c.in-Err-run_event.limit) =
-    subst (λ (v : List Disk). ComesTo c.args.rules.now v c.in-Some.stamp (Err c.in-Err-run_event.limit)) c.deref-in-Some.ensures.value c.in-Err-run_event.ensures in
-    let inv = c.loop-upcoming.invariant.so_far in
-    (inv.0, runs_from c.args.rules.now c.args.start.now c.loop-upcoming.disks.items inv.0 (Passes c.in-Err-run_event.limit) inv.1 (c.in-Some.stamp, here, comes), inv.2)
+pub returns-in-Err-clause-run : goal.returns-in-Err-clause-run
+returns-in-Err-clause-run g c =
+    let rules = c.args.rules.now in
+    let disks = c.loop-upcoming.disks.items in
+    let here : IsNext rules disks c.in-Some.stamp =
+    rw c.in-Some.is at c.loop-upcoming.invariant.upcoming in
+    let comes : ComesTo rules disks c.in-Some.stamp (Err c.in-Err.limit) =
+    subst (λ (v : List Disk). ComesTo rules v c.in-Some.stamp (Err c.in-Err.limit))
+    c.deref-in-Some.ensures.value c.in-Err.ensures in
+    let so_far = c.loop-upcoming.invariant.so_far in (
+      so_far.0,
+      runs_from rules c.args.start.now disks so_far.0 (Passes c.in-Err.limit) so_far.1
+          (c.in-Some.stamp, here, comes),
+      so_far.2,
+    )
+
+pub returns-in_err-event-clause-cut_short : goal.returns-in_err-event-clause-cut_short
+returns-in_err-event-clause-cut_short g c =
+    let L = g.L.Listener in
+    let rules = c.args.rules.now in
+    let disks = c.loop-upcoming.disks.items in
+    let change = c.in-Ok.change in
+    let known = c.loop-upcoming.invariant in
+    let turn = found_turn rules disks c.deref-in-Some.result.now c.loop-upcoming.upcoming
+    c.in-Some.stamp change known.valid c.deref-in-Some.ensures.value c.in-Some.is known.upcoming
+    c.in-Ok.ensures in
+    let so_far = known.so_far in
+    let fault = err_from_is_err_and c.from_residual-in_err-event.result
+    c.from_residual-in_err-event.ensures.1 in
+    rw (fault.1, fault.2) (
+      so_far.0 ++ change ∷ [],
+      effect disks change,
+      one_more rules c.args.start.now disks so_far.0 change so_far.1 turn.next turn.comes,
+      torn_next L.after L.torn (L.meaning c.args.listener.now) (L.meaning c.loop-upcoming.listener)
+          (L.meaning c.event.new.self) so_far.0 change so_far.2 c.in_err-event.ensures.torn,
+    )
 
 pub event-requires : goal.event-requires
 event-requires g c =
-    let here : IsNext c.args.rules.now c.loop-upcoming.disks.items c.in-Some.stamp = rw c.in-Some.is at c.loop-upcoming.invariant.upcoming in
-    let comes : ComesTo c.args.rules.now c.loop-upcoming.disks.items c.in-Some.stamp (Ok c.in-Ok-run_event.change) =
-    subst (λ (v : List Disk). ComesTo c.args.rules.now v c.in-Some.stamp (Ok c.in-Ok-run_event.change)) c.deref-in-Some.ensures.value c.in-Ok-run_event.ensures in
-    (turn c.args.rules.now c.loop-upcoming.disks.items c.in-Some.stamp c.in-Ok-run_event.change c.loop-upcoming.invariant.valid here comes).tellable
+    let known = c.loop-upcoming.invariant in
+    (found_turn c.args.rules.now c.loop-upcoming.disks.items c.deref-in-Some.result.now
+    c.loop-upcoming.upcoming c.in-Some.stamp c.in-Ok.change known.valid c.deref-in-Some.ensures.value
+    c.in-Some.is known.upcoming c.in-Ok.ensures).tellable
 
 pub put-requires-clause-first : goal.put-requires-clause-first
 put-requires-clause-first g c =
-    let here : IsNext c.args.rules.now c.loop-upcoming.disks.items c.in-Some.stamp = rw c.in-Some.is at c.loop-upcoming.invariant.upcoming in
-    let comes : ComesTo c.args.rules.now c.loop-upcoming.disks.items c.in-Some.stamp (Ok c.in-Ok-run_event.change) =
-    subst (λ (v : List Disk). ComesTo c.args.rules.now v c.in-Some.stamp (Ok c.in-Ok-run_event.change)) c.deref-in-Some.ensures.value c.in-Ok-run_event.ensures in
-    (turn c.args.rules.now c.loop-upcoming.disks.items c.in-Some.stamp c.in-Ok-run_event.change c.loop-upcoming.invariant.valid here comes).first_within
+    let known = c.loop-upcoming.invariant in
+    (found_turn c.args.rules.now c.loop-upcoming.disks.items c.deref-in-Some.result.now
+    c.loop-upcoming.upcoming c.in-Some.stamp c.in-Ok.change
+    known.valid c.deref-in-Some.ensures.value c.in-Some.is known.upcoming
+    c.in-Ok.ensures).first_within
 
 pub put-requires-clause-second : goal.put-requires-clause-second
 put-requires-clause-second g c =
-    let here : IsNext c.args.rules.now c.loop-upcoming.disks.items c.in-Some.stamp = rw c.in-Some.is at c.loop-upcoming.invariant.upcoming in
-    let comes : ComesTo c.args.rules.now c.loop-upcoming.disks.items c.in-Some.stamp (Ok c.in-Ok-run_event.change) =
-    subst (λ (v : List Disk). ComesTo c.args.rules.now v c.in-Some.stamp (Ok c.in-Ok-run_event.change)) c.deref-in-Some.ensures.value c.in-Ok-run_event.ensures in
-    (turn c.args.rules.now c.loop-upcoming.disks.items c.in-Some.stamp c.in-Ok-run_event.change c.loop-upcoming.invariant.valid here comes).second_within
-
-pub returns-in-Err-event-clause-prefix : goal.returns-in-Err-event-clause-prefix
-returns-in-Err-event-clause-prefix g c =
-    let L = g.L.Listener in
-    let disks = c.loop-upcoming.disks.items in
-    let change = c.in-Ok-run_event.change in
-    let here : IsNext c.args.rules.now disks c.in-Some.stamp = rw c.in-Some.is at c.loop-upcoming.invariant.upcoming in
-    let comes : ComesTo c.args.rules.now disks c.in-Some.stamp (Ok change) =
-    subst (λ (v : List Disk). ComesTo c.args.rules.now v c.in-Some.stamp (Ok change)) c.deref-in-Some.ensures.value c.in-Ok-run_event.ensures in
-    let made = turn c.args.rules.now disks c.in-Some.stamp change c.loop-upcoming.invariant.valid here comes in
-    let inv = c.loop-upcoming.invariant.so_far in (
-      inv.0 ++ change ∷ [],
-      effect disks change,
-      one_more c.args.rules.now c.args.start.now disks inv.0 change inv.1 made.next made.comes,
-      torn_next L.after L.torn (L.meaning c.args.listener.now) (L.meaning c.loop-upcoming.listener) (L.meaning c.event.new.self) inv.0 change inv.2 c.in-Err-event.ensures.torn,
-    )
+    let known = c.loop-upcoming.invariant in
+    (found_turn c.args.rules.now c.loop-upcoming.disks.items c.deref-in-Some.result.now
+    c.loop-upcoming.upcoming c.in-Some.stamp c.in-Ok.change
+    known.valid c.deref-in-Some.ensures.value c.in-Some.is known.upcoming
+    c.in-Ok.ensures).second_within
 
 pub next-upcoming-requires-in-Some-clause-valid : goal.next-upcoming-requires-in-Some-clause-valid
 next-upcoming-requires-in-Some-clause-valid g c =
-    let disks = c.loop-upcoming.disks.items in
-    let change = c.in-Ok-run_event.change in
-    let here : IsNext c.args.rules.now disks c.in-Some.stamp = rw c.in-Some.is at c.loop-upcoming.invariant.upcoming in
-    let comes : ComesTo c.args.rules.now disks c.in-Some.stamp (Ok change) =
-    subst (λ (v : List Disk). ComesTo c.args.rules.now v c.in-Some.stamp (Ok change)) c.deref-in-Some.ensures.value c.in-Ok-run_event.ensures in
-    let made = turn c.args.rules.now disks c.in-Some.stamp change c.loop-upcoming.invariant.valid here comes in
-    subst (IsValidState c.args.rules.now) (sym c.deref-in-Some-2.ensures.value) (subst (IsValidState c.args.rules.now) (sym c.put.ensures) made.later_valid)
+    let rules = c.args.rules.now in
+    let known = c.loop-upcoming.invariant in
+    let turn = found_turn rules c.loop-upcoming.disks.items c.deref-in-Some.result.now
+    c.loop-upcoming.upcoming c.in-Some.stamp c.in-Ok.change
+    known.valid c.deref-in-Some.ensures.value c.in-Some.is known.upcoming c.in-Ok.ensures in
+    subst (IsValidState rules) (sym (c.deref-in-Some-2.ensures.value ∙ c.put.ensures))
+    turn.later_valid
 
 pub loop-upcoming-smaller : goal.loop-upcoming-smaller
 loop-upcoming-smaller g c =
+    let rules = c.args.rules.now in
     let disks = c.loop-upcoming.disks.items in
-    let change = c.in-Ok-run_event.change in
-    let here : IsNext c.args.rules.now disks c.in-Some.stamp = rw c.in-Some.is at c.loop-upcoming.invariant.upcoming in
-    let comes : ComesTo c.args.rules.now disks c.in-Some.stamp (Ok change) =
-    subst (λ (v : List Disk). ComesTo c.args.rules.now v c.in-Some.stamp (Ok change)) c.deref-in-Some.ensures.value c.in-Ok-run_event.ensures in
-    let made = turn c.args.rules.now disks c.in-Some.stamp change c.loop-upcoming.invariant.valid here comes in
-    let least : IsLeastOf (IsCandidate c.args.rules.now (effect disks change)) c.next-upcoming-in-Some.result =
-    subst (λ (v : List Disk). IsLeastOf (IsCandidate c.args.rules.now v) c.next-upcoming-in-Some.result) c.put.ensures
-    (subst (λ (v : List Disk). IsLeastOf (IsCandidate c.args.rules.now v) c.next-upcoming-in-Some.result) c.deref-in-Some-2.ensures.value c.next-upcoming-in-Some.ensures) in
-    let falls : work_left c.next-upcoming-in-Some.result < work_left (Some c.in-Some.stamp) =
-    subst (λ (v : Stamp). work_left c.next-upcoming-in-Some.result < work_left (Some v)) made.stamp
-    (work_falls c.args.rules.now disks change c.next-upcoming-in-Some.result c.requires.checked c.loop-upcoming.invariant.valid made.next made.comes least) in
+    let change = c.in-Ok.change in
+    let known = c.loop-upcoming.invariant in
+    let later = c.next-upcoming-in-Some.result in
+    let turn = found_turn rules disks c.deref-in-Some.result.now c.loop-upcoming.upcoming
+    c.in-Some.stamp change known.valid c.deref-in-Some.ensures.value c.in-Some.is known.upcoming
+    c.in-Ok.ensures in
+    let least : IsLeastOf (IsCandidate rules (effect disks change)) later =
+    subst (λ (v : List Disk). IsLeastOf (IsCandidate rules v) later)
+    (c.deref-in-Some-2.ensures.value ∙ c.put.ensures) c.next-upcoming-in-Some.ensures in
+    let falls : work_left later < work_left (Some c.in-Some.stamp) =
+    subst (λ (v : Stamp). work_left later < work_left (Some v)) turn.stamp
+    (work_falls rules disks change later c.requires.checked known.valid turn.next turn.comes
+    least) in
     rw c.in-Some.is falls
 
 pub loop-upcoming-preserved : goal.loop-upcoming-preserved
 loop-upcoming-preserved g c =
     let L = g.L.Listener in
+    let rules = c.args.rules.now in
+    let start = c.args.start.now in
     let disks = c.loop-upcoming.disks.items in
-    let change = c.in-Ok-run_event.change in
-    let here : IsNext c.args.rules.now disks c.in-Some.stamp = rw c.in-Some.is at c.loop-upcoming.invariant.upcoming in
-    let comes : ComesTo c.args.rules.now disks c.in-Some.stamp (Ok change) =
-    subst (λ (v : List Disk). ComesTo c.args.rules.now v c.in-Some.stamp (Ok change)) c.deref-in-Some.ensures.value c.in-Ok-run_event.ensures in
-    let made = turn c.args.rules.now disks c.in-Some.stamp change c.loop-upcoming.invariant.valid here comes in
-    let inv = c.loop-upcoming.invariant.so_far in
+    let change = c.in-Ok.change in
+    let known = c.loop-upcoming.invariant in
+    let turn = found_turn rules disks c.deref-in-Some.result.now c.loop-upcoming.upcoming
+    c.in-Some.stamp change known.valid c.deref-in-Some.ensures.value c.in-Some.is known.upcoming
+    c.in-Ok.ensures in
+    let so_far = known.so_far in
     record {
       so_far = (
-        inv.0 ++ change ∷ [],
-        subst (Steps c.args.rules.now c.args.start.now (inv.0 ++ change ∷ [])) (sym c.put.ensures)
-            (one_more c.args.rules.now c.args.start.now disks inv.0 change inv.1 made.next made.comes),
-        told_more L.after (L.meaning c.args.listener.now) (L.meaning c.loop-upcoming.listener) (L.meaning c.event.new.self) inv.0 change inv.2 c.in-Ok-event.ensures.told,
+        so_far.0 ++ change ∷ [],
+        subst (Steps rules start (so_far.0 ++ change ∷ [])) (sym {A = List Disk} c.put.ensures)
+            (one_more rules start disks so_far.0 change so_far.1 turn.next turn.comes),
+        told_more L.after (L.meaning c.args.listener.now) (L.meaning c.loop-upcoming.listener)
+            (L.meaning c.event.new.self) so_far.0 change so_far.2 c.in_ok-event.ensures.told,
       );
-      upcoming = subst (λ (v : List Disk). IsLeastOf (IsCandidate c.args.rules.now v) c.next-upcoming-in-Some.result) c.deref-in-Some-2.ensures.value c.next-upcoming-in-Some.ensures;
-      valid = subst (IsValidState c.args.rules.now) (sym c.put.ensures) made.later_valid;
-      later = omega (arith, c.event.ensures.later, c.loop-upcoming.invariant.later);
+      upcoming = subst (λ (v : List Disk). IsLeastOf (IsCandidate rules v)
+          c.next-upcoming-in-Some.result) c.deref-in-Some-2.ensures.value
+          c.next-upcoming-in-Some.ensures;
+      valid = subst (IsValidState rules) (sym {A = List Disk} c.put.ensures) turn.later_valid;
+      count = c.in_ok-event.ensures.counts ∙ known.count;
     }
 
-pub final_state-requires-clause-valid : goal.final_state-requires-clause-valid
-final_state-requires-clause-valid g c = subst (IsValidState c.args.rules.now) (sym c.deref-2.ensures.value) c.loop-upcoming.invariant.valid
-
-pub returns-in-Ok-final_state-clause-run : goal.returns-in-Ok-final_state-clause-run
-returns-in-Ok-final_state-clause-run g c =
-    let disks = c.loop-upcoming.disks.items in
-    let inv = c.loop-upcoming.invariant.so_far in
-    let none : HasNone (IsCandidate c.args.rules.now disks) = none_left c.args.rules.now disks c.loop-upcoming.upcoming c.in_default.not-Some c.loop-upcoming.invariant.upcoming in
-    let spots : c.in-Ok-final_state.spots ≡ spots_of c.args.rules.now.end disks =
-    subst (λ (v : List Disk). c.in-Ok-final_state.spots ≡ spots_of c.args.rules.now.end v) c.deref-2.ensures.value c.in-Ok-final_state.ensures in
-    (inv.0, runs_from c.args.rules.now c.args.start.now disks inv.0 (Done c.in-Ok-final_state.spots) inv.1 (none, spots), inv.2)
-
-pub returns-clause-prefix : goal.returns-clause-prefix
-returns-clause-prefix g c =
+pub returns-in_err-spots-clause-cut_short : goal.returns-in_err-spots-clause-cut_short
+returns-in_err-spots-clause-cut_short g c =
     let L = g.L.Listener in
-    let inv = c.loop-upcoming.invariant.so_far in
-    (inv.0, c.loop-upcoming.disks.items, inv.1, all_told L.after L.torn (L.meaning c.args.listener.now) (L.meaning c.loop-upcoming.listener) inv.0 inv.2)
+    let so_far = c.loop-upcoming.invariant.so_far in
+    let fault = err_from_is_err_and c.from_residual-in_err-spots.result
+    c.from_residual-in_err-spots.ensures.1 in
+    rw (fault.1, fault.2) (
+      so_far.0,
+      c.loop-upcoming.disks.items,
+      so_far.1,
+      all_told L.after
+          (L.meaning c.args.listener.now) (L.meaning c.loop-upcoming.listener) so_far.0 so_far.2,
+    )
+
+pub returns-clause-run : goal.returns-clause-run
+returns-clause-run g c =
+    let rules = c.args.rules.now in
+    let disks = c.loop-upcoming.disks.items in
+    let spots = c.in_ok-spots.spots in
+    let known = c.loop-upcoming.invariant in
+    let none : HasNone (IsCandidate rules disks) =
+    none_left rules disks c.loop-upcoming.upcoming c.in_default.not-Some known.upcoming in
+    let final : spots ≡ spots_of rules.end disks =
+    subst (λ (v : List Disk). spots ≡ spots_of rules.end v) c.deref-2.ensures.value
+    c.in_ok-spots.ensures in
+    let so_far = known.so_far in (
+      so_far.0,
+      runs_from rules c.args.start.now disks so_far.0 (Done spots) so_far.1 (none, final),
+      so_far.2,
+    )

@@ -1,5 +1,5 @@
-use Rattle.std.proofs.Common.{◌≤◌, List}
-use Rattle.all_pairs.specs.Search.{IsLeastOf}
+use Rattle.std.proofs.Common.{◌≡◌, List}
+use Rattle.event_stamps.specs.Least.{IsLeastOf}
 use Rattle.event_rules.specs.declared.change.Change.{Change}
 use Rattle.event_rules.specs.Run.{IsCandidate, IsValidState, Steps}
 use Rattle.event_rules.specs.Told.{Told}
@@ -8,10 +8,11 @@ use Rattle.all_pairs.proofs.simulate.run.Given as goal
 
 abbrev pub invariant-loop-upcoming : goal.invariant-loop-upcoming
 invariant-loop-upcoming g l = let L = g.L.Listener in record {
-  so_far : (changes : List Change) × Steps l.fn.rules l.fn.start changes l.disks.items × Told L.after (L.meaning l.fn.listener) changes (L.meaning l.listener);
+  so_far : (changes : List Change) × Steps l.fn.rules l.fn.start changes l.disks.items
+      × Told L.after (L.meaning l.fn.listener) changes (L.meaning l.listener);
   upcoming : IsLeastOf (IsCandidate l.fn.rules l.disks.items) l.upcoming;
   valid : IsValidState l.fn.rules l.disks.items;
-  later : L.count l.fn.listener ≤ L.count l.listener;
+  count : L.faults l.listener ≡ L.faults l.fn.listener;
 }
 
 abbrev pub decreases-loop-upcoming : goal.decreases-loop-upcoming

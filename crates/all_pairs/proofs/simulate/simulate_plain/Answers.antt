@@ -1,34 +1,42 @@
-use Rattle.std.proofs.Common.{◌≡◌, ◌∙◌, List, ap, subst, sym}
-use Rattle.std.specs.Prelude.{IfOk, OnErr}
+use Rattle.std.proofs.Common.{◌≡◌, ◌∙◌, subst, sym, ap}
 use Rattle.std.proofs.lemmas.Result.{IfOk-weaker, IfErr-weaker}
-use Rattle.fixed_motion.specs.declared.disk.Disk.{Disk}
 use Rattle.fixed_motion.specs.Scene.{SceneData, IsValidScene}
 use Rattle.event_rules.specs.Run.{IsValidState}
-use Rattle.all_pairs.specs.Tells.{RunDone, StepsBegun}
-use Rattle.event_rules.proofs.Apart.{never_overlaps}
-use Rattle.all_pairs.proofs.Turns.{begun}
+use Rattle.event_rules.proofs.Ranges.{starts_valid}
+use Rattle.all_pairs.specs.Tells.{RunDone, StepsCutShort, scene_of}
+use Rattle.all_pairs.proofs.Turns.{run_told, cut_short}
 use Rattle.all_pairs.proofs.simulate.simulate_plain.Goals as goal
 
 pub run-requires-clause-valid : goal.run-requires-clause-valid
-run-requires-clause-valid g c = subst (IsValidState c.scene.inside.rules) (sym c.deref.ensures.value) (record {
-  count = c.scene.invariant.count;
-  valid = λ i a at. (c.scene.invariant.disks i a at).valid;
-})
+run-requires-clause-valid g c =
+    subst (IsValidState c.scene.inside.rules) (sym c.deref.ensures.value)
+    (starts_valid _ c.scene.invariant)
 
 pub returns-clause-run : goal.returns-clause-run
 returns-clause-run g c =
     let L = g.L.Listener in
-    let of_disks : List Disk → SceneData = λ disks. record { rules = c.scene.inside.rules; disks = disks } in
-    let same : of_disks c.deref.result.now ≡ c.args.scene.now = ap of_disks c.deref.ensures.value ∙ c.scene.view_is in
-    let valid : IsValidScene c.args.scene.now = subst IsValidScene c.scene.view_is c.scene.invariant in
-    let done = subst (λ (v : SceneData). IfOk c.run.result (λ outcome. RunDone L.after v outcome (L.meaning c.args.listener.now) (L.meaning c.run.new.listener))) same c.run.ensures.run in
-    IfOk-weaker c.run.result _ _ (λ outcome h. (h.0, h.1, h.2, never_overlaps c.args.scene.now h.0 outcome valid h.1)) done
+    let scene = c.args.scene.now in
+    let old = L.meaning c.args.listener.now in
+    let new = L.meaning c.run.new.listener in
+    let same : scene_of c.scene.inside.rules c.deref.result.now ≡ scene_of scene.rules scene.disks =
+    ap (scene_of c.scene.inside.rules) c.deref.ensures.value
+    ∙ ap (λ (v : SceneData). scene_of v.rules v.disks) c.scene.view_is in
+    let valid = subst IsValidScene c.scene.view_is c.scene.invariant in
+    IfOk-weaker c.run.result _ _
+    (λ outcome h. run_told L.after scene outcome old new valid
+    (subst (λ (v : SceneData). RunDone L.after v outcome old new) same h)) c.run.ensures.run
 
-pub returns-clause-prefix : goal.returns-clause-prefix
-returns-clause-prefix g c =
+pub returns-clause-cut_short : goal.returns-clause-cut_short
+returns-clause-cut_short g c =
     let L = g.L.Listener in
-    let of_disks : List Disk → SceneData = λ disks. record { rules = c.scene.inside.rules; disks = disks } in
-    let same : of_disks c.deref.result.now ≡ c.args.scene.now = ap of_disks c.deref.ensures.value ∙ c.scene.view_is in
-    let valid : IsValidScene c.args.scene.now = subst IsValidScene c.scene.view_is c.scene.invariant in
-    let steps = subst (λ (v : SceneData). OnErr c.run.result (StepsBegun L.after L.torn v (L.meaning c.args.listener.now) (L.meaning c.run.new.listener))) same c.run.ensures.prefix in
-    IfErr-weaker c.run.result _ _ (λ e h. begun L.after L.torn c.args.scene.now (L.meaning c.args.listener.now) (L.meaning c.run.new.listener) valid h) steps
+    let scene = c.args.scene.now in
+    let old = L.meaning c.args.listener.now in
+    let new = L.meaning c.run.new.listener in
+    let same : scene_of c.scene.inside.rules c.deref.result.now ≡ scene_of scene.rules scene.disks =
+    ap (scene_of c.scene.inside.rules) c.deref.ensures.value
+    ∙ ap (λ (v : SceneData). scene_of v.rules v.disks) c.scene.view_is in
+    let valid = subst IsValidScene c.scene.view_is c.scene.invariant in
+    IfErr-weaker c.run.result _ _
+    (λ fault h. cut_short L.after L.torn scene fault old new valid
+    (subst (λ (v : SceneData). StepsCutShort L.after L.torn v fault old new) same h))
+    c.run.ensures.cut_short
