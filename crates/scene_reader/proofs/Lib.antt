@@ -1,10 +1,12 @@
 pub mod Unknown
 pub mod Shown
-pub mod Stated
 pub mod RowByRow
 pub mod Counts
 pub mod Pieces
+pub mod Counted
+pub mod Placed
 pub mod Pairs
-pub mod InRange
+pub mod Told
 pub mod Valid
-pub mod Causes
+pub mod Stated
+pub mod Least

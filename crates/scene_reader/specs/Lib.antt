@@ -1,6 +1,11 @@
+pub mod Steps
 pub mod Keys
+pub mod Numbers
+pub mod Rows
+pub mod Disks
 pub mod Says
 pub mod Reads
 pub mod Bytes
 pub mod Seen
 pub mod Clamped
+pub mod Laws

@@ -1,8 +1,7 @@
 //! Reading a scene.
 
-ghost use Rattle.std.specs.Prelude.{◌≡◌, ◌≤◌, is_some, IsErrOf};
-ghost use Rattle.report_ports.specs.Ports.{Rose};
-ghost use Rattle.scene_reader.specs.Reads.{Reads};
+ghost use Rattle.std.specs.Prelude.{◌≡◌, is_some};
+ghost use Rattle.scene_reader.specs.Reads.{Reads, CountsReading};
 
 use crate::SceneFault;
 use crate::bytes::read_bytes;
@@ -16,12 +15,9 @@ use std::alloc::Global;
 /// [`SceneFault`] says why there is none. Memory is taken in proportion to the text.
 pub fn read_scene<S: Source>(alloc: Global, source: &mut S) -> Result<Scene, SceneFault>
     ensures reads { Reads (S.left source.old) (S.left source.new) result }
-    ensures tells { is_some (S.left source.new) ≡ is_some (S.left source.old) }
-    ensures cause { IsErrOf result SceneFault.ReadFault → Rose (S.count source.old) (S.count source.new) }
-    ensures later { S.count source.old ≤ S.count source.new }
+    ensures knows { is_some (S.left source.new) ≡ is_some (S.left source.old) }
+    ensures counts { CountsReading (S.faults source.old) (S.faults source.new) result }
 {
-    match read_bytes(alloc, source) {
-        Ok(bytes) => read_document(alloc, bytes.as_slice()),
-        Err(fault) => Err(fault),
-    }
+    let bytes = read_bytes(alloc, source)?;
+    read_document(alloc, bytes.as_slice())
 }

@@ -1,7 +1,7 @@
 -- No pair with a disk before i overlaps.
 use Rattle.std.proofs.Common.{◌≡◌, drop}
-use Rattle.scene_reader.specs.Says.{first_overlap}
+use Rattle.scene_reader.specs.Disks.{first_overlap}
 use Rattle.scene_reader.proofs.disks.first_overlap.Given as goal
 
 abbrev pub invariant-loop-i : goal.invariant-loop-i
-invariant-loop-i l = first_overlap l.rules 0 l.disks ≡ first_overlap l.rules l.i (drop l.i l.disks)
+invariant-loop-i l = first_overlap 0 l.disks ≡ first_overlap l.i (drop l.i l.disks)

@@ -1,0 +1,16 @@
+-- Disks that passed the tests make a valid scene.
+use Rattle.std.proofs.Common.{sym, ap, ◌∙◌}
+use Rattle.toml.specs.View.{items_view}
+use Rattle.scene_reader.specs.Disks.{disks_pass}
+use Rattle.scene_reader.specs.Seen.{parts_seen}
+use Rattle.scene_reader.proofs.Valid.{valid, disks_new}
+use Rattle.scene_reader.proofs.document.read_table.Goals as goal
+
+pub check_disks-requires-clause-count : goal.check_disks-requires-clause-count
+check_disks-requires-clause-count c =
+    rw c.as_slice.ensures.value (disks_new c.in_ok-rules.rules.diameter (items_view c.in_ok-parts.parts.rows.now) c.in_ok-disks.disks.items c.in_ok-disks.ensures).1
+
+pub new-requires-2 : goal.new-requires-2
+new-requires-2 c =
+    let passed = ap (disks_pass c.in_ok-rules.rules) (sym c.as_slice.ensures.value) ∙ sym c.check_disks.ensures ∙ c.in_ok-check_disks.was in
+    valid (parts_seen c.in_ok-parts.parts) c.in_ok-rules.rules c.in_ok-every.every c.in_ok-disks.disks.items c.in_ok-rules.ensures.0 (sym c.every_of.ensures ∙ c.in_ok-every.was) c.in_ok-disks.ensures passed
