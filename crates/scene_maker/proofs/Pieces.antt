@@ -1,9 +1,12 @@
 -- Pieces put one after another.
-use Rattle.std.proofs.Common.{◌≡◌, ℕ, ℤ, pos, ◌<◌, ◌^◌, List, ◌++◌, Result, ap, ◌∙◌, append_assoc}
+use Rattle.std.proofs.Common.{◌≡◌, ℕ, ℤ, pos, ◌<◌, ◌^◌, List, [], ◌++◌, Option, Some, None, Result, ap, ◌∙◌, append_assoc, arith}
 use Rattle.std.specs.Result.{OnOk}
+use Rattle.std.specs.Prelude.{codes}
 use Rattle.std.proofs.lemmas.Int.{to_z-of_z, to_z_pos}
+use Rattle.std.proofs.lemmas.Option.{same_Some}
 use Rattle.std.proofs.lemmas.Result.{on_ok_weaker}
-use Rattle.scene_maker.specs.Canonical.{key_line}
+use Rattle.fixed_motion.specs.Scene.{IsEvery}
+use Rattle.scene_maker.specs.Canonical.{key_line, every_text}
 use mir.Syntax.{w64}
 use mir.Val.{SFits, to_z, of_z}
 
@@ -22,3 +25,18 @@ signed_line before after key value fits line = line ∙ ap (λ (z : ℤ). before
 pub cast_line : (before after key : List ℕ) (n : ℕ) → n < 2 ^ 63 →
     after ≡ before ++ key_line key (to_z w64 n) → after ≡ before ++ key_line key (pos n)
 cast_line before after key n small line = line ∙ ap (λ (z : ℤ). before ++ key_line key z) (to_z_pos w64 n small)
+
+-- three pieces, one after another, where there was nothing
+pub joined : (a b c d x y z : List ℕ) → a ≡ [] → b ≡ a ++ x → c ≡ b ++ y → d ≡ c ++ z → d ≡ x ++ (y ++ z)
+joined a b c d x y z h k l m =
+    m ∙ ap (λ (v : List ℕ). v ++ z) l ∙ append_assoc b y z ∙ ap (λ (v : List ℕ). v ++ (y ++ z)) (k ∙ ap (λ (v : List ℕ). v ++ x) h)
+
+every_fits : (every : Option ℕ) (ticks : ℕ) → IsEvery every → every ≡ Some ticks → ticks < 2 ^ 63
+every_fits None ticks h e = absurd (cc)
+every_fits (Some n) ticks h e = let same = same_Some n ticks e in let most = h.1 in omega arith
+
+-- the line of the ticks of a state block, which were cast to a signed number
+pub every_line : {T E : Type 0} (r : Result T E) (before after : List ℕ) (every : Option ℕ) (ticks : ℕ) → IsEvery every → every ≡ Some ticks →
+    OnOk r (after ≡ before ++ key_line (codes "every") (to_z w64 ticks)) → OnOk r (after ≡ before ++ every_text every)
+every_line r before after every ticks h e =
+    on_ok_weaker r (λ line. rw e (cast_line before after (codes "every") ticks (every_fits every ticks h e) line))

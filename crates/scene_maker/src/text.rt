@@ -23,7 +23,9 @@ ghost use Rattle.std.specs.Prelude.{◌≡◌, ◌++◌, pos, codes, IfOk, OnOk}
 ghost use Rattle.std.specs.Fmt.{signed_decimal};
 ghost use Rattle.std.specs.List.{flat_map};
 ghost use Rattle.fixed_motion.specs.Rules.{IsChecked};
-ghost use Rattle.scene_maker.specs.Canonical.{canonical_text, rules_text, row_line, key_line, ended};
+ghost use Rattle.fixed_motion.specs.Scene.{IsEvery};
+ghost use Rattle.text_lines.specs.Lines.{ended};
+ghost use Rattle.scene_maker.specs.Canonical.{canonical_text, rules_text, every_text, row_line, size_text, key_line};
 
 impl Text {
     /// Its bytes.
@@ -34,13 +36,15 @@ impl Text {
     }
 }
 
-/// The canonical text of a scene: TOML that says exactly this scene, a line for each number and each disk.
+/// The canonical text of a scene: TOML that says exactly this scene, a line for each number and each
+/// disk.
 pub fn scene_text(alloc: Global, scene: &Scene) -> Result<Text, AllocError>
     ensures { IfOk result (λ text. text ≡ canonical_text scene.now) }
 {
     let mut bytes = Vec::new(alloc);
     push_rules(&mut bytes, &scene.rules)?;
-    push_disks(&mut bytes, &scene.disks)?;
+    push_every(&mut bytes, scene.every)?;
+    push_disks(&mut bytes, &scene.rules, &scene.disks)?;
     Ok(Text { bytes })
 }
 
@@ -67,45 +71,68 @@ fn push_limits(bytes: &mut Vec<u8>, rules: &Rules) -> Result<(), AllocError>
     push_key_line(bytes, "end", rules.end as i64)
 }
 
-// All that follows the rules.
-fn push_disks(bytes: &mut Vec<u8>, disks: &[Disk]) -> Result<(), AllocError>
+fn push_every(bytes: &mut Vec<u8>, every: Option<u64>) -> Result<(), AllocError>
+    requires { IsEvery every }
+    ensures { OnOk result (bytes.new.items ≡ bytes.old.items ++ every_text every) }
+{
+    match every {
+        Some(ticks) => push_key_line(bytes, "every", ticks as i64),
+        None => Ok(()),
+    }
+}
+
+fn push_disks(bytes: &mut Vec<u8>, rules: &Rules, disks: &[Disk]) -> Result<(), AllocError>
     ensures { OnOk result (bytes.new.items ≡ bytes.old.items
-        ++ (ended (codes "disks = [") ++ (flat_map row_line disks.now ++ ended (codes "]")))) }
+        ++ (ended (codes "disks = [")
+        ++ (flat_map (row_line rules.now) disks.now ++ ended (codes "]")))) }
 {
     push_text(bytes, "disks = [\n")?;
-    push_rows(bytes, disks)?;
+    push_rows(bytes, rules, disks)?;
     push_text(bytes, "]\n")
 }
 
-fn push_rows(bytes: &mut Vec<u8>, disks: &[Disk]) -> Result<(), AllocError>
-    ensures { OnOk result (bytes.new.items ≡ bytes.old.items ++ flat_map row_line disks.now) }
+fn push_rows(bytes: &mut Vec<u8>, rules: &Rules, disks: &[Disk]) -> Result<(), AllocError>
+    ensures { OnOk result (bytes.new.items
+        ≡ bytes.old.items ++ flat_map (row_line rules.now) disks.now) }
 {
     for disk in disks {
-        push_row(bytes, disk)?;
+        push_row(bytes, rules, disk)?;
     }
     Ok(())
 }
 
-fn push_row(bytes: &mut Vec<u8>, disk: &Disk) -> Result<(), AllocError>
-    ensures { OnOk result (bytes.new.items ≡ bytes.old.items ++ row_line disk.now) }
+fn push_row(bytes: &mut Vec<u8>, rules: &Rules, disk: &Disk) -> Result<(), AllocError>
+    ensures { OnOk result (bytes.new.items ≡ bytes.old.items ++ row_line rules.now disk.now) }
 {
     push_text(bytes, "  [")?;
     push_number(bytes, disk.x)?;
     push_text(bytes, ", ")?;
     push_number(bytes, disk.y)?;
     push_text(bytes, ", ")?;
-    push_velocity(bytes, disk)
+    push_velocity(bytes, rules, disk)
 }
 
 // The end of a disk's row, from the velocity on.
-fn push_velocity(bytes: &mut Vec<u8>, disk: &Disk) -> Result<(), AllocError>
+fn push_velocity(bytes: &mut Vec<u8>, rules: &Rules, disk: &Disk) -> Result<(), AllocError>
     ensures { OnOk result (bytes.new.items ≡ bytes.old.items
-        ++ ended (signed_decimal disk.now.vx ++ (codes ", " ++ (signed_decimal disk.now.vy ++ codes "],")))) }
+        ++ ended (signed_decimal disk.now.vx ++ (codes ", "
+        ++ (signed_decimal disk.now.vy ++ (size_text rules.now disk.now ++ codes "],"))))) }
 {
     push_number(bytes, disk.vx)?;
     push_text(bytes, ", ")?;
     push_number(bytes, disk.vy)?;
+    push_size(bytes, rules, disk)?;
     push_text(bytes, "],\n")
+}
+
+fn push_size(bytes: &mut Vec<u8>, rules: &Rules, disk: &Disk) -> Result<(), AllocError>
+    ensures { OnOk result (bytes.new.items ≡ bytes.old.items ++ size_text rules.now disk.now) }
+{
+    if disk.size == rules.diameter {
+        return Ok(());
+    }
+    push_text(bytes, ", ")?;
+    push_number(bytes, disk.size)
 }
 
 fn push_key_line(bytes: &mut Vec<u8>, key: &str, value: i64) -> Result<(), AllocError>
