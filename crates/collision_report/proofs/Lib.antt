@@ -1,6 +1,8 @@
 -- The lemmas of the crate.
 pub mod Pieces
 pub mod Texts
-pub mod Told
-pub mod Small
+pub mod Tables
 pub mod Sums
+pub mod Parts
+pub mod Told
+pub mod Ticks

@@ -1,8 +1,8 @@
 -- The definitions that the contracts cite.
 pub mod Lines
+pub mod Blocks
 pub mod Report
 pub mod Meaning
-pub mod Parts
 pub mod Writes
 pub mod Bounds
 pub mod Laws

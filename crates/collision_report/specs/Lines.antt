@@ -1,15 +1,12 @@
 -- The lines of a report.
-use Rattle.std.specs.Prelude.{ℕ, ℤ, List, [], ◌∷◌, ◌++◌, codes, decimal, Option, Some, None}
+use Rattle.std.specs.Prelude.{ℕ, List, [], ◌∷◌, codes, decimal, Option, Some, None}
 use Rattle.std.specs.Fmt.{signed_decimal}
-use Rattle.std.specs.List.{join_with_byte}
+use Rattle.plane_vectors.specs.declared.Vector.{Vector}
 use Rattle.fixed_motion.specs.declared.disk.Disk.{Disk}
+use Rattle.text_lines.specs.Lines.{line_of}
 use Rattle.event_stamps.specs.declared.Stamp.{Stamp}
 use Rattle.event_rules.specs.declared.change.Change.{Change}
 use Rattle.event_rules.specs.declared.outcome.Spot.{Spot}
-
--- fields with one space between them, and a newline
-abbrev pub line_of : List (List ℕ) → List ℕ
-line_of fields = join_with_byte 32 fields ++ 10 ∷ []
 
 -- TICK ROUND wall DISK SIDE VX VY, with the velocity after the event
 abbrev pub wall_line : Stamp → Disk → List ℕ
@@ -34,8 +31,8 @@ abbrev pub number_line : List ℕ → ℕ → List ℕ
 number_line name n = line_of (name ∷ decimal n ∷ [])
 
 -- momentum PX PY
-abbrev pub momentum_line : ℤ → ℤ → List ℕ
-momentum_line px py = line_of (codes "momentum" ∷ signed_decimal px ∷ signed_decimal py ∷ [])
+abbrev pub momentum_line : Vector → List ℕ
+momentum_line p = line_of (codes "momentum" ∷ signed_decimal p.x ∷ signed_decimal p.y ∷ [])
 
 -- energy E0 E1, at the start and at the end
 abbrev pub energy_line : ℕ → ℕ → List ℕ
@@ -45,3 +42,7 @@ energy_line before after = line_of (codes "energy" ∷ decimal before ∷ decima
 abbrev pub disk_line : ℕ → Spot → List ℕ
 disk_line i spot = line_of (codes "disk" ∷ decimal i ∷ signed_decimal spot.x ∷ signed_decimal spot.y
     ∷ signed_decimal spot.vx ∷ signed_decimal spot.vy ∷ [])
+
+-- state TICK
+abbrev pub state_line : ℕ → List ℕ
+state_line tick = number_line (codes "state") tick

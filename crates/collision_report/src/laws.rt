@@ -1,9 +1,36 @@
-//! What reports are made of.
+//! What reports are made of, for those who read the definitions alone.
 
-ghost use Rattle.collision_report.specs.Laws.{ChangesJoin, ReportsJoin};
+ghost use Rattle.collision_report.specs.Laws.{ReportsJoin, ReportsBegin, ReportsBreakOff, BlocksShowStates, BlocksStandOnce, TablesServe};
 
-/// What a reporter is told and the block at the end make the report of the run.
+/// What a reporter is told of a run and what it writes at the end make the report of the run.
 pub fn reports_join()
-    ensures changes { ChangesJoin }
-    ensures reports { ReportsJoin }
+    ensures { ReportsJoin }
+{}
+
+/// What a reporter was told of a run that broke off is a prefix of the report of the run.
+pub fn reports_begin()
+    ensures { ReportsBegin }
+{}
+
+/// What a reporter was told of a run, with a part of what it writes at the end, is a prefix of the
+/// report of the run.
+pub fn reports_break_off()
+    ensures { ReportsBreakOff }
+{}
+
+/// A block that stands before the first change of its tick or a later one, and after those before it,
+/// shows the state of the run at its tick.
+pub fn blocks_show_states()
+    ensures { BlocksShowStates }
+{}
+
+/// In the report of a run there is one block for each multiple below the end and up to the last tick,
+/// in ascending order.
+pub fn blocks_stand_once()
+    ensures { BlocksStandOnce }
+{}
+
+/// The table of a reporter that was told changes of a run is one for the scene of the run.
+pub fn tables_serve()
+    ensures { TablesServe }
 {}
