@@ -1,0 +1,123 @@
+-- Where something holds for the last time, and when a disk leaves its cell.
+use Rattle.std.proofs.Common.{◌≡◌, ◌↔◌, ◌⊎◌, inl, inr, ℕ, zero, suc, ◌+◌, ◌-◌, ◌*◌, ◌/◌, ◌%◌, ◌<◌, ◌≤◌, refl, sym, ap, ◌∙◌, subst, arith}
+use Rattle.std.specs.Prelude.{Option, Some, None, IsNone, IfSome, unwrap_or}
+use Rattle.std.proofs.lemmas.Bool.{cases_lt}
+use Rattle.fixed_motion.specs.declared.rules.Rules.{Rules}
+use Rattle.fixed_motion.specs.declared.disk.Disk.{Disk}
+use Rattle.plane_vectors.specs.Vectors.{after}
+use Rattle.fixed_motion.specs.Motion.{IsInside, centre_of, velocity_of, place_of}
+use Rattle.event_stamps.specs.declared.Stamp.{Stamp}
+use Rattle.event_stamps.specs.Least.{HasNone, IsOnly}
+use Rattle.cell_grid.specs.Grid.{GridData, HasSizes, cell_number, column_of, row_of}
+use Rattle.cell_grid.specs.Crossing.{IsLeavingTick, IsCrossEvent, cross_stamp}
+use Rattle.cell_grid.specs.Leaving.{IsFrom, EndsAt, IsAcross, IsUpwards, IsInAfter}
+use Rattle.cell_grid.proofs.Cells.{column_at, row_at}
+use Rattle.cell_grid.proofs.Leaving.{one_leaving_tick, one_crossing}
+
+-- what is the same ends at the same number
+pub ends_same : (P Q : ℕ → Type 0) (o : Option ℕ) → ((n : ℕ) → P n ↔ Q n) → EndsAt P o → EndsAt Q o
+ends_same P Q o same h = record {
+  never = λ n from q. h.never n from ((same n).1 q);
+  until = λ m n le not q. (same n).0 (h.until m n le not ((same m).1 q));
+  always = λ none m n q. (same n).0 (h.always none m n ((same m).1 q));
+}
+
+-- two facts together end where the first of them does
+pub both_end : (P Q : ℕ → Type 0) (o p r : Option ℕ) → (IsNone r ↔ (IsNone o × IsNone p)) →
+    ((n : ℕ) → IsFrom r n ↔ (IsFrom o n ⊎ IsFrom p n)) → EndsAt P o → EndsAt Q p → EndsAt (λ n. P n × Q n) r
+both_end P Q o p r none least h k = record {
+  never = λ n from both. elim ((least n).0 from) [ inl f ↦ h.never n f both.0 | inr f ↦ k.never n f both.1 ];
+  until = λ m n le not both. (
+    h.until m n le (λ f. not ((least n).1 (inl f))) both.0,
+    k.until m n le (λ f. not ((least n).1 (inr f))) both.1,
+  );
+  always = λ is m n both. (h.always (none.0 is).0 m n both.0, k.always (none.0 is).1 m n both.1);
+}
+
+-- the lesser of two numbers up to a bound is up to it
+pub lesser_within : (o p r : Option ℕ) (most : ℕ) → (IsNone r ↔ (IsNone o × IsNone p)) →
+    ((n : ℕ) → IsFrom r n ↔ (IsFrom o n ⊎ IsFrom p n)) → IfSome o (λ n. n ≤ most) → IfSome p (λ n. n ≤ most) → IfSome r (λ n. n ≤ most)
+lesser_within o p None most none least h k = tt
+lesser_within (Some m) p (Some n) most none least h k = let le : n ≤ m = (least m).1 (inl (omega arith)) in omega arith
+lesser_within None (Some m) (Some n) most none least h k = let le : n ≤ m = (least m).1 (inr (omega arith)) in omega arith
+lesser_within None None (Some n) most none least h k = let no = none.1 (refl, refl) in cc
+
+-- the last number before the end, or any where there is no end
+abbrev pub last_of : Option ℕ → ℕ
+last_of o = unwrap_or o 0 - 1
+
+-- what doesn't hold at the last number before the end holds nowhere
+nowhere : (P : ℕ → Type 0) (o : Option ℕ) → EndsAt P o → ¬ P (last_of o) → (n : ℕ) → ¬ P n
+nowhere P None h not n here = not (h.always refl n 0 here)
+nowhere P (Some zero) h not n here = h.never n (omega arith) here
+nowhere P (Some (suc m)) h not n here = elim (cases_lt m n) [
+  | inl lt ↦ h.never n (omega arith) here
+  | inr le ↦ (let e : suc m - 1 ≡ m = omega arith in not (subst P (sym e) (h.until n m le (λ (over : suc m ≤ m). absurd (omega arith)) here)))
+]
+
+-- a disk that is in its cell at no tick has left it at its base tick
+pub leaves_at_base : (rules : Rules) (grid : GridData) (a : Disk) (cell : ℕ) (o : Option ℕ) →
+    EndsAt (IsInAfter rules grid a cell) o →
+    ¬ IsInAfter rules grid a cell (last_of o) → IsLeavingTick rules grid a cell a.base
+leaves_at_base rules grid a cell o h not = record {
+  base = omega arith;
+  left = λ t le. nowhere (IsInAfter rules grid a cell) o h not (t - a.base);
+  first = λ t from lt left. absurd (omega arith);
+}
+
+-- a disk that stays in its cell never leaves it
+pub never_leaves : (rules : Rules) (grid : GridData) (a : Disk) (cell : ℕ) → EndsAt (IsInAfter rules grid a cell) None →
+    IsInAfter rules grid a cell 0 → (tick : ℕ) → ¬ IsLeavingTick rules grid a cell tick
+never_leaves rules grid a cell h here tick leaving = leaving.left tick (omega arith) (h.always refl 0 (tick - a.base) here)
+
+-- a disk that is in its cell at the last tick before the end leaves it at the end
+pub leaves_at_end : (rules : Rules) (grid : GridData) (a : Disk) (cell n : ℕ) →
+    EndsAt (IsInAfter rules grid a cell) (Some n) →
+    IsInAfter rules grid a cell (n - 1) → IsLeavingTick rules grid a cell (a.base + n)
+leaves_at_end rules grid a cell zero h here = absurd (h.never 0 (omega arith) here)
+leaves_at_end rules grid a cell (suc m) h here = record {
+  base = omega arith;
+  left = λ t le. h.never (t - a.base) (omega arith);
+  first = λ t from lt left.
+      let e : suc m - 1 ≡ (a.base + m) - a.base = omega arith in
+      left (a.base + m) (omega arith) (subst (IsInAfter rules grid a cell) e here);
+}
+
+-- ---- the two axes
+-- a disk is in a cell where it is in its column and in its row
+pub in_by_axes : (rules : Rules) (grid : GridData) (a : Disk) (cell : ℕ) → HasSizes grid → (n : ℕ) →
+    (IsAcross rules grid a cell n × IsUpwards rules grid a cell n) ↔ IsInAfter rules grid a cell n
+in_by_axes rules grid a cell sizes n =
+    let p = after (centre_of a) (velocity_of a) n in (
+      λ h. (
+        record { left = h.0.0.0; right = h.0.0.1; bottom = h.1.0.0; top = h.1.0.1 },
+        (λ i. cell_number grid (h.0.1 i) (h.1.1 i)) ∙ again cell grid.columns,
+      ),
+      λ h.
+          let column = sym (column_at grid p sizes) ∙ ap (column_of grid) h.1 in
+          let row = sym (row_at grid p sizes) ∙ ap (row_of grid) h.1 in
+          (((h.0.left, h.0.right), column), ((h.0.bottom, h.0.top), row)),
+    )
+  where
+    again : (n m : ℕ) → (n / m) * m + n % m ≡ n
+    again n m = grind arith
+
+-- ---- the answer
+-- the event at the leaving tick is the only one
+pub only_crossing : (rules : Rules) (grid : GridData) (disk : ℕ) (a : Disk) (cell tick : ℕ) (s : Stamp) →
+    IsLeavingTick rules grid a cell tick → IsInside rules a (place_of a tick) → tick < rules.end →
+    s ≡ cross_stamp disk a tick →
+    IsOnly (IsCrossEvent rules grid disk a cell) s
+only_crossing rules grid disk a cell tick s leaving inside before e =
+    let at : IsCrossEvent rules grid disk a cell s =
+    subst (IsCrossEvent rules grid disk a cell) (sym e) (record { leaving = leaving; inside = inside }, before, refl) in
+    (at, λ t h. one_crossing rules grid disk a cell s t at h)
+
+-- no event where the disk isn't inside the box before the end when it leaves
+pub no_crossing : (rules : Rules) (grid : GridData) (disk : ℕ) (a : Disk) (cell tick : ℕ) →
+    IsLeavingTick rules grid a cell tick →
+    (tick < rules.end → ¬ IsInside rules a (place_of a tick)) → HasNone (IsCrossEvent rules grid disk a cell)
+no_crossing rules grid disk a cell tick leaving never s h =
+    let e : s.tick ≡ tick = one_leaving_tick rules grid a cell tick s.tick leaving h.0.leaving in
+    let before = h.1 in
+    never (omega arith) (subst (λ (t : ℕ). IsInside rules a (place_of a t)) e h.0.inside)

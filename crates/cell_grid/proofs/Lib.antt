@@ -1,0 +1,8 @@
+mod Along
+pub mod Cells
+mod Courses
+mod Ends
+pub mod Leaving
+pub mod Links
+pub mod Owners
+mod Strips

@@ -1,0 +1,70 @@
+-- What the parts of a crossing answer.
+use Rattle.std.specs.Prelude.{◌≡◌, ◌↔◌, ◌⊎◌, ℕ, ◌^◌, ◌≤◌, ℤ, pos, nat_abs, ◌-ℤ◌, ◌<ℤ◌, Option, Some, None, IsNone}
+use Rattle.fixed_motion.specs.declared.rules.Rules.{Rules}
+use Rattle.fixed_motion.specs.declared.rules.TheConstants.{MAX_SIDE}
+use Rattle.fixed_motion.specs.declared.disk.Disk.{Disk}
+use Rattle.fixed_motion.specs.Motion.{radius_of, centre_of, velocity_of}
+use Rattle.plane_vectors.specs.Vectors.{after}
+use Rattle.contact_predictor.specs.Contact.{coordinate_after, IsBetween}
+use Rattle.cell_grid.specs.declared.bounds.Bounds.{Bounds}
+use Rattle.cell_grid.specs.declared.bounds.Course.{Course}
+use Rattle.cell_grid.specs.Grid.{GridData, along, column_of, row_of}
+use Rattle.cell_grid.specs.Crossing.{IsIn}
+
+-- a number from a first one on, where there is a first one
+abbrev pub IsFrom : Option ℕ → ℕ → Type 0
+IsFrom None n = ⊥
+IsFrom (Some first) n = first ≤ n
+
+-- P holds at no number from the end on, and where it holds at a number before, it holds from there up to the end;
+-- where there is no end, it holds always or never
+pub record EndsAt (P : ℕ → Type 0) (end : Option ℕ) : Type 0 where
+  pub never : (n : ℕ) → IsFrom end n → ¬ P n
+  pub until : (m n : ℕ) → m ≤ n → ¬ IsFrom end n → P m → P n
+  pub always : IsNone end → (m n : ℕ) → P m → P n
+
+-- ---- one coordinate
+-- where it is after so many ticks
+abbrev pub place_after : Course → ℕ → ℤ
+place_after course ticks = coordinate_after course.start course.velocity ticks
+
+abbrev pub IsWithin : Bounds → ℤ → Type 0
+IsWithin bounds n = IsBetween bounds.least bounds.greatest n
+
+abbrev pub IsWithinAfter : Bounds → Course → ℕ → Type 0
+IsWithinAfter bounds course ticks = IsWithin bounds (place_after course ticks)
+
+-- it begins past the bound that it goes towards
+abbrev pub BeginsPast : Bounds → Course → Type 0
+BeginsPast bounds course =
+    ((pos 0 <ℤ course.velocity) × (bounds.greatest <ℤ course.start))
+    ⊎ ((course.velocity <ℤ pos 0) × (course.start <ℤ bounds.least))
+
+pub record AreSmall (bounds : Bounds) : Type 0 where
+  pub least : nat_abs bounds.least ≤ 2 ^ 30
+  pub greatest : nat_abs bounds.greatest ≤ 2 ^ 30
+
+pub record IsSlowCourse (course : Course) : Type 0 where
+  pub start : nat_abs course.start ≤ 2 ^ 30
+  pub velocity : nat_abs course.velocity ≤ 2 ^ 20
+
+-- these bound the column, or the row, of this index
+abbrev pub AreOfColumn : ℕ → ℕ → ℕ → Bounds → Type 0
+AreOfColumn side count index bounds =
+    (n : ℤ) → IsBetween (pos 0) MAX_SIDE n → (IsWithin bounds n ↔ (along side count n ≡ index))
+
+-- ---- a disk
+-- after so many ticks it is between the left and the right side of the box, and in the column of the cell
+abbrev pub IsAcross : Rules → GridData → Disk → ℕ → ℕ → Type 0
+IsAcross rules grid a cell ticks =
+    IsBetween (radius_of a) (rules.width -ℤ radius_of a) (coordinate_after a.x a.vx ticks)
+    × (along grid.side_x grid.columns (coordinate_after a.x a.vx ticks) ≡ column_of grid cell)
+
+-- it is between the bottom and the top, and in the row of the cell
+abbrev pub IsUpwards : Rules → GridData → Disk → ℕ → ℕ → Type 0
+IsUpwards rules grid a cell ticks =
+    IsBetween (radius_of a) (rules.height -ℤ radius_of a) (coordinate_after a.y a.vy ticks)
+    × (along grid.side_y grid.rows (coordinate_after a.y a.vy ticks) ≡ row_of grid cell)
+
+abbrev pub IsInAfter : Rules → GridData → Disk → ℕ → ℕ → Type 0
+IsInAfter rules grid a cell ticks = IsIn rules grid a cell (after (centre_of a) (velocity_of a) ticks)

@@ -1,0 +1,4 @@
+pub mod Grid
+pub mod Crossing
+pub mod Leaving
+pub mod Laws

@@ -1,0 +1,141 @@
+//! Bounds of coordinates, and when a coordinate of a disk is past them.
+
+ghost use Rattle.std.specs.Prelude.{◌≡◌, ◌↔◌, ◌⊎◌, ℕ, ℤ, ◌*◌, ◌^◌, ◌<◌, ◌≤◌, ◌-ℤ◌, IsTrue, IsNone, IfSome};
+ghost use Rattle.fixed_motion.specs.Rules.{IsChecked};
+ghost use Rattle.fixed_motion.specs.Motion.{IsValidDisk, radius_of};
+ghost use Rattle.cell_grid.specs.Leaving.{IsFrom, EndsAt, IsWithin, IsWithinAfter, BeginsPast, AreSmall, IsSlowCourse, AreOfColumn};
+
+use contact_predictor::stay;
+use fixed_motion::{Disk, MAX_SIDE, Rules};
+use std::cmp::{max, min};
+
+// A side of the box, cut into so many cells of one side, in units of length; the last may be longer.
+#[derive(Clone, Copy)]
+pub(crate) struct Cut {
+    pub(crate) side: u32,
+    pub(crate) count: u32,
+}
+
+// The least and the greatest of some coordinates, in units of length.
+#[derive(Clone, Copy)]
+pub(crate) struct Bounds {
+    pub(crate) least: i64,
+    pub(crate) greatest: i64,
+}
+
+// One coordinate of a disk that keeps its course, in units of length and units per tick.
+#[derive(Clone, Copy)]
+pub(crate) struct Course {
+    pub(crate) start: i64,
+    pub(crate) velocity: i64,
+}
+
+impl Cut {
+    // The coordinates in the box that are in the cell of this index.
+    pub(crate) fn bounds(self, index: u32) -> Bounds
+        requires side { 1 ≤ self.side }
+        requires index { index < self.count }
+        requires size { self.count * self.side ≤ 2 ^ 30 }
+        ensures column { AreOfColumn self.side self.count index result }
+        ensures small { AreSmall result }
+    {
+        let start = index * self.side;
+        if index + 1 < self.count {
+            Bounds {
+                least: i64::from(start),
+                greatest: i64::from(start + self.side - 1),
+            }
+        } else {
+            Bounds {
+                least: i64::from(start),
+                greatest: MAX_SIDE,
+            }
+        }
+    }
+}
+
+impl Bounds {
+    // Where a disk is between the left and the right side of the box.
+    pub(crate) fn across_box(rules: &Rules, a: &Disk) -> Bounds
+        requires checked { IsChecked rules.now }
+        requires valid { IsValidDisk rules.now a.now }
+        ensures least { result.least ≡ radius_of a.now }
+        ensures greatest { result.greatest ≡ rules.now.width -ℤ radius_of a.now }
+        ensures small { AreSmall result }
+    {
+        let radius = a.radius();
+        Bounds {
+            least: radius,
+            greatest: rules.width - radius,
+        }
+    }
+
+    // Where it is between the bottom and the top.
+    pub(crate) fn upwards_in_box(rules: &Rules, a: &Disk) -> Bounds
+        requires checked { IsChecked rules.now }
+        requires valid { IsValidDisk rules.now a.now }
+        ensures least { result.least ≡ radius_of a.now }
+        ensures greatest { result.greatest ≡ rules.now.height -ℤ radius_of a.now }
+        ensures small { AreSmall result }
+    {
+        let radius = a.radius();
+        Bounds {
+            least: radius,
+            greatest: rules.height - radius,
+        }
+    }
+
+    // The coordinates within both.
+    pub(crate) fn shared(self, other: Bounds) -> Bounds
+        requires own { AreSmall self }
+        requires other { AreSmall other }
+        ensures both { (n : ℤ) → (IsWithin result n ↔ (IsWithin self n × IsWithin other n)) }
+        ensures small { AreSmall result }
+    {
+        Bounds {
+            least: max(self.least, other.least),
+            greatest: min(self.greatest, other.greatest),
+        }
+    }
+
+    // After how many ticks the coordinate is past the bound that it goes towards; none where it stands
+    // still.
+    pub(crate) fn ticks_until_past(self, course: Course) -> Option<u64>
+        requires small { AreSmall self }
+        requires slow { IsSlowCourse course }
+        ensures ends { EndsAt (IsWithinAfter self course) result }
+        ensures near { IfSome result (λ ticks. ticks ≤ 2 ^ 33) }
+    {
+        if self.is_passed_by(course) {
+            return Some(0);
+        }
+        let least = min(self.least, course.start);
+        let greatest = max(self.greatest, course.start);
+        let last = stay(least, greatest, course.start, course.velocity)?;
+        Some(last + 1)
+    }
+
+    fn is_passed_by(self, course: Course) -> bool
+        ensures { IsTrue result ↔ BeginsPast self course }
+    {
+        if course.velocity > 0 {
+            course.start > self.greatest
+        } else {
+            course.velocity < 0 && course.start < self.least
+        }
+    }
+}
+
+// The lesser of those that there are.
+pub(crate) fn lesser(first: Option<u64>, second: Option<u64>) -> Option<u64>
+    ensures none { IsNone result ↔ (IsNone first × IsNone second) }
+    ensures least { (n : ℕ) → (IsFrom result n ↔ (IsFrom first n ⊎ IsFrom second n)) }
+{
+    match first {
+        None => second,
+        Some(m) => match second {
+            None => first,
+            Some(n) => Some(min(m, n)),
+        },
+    }
+}

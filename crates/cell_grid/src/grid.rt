@@ -1,0 +1,225 @@
+//! The grid of cells.
+
+use std::marker::Model;
+
+/// The greatest number of cells along a side of the box.
+pub const MAX_CELLS_ALONG: u32 = 1_024;
+
+/// The greatest number of regions.
+pub const MAX_REGIONS: u32 = 64;
+
+/// Columns and rows of cells, and the strips of columns that the regions own.
+///
+/// Cells are numbered row by row from the bottom left, regions from the left.
+#[derive(Clone, Copy, Debug, PartialEq, Eq)]
+pub struct Grid {
+    columns: u32,
+    rows: u32,
+    // The sides of a cell, in units of length; the last column and the last row may be wider.
+    side_x: u32,
+    side_y: u32,
+    regions: u32,
+}
+
+impl Model for Grid {
+    ghost use Rattle.cell_grid.specs.Grid.{GridData, HasSizes};
+
+    ghost Value = { GridData };
+
+    ghost view = { λ g. record {
+      columns = g.columns;
+      rows = g.rows;
+      side_x = g.side_x;
+      side_y = g.side_y;
+      regions = g.regions;
+    } };
+
+    ghost invariant = { λ g. HasSizes (record {
+      columns = g.columns;
+      rows = g.rows;
+      side_x = g.side_x;
+      side_y = g.side_y;
+      regions = g.regions;
+    }) };
+
+    ghost inverse = { λ d. record {
+      columns = d.columns;
+      rows = d.rows;
+      side_x = d.side_x;
+      side_y = d.side_y;
+      regions = d.regions;
+    } };
+}
+
+ghost use Rattle.std.specs.Prelude.{◌≡◌, ◌↔◌, ℕ, ◌^◌, ◌≤◌, ◌<◌, IsTrue};
+ghost use Rattle.plane_vectors.specs.Vectors.{vector};
+ghost use Rattle.fixed_motion.specs.Rules.{IsChecked};
+ghost use Rattle.fixed_motion.specs.Motion.{IsInBox};
+ghost use Rattle.cell_grid.specs.Grid.{grid_of, cells_along, IsAsked, IsGridOf, HasSizes, IsCell, IsRegion, IsAdjacent, IsBeside, Owns, Reaches, AreLinked, cell_at, column_of, row_of, strip_start};
+
+use crate::bounds::Cut;
+use fixed_motion::Rules;
+use std::cmp::{max, min};
+
+impl Grid {
+    /// The grid of checked rules, with so many regions, 1 to [`MAX_REGIONS`], or as many as there are
+    /// columns where those are fewer.
+    pub fn new(rules: &Rules, regions: u32) -> Grid
+        requires checked { IsChecked rules.now }
+        requires asked { IsAsked regions }
+        ensures value { result ≡ grid_of rules.now regions }
+        ensures of_rules { IsGridOf rules.now result }
+    {
+        let width = rules.width as u32;
+        let height = rules.height as u32;
+        let least = (rules.diameter + 2 * rules.speed_limit) as u32;
+        let columns = cells_along(width, least);
+        let rows = cells_along(height, least);
+        Grid {
+            columns,
+            rows,
+            side_x: width / columns,
+            side_y: height / rows,
+            regions: min(regions, columns),
+        }
+    }
+
+    /// The number of columns, 1 to [`MAX_CELLS_ALONG`].
+    pub fn columns(&self) -> u32
+        ensures value { result ≡ self.now.columns }
+        ensures kept { HasSizes self.now }
+    {
+        self.columns
+    }
+
+    /// The number of rows, 1 to [`MAX_CELLS_ALONG`].
+    pub fn rows(&self) -> u32
+        ensures value { result ≡ self.now.rows }
+        ensures kept { HasSizes self.now }
+    {
+        self.rows
+    }
+
+    /// The number of regions, 1 to [`MAX_REGIONS`], and at most that of columns.
+    pub fn regions(&self) -> u32
+        ensures value { result ≡ self.now.regions }
+        ensures kept { HasSizes self.now }
+    {
+        self.regions
+    }
+
+    /// The cell of a place, whose coordinates are 0 to 2^30 units of length.
+    pub fn cell_of(&self, x: i64, y: i64) -> u32
+        requires { IsInBox (vector x y) }
+        ensures value { result ≡ cell_at self.now (vector x y) }
+        ensures cell { IsCell self.now result }
+    {
+        let column = min(x as u32 / self.side_x, self.columns - 1);
+        let row = min(y as u32 / self.side_y, self.rows - 1);
+        row * self.columns + column
+    }
+
+    /// The column of a cell.
+    pub fn column(&self, cell: u32) -> u32
+        requires { IsCell self.now cell }
+        ensures value { result ≡ column_of self.now cell }
+        ensures in_range { result < self.now.columns }
+    {
+        cell % self.columns
+    }
+
+    // The row of a cell.
+    pub(crate) fn row(&self, cell: u32) -> u32
+        requires { IsCell self.now cell }
+        ensures value { result ≡ row_of self.now cell }
+        ensures in_range { result < self.now.rows }
+    {
+        cell / self.columns
+    }
+
+    // The width of the box, cut into columns.
+    pub(crate) fn width_cut(&self) -> Cut
+        ensures side { result.side ≡ self.now.side_x }
+        ensures count { result.count ≡ self.now.columns }
+    {
+        Cut {
+            side: self.side_x,
+            count: self.columns,
+        }
+    }
+
+    // The height of the box, cut into rows.
+    pub(crate) fn height_cut(&self) -> Cut
+        ensures side { result.side ≡ self.now.side_y }
+        ensures count { result.count ≡ self.now.rows }
+    {
+        Cut {
+            side: self.side_y,
+            count: self.rows,
+        }
+    }
+
+    /// Whether columns and rows of two cells differ by at most one.
+    pub fn adjacent(&self, a: u32, b: u32) -> bool
+        requires first { IsCell self.now a }
+        requires second { IsCell self.now b }
+        ensures { IsTrue result ↔ IsAdjacent self.now a b }
+    {
+        is_beside(a % self.columns, b % self.columns)
+            && is_beside(a / self.columns, b / self.columns)
+    }
+
+    /// The region that owns a cell.
+    pub fn owner(&self, cell: u32) -> u32
+        requires { IsCell self.now cell }
+        ensures region { IsRegion self.now result }
+        ensures owns { Owns self.now result cell }
+        ensures only { (region : ℕ) → IsRegion self.now region → Owns self.now region cell → region ≡ result }
+    {
+        ((cell % self.columns + 1) * self.regions - 1) / self.columns
+    }
+
+    /// Whether a cell is in one of a region's columns or beside them.
+    pub fn in_reach(&self, region: u32, cell: u32) -> bool
+        requires first { IsRegion self.now region }
+        requires second { IsCell self.now cell }
+        ensures { IsTrue result ↔ Reaches self.now region cell }
+    {
+        let column = cell % self.columns;
+        self.strip_start(region) <= column + 1 && column <= self.strip_start(region + 1)
+    }
+
+    /// Whether two regions are different and reach a cell in common.
+    pub fn linked(&self, a: u32, b: u32) -> bool
+        requires first { IsRegion self.now a }
+        requires second { IsRegion self.now b }
+        ensures { IsTrue result ↔ AreLinked self.now a b }
+    {
+        a != b && self.strip_start(max(a, b)) <= self.strip_start(min(a, b) + 1) + 1
+    }
+
+    // The first column of a region; of one past the last, one past the last column.
+    fn strip_start(&self, region: u32) -> u32
+        requires { region ≤ self.now.regions }
+        ensures value { result ≡ strip_start self.now region }
+        ensures most { result ≤ 1024 }
+        ensures kept { HasSizes self.now }
+    {
+        region * self.columns / self.regions
+    }
+}
+
+fn cells_along(length: u32, least: u32) -> u32
+    requires { 1 ≤ least }
+    ensures { result ≡ cells_along length least }
+{
+    max(1, min(MAX_CELLS_ALONG, length / least))
+}
+
+fn is_beside(a: u32, b: u32) -> bool
+    requires first { a < 2 ^ 31 }
+    requires second { b < 2 ^ 31 }
+    ensures { IsTrue result ↔ IsBeside a b }
+{
+    a <= b + 1 && b <= a + 1
+}
