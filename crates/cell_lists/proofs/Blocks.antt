@@ -1,0 +1,73 @@
+-- Blocks of cells, row by row and column by column.
+use Rattle.std.proofs.Common.{◌≡◌, ◌⊎◌, ◌↔◌, inl, inr, ℕ, ◌+◌, ◌*◌, ◌<◌, ◌≤◌, arith, sym, subst, ◌∙◌, ap}
+use Rattle.std.proofs.lemmas.Nat.{div-mul-add, mod-mul-add, div-add-mod'}
+use Rattle.std.proofs.lemmas.Bool.{cases_lt}
+use Rattle.cell_grid.specs.Grid.{IsCell, IsAdjacent, column_of, row_of}
+use Rattle.cell_lists.specs.declared.near.Block.{Block}
+use Rattle.cell_lists.specs.Listing.{ListsData, IsListed, IsNear}
+use Rattle.cell_lists.specs.Nearby.{rows_to, columns_to, IsWithin, IsListedWithin}
+
+next : (n : ℕ) → n < n + 1
+next n = omega arith
+
+same : (n : ℕ) → n ≤ n
+same n = omega arith
+
+less_or_last : (k n : ℕ) → k < n + 1 → (k < n) ⊎ (k ≡ n)
+less_or_last k n lt = grind arith
+
+-- one more cell of a row
+pub split_column : (lists : ListsData) (block : Block) (row column i : ℕ) → IsListedWithin lists (columns_to block row (column + 1)) i →
+    IsListedWithin lists (columns_to block row column) i ⊎ IsListed lists (row * lists.grid.columns + column) i
+split_column lists block row column i x = split (less_or_last (column_of lists.grid x.0) column x.2.0.1)
+  where
+    split : (column_of lists.grid x.0 < column) ⊎ (column_of lists.grid x.0 ≡ column) →
+        IsListedWithin lists (columns_to block row column) i ⊎ IsListed lists (row * lists.grid.columns + column) i
+    split (inl less) = inl (x.0, x.1, ((x.2.0.0, less), x.2.1))
+    split (inr last) =
+        let low : row ≤ row_of lists.grid x.0 = x.2.1.0 in
+        let high : row_of lists.grid x.0 < row + 1 = x.2.1.1 in
+        let whole : row_of lists.grid x.0 * lists.grid.columns + column_of lists.grid x.0 ≡ x.0 = div-add-mod' x.0 lists.grid.columns in
+        let row_is : row_of lists.grid x.0 ≡ row = omega arith in
+        inr (subst (λ (n : ℕ). IsListed lists n i)
+        (sym whole ∙ ap (λ n. n * lists.grid.columns + column_of lists.grid x.0) row_is ∙ ap (λ n. row * lists.grid.columns + n) last) x.1)
+
+pub wider_column : (lists : ListsData) (block : Block) (row column i : ℕ) → IsListedWithin lists (columns_to block row column) i →
+    IsListedWithin lists (columns_to block row (column + 1)) i
+wider_column lists block row column i x =
+    let less : column_of lists.grid x.0 < column = x.2.0.1 in (x.0, x.1, ((x.2.0.0, omega arith), x.2.1))
+
+pub in_last_column : (lists : ListsData) (block : Block) (row column i : ℕ) → block.left ≤ column → column < lists.grid.columns →
+    IsListed lists (row * lists.grid.columns + column) i → IsListedWithin lists (columns_to block row (column + 1)) i
+in_last_column lists block row column i left lt y = (row * lists.grid.columns + column, y, is_in)
+  where
+    in_column : column_of lists.grid (row * lists.grid.columns + column) ≡ column
+    in_column = mod-mul-add row lists.grid.columns column lt
+
+    in_row : row_of lists.grid (row * lists.grid.columns + column) ≡ row
+    in_row = div-mul-add row lists.grid.columns column lt
+
+    is_in : IsWithin lists.grid (columns_to block row (column + 1)) (row * lists.grid.columns + column)
+    is_in = rw (in_column, in_row) ((left, next column), (same row, next row))
+
+-- one more row
+pub split_row : (lists : ListsData) (block : Block) (row i : ℕ) → IsListedWithin lists (rows_to block (row + 1)) i →
+    IsListedWithin lists (rows_to block row) i ⊎ IsListedWithin lists (columns_to block row block.right) i
+split_row lists block row i x = elim (cases_lt (row_of lists.grid x.0) row) [
+  | inl less ↦ inl (x.0, x.1, (x.2.0, (x.2.1.0, less)))
+  | inr more ↦ inr (x.0, x.1, (x.2.0, (more, x.2.1.1)))
+]
+
+pub join_row : (lists : ListsData) (block : Block) (row i : ℕ) → block.low ≤ row →
+    IsListedWithin lists (rows_to block row) i ⊎ IsListedWithin lists (columns_to block row block.right) i → IsListedWithin lists (rows_to block (row + 1)) i
+join_row lists block row i low x = elim x [
+  | inl y ↦ (let less : row_of lists.grid y.0 < row = y.2.1.1 in (y.0, y.1, (y.2.0, (y.2.1.0, omega arith))))
+  | inr y ↦ (let above : row ≤ row_of lists.grid y.0 = y.2.1.0 in (y.0, y.1, (y.2.0, (omega arith, y.2.1.1))))
+]
+
+-- the disks of the block around a cell are those near it
+pub near_in_block : (lists : ListsData) (block : Block) (cell : ℕ) → ((i other : ℕ) → IsListed lists other i → IsCell lists.grid other) →
+    ((other : ℕ) → IsCell lists.grid other → (IsAdjacent lists.grid cell other ↔ IsWithin lists.grid block other)) →
+    (i : ℕ) → (IsListedWithin lists block i ↔ IsNear lists cell i)
+near_in_block lists block cell cells around i =
+    (λ x. (x.0, x.1, (around x.0 (cells i x.0 x.1)).1 x.2), λ x. (x.0, x.1, (around x.0 (cells i x.0 x.1)).0 x.2))

@@ -1,0 +1,53 @@
+-- The chain ascends, and no disk of the cell is passed.
+use Rattle.std.proofs.Common.{◌+◌, ◌%◌, ◌<◌, ◌≤◌, arith, sym, subst, ◌∙◌, length}
+use Rattle.std.specs.Prelude.{ℕ, Option}
+use Rattle.cell_lists.specs.Firsts.{IsFirstOf, ascent}
+use Rattle.cell_lists.specs.Chain.{IsFirst, IsIn}
+use Rattle.cell_lists.proofs.Chaining.{within, cell_is_read, is_that, is_other, seen, next_is_first, next_falls, passed_more, passed_all, passed_one}
+use Rattle.cell_lists.proofs.chains.Chains.skip.Goals as goal
+
+pub loop-next-smaller : goal.loop-next-smaller
+loop-next-smaller c =
+    let heads = c.self.inside.heads.items in
+    let nexts = c.self.inside.nexts.items in
+    let is = seen heads nexts c.self.inside.cells.items c.args.self.now c.self.view_is c.self.invariant in
+    let here = subst (λ (o : Option ℕ). IsFirst c.args.self.now.cells c.args.self.now.buckets (c.args.cell % c.args.self.now.buckets) c.loop-next.invariant.0 o) c.in-Some.is c.loop-next.invariant.3 in
+    subst (λ (o : Option ℕ). ascent c.index-next.result.now < ascent o) (sym c.in-Some.is)
+    (next_falls heads nexts c.args.self.now (c.args.cell % c.args.self.now.buckets) c.in-Some.disk c.index-next.result.now is here.1
+    (next_is_first heads nexts c.args.self.now (c.args.cell % c.args.self.now.buckets) c.in-Some.disk c.index-next.result.now is here.1 c.index-next.ensures))
+
+pub loop-next-preserved : goal.loop-next-preserved
+loop-next-preserved c =
+    let heads = c.self.inside.heads.items in
+    let nexts = c.self.inside.nexts.items in
+    let is = seen heads nexts c.self.inside.cells.items c.args.self.now c.self.view_is c.self.invariant in
+    let kept = c.loop-next.invariant in
+    let later : c.args.from ≤ kept.0 = kept.1 in
+    let here = subst (λ (o : Option ℕ). IsFirst c.args.self.now.cells c.args.self.now.buckets (c.args.cell % c.args.self.now.buckets) c.loop-next.invariant.0 o) c.in-Some.is c.loop-next.invariant.3 in
+    let low : kept.0 ≤ c.in-Some.disk = here.0 in
+    let room = within c.args.self.now.cells c.args.self.now.buckets (c.args.cell % c.args.self.now.buckets) c.in-Some.disk here.1 in
+    let read = cell_is_read c.self.inside.cells.items (length heads) c.args.self.now c.in-Some.disk c.index.result.now c.self.view_is room c.index.ensures in (
+      c.in-Some.disk + 1,
+      omega arith,
+      passed_one c.args.self.now.cells c.args.cell c.args.from c.in-Some.disk
+          (passed_more c.args.self.now.cells c.args.self.now.buckets c.args.cell c.args.from kept.0 c.in-Some.disk here kept.2)
+          (λ is. is_other c.index.result.now c.args.cell c.if-eq.ensures (sym read ∙ is)),
+      next_is_first heads nexts c.args.self.now (c.args.cell % c.args.self.now.buckets) c.in-Some.disk c.index-next.result.now is here.1 c.index-next.ensures,
+    )
+
+pub returns-then-eq : goal.returns-then-eq
+returns-then-eq c =
+    let kept = c.loop-next.invariant in
+    let later : c.args.from ≤ kept.0 = kept.1 in
+    let here = subst (λ (o : Option ℕ). IsFirst c.args.self.now.cells c.args.self.now.buckets (c.args.cell % c.args.self.now.buckets) c.loop-next.invariant.0 o) c.in-Some.is c.loop-next.invariant.3 in
+    let low : kept.0 ≤ c.in-Some.disk = here.0 in
+    let room = within c.args.self.now.cells c.args.self.now.buckets (c.args.cell % c.args.self.now.buckets) c.in-Some.disk here.1 in
+    let read = cell_is_read c.self.inside.cells.items (length c.self.inside.heads.items) c.args.self.now c.in-Some.disk c.index.result.now c.self.view_is room c.index.ensures in
+    (omega arith, read ∙ is_that c.index.result.now c.args.cell c.if-eq.ensures, passed_more c.args.self.now.cells c.args.self.now.buckets c.args.cell c.args.from kept.0 c.in-Some.disk here kept.2)
+
+pub returns-in_default : goal.returns-in_default
+returns-in_default c =
+    subst (λ (o : Option ℕ). IsFirstOf (IsIn c.args.self.now.cells c.args.cell) c.args.from o) (sym c.in_default.is)
+    (passed_all c.args.self.now.cells c.args.self.now.buckets c.args.cell c.args.from c.loop-next.invariant.0
+    (subst (λ (o : Option ℕ). IsFirst c.args.self.now.cells c.args.self.now.buckets (c.args.cell % c.args.self.now.buckets) c.loop-next.invariant.0 o) c.in_default.is c.loop-next.invariant.3)
+    c.loop-next.invariant.2)

@@ -1,0 +1,4 @@
+pub mod Firsts
+pub mod Listing
+pub mod Chain
+pub mod Nearby

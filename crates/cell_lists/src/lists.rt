@@ -1,0 +1,88 @@
+//! Lists of the disks in each cell.
+
+use crate::chains::Chains;
+use cell_grid::Grid;
+use std::alloc::{AllocError, Global};
+use std::marker::Model;
+
+/// Which disks are listed in which cells of a grid.
+///
+/// A disk is listed in one cell at most. Memory is taken for as many disks as the greatest number that
+/// was ever listed, or for up to twice as many, and none for the cells.
+#[derive(Drop)]
+pub struct Lists {
+    pub(crate) grid: Grid,
+    chains: Chains,
+}
+
+impl Model for Lists {
+    ghost use Rattle.cell_lists.specs.Listing.{ListsData, lists_of, lists_code};
+    ghost use Rattle.cell_lists.specs.Chain.{cells_in, AreCells};
+
+    ghost Value = { ListsData };
+
+    ghost coded = { lists_code };
+
+    ghost view = { λ a. lists_of a.grid (cells_in a.chains.cells) };
+
+    ghost invariant = { λ a. AreCells a.grid a.chains.cells };
+}
+
+ghost use Rattle.std.specs.Prelude.{◌≡◌, ◌+◌, OnOk, OnErr, IfOk};
+ghost use Rattle.std.specs.FinMap as map;
+ghost use Rattle.cell_grid.specs.Grid.{IsCell};
+ghost use Rattle.cell_lists.specs.Listing.{lists_of, IsListed, IsFree, IsFirstIn, with_disk, without_disk};
+
+impl Lists {
+    /// No disk listed in any cell of the grid.
+    ///
+    /// # Errors
+    /// Out of memory.
+    pub fn new(alloc: Global, grid: &Grid) -> Result<Lists, AllocError>
+        ensures { IfOk result (λ lists. lists ≡ lists_of grid.now map.empty) }
+    {
+        Ok(Lists {
+            grid: *grid,
+            chains: Chains::new(alloc, 1)?,
+        })
+    }
+
+    /// Lists a disk, which isn't listed yet, in a cell of the grid.
+    ///
+    /// # Errors
+    /// Out of memory: the number is greater than all that were listed before, and there is no room for
+    /// it. The lists stay as they are.
+    pub fn put(&mut self, alloc: Global, disk: u32, cell: u32) -> Result<(), AllocError>
+        requires free { IsFree self.old disk }
+        requires cell { IsCell self.old.grid cell }
+        ensures listed { OnOk result (self.new ≡ with_disk self.old disk cell) }
+        ensures unchanged { OnErr result (self.new ≡ self.old) }
+    {
+        self.chains.make_room(alloc, disk)?;
+        self.chains.put(disk, cell);
+        Ok(())
+    }
+
+    /// Takes a disk off the cell in which it is listed.
+    pub fn take(&mut self, disk: u32, cell: u32)
+        requires { IsListed self.old cell disk }
+        ensures { self.new ≡ without_disk self.old disk }
+    {
+        self.chains.take(disk, cell);
+    }
+
+    /// The least disk that is listed in a cell.
+    pub fn first_in(&self, cell: u32) -> Option<u32>
+        ensures { IsFirstIn self.now cell 0 result }
+    {
+        self.chains.first_in(cell)
+    }
+
+    /// The least disk that is listed in a cell and greater than one of this cell.
+    pub fn next_in(&self, disk: u32, cell: u32) -> Option<u32>
+        requires { IsListed self.now cell disk }
+        ensures { IsFirstIn self.now cell (disk + 1) result }
+    {
+        self.chains.next_in(disk, cell)
+    }
+}
