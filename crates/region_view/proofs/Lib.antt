@@ -1,0 +1,3 @@
+mod First
+pub mod Homes
+pub mod Rows

@@ -1,0 +1,5 @@
+pub mod Events
+pub mod Placing
+pub mod Acting
+pub mod Views
+pub mod Laws
