@@ -1,0 +1,4 @@
+pub mod Run
+pub mod Search
+pub mod State
+pub mod Laws

@@ -1,0 +1,105 @@
+-- What a cell state keeps.
+use Rattle.std.specs.Prelude.{◌≡◌, ℕ, ◌<◌, List, [], ◌∷◌, length, slice_get, ⊤, Option, Some, None}
+use Rattle.std.specs.Prelude.{IfSome, Result, Ok, Err}
+use Rattle.fixed_motion.specs.declared.rules.Rules.{Rules}
+use Rattle.fixed_motion.specs.declared.disk.Disk.{Disk}
+use Rattle.fixed_motion.specs.Motion.{IsInBox, centre_of}
+use Rattle.fixed_motion.specs.Scene.{SceneData, IsValidScene}
+use Rattle.event_stamps.specs.declared.Stamp.{Stamp}
+use Rattle.event_stamps.specs.Order.{Before, first_stamp, end_stamp}
+use Rattle.event_rules.specs.declared.change.Limit.{Limit}
+use Rattle.cell_grid.specs.Grid.{GridData, IsGridOf, grid_of}
+use Rattle.region_view.specs.declared.action.Placed.{Placed}
+use Rattle.region_view.specs.declared.action.Action.{Action}
+use Rattle.region_view.specs.declared.action.Action.TheVariants.{Cross, Hit}
+use Rattle.region_view.specs.Acting.{stamp_of, ActsAs}
+use Rattle.cell_sequence.specs.Run.{opened, acted, CellSteps, IsStateCandidate, IsCellNext}
+
+-- what a cell state is seen as: the disks of the start, the stamp of the last action that was run, and
+-- what has become of the disks; and a floor, a stamp before which no event is left
+pub record CellStateData : Type 0 where
+  pub rules : Rules
+  pub grid : GridData
+  pub opening : List Disk
+  pub last : Option Stamp
+  pub placed : List Placed
+  pub floor : Stamp
+
+abbrev pub last_stamp : List Action → Option Stamp
+last_stamp [] = None
+last_stamp (x ∷ []) = Some (stamp_of x)
+last_stamp (x ∷ y ∷ xs) = last_stamp (y ∷ xs)
+
+-- the list is what the disks of the start become by the actions of the cell run, up to and
+-- including the last one
+abbrev pub IsReached : Rules → GridData → List Disk → Option Stamp → List Placed → Type 0
+IsReached rules grid disks last placed = (actions : List Action)
+    × CellSteps rules grid (opened grid disks) actions placed × (last ≡ last_stamp actions)
+
+abbrev pub IsNotBefore : Option Stamp → Stamp → Type 0
+IsNotBefore None s = ⊤
+IsNotBefore (Some last) s = ¬ Before s last
+
+-- a state of the cell run of a valid scene, with a floor that no candidate lies below
+pub record IsCellState (state : CellStateData) : Type 0 where
+  pub scene : IsValidScene (record { rules = state.rules; disks = state.opening; every = None })
+  pub grid : IsGridOf state.rules state.grid
+  pub reached : IsReached state.rules state.grid state.opening state.last state.placed
+  pub after_last : IsNotBefore state.last state.floor
+  pub before_end : ¬ Before (end_stamp state.rules.end) state.floor
+  pub none_below : (s : Stamp) → IsStateCandidate state.rules state.grid state.placed s →
+      ¬ Before s state.floor
+
+-- the cell state with which the run of a scene begins
+abbrev pub start_of : SceneData → ℕ → CellStateData
+start_of scene asked = record {
+  rules = scene.rules;
+  grid = grid_of scene.rules asked;
+  opening = scene.disks;
+  last = None;
+  placed = opened (grid_of scene.rules asked) scene.disks;
+  floor = first_stamp;
+}
+
+-- ---- the next event
+abbrev pub IsCandidateOf : CellStateData → Stamp → Type 0
+IsCandidateOf state s = IsStateCandidate state.rules state.grid state.placed s
+
+abbrev pub IsNextOf : CellStateData → Stamp → Type 0
+IsNextOf state s = IsCellNext state.rules state.grid state.placed s
+
+abbrev pub HasNext : CellStateData → Type 0
+HasNext state = (s : Stamp) × IsNextOf state s
+
+-- what the event comes to in a state
+abbrev pub ComesTo : CellStateData → Stamp → Result Action Limit → Type 0
+ComesTo state s r = ActsAs state.rules state.grid (slice_get state.placed) s r
+
+-- the state after an action, whose stamp becomes the floor
+abbrev pub followed : CellStateData → Action → CellStateData
+followed state x = record {
+  rules = state.rules;
+  grid = state.grid;
+  opening = state.opening;
+  last = Some (stamp_of x);
+  placed = acted state.placed x;
+  floor = stamp_of x;
+}
+
+-- the next event was run, or it failed, and the state is what it was
+abbrev pub RunsNext : CellStateData → Result Action Limit → CellStateData → Type 0
+RunsNext old (Ok x) new = IsNextOf old (stamp_of x) × ComesTo old (stamp_of x) (Ok x)
+    × (new ≡ followed old x)
+RunsNext old (Err limit) new = (s : Stamp) × IsNextOf old s × ComesTo old s (Err limit)
+    × (new ≡ old)
+
+-- ---- rows
+-- the rows that an action changes are there
+abbrev pub HasRows : List Placed → Action → Type 0
+HasRows placed (Cross s cell) = s.first < length placed
+HasRows placed (Hit c) = (c.stamp.first < length placed)
+    × IfSome c.second (λ _. c.stamp.second < length placed)
+
+-- the centres are in the box
+abbrev pub AreInBox : List Disk → Type 0
+AreInBox disks = (i : ℕ) (a : Disk) → slice_get disks i ≡ Some a → IsInBox (centre_of a)
