@@ -1,4 +1,6 @@
+-- The lemmas of the crate.
 pub mod WordLists
-pub mod Shown
-pub mod Reportable
-pub mod Outputs
+pub mod OneOutput
+pub mod Wrote
+pub mod Answered
+pub mod Reported

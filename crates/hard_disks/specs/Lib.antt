@@ -4,3 +4,4 @@ pub mod Output
 pub mod Answers
 pub mod Codes
 pub mod Shows
+pub mod Laws

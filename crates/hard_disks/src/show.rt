@@ -1,24 +1,27 @@
 //! What is done with a scene.
 
-ghost use Rattle.std.specs.Prelude.{◌≡◌, ◌≢◌, codes, length};
+ghost use Rattle.std.specs.Prelude.{◌≡◌, ◌≢◌, Ok, codes, length};
 ghost use Rattle.collision_report.specs.Lines.{number_line};
-ghost use Rattle.hard_disks.specs.Output.{status_of};
-ghost use Rattle.hard_disks.specs.Shows.{Shows, TellsText, WriteFailsBy};
+ghost use Rattle.hard_disks.specs.Output.{status_of, OfMode, IsReport, IsSceneText};
+ghost use Rattle.hard_disks.specs.Answers.{Wrote, CountsWrites};
+ghost use Rattle.hard_disks.specs.Shows.{WritesText, IsOfScene};
 
 use crate::status::Status;
 use crate::words::{Mode, Settings};
 use all_pairs::simulate_plain;
-use collision_report::{Format, Line, Reporter};
+use collision_report::{Format, Reporter, StateTable};
 use event_rules::{Limit, Outcome, RunFault};
 use fixed_motion::Scene;
 use report_ports::{Given, Sink};
 use scene_maker::scene_text;
 use std::alloc::Global;
+use text_lines::Line;
 
 /// Gives a text as one piece; the status is `own` where all of it was taken.
-pub fn tell<K: Sink>(sink: &mut K, text: &[u8], own: Status) -> Status
-    ensures text { TellsText text.now own (K.taken sink.old) (K.taken sink.new) result }
-    ensures cause { own ≢ Status.WriteFault → WriteFailsBy (K.count sink.old) (K.count sink.new) result }
+pub fn write_text<K: Sink>(sink: &mut K, text: &[u8], own: Status) -> Status
+    requires { own ≢ Status.WriteFault }
+    ensures text { WritesText text.now own (K.taken sink.old) (K.taken sink.new) result }
+    ensures counts { CountsWrites (K.faults sink.old) (K.faults sink.new) result }
 {
     match sink.give(text) {
         Given::All => own,
@@ -28,8 +31,10 @@ pub fn tell<K: Sink>(sink: &mut K, text: &[u8], own: Status) -> Status
 
 /// Does what the settings ask for.
 pub fn show<K: Sink>(alloc: Global, settings: Settings, scene: &Scene, sink: &mut K) -> Status
-    ensures shows { Shows settings scene.now (K.taken sink.old) (K.taken sink.new) result }
-    ensures cause { WriteFailsBy (K.count sink.old) (K.count sink.new) result }
+    ensures wrote { Wrote (OfMode settings.mode settings.format (Ok scene.now))
+        (K.taken sink.old) (K.taken sink.new) result }
+    ensures of_scene { IsOfScene result }
+    ensures counts { CountsWrites (K.faults sink.old) (K.faults sink.new) result }
 {
     match settings.mode {
         Mode::Plain => run_plain(alloc, settings.format, scene, sink),
@@ -37,13 +42,18 @@ pub fn show<K: Sink>(alloc: Global, settings: Settings, scene: &Scene, sink: &mu
     }
 }
 
-/// Runs the scene by the slow engine, and writes the report.
+// Runs the scene by the reference engine, and writes the report.
 fn run_plain<K: Sink>(alloc: Global, format: Format, scene: &Scene, sink: &mut K) -> Status
-    ensures shows { Shows (record { mode = Mode.Plain; format = format }) scene.now (K.taken sink.old) (K.taken sink.new) result }
-    ensures cause { WriteFailsBy (K.count sink.old) (K.count sink.new) result }
+    ensures wrote { Wrote (IsReport format scene.now) (K.taken sink.old) (K.taken sink.new) result }
+    ensures of_scene { IsOfScene result }
+    ensures counts { CountsWrites (K.faults sink.old) (K.faults sink.new) result }
 {
-    let _rules = &scene.rules;
-    let mut reporter = Reporter::new(sink, format);
+    // The clause of this call says that the scene is valid, so it has a run.
+    let _count = scene.count();
+    let Ok(mut table) = StateTable::new(alloc, scene) else {
+        return Status::NoMemory;
+    };
+    let mut reporter = Reporter::new(&mut table, sink, format);
     match simulate_plain(alloc, scene, &mut reporter) {
         Ok(outcome) => match reporter.finish(scene, &outcome) {
             Ok(()) => status_of(&outcome),
@@ -64,17 +74,19 @@ fn status_of(outcome: &Outcome) -> Status
     }
 }
 
-/// Writes the scene itself, or the number of its disks.
+// Writes the scene itself, or the number of its disks.
 fn write_scene<K: Sink>(alloc: Global, format: Format, scene: &Scene, sink: &mut K) -> Status
-    ensures shows { Shows (record { mode = Mode.Check; format = format }) scene.now (K.taken sink.old) (K.taken sink.new) result }
-    ensures cause { WriteFailsBy (K.count sink.old) (K.count sink.new) result }
+    ensures wrote { Wrote (IsSceneText format scene.now)
+        (K.taken sink.old) (K.taken sink.new) result }
+    ensures of_scene { IsOfScene result }
+    ensures counts { CountsWrites (K.faults sink.old) (K.faults sink.new) result }
 {
     match format {
         Format::Lines => match scene_text(alloc, scene) {
-            Ok(text) => tell(sink, text.as_bytes(), Status::Done),
+            Ok(text) => write_text(sink, text.as_bytes(), Status::Done),
             Err(_) => Status::NoMemory,
         },
-        Format::Summary => tell(sink, count_line(scene).as_bytes(), Status::Done),
+        Format::Summary => write_text(sink, count_line(scene).as_bytes(), Status::Done),
     }
 }
 

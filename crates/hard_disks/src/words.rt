@@ -8,7 +8,7 @@ use collision_report::Format;
 /// What the program does with a scene.
 #[derive(Clone, Copy, Debug, PartialEq, Eq)]
 pub enum Mode {
-    /// Runs it by the slow engine, and writes the report.
+    /// Runs it by the reference engine, and writes the report.
     Plain,
     /// Writes its canonical text.
     Check,

@@ -16,12 +16,14 @@ const RULES: Rules = Rules {
 // A place, a velocity and a mark, at the base tick 0.
 type Record = (i64, i64, i64, i64, u32);
 
-fn disk_of((x, y, vx, vy, mark): Record) -> Disk {
+// A disk of the greatest size that the rules allow.
+fn disk_of(rules: &Rules, (x, y, vx, vy, mark): Record) -> Disk {
     Disk {
         x,
         y,
         vx,
         vy,
+        size: rules.diameter,
         base: 0,
         mark,
     }
@@ -79,41 +81,44 @@ const COLLISIONS: &[(Rules, Record, Record, Result<(Record, Record), Limit>)] = 
     ),
 ];
 
-fn change_to((first, second): (Record, Record)) -> Change {
+fn change_to(rules: &Rules, (first, second): (Record, Record)) -> Change {
     Change {
         stamp: EARLY,
-        first: disk_of(first),
-        second: Some(disk_of(second)),
+        first: disk_of(rules, first),
+        second: Some(disk_of(rules, second)),
     }
 }
 
 #[test]
-fn collisions(rt: HostRuntime) {
+fn changes_velocities_or_meets_a_limit(rt: HostRuntime) {
     for &(rules, first, second, want) in COLLISIONS {
-        let (a, b) = (disk_of(first), disk_of(second));
+        let (a, b) = (disk_of(&rules, first), disk_of(&rules, second));
         assert!(rt; rules.check().is_ok());
         assert!(rt; a.is_valid(&rules));
         assert!(rt; b.is_valid(&rules));
         match pair_event(&rules, 0, &a, 1, &b) {
             None => panic!(rt; "no event of {a:?}"),
             Some(stamp) => {
-                assert_eq!(rt; apply(&rules, &stamp, &a, Some(&b)), want.map(change_to))
+                assert_eq!(rt;
+                    apply(&rules, &stamp, &a, Some(&b)),
+                    want.map(|records| change_to(&rules, records))
+                )
             }
         }
     }
 }
 
 #[test]
-fn corner(rt: HostRuntime) {
+fn in_a_corner_the_side_comes_first(rt: HostRuntime) {
     let rules = RULES;
-    let a = disk_of((3, 3, -2, -2, 0));
+    let a = disk_of(&rules, (3, 3, -2, -2, 0));
     let want = Change {
         stamp: Stamp {
             kind: Kind::Wall,
             second: 0,
             ..EARLY
         },
-        first: disk_of((3, 3, 2, -2, 1)),
+        first: disk_of(&rules, (3, 3, 2, -2, 1)),
         second: None,
     };
     assert!(rt; rules.check().is_ok());

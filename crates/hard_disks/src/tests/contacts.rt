@@ -1,9 +1,11 @@
-//! `contact` and `stay` on tables worked out by hand, and `contact`, which halves its span, against a body that tries each
-//! tick of it.
+//! `contact` and `stay` on tables worked out by hand, and `contact` against a body that tries each
+//! tick of its span.
 
 ghost use Rattle.std.specs.Prelude.{◌≤◌, ◌<◌, IsTrue, nat_abs};
 
-use contact_predictor::{contact, coordinate_after, stay};
+use super::helpers::Numbers;
+use contact_predictor::{contact, stay};
+use plane_vectors::Vector;
 use std::process::Abort;
 
 // 2^30, 2^21 and 2^31, the greatest sizes.
@@ -51,7 +53,7 @@ const CONTACTS: &[ContactRow] = &[
 ];
 
 #[test]
-fn contacts(rt: HostRuntime) {
+fn finds_each_contact_of_the_table(rt: HostRuntime) {
     for &(separation, velocity, diameter, span, expected) in CONTACTS {
         let (rx, ry) = separation;
         let (ux, uy) = velocity;
@@ -81,8 +83,9 @@ fn contact_of(
     assert!(rt; diameter >= 2);
     assert!(rt; is_within(diameter, FAR));
     assert!(rt; span <= 1_073_741_824);
-    assert!(rt; is_within(coordinate_after(rx, ux, span), FAR));
-    assert!(rt; is_within(coordinate_after(ry, uy, span), FAR));
+    let later = Vector { x: rx, y: ry }.after(Vector { x: ux, y: uy }, span);
+    assert!(rt; is_within(later.x, FAR));
+    assert!(rt; is_within(later.y, FAR));
     contact(rx, ry, ux, uy, diameter, span)
 }
 
@@ -110,7 +113,7 @@ const STAYS: &[StayRow] = &[
 ];
 
 #[test]
-fn stays(rt: HostRuntime) {
+fn finds_how_long_a_coordinate_stays(rt: HostRuntime) {
     for &(lo, hi, x, v, expected) in STAYS {
         assert!(rt; -WIDE <= lo && lo <= x && x <= hi && hi <= WIDE && -WIDE <= v && v <= WIDE);
         assert_eq!(rt; stay(lo, hi, x, v), expected, "at {lo} {hi} {x} {v}");
@@ -121,25 +124,6 @@ fn stays(rt: HostRuntime) {
 const PAIRS: u32 = 6_000;
 
 const LEAST_CONTACTS: u32 = 200;
-
-// A linear congruential generator, of which the high bits are good enough for test data.
-#[derive(Drop)]
-struct Numbers {
-    state: u64,
-}
-
-impl Numbers {
-    // One of the `count` numbers from `least` on.
-    fn next(&mut self, least: i64, count: u64) -> i64
-        requires { 0 < count }
-    {
-        self.state = self
-            .state
-            .wrapping_mul(6_364_136_223_846_793_005)
-            .wrapping_add(1_442_695_040_888_963_407);
-        least.wrapping_add(((self.state >> 33) % count) as i64)
-    }
-}
 
 #[test]
 fn finds_what_trying_each_tick_finds(rt: HostRuntime) {

@@ -1,7 +1,7 @@
-//! Rules, places, and the scalar product.
+//! Rules, places and vectors.
 
 use fixed_motion::{Disk, RuleFault, Rules, overlap};
-use scalar_product::scalar_product;
+use plane_vectors::Vector;
 
 // A box of 40 x 20 with disks of diameter 4 is sound; each row changes one number.
 const RULES: Rules = Rules {
@@ -61,96 +61,92 @@ const CASES: &[(Rules, Result<(), RuleFault>)] = &[
 ];
 
 #[test]
-fn checks(rt: HostRuntime) {
+fn finds_the_first_number_out_of_range(rt: HostRuntime) {
     for &(rules, want) in CASES {
         assert_eq!(rt; rules.check(), want, "{rules:?}");
     }
 }
 
-const PLACES: &[(u64, Option<(i64, i64)>)] = &[
-    (1, None),
-    (2, Some((10, 5))),
-    (4, Some((16, 3))),
-    (5, Some((19, 2))),
-    (6, None),
+// A size, a tick, and the place of a disk of that size then.
+const PLACES: &[(i64, u64, Option<(i64, i64)>)] = &[
+    (4, 1, None),
+    (4, 2, Some((10, 5))),
+    (4, 4, Some((16, 3))),
+    (4, 5, Some((19, 2))),
+    (4, 6, None),
+    (2, 6, Some((22, 1))),
+    (2, 7, None),
 ];
 
 #[test]
-fn places(rt: HostRuntime) {
+fn a_disk_has_a_place_from_its_base_to_the_side(rt: HostRuntime) {
     let rules = RULES;
-    let disk = Disk {
-        x: 10,
-        y: 5,
-        vx: 3,
-        vy: -1,
-        base: 2,
-        mark: 1,
-    };
     assert!(rt; rules.check().is_ok());
-    assert!(rt; disk.is_valid(&rules));
-    for &(tick, want) in PLACES {
-        assert_eq!(rt; disk.place(&rules, tick), want, "at tick {tick}");
+    for &(size, tick, want) in PLACES {
+        let disk = Disk {
+            x: 10,
+            y: 5,
+            vx: 3,
+            vy: -1,
+            size,
+            base: 2,
+            mark: 1,
+        };
+        assert!(rt; disk.is_valid(&rules));
+        assert!(rt; tick <= 9);
+        assert_eq!(rt; disk.place(&rules, tick), want, "size {size}, tick {tick}");
     }
 }
 
-// Places, and whether disks there overlap one in the middle.
-const NEIGHBOURS: &[((i64, i64), bool)] = &[
-    ((24, 10), false),
-    ((23, 10), true),
-    ((20, 6), false),
-    ((20, 7), true),
-    ((23, 13), false),
-    ((17, 12), true),
-];
-
 #[test]
-fn overlaps(rt: HostRuntime) {
-    let rules = RULES;
-    assert!(rt; rules.check().is_ok());
+fn places_overlap_below_the_distance(rt: HostRuntime) {
     let middle = (20, 10);
-    for &(place, want) in NEIGHBOURS {
-        assert!(rt; rules.contains(middle));
-        assert!(rt; rules.contains(place));
-        assert_eq!(rt; overlap(&rules, middle, place), want, "{place:?}");
-    }
-}
-
-const SPEEDS: &[(i64, bool)] = &[
-    (8, true),
-    (-8, true),
-    (9, false),
-    (-9, false),
-    (i64::MIN, false),
-];
-
-#[test]
-fn speeds(rt: HostRuntime) {
-    let rules = RULES;
-    assert!(rt; rules.check().is_ok());
-    for &(v, want) in SPEEDS {
-        assert_eq!(rt; rules.is_slow(v), want, "{v}");
-    }
-}
-
-// The greatest size.
-const WIDE: i64 = 2_147_483_647;
-
-#[test]
-fn multiplies(rt: HostRuntime) {
     let cases = [
-        (scalar_product(3, 4, 5, 6), 39),
-        (scalar_product(3, -4, 5, 6), -9),
-        (scalar_product(0, 7, 9, 0), 0),
-        (
-            scalar_product(WIDE, WIDE, WIDE, WIDE),
-            9_223_372_028_264_841_218,
-        ),
-        (
-            scalar_product(WIDE, WIDE, -WIDE, -WIDE),
-            -9_223_372_028_264_841_218,
-        ),
+        (overlap(4, middle, (24, 10)), false),
+        (overlap(4, middle, (23, 10)), true),
+        (overlap(4, middle, (20, 6)), false),
+        (overlap(4, middle, (20, 7)), true),
+        (overlap(4, middle, (23, 13)), false),
+        (overlap(5, middle, (23, 13)), true),
+        (overlap(5, middle, (17, 14)), false),
+        (overlap(2, middle, (19, 9)), true),
     ];
     for (got, want) in cases {
         assert_eq!(rt; got, want);
     }
+}
+
+const SPEEDS: &[(i64, i64, bool)] = &[
+    (8, -8, true),
+    (-8, 8, true),
+    (9, 0, false),
+    (0, -9, false),
+    (i64::MIN, 0, false),
+];
+
+#[test]
+fn a_velocity_is_slow_up_to_the_limit(rt: HostRuntime) {
+    let rules = RULES;
+    assert!(rt; rules.check().is_ok());
+    for &(x, y, want) in SPEEDS {
+        assert_eq!(rt; rules.is_slow(Vector { x, y }), want, "{x} {y}");
+    }
+}
+
+// The greatest size of a component in a scalar product.
+const WIDE: i64 = 2_147_483_647;
+
+#[test]
+fn vectors_are_multiplied_and_added(rt: HostRuntime) {
+    let v = Vector { x: 3, y: -4 };
+    let w = Vector { x: 5, y: 6 };
+    let wide = Vector { x: WIDE, y: WIDE };
+    let opposite = Vector { x: -WIDE, y: -WIDE };
+    assert_eq!(rt; v.dot(w), -9);
+    assert_eq!(rt; wide.dot(wide), 9_223_372_028_264_841_218);
+    assert_eq!(rt; wide.dot(opposite), -9_223_372_028_264_841_218);
+    assert_eq!(rt; v.plus(w), Vector { x: 8, y: 2 });
+    assert_eq!(rt; v.minus(w), Vector { x: -2, y: -10 });
+    assert_eq!(rt; v.after(w, 2), Vector { x: 13, y: 8 });
+    assert_eq!(rt; v.after(w, 0), v);
 }

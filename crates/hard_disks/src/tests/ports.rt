@@ -23,6 +23,27 @@ fn a_source_fails_gives_and_ends(rt: HostRuntime) -> Result<(), Fail> {
     Ok(())
 }
 
+// What each call answers, and what the room holds then.
+const STEPS: &[(Taken, &[u8])] = &[
+    (Taken::Got(2), b"di\0"),
+    (Taken::Failed, b"di\0"),
+    (Taken::Got(2), b"sk\0"),
+    (Taken::Got(1), b"sk\0"),
+    (Taken::End, b"sk\0"),
+];
+
+#[test]
+fn a_source_gives_its_step(rt: HostRuntime) -> Result<(), Fail> {
+    let mut source = MemorySource::in_steps(rt.alloc(), b"disks", &[1], 2)?;
+    let mut room = [0u8; 3];
+    for &(taken, held) in STEPS {
+        assert_eq!(rt; source.take(&mut room), taken);
+        assert_eq!(rt; room.as_slice(), held);
+    }
+    assert_eq!(rt; source.faults(), 1);
+    Ok(())
+}
+
 // A piece for each call, and what the call answers.
 const GIVES: &[(&[u8], Given)] = &[
     (b"ab", Given::All),

@@ -28,6 +28,7 @@ fn disk_of((x, y, vx, vy, base, mark): Record) -> Disk {
         y,
         vx,
         vy,
+        size: 4,
         base,
         mark,
     }
@@ -107,7 +108,7 @@ const PAIRS: &[(u64, Record, Record, Event)] = &[
 ];
 
 #[test]
-fn tells_pairs(rt: HostRuntime) {
+fn finds_when_two_disks_meet(rt: HostRuntime) {
     for (i, &(end, first, second, want)) in PAIRS.iter().enumerate() {
         let found = meeting(end, &disk_of(first), &disk_of(second));
         assert_eq!(rt; found, Ok(want), "row {i}");
@@ -132,7 +133,7 @@ const WALLS: &[(u64, Record, Event, Event, Event, Event)] = &[
 ];
 
 #[test]
-fn tells_walls(rt: HostRuntime) {
+fn finds_when_a_disk_hits_each_side(rt: HostRuntime) {
     for (i, &(end, record, left, right, bottom, top)) in WALLS.iter().enumerate() {
         let a = disk_of(record);
         assert_eq!(rt; hit(end, &a, 0), Ok(left), "row {i}, left");

@@ -1,13 +1,9 @@
 //! Words and scenes that are refused.
 
-use super::{PLAIN, output};
+use super::helpers::{MEETING, PLAIN, SUMMARY, output};
 use crate::status::Status;
 use std::alloc::{AllocError, Global};
 use std::test::Fail;
-
-// The scene of two disks that meet.
-const MEETING: &str =
-    "width = 40\nheight = 20\ndiameter = 4\nspeed_limit = 8\nround_limit = 8\nend = 5\ndisks = [\n  [10, 10, 1, 0],\n  [20, 10, -1, 0],\n]\n";
 
 const DISKS: &str = "disks = [\n  [10, 10, 1, 0],\n  [20, 10, -1, 0],\n]\n";
 
@@ -38,11 +34,6 @@ const REFUSALS: &[(&str, &str, &str)] = &[
         "refused 5 wrong type width\n",
     ),
     ("width = 40", "width = 40.0", "refused 5 wrong type width\n"),
-    (
-        "40\nheight = 20\ndiameter = 4",
-        "\"40\"\nheight = 20\ndiameter = 5",
-        "refused 5 wrong type width\n",
-    ),
     (DISKS, "[disks]\n", "refused 5 wrong type disks\n"),
     (
         "diameter = 4",
@@ -57,6 +48,60 @@ const REFUSALS: &[(&str, &str, &str)] = &[
     ("end = 5", "end = -1", "refused 6 out of range end\n"),
     (DISKS, "[[disks]]\n", "refused 8 bad row 0\n"),
     ("[20, 10, -1, 0]", "[20, 10, -1]", "refused 8 bad row 1\n"),
+    (
+        "[10, 10, 1, 0]",
+        "[10, 10, 1, 0, 4, 0]",
+        "refused 8 bad row 0\n",
+    ),
+    (
+        "[10, 10, 1, 0]",
+        "[10, 10, 1, 0, 4.0]",
+        "refused 8 bad row 0\n",
+    ),
+    // Sizes: odd, none, negative, above the diameter, beyond 64 bits.
+    (
+        "[10, 10, 1, 0]",
+        "[10, 10, 1, 0, 3]",
+        "refused 14 bad size 0\n",
+    ),
+    (
+        "[20, 10, -1, 0]",
+        "[20, 10, -1, 0, 0]",
+        "refused 14 bad size 1\n",
+    ),
+    (
+        "[10, 10, 1, 0]",
+        "[10, 10, 1, 0, -2]",
+        "refused 14 bad size 0\n",
+    ),
+    (
+        "[10, 10, 1, 0]",
+        "[10, 10, 1, 0, 6]",
+        "refused 14 bad size 0\n",
+    ),
+    (
+        "[10, 10, 1, 0]",
+        "[10, 10, 1, 0, 9223372036854775808]",
+        "refused 2 not toml\n",
+    ),
+    // The ticks of state blocks: none, negative, above 2^40, a float, a string.
+    ("end = 5", "end = 5\nevery = 0", "refused 15 bad every\n"),
+    ("end = 5", "end = 5\nevery = -1", "refused 15 bad every\n"),
+    (
+        "end = 5",
+        "end = 5\nevery = 1099511627777",
+        "refused 15 bad every\n",
+    ),
+    (
+        "end = 5",
+        "end = 5\nevery = 2.0",
+        "refused 5 wrong type every\n",
+    ),
+    (
+        "end = 5",
+        "end = 5\nevery = \"2\"",
+        "refused 5 wrong type every\n",
+    ),
     ("[10, 10, 1, 0]", "[1, 10, 1, 0]", "refused 9 outside 0\n"),
     (
         "[10, 10, 1, 0]",
@@ -68,6 +113,41 @@ const REFUSALS: &[(&str, &str, &str)] = &[
         "[12, 10, -1, 0]",
         "refused 11 overlap 0 1\n",
     ),
+];
+
+// Two faults at once, of which the first in the order is told.
+const TWO_FAULTS: &[(&str, &str, &str)] = &[
+    (
+        "40\nheight = 20\ndiameter = 4",
+        "\"40\"\nheight = 20\ndiameter = 5",
+        "refused 5 wrong type width\n",
+    ),
+    (
+        DISKS,
+        "every = \"2\"\ndisks = 1\n",
+        "refused 5 wrong type every\n",
+    ),
+    (
+        "end = 5\ndisks = [\n  [10, 10, 1, 0],",
+        "end = -1\nevery = 0\ndisks = [",
+        "refused 6 out of range end\n",
+    ),
+    (
+        "disks = [\n  [10, 10, 1, 0],",
+        "every = 0\ndisks = [\n  [10, 10, 1],",
+        "refused 15 bad every\n",
+    ),
+    (
+        "[10, 10, 1, 0],\n  [20, 10, -1, 0]",
+        "[10, 10, 1, 0, 3],\n  [20, 10, -1]",
+        "refused 8 bad row 1\n",
+    ),
+    (
+        "[10, 10, 1, 0]",
+        "[1, 10, 1, 0, 3]",
+        "refused 14 bad size 0\n",
+    ),
+    ("[10, 10, 1, 0]", "[1, 10, 9, 0]", "refused 9 outside 0\n"),
 ];
 
 // The scene with one place changed.
@@ -85,10 +165,10 @@ fn changed(alloc: Global, old: &str, new: &str) -> Result<String, AllocError> {
 }
 
 #[test]
-fn scenes(rt: HostRuntime) -> Result<(), Fail> {
+fn refuses_each_broken_scene(rt: HostRuntime) -> Result<(), Fail> {
     for &(old, new, want) in REFUSALS {
         let text = changed(rt.alloc(), old, new)?;
-        let (sink, status) = output(rt.alloc(), PLAIN, text.as_bytes(), &[], &[])?;
+        let (sink, status) = output(rt.alloc(), PLAIN, text.as_bytes())?;
         assert_eq!(rt; status, Status::SceneRefused, "{want}");
         assert_eq!(rt; sink.bytes(), want.as_bytes(), "{want}");
     }
@@ -96,7 +176,18 @@ fn scenes(rt: HostRuntime) -> Result<(), Fail> {
 }
 
 #[test]
-fn too_many_disks(rt: HostRuntime) -> Result<(), Fail> {
+fn tells_the_first_of_two_faults(rt: HostRuntime) -> Result<(), Fail> {
+    for &(old, new, want) in TWO_FAULTS {
+        let text = changed(rt.alloc(), old, new)?;
+        let (sink, status) = output(rt.alloc(), SUMMARY, text.as_bytes())?;
+        assert_eq!(rt; status, Status::SceneRefused, "{want}");
+        assert_eq!(rt; sink.bytes(), want.as_bytes(), "{want}");
+    }
+    Ok(())
+}
+
+#[test]
+fn refuses_too_many_disks(rt: HostRuntime) -> Result<(), Fail> {
     let mut rows = String::new(rt.alloc());
     rows.push_str("disks = [")?;
     for _ in 0..65_537 {
@@ -104,7 +195,7 @@ fn too_many_disks(rt: HostRuntime) -> Result<(), Fail> {
     }
     rows.push_str("]\n")?;
     let text = changed(rt.alloc(), DISKS, rows.as_str())?;
-    let (sink, status) = output(rt.alloc(), PLAIN, text.as_bytes(), &[], &[])?;
+    let (sink, status) = output(rt.alloc(), PLAIN, text.as_bytes())?;
     assert_eq!(rt; status, Status::SceneRefused);
     assert_eq!(rt; sink.bytes(), "refused 7 too many disks 65537\n".as_bytes());
     Ok(())
@@ -122,9 +213,9 @@ const NO_SETTINGS: &[&[&str]] = &[
 ];
 
 #[test]
-fn words(rt: HostRuntime) -> Result<(), Fail> {
+fn refuses_words_without_settings(rt: HostRuntime) -> Result<(), Fail> {
     for words in NO_SETTINGS {
-        let (sink, status) = output(rt.alloc(), words, MEETING.as_bytes(), &[], &[])?;
+        let (sink, status) = output(rt.alloc(), words, MEETING.as_bytes())?;
         assert_eq!(rt; status, Status::BadWords);
         assert_eq!(rt; sink.bytes(), "bad words\n".as_bytes());
     }

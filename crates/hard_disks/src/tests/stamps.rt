@@ -1,6 +1,6 @@
 //! The order of stamps.
 
-use event_stamps::{Kind, Stamp, compare};
+use event_stamps::{Kind, Stamp, compare, earlier};
 
 // Each stamp is before all that follow it, and a part decides before all parts after it.
 #[test]
@@ -26,7 +26,13 @@ fn orders_stamps(rt: HostRuntime) {
     assert_eq!(rt; stamps[7], Stamp::end_of(1));
     for (i, a) in stamps.iter().enumerate() {
         for (j, b) in stamps.iter().enumerate() {
+            let first = if i < j { *a } else { *b };
             assert_eq!(rt; compare(a, b), i.cmp(&j), "stamps {i} and {j}");
+            assert_eq!(rt;
+                earlier(Some(*a), Some(*b)),
+                Some(first),
+                "stamps {i} and {j}"
+            );
         }
     }
 }

@@ -1,145 +1,140 @@
-use Rattle.std.proofs.Common.{◌≡◌, ◌≤◌, ◌∙◌, Some, Result, Err, ap, sym, subst, arith, rules}
-use Rattle.std.specs.Io.KnownBytes.{Appends}
-use Rattle.report_ports.specs.Ports.{AppendsPrefix, Rose}
-use Rattle.fixed_motion.specs.Scene.{IsValidScene}
-use Rattle.event_rules.specs.declared.outcome.Outcome.{Outcome}
+use Rattle.std.proofs.Common.{◌≡◌, ◌≤◌, ◌∙◌, ap, sym, subst, inl, Some, Err, arith, rules}
+use Rattle.report_ports.specs.Ports.{Rose}
 use Rattle.event_rules.specs.declared.outcome.RunFault.{RunFault}
-use Rattle.event_rules.specs.Told.{told, PrefixTold}
-use Rattle.collision_report.specs.Report.{report}
-use Rattle.collision_report.specs.Meaning.{LentReport, ReportSoFar, told_on_loan, IsTornOnLoan}
-use Rattle.collision_report.specs.Laws.{uncounted}
-use Rattle.collision_report.proofs.Told.{told_lent}
+use Rattle.event_rules.specs.Tellings.{RunCutShort}
+use Rattle.event_rules.proofs.Fits.{outcomes_fit}
+use Rattle.all_pairs.specs.Tells.{CountsRun}
+use Rattle.collision_report.specs.Meaning.{LentReport, TableData, so_far, told_on_loan, IsTornOnLoan, nothing_yet}
 use Rattle.hard_disks.specs.declared.status.Status.{Status}
-use Rattle.hard_disks.specs.declared.words.Mode.TheVariants.{Plain}
-use Rattle.hard_disks.specs.Shows.{Shows}
-use Rattle.hard_disks.proofs.Reportable.{reportable}
-use Rattle.hard_disks.proofs.Shown.{whole_report, ended_early, begun_report, shown_report, shown_prefix, never_write_fault, rose_since}
+use Rattle.hard_disks.specs.Output.{IsReport, status_of}
+use Rattle.hard_disks.specs.Answers.{Wrote, WrotePrefix, CountsWrites}
+use Rattle.hard_disks.proofs.Wrote.{own_counts}
+use Rattle.hard_disks.proofs.Reported.{told_on, serves_scene, wrote_report, wrote_part_of_end, begun, unreported, own, failed_since}
 use Rattle.hard_disks.proofs.show.run_plain.Goals as goal
 
-refused : RunFault → Result Outcome RunFault
-refused fault = Err fault
+pub returns-in_default-clause-wrote : goal.returns-in_default-clause-wrote
+returns-in_default-clause-wrote g c = unreported c.args.format c.args.scene.now (g.K.Sink.taken c.args.sink.now) c.count-count.ensures.valid
 
-pub finish-requires : goal.finish-requires
-finish-requires g c =
-    let run = c.in-Ok.ensures.run in
-    let valid : IsValidScene c.args.scene.now = subst IsValidScene c.scene.view_is c.scene.invariant in
-    reportable c.args.scene.now run.0 c.in-Ok.outcome valid run.1
+pub finish-requires-clause-outcome : goal.finish-requires-clause-outcome
+finish-requires-clause-outcome g c =
+    let run = c.in-Ok-simulate_plain.ensures.run in
+    outcomes_fit c.args.scene.now run.0 c.in-Ok-simulate_plain.outcome c.count-count.ensures.valid run.1
 
-pub returns-in-Ok-finish-clause-shows : goal.returns-in-Ok-finish-clause-shows
-returns-in-Ok-finish-clause-shows g c =
-    let run = c.in-Ok.ensures.run in
-    let made : ◌≡◌ {A = ReportSoFar} (record { format = c.new-reporter.result.format; taken = g.K.Sink.taken c.new-reporter.result.sink.now; walls = c.new-reporter.result.walls; pairs = c.new-reporter.result.pairs })
-    (uncounted c.args.format (g.K.Sink.taken c.args.sink.now)) =
-    λ i. record { format = c.new-reporter.ensures.format i; taken = g.K.Sink.taken (c.new-reporter.ensures.sink i); walls = c.new-reporter.ensures.walls i; pairs = c.new-reporter.ensures.pairs i } in
-    let as_told = run.2 ∙ ap (λ (m : ReportSoFar). told told_on_loan (c.new-reporter.result.sink.ghost_name, m) run.0) made in
-    let loan = ap (λ (m : LentReport). m.0) (as_told ∙ told_lent _ _ run.0) ∙ c.new-reporter.ensures.loan in
+pub finish-requires-clause-scene : goal.finish-requires-clause-scene
+finish-requires-clause-scene g c = let K = g.K.Sink in
+    let r = c.new-reporter.result in let e = c.new-reporter.ensures in let l = c.simulate_plain.new.listener in
+    let run = c.in-Ok-simulate_plain.ensures.run in
+    let m = so_far r.format r.table.now (K.taken r.sink.now) r.walls r.pairs in
+    let n : LentReport = (l.sink.ghost_name, so_far l.format l.table.now (K.taken l.sink.now) l.walls l.pairs) in
+    let first = e.meaning ∙ ap (λ (t : TableData). so_far c.args.format t (K.taken c.args.sink.now) 0 0) c.in-Ok.ensures in
+    serves_scene r.sink.ghost_name c.args.format c.args.scene.now (K.taken c.args.sink.now) run.0 m n first run.2
+
+pub returns-in-Ok-finish-clause-wrote : goal.returns-in-Ok-finish-clause-wrote
+returns-in-Ok-finish-clause-wrote g c = let K = g.K.Sink in
+    let r = c.new-reporter.result in let e = c.new-reporter.ensures in let l = c.simulate_plain.new.listener in
+    let run = c.in-Ok-simulate_plain.ensures.run in let before = K.taken c.args.sink.now in
+    let m = so_far r.format r.table.now (K.taken r.sink.now) r.walls r.pairs in
+    let n : LentReport = (l.sink.ghost_name, so_far l.format l.table.now (K.taken l.sink.now) l.walls l.pairs) in
+    let first = e.meaning ∙ ap (λ (t : TableData). so_far c.args.format t (K.taken c.args.sink.now) 0 0) c.in-Ok.ensures in
+    let loan = ap (λ (v : LentReport). v.0) (told_on r.sink.ghost_name m (nothing_yet c.args.format c.args.scene.now before) run.0 n first run.2) ∙ e.loan in
     let last : c.sink-1.given.0 ≡ c.finish.new.self.0 = search (rules, loan) in
-    let lent : LentReport = (c.simulate_plain.new.listener.sink.ghost_name, record { format = c.simulate_plain.new.listener.format; taken = g.K.Sink.taken c.simulate_plain.new.listener.sink.now; walls = c.simulate_plain.new.listener.walls; pairs = c.simulate_plain.new.listener.pairs }) in
-    let whole : Appends (g.K.Sink.taken c.args.sink.now) (g.K.Sink.taken c.sink-1.given.0) (report c.args.format c.args.scene.now run.0 c.in-Ok.outcome) =
-    subst (λ v. Appends (g.K.Sink.taken c.args.sink.now) (g.K.Sink.taken v) (report c.args.format c.args.scene.now run.0 c.in-Ok.outcome)) (sym last)
-    (whole_report c.new-reporter.result.sink.ghost_name c.args.format c.args.scene.now (g.K.Sink.taken c.args.sink.now) (g.K.Sink.taken c.finish.new.self.0) run.0 c.in-Ok.outcome lent as_told c.in-Ok-finish.ensures.whole) in
-    subst (λ (s : Status). Shows (record { mode = Plain; format = c.args.format }) c.args.scene.now (g.K.Sink.taken c.args.sink.now) (g.K.Sink.taken c.sink-1.given.0) s) (sym c.status_of.ensures)
-    (shown_report c.args.format c.args.scene.now (g.K.Sink.taken c.args.sink.now) (g.K.Sink.taken c.sink-1.given.0) run.0 c.in-Ok.outcome run.1 whole)
+    let wrote = wrote_report r.sink.ghost_name c.args.format c.args.scene.now before (K.taken c.finish.new.self.0) run.0 c.in-Ok-simulate_plain.outcome m n
+    c.count-count.ensures.valid run.1 first run.2 c.in-Ok-finish.ensures.whole in
+    subst (λ (s : Status). Wrote (IsReport c.args.format c.args.scene.now) before (K.taken c.sink-1.given.0) s) (sym c.status_of.ensures)
+    (subst (λ v. Wrote (IsReport c.args.format c.args.scene.now) before (K.taken v) (status_of c.in-Ok-simulate_plain.outcome)) (sym last) wrote)
 
-pub returns-in-Ok-finish-clause-cause : goal.returns-in-Ok-finish-clause-cause
-returns-in-Ok-finish-clause-cause g c =
-    let run = c.in-Ok.ensures.run in
-    let made : ◌≡◌ {A = ReportSoFar} (record { format = c.new-reporter.result.format; taken = g.K.Sink.taken c.new-reporter.result.sink.now; walls = c.new-reporter.result.walls; pairs = c.new-reporter.result.pairs })
-    (uncounted c.args.format (g.K.Sink.taken c.args.sink.now)) =
-    λ i. record { format = c.new-reporter.ensures.format i; taken = g.K.Sink.taken (c.new-reporter.ensures.sink i); walls = c.new-reporter.ensures.walls i; pairs = c.new-reporter.ensures.pairs i } in
-    let as_told = run.2 ∙ ap (λ (m : ReportSoFar). told told_on_loan (c.new-reporter.result.sink.ghost_name, m) run.0) made in
-    let loan = ap (λ (m : LentReport). m.0) (as_told ∙ told_lent _ _ run.0) ∙ c.new-reporter.ensures.loan in
+pub returns-in-Ok-finish-clause-counts : goal.returns-in-Ok-finish-clause-counts
+returns-in-Ok-finish-clause-counts g c = let K = g.K.Sink in
+    let r = c.new-reporter.result in let e = c.new-reporter.ensures in let l = c.simulate_plain.new.listener in
+    let run = c.in-Ok-simulate_plain.ensures.run in
+    let m = so_far r.format r.table.now (K.taken r.sink.now) r.walls r.pairs in
+    let n : LentReport = (l.sink.ghost_name, so_far l.format l.table.now (K.taken l.sink.now) l.walls l.pairs) in
+    let loan = ap (λ (v : LentReport). v.0) (told_on r.sink.ghost_name m m run.0 n (λ i. m) run.2) ∙ e.loan in
     let last : c.sink-1.given.0 ≡ c.finish.new.self.0 = search (rules, loan) in
-    let start = ap g.K.Sink.count c.new-reporter.ensures.sink in
-    let end = ap g.K.Sink.count last in
-    (omega (arith, c.in-Ok.ensures.later, c.in-Ok-finish.ensures.later, start, end), λ e. absurd (never_write_fault c.in-Ok.outcome (sym c.status_of.ensures ∙ e)))
+    subst (λ (s : Status). CountsWrites (K.faults c.args.sink.now) (K.faults c.sink-1.given.0) s) (sym c.status_of.ensures)
+    (own_counts _ _ _ (own c.in-Ok-simulate_plain.outcome)
+    (ap K.faults last ∙ c.in-Ok-finish.ensures.counts ∙ c.in-Ok-simulate_plain.ensures.counts ∙ ap K.faults e.sink))
 
-pub returns-in-Ok-clause-shows : goal.returns-in-Ok-clause-shows
-returns-in-Ok-clause-shows g c =
-    let run = c.in-Ok.ensures.run in
-    let made : ◌≡◌ {A = ReportSoFar} (record { format = c.new-reporter.result.format; taken = g.K.Sink.taken c.new-reporter.result.sink.now; walls = c.new-reporter.result.walls; pairs = c.new-reporter.result.pairs })
-    (uncounted c.args.format (g.K.Sink.taken c.args.sink.now)) =
-    λ i. record { format = c.new-reporter.ensures.format i; taken = g.K.Sink.taken (c.new-reporter.ensures.sink i); walls = c.new-reporter.ensures.walls i; pairs = c.new-reporter.ensures.pairs i } in
-    let as_told = run.2 ∙ ap (λ (m : ReportSoFar). told told_on_loan (c.new-reporter.result.sink.ghost_name, m) run.0) made in
-    let loan = ap (λ (m : LentReport). m.0) (as_told ∙ told_lent _ _ run.0) ∙ c.new-reporter.ensures.loan in
+pub returns-in-Ok-simulate_plain-clause-wrote : goal.returns-in-Ok-simulate_plain-clause-wrote
+returns-in-Ok-simulate_plain-clause-wrote g c = let K = g.K.Sink in
+    let r = c.new-reporter.result in let e = c.new-reporter.ensures in let l = c.simulate_plain.new.listener in
+    let run = c.in-Ok-simulate_plain.ensures.run in let before = K.taken c.args.sink.now in
+    let m = so_far r.format r.table.now (K.taken r.sink.now) r.walls r.pairs in
+    let n : LentReport = (l.sink.ghost_name, so_far l.format l.table.now (K.taken l.sink.now) l.walls l.pairs) in
+    let first = e.meaning ∙ ap (λ (t : TableData). so_far c.args.format t (K.taken c.args.sink.now) 0 0) c.in-Ok.ensures in
+    let loan = ap (λ (v : LentReport). v.0) (told_on r.sink.ghost_name m (nothing_yet c.args.format c.args.scene.now before) run.0 n first run.2) ∙ e.loan in
     let last : c.sink-1.given.0 ≡ c.finish.new.self.0 = search (rules, loan) in
-    let lent : LentReport = (c.simulate_plain.new.listener.sink.ghost_name, record { format = c.simulate_plain.new.listener.format; taken = g.K.Sink.taken c.simulate_plain.new.listener.sink.now; walls = c.simulate_plain.new.listener.walls; pairs = c.simulate_plain.new.listener.pairs }) in
-    shown_prefix c.args.format c.args.scene.now (g.K.Sink.taken c.args.sink.now) (g.K.Sink.taken c.sink-1.given.0) run.0 c.in-Ok.outcome run.1
-    (subst (λ v. AppendsPrefix (g.K.Sink.taken c.args.sink.now) (g.K.Sink.taken v) (report c.args.format c.args.scene.now run.0 c.in-Ok.outcome)) (sym last)
-    (ended_early c.new-reporter.result.sink.ghost_name c.args.format c.args.scene.now (g.K.Sink.taken c.args.sink.now) (g.K.Sink.taken c.finish.new.self.0) run.0 c.in-Ok.outcome lent as_told c.in-Err.ensures.prefix))
+    subst (λ v. WrotePrefix (IsReport c.args.format c.args.scene.now) before (K.taken v)) (sym last)
+    (wrote_part_of_end r.sink.ghost_name c.args.format c.args.scene.now before (K.taken c.finish.new.self.0) run.0 c.in-Ok-simulate_plain.outcome m n
+    c.count-count.ensures.valid run.1 first run.2 c.in-Err.ensures.prefix)
 
-pub returns-in-Ok-clause-cause : goal.returns-in-Ok-clause-cause
-returns-in-Ok-clause-cause g c =
-    let run = c.in-Ok.ensures.run in
-    let made : ◌≡◌ {A = ReportSoFar} (record { format = c.new-reporter.result.format; taken = g.K.Sink.taken c.new-reporter.result.sink.now; walls = c.new-reporter.result.walls; pairs = c.new-reporter.result.pairs })
-    (uncounted c.args.format (g.K.Sink.taken c.args.sink.now)) =
-    λ i. record { format = c.new-reporter.ensures.format i; taken = g.K.Sink.taken (c.new-reporter.ensures.sink i); walls = c.new-reporter.ensures.walls i; pairs = c.new-reporter.ensures.pairs i } in
-    let as_told = run.2 ∙ ap (λ (m : ReportSoFar). told told_on_loan (c.new-reporter.result.sink.ghost_name, m) run.0) made in
-    let loan = ap (λ (m : LentReport). m.0) (as_told ∙ told_lent _ _ run.0) ∙ c.new-reporter.ensures.loan in
+pub returns-in-Ok-simulate_plain-clause-counts : goal.returns-in-Ok-simulate_plain-clause-counts
+returns-in-Ok-simulate_plain-clause-counts g c = let K = g.K.Sink in
+    let r = c.new-reporter.result in let e = c.new-reporter.ensures in let l = c.simulate_plain.new.listener in
+    let run = c.in-Ok-simulate_plain.ensures.run in
+    let m = so_far r.format r.table.now (K.taken r.sink.now) r.walls r.pairs in
+    let n : LentReport = (l.sink.ghost_name, so_far l.format l.table.now (K.taken l.sink.now) l.walls l.pairs) in
+    let loan = ap (λ (v : LentReport). v.0) (told_on r.sink.ghost_name m m run.0 n (λ i. m) run.2) ∙ e.loan in
     let last : c.sink-1.given.0 ≡ c.finish.new.self.0 = search (rules, loan) in
-    let start = ap g.K.Sink.count c.new-reporter.ensures.sink in
-    let end = ap g.K.Sink.count last in
-    let before : g.K.Sink.count c.args.sink.now ≤ g.K.Sink.count c.simulate_plain.new.listener.sink.now = omega (arith, c.in-Ok.ensures.later, start) in
-    let rose : Rose (g.K.Sink.count c.args.sink.now) (g.K.Sink.count c.finish.new.self.0) = rose_since _ _ _ before c.in-Err.ensures.cause in
-    (omega (arith, before, c.in-Err.ensures.later, end), λ e. subst (λ v. Rose (g.K.Sink.count c.args.sink.now) (g.K.Sink.count v)) (sym last) rose)
+    subst (λ v. (K.faults c.args.sink.now ≤ K.faults v) × Rose (K.faults c.args.sink.now) (K.faults v)) (sym last)
+    (failed_since _ _ _ (c.in-Ok-simulate_plain.ensures.counts ∙ ap K.faults e.sink) c.in-Err.ensures.counts)
 
-pub returns-in-Err-Listener-clause-shows : goal.returns-in-Err-Listener-clause-shows
-returns-in-Err-Listener-clause-shows g c =
-    let begun = c.in-Err-Listener.ensures.prefix in
-    let made : ◌≡◌ {A = ReportSoFar} (record { format = c.new-reporter.result.format; taken = g.K.Sink.taken c.new-reporter.result.sink.now; walls = c.new-reporter.result.walls; pairs = c.new-reporter.result.pairs })
-    (uncounted c.args.format (g.K.Sink.taken c.args.sink.now)) =
-    λ i. record { format = c.new-reporter.ensures.format i; taken = g.K.Sink.taken (c.new-reporter.ensures.sink i); walls = c.new-reporter.ensures.walls i; pairs = c.new-reporter.ensures.pairs i } in
-    let lent : LentReport = (c.simulate_plain.new.listener.sink.ghost_name, record { format = c.simulate_plain.new.listener.format; taken = g.K.Sink.taken c.simulate_plain.new.listener.sink.now; walls = c.simulate_plain.new.listener.walls; pairs = c.simulate_plain.new.listener.pairs }) in
-    let prefix = subst (λ (m : ReportSoFar). PrefixTold told_on_loan IsTornOnLoan (Some (c.new-reporter.result.sink.ghost_name, m)) begun.0 (Some lent)) made begun.3 in
-    let is_begun = begun_report c.new-reporter.result.sink.ghost_name c.args.format c.args.scene.now (g.K.Sink.taken c.args.sink.now) begun.0 begun.1 lent prefix in
-    let loan = is_begun.loan_kept ∙ c.new-reporter.ensures.loan in
+pub returns-in-Err-Listener-clause-wrote : goal.returns-in-Err-Listener-clause-wrote
+returns-in-Err-Listener-clause-wrote g c = let K = g.K.Sink in
+    let r = c.new-reporter.result in let e = c.new-reporter.ensures in let l = c.simulate_plain.new.listener in
+    let before = K.taken c.args.sink.now in
+    let m = so_far r.format r.table.now (K.taken r.sink.now) r.walls r.pairs in
+    let n : LentReport = (l.sink.ghost_name, so_far l.format l.table.now (K.taken l.sink.now) l.walls l.pairs) in
+    let first = e.meaning ∙ ap (λ (t : TableData). so_far c.args.format t (K.taken c.args.sink.now) 0 0) c.in-Ok.ensures in
+    let cut = subst (λ (f : RunFault). RunCutShort told_on_loan IsTornOnLoan c.args.scene.now f (Some (r.sink.ghost_name, m)) (Some n))
+    c.in-Err-Listener.field-0-is c.in-Err-Listener.ensures.cut_short in
+    let here = begun r.sink.ghost_name c.args.format c.args.scene.now before cut.0 cut.1 m n c.count-count.ensures.valid cut.2 first cut.3 in
+    let loan = here.kept ∙ e.loan in
     let last : c.in-Err-Listener.sink-in-Err-simulate_plain-1-own.given.0 ≡ c.simulate_plain.new.listener.sink.now = search (rules, loan) in
-    shown_prefix c.args.format c.args.scene.now (g.K.Sink.taken c.args.sink.now) _ begun.0 begun.1 begun.2
-    (subst (λ v. AppendsPrefix (g.K.Sink.taken c.args.sink.now) (g.K.Sink.taken v) (report c.args.format c.args.scene.now begun.0 begun.1)) (sym last) is_begun.prefix)
+    subst (λ v. WrotePrefix (IsReport c.args.format c.args.scene.now) before (K.taken v)) (sym last) here.prefix
 
-pub returns-in-Err-Listener-clause-cause : goal.returns-in-Err-Listener-clause-cause
-unfolding refused
-returns-in-Err-Listener-clause-cause g c =
-    let begun = c.in-Err-Listener.ensures.prefix in
-    let made : ◌≡◌ {A = ReportSoFar} (record { format = c.new-reporter.result.format; taken = g.K.Sink.taken c.new-reporter.result.sink.now; walls = c.new-reporter.result.walls; pairs = c.new-reporter.result.pairs })
-    (uncounted c.args.format (g.K.Sink.taken c.args.sink.now)) =
-    λ i. record { format = c.new-reporter.ensures.format i; taken = g.K.Sink.taken (c.new-reporter.ensures.sink i); walls = c.new-reporter.ensures.walls i; pairs = c.new-reporter.ensures.pairs i } in
-    let lent : LentReport = (c.simulate_plain.new.listener.sink.ghost_name, record { format = c.simulate_plain.new.listener.format; taken = g.K.Sink.taken c.simulate_plain.new.listener.sink.now; walls = c.simulate_plain.new.listener.walls; pairs = c.simulate_plain.new.listener.pairs }) in
-    let prefix = subst (λ (m : ReportSoFar). PrefixTold told_on_loan IsTornOnLoan (Some (c.new-reporter.result.sink.ghost_name, m)) begun.0 (Some lent)) made begun.3 in
-    let is_begun = begun_report c.new-reporter.result.sink.ghost_name c.args.format c.args.scene.now (g.K.Sink.taken c.args.sink.now) begun.0 begun.1 lent prefix in
-    let loan = is_begun.loan_kept ∙ c.new-reporter.ensures.loan in
+pub returns-in-Err-Listener-clause-counts : goal.returns-in-Err-Listener-clause-counts
+returns-in-Err-Listener-clause-counts g c = let K = g.K.Sink in
+    let r = c.new-reporter.result in let e = c.new-reporter.ensures in let l = c.simulate_plain.new.listener in
+    let before = K.taken c.args.sink.now in
+    let m = so_far r.format r.table.now (K.taken r.sink.now) r.walls r.pairs in
+    let n : LentReport = (l.sink.ghost_name, so_far l.format l.table.now (K.taken l.sink.now) l.walls l.pairs) in
+    let first = e.meaning ∙ ap (λ (t : TableData). so_far c.args.format t (K.taken c.args.sink.now) 0 0) c.in-Ok.ensures in
+    let cut = subst (λ (f : RunFault). RunCutShort told_on_loan IsTornOnLoan c.args.scene.now f (Some (r.sink.ghost_name, m)) (Some n))
+    c.in-Err-Listener.field-0-is c.in-Err-Listener.ensures.cut_short in
+    let here = begun r.sink.ghost_name c.args.format c.args.scene.now before cut.0 cut.1 m n c.count-count.ensures.valid cut.2 first cut.3 in
+    let loan = here.kept ∙ e.loan in
     let last : c.in-Err-Listener.sink-in-Err-simulate_plain-1-own.given.0 ≡ c.simulate_plain.new.listener.sink.now = search (rules, loan) in
-    let start = ap g.K.Sink.count c.new-reporter.ensures.sink in
-    let end = ap g.K.Sink.count last in
-    let same : g.K.Sink.count c.args.sink.now ≤ g.K.Sink.count c.new-reporter.result.sink.now = omega (arith, start) in
-    let rose : Rose (g.K.Sink.count c.args.sink.now) (g.K.Sink.count c.simulate_plain.new.listener.sink.now) = rose_since _ _ _ same (c.in-Err-Listener.ensures.cause (ap refused c.in-Err-Listener.field-0-is)) in
-    (omega (arith, c.in-Err-Listener.ensures.later, start, end), λ e. subst (λ v. Rose (g.K.Sink.count c.args.sink.now) (g.K.Sink.count v)) (sym last) rose)
+    let counts = subst (λ (f : RunFault). CountsRun (K.faults r.sink.now) (K.faults l.sink.now) (Err f)) c.in-Err-Listener.field-0-is c.in-Err-Listener.ensures.counts in
+    subst (λ v. (K.faults c.args.sink.now ≤ K.faults v) × Rose (K.faults c.args.sink.now) (K.faults v)) (sym last)
+    (failed_since _ _ _ (ap K.faults e.sink) counts)
 
-pub returns-clause-shows : goal.returns-clause-shows
-returns-clause-shows g c =
-    let begun = c.in-Err-NoMemory.ensures.prefix in
-    let made : ◌≡◌ {A = ReportSoFar} (record { format = c.new-reporter.result.format; taken = g.K.Sink.taken c.new-reporter.result.sink.now; walls = c.new-reporter.result.walls; pairs = c.new-reporter.result.pairs })
-    (uncounted c.args.format (g.K.Sink.taken c.args.sink.now)) =
-    λ i. record { format = c.new-reporter.ensures.format i; taken = g.K.Sink.taken (c.new-reporter.ensures.sink i); walls = c.new-reporter.ensures.walls i; pairs = c.new-reporter.ensures.pairs i } in
-    let lent : LentReport = (c.simulate_plain.new.listener.sink.ghost_name, record { format = c.simulate_plain.new.listener.format; taken = g.K.Sink.taken c.simulate_plain.new.listener.sink.now; walls = c.simulate_plain.new.listener.walls; pairs = c.simulate_plain.new.listener.pairs }) in
-    let prefix = subst (λ (m : ReportSoFar). PrefixTold told_on_loan IsTornOnLoan (Some (c.new-reporter.result.sink.ghost_name, m)) begun.0 (Some lent)) made begun.3 in
-    let is_begun = begun_report c.new-reporter.result.sink.ghost_name c.args.format c.args.scene.now (g.K.Sink.taken c.args.sink.now) begun.0 begun.1 lent prefix in
-    let loan = is_begun.loan_kept ∙ c.new-reporter.ensures.loan in
+pub returns-clause-wrote : goal.returns-clause-wrote
+returns-clause-wrote g c = let K = g.K.Sink in
+    let r = c.new-reporter.result in let e = c.new-reporter.ensures in let l = c.simulate_plain.new.listener in
+    let before = K.taken c.args.sink.now in
+    let m = so_far r.format r.table.now (K.taken r.sink.now) r.walls r.pairs in
+    let n : LentReport = (l.sink.ghost_name, so_far l.format l.table.now (K.taken l.sink.now) l.walls l.pairs) in
+    let first = e.meaning ∙ ap (λ (t : TableData). so_far c.args.format t (K.taken c.args.sink.now) 0 0) c.in-Ok.ensures in
+    let cut = subst (λ (f : RunFault). RunCutShort told_on_loan IsTornOnLoan c.args.scene.now f (Some (r.sink.ghost_name, m)) (Some n))
+    c.in-Err-NoMemory.field-0-is c.in-Err-NoMemory.ensures.cut_short in
+    let here = begun r.sink.ghost_name c.args.format c.args.scene.now before cut.0 cut.1 m n c.count-count.ensures.valid cut.2 first (cut.3.0, inl cut.3.1) in
+    let loan = here.kept ∙ e.loan in
     let last : c.in-Err-NoMemory.sink-in-Err-simulate_plain-1-own.given.0 ≡ c.simulate_plain.new.listener.sink.now = search (rules, loan) in
-    shown_prefix c.args.format c.args.scene.now (g.K.Sink.taken c.args.sink.now) _ begun.0 begun.1 begun.2
-    (subst (λ v. AppendsPrefix (g.K.Sink.taken c.args.sink.now) (g.K.Sink.taken v) (report c.args.format c.args.scene.now begun.0 begun.1)) (sym last) is_begun.prefix)
+    subst (λ v. WrotePrefix (IsReport c.args.format c.args.scene.now) before (K.taken v)) (sym last) here.prefix
 
-pub returns-clause-cause : goal.returns-clause-cause
-returns-clause-cause g c =
-    let begun = c.in-Err-NoMemory.ensures.prefix in
-    let made : ◌≡◌ {A = ReportSoFar} (record { format = c.new-reporter.result.format; taken = g.K.Sink.taken c.new-reporter.result.sink.now; walls = c.new-reporter.result.walls; pairs = c.new-reporter.result.pairs })
-    (uncounted c.args.format (g.K.Sink.taken c.args.sink.now)) =
-    λ i. record { format = c.new-reporter.ensures.format i; taken = g.K.Sink.taken (c.new-reporter.ensures.sink i); walls = c.new-reporter.ensures.walls i; pairs = c.new-reporter.ensures.pairs i } in
-    let lent : LentReport = (c.simulate_plain.new.listener.sink.ghost_name, record { format = c.simulate_plain.new.listener.format; taken = g.K.Sink.taken c.simulate_plain.new.listener.sink.now; walls = c.simulate_plain.new.listener.walls; pairs = c.simulate_plain.new.listener.pairs }) in
-    let prefix = subst (λ (m : ReportSoFar). PrefixTold told_on_loan IsTornOnLoan (Some (c.new-reporter.result.sink.ghost_name, m)) begun.0 (Some lent)) made begun.3 in
-    let is_begun = begun_report c.new-reporter.result.sink.ghost_name c.args.format c.args.scene.now (g.K.Sink.taken c.args.sink.now) begun.0 begun.1 lent prefix in
-    let loan = is_begun.loan_kept ∙ c.new-reporter.ensures.loan in
+pub returns-clause-counts : goal.returns-clause-counts
+returns-clause-counts g c = let K = g.K.Sink in
+    let r = c.new-reporter.result in let e = c.new-reporter.ensures in let l = c.simulate_plain.new.listener in
+    let before = K.taken c.args.sink.now in
+    let m = so_far r.format r.table.now (K.taken r.sink.now) r.walls r.pairs in
+    let n : LentReport = (l.sink.ghost_name, so_far l.format l.table.now (K.taken l.sink.now) l.walls l.pairs) in
+    let first = e.meaning ∙ ap (λ (t : TableData). so_far c.args.format t (K.taken c.args.sink.now) 0 0) c.in-Ok.ensures in
+    let cut = subst (λ (f : RunFault). RunCutShort told_on_loan IsTornOnLoan c.args.scene.now f (Some (r.sink.ghost_name, m)) (Some n))
+    c.in-Err-NoMemory.field-0-is c.in-Err-NoMemory.ensures.cut_short in
+    let here = begun r.sink.ghost_name c.args.format c.args.scene.now before cut.0 cut.1 m n c.count-count.ensures.valid cut.2 first (cut.3.0, inl cut.3.1) in
+    let loan = here.kept ∙ e.loan in
     let last : c.in-Err-NoMemory.sink-in-Err-simulate_plain-1-own.given.0 ≡ c.simulate_plain.new.listener.sink.now = search (rules, loan) in
-    let start = ap g.K.Sink.count c.new-reporter.ensures.sink in
-    let end = ap g.K.Sink.count last in
-    (omega (arith, c.in-Err-NoMemory.ensures.later, start, end), λ e. cc)
+    let counts = subst (λ (f : RunFault). CountsRun (K.faults r.sink.now) (K.faults l.sink.now) (Err f)) c.in-Err-NoMemory.field-0-is c.in-Err-NoMemory.ensures.counts in
+    let same : K.faults c.in-Err-NoMemory.sink-in-Err-simulate_plain-1-own.given.0 ≡ K.faults c.args.sink.now = ap K.faults last ∙ counts ∙ ap K.faults e.sink in
+    omega (arith, same)

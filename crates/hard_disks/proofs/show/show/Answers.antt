@@ -1,6 +1,10 @@
-use Rattle.hard_disks.proofs.Outputs.{shown_plain}
+use Rattle.std.proofs.Common.{sym, subst, Ok}
+use Rattle.hard_disks.specs.declared.words.Mode.{Mode}
+use Rattle.hard_disks.specs.Output.{OfMode}
+use Rattle.hard_disks.specs.Answers.{Wrote}
 use Rattle.hard_disks.proofs.show.show.Goals as goal
 
-pub returns-in-Plain-clause-shows : goal.returns-in-Plain-clause-shows
-returns-in-Plain-clause-shows g c =
-    shown_plain c.args.settings c.args.scene.now (g.K.Sink.taken c.args.sink.now) (g.K.Sink.taken c.run_plain.new.sink) c.run_plain.result c.in-Plain.is c.run_plain.ensures.shows
+pub returns-in-Plain-clause-wrote : goal.returns-in-Plain-clause-wrote
+returns-in-Plain-clause-wrote g c = let K = g.K.Sink in
+    subst (λ (mode : Mode). Wrote (OfMode mode c.args.settings.format (Ok c.args.scene.now)) (K.taken c.args.sink.now) (K.taken c.run_plain.new.sink) c.run_plain.result)
+    (sym c.in-Plain.is) c.run_plain.ensures.wrote

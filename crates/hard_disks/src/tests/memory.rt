@@ -1,0 +1,77 @@
+//! Large inputs for which there is memory.
+
+use super::helpers::{AMPLE_ROOM, COUNT, PLAIN, SUMMARY, output, scene};
+use crate::status::Status;
+use crate::top::top;
+use report_ports::{MemorySink, Source, Taken};
+use std::alloc::{AllocError, Global};
+use std::test::Fail;
+
+// A comment that never ends.
+#[derive(Drop)]
+struct EndlessComment;
+
+impl Source for EndlessComment {
+    ghost use Rattle.std.specs.Prelude.{None};
+
+    ghost left = { λ _. None };
+
+    ghost faults = { λ _. 0 };
+
+    fn faults(&self) -> u64 {
+        0
+    }
+
+    fn take(&mut self, into: &mut [u8]) -> Taken {
+        into.fill(b'#');
+        Taken::Got(into.len())
+    }
+}
+
+#[test]
+fn a_text_without_an_end_is_too_long(rt: HostRuntime) -> Result<(), Fail> {
+    let mut sink = MemorySink::new(rt.alloc(), &[], AMPLE_ROOM)?;
+    let status = top(rt.alloc(), PLAIN, &mut EndlessComment, &mut sink);
+    assert_eq!(rt; status, Status::SceneRefused);
+    assert_eq!(rt; sink.bytes(), "refused 1 too long\n".as_bytes());
+    Ok(())
+}
+
+// The rows of 20 times 20 disks at rest.
+fn many_rows(alloc: Global) -> Result<String, AllocError> {
+    let mut rows = String::new(alloc);
+    for column in 0u32..20 {
+        for row in 0u32..20 {
+            let (x, y) = (3 + 5 * column, 3 + 5 * row);
+            rows.push_str(format!(in alloc; "[{x}, {y}, 0, 0],")?.as_str())?;
+        }
+    }
+    Ok(rows)
+}
+
+const SQUARE: &str = "width = 101\nheight = 101\ndiameter = 4\nevery = 1\n";
+
+// The words and the output.
+const OUTPUTS: &[(&[&str], &str)] = &[
+    (COUNT, "scene 400\n"),
+    (
+        SUMMARY,
+        "done 2\n\
+        walls 0\n\
+        pairs 0\n\
+        momentum 0 0\n\
+        energy 0 0\n",
+    ),
+];
+
+#[test]
+fn four_hundred_disks_have_room(rt: HostRuntime) -> Result<(), Fail> {
+    let rows = many_rows(rt.alloc())?;
+    let text = scene(rt.alloc(), SQUARE, 8, 2, rows.as_str())?;
+    for &(words, want) in OUTPUTS {
+        let (sink, status) = output(rt.alloc(), words, text.as_bytes())?;
+        assert_eq!(rt; status, Status::Done, "{want}");
+        assert_eq!(rt; sink.bytes(), want.as_bytes());
+    }
+    Ok(())
+}
