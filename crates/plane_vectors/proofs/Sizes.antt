@@ -1,6 +1,6 @@
 -- The sizes of sums and products of signed numbers, and what of them a machine computes exactly.
 use Rattle.std.proofs.Common.{◌≡◌, ℕ, ◌+◌, ◌*◌, ◌^◌, ◌≤◌, ◌-◌, arith}
-use Rattle.std.specs.Prelude.{ℤ, pos, nat_abs, FitsSigned, ◌+ℤ◌, ◌*ℤ◌}
+use Rattle.std.specs.Prelude.{ℤ, pos, nat_abs, FitsSigned, ◌+ℤ◌, ◌-ℤ◌, ◌*ℤ◌}
 use Rattle.std.proofs.lemmas.Int.{ints, to_z-of_z, to_z_pos, unsigned_abs-mul}
 use Rattle.std.proofs.Math.Nat.{mul-le-mul}
 use mir.Syntax.{w64}
@@ -26,8 +26,42 @@ sent n = to_z w64 (of_z w64 n)
 pub sent_same : (n : ℤ) → FitsSigned w64 n → sent n ≡ n
 sent_same n fits = to_z-of_z w64 n fits
 
+-- the code's sum of two coordinates fits and is exact, and so is its difference
+pub record IsExactSum (x y : ℤ) : Type 0 where
+  pub fits : FitsSigned w64 (sent x +ℤ sent y)
+  pub value : sent (sent x +ℤ sent y) ≡ (x +ℤ y)
+
+pub record IsExactDifference (x y : ℤ) : Type 0 where
+  pub fits : FitsSigned w64 (sent x -ℤ sent y)
+  pub value : sent (sent x -ℤ sent y) ≡ (x -ℤ y)
+
+coordinate_fits : (x : ℤ) → nat_abs x ≤ 2 ^ 62 - 1 → FitsSigned w64 x
+coordinate_fits x h = omega (arith, ints)
+
+pub sum_exact : (x y : ℤ) → nat_abs x ≤ 2 ^ 62 - 1 → nat_abs y ≤ 2 ^ 62 - 1 → IsExactSum x y
+sum_exact x y hx hy =
+    let first : sent x ≡ x = sent_same x (coordinate_fits x hx) in
+    let second : sent y ≡ y = sent_same y (coordinate_fits y hy) in
+    let sum : FitsSigned w64 (x +ℤ y) = coordinates_sum_fits x y hx hy in
+    record { fits = rw (first, second) sum; value = rw (first, second) (sent_same (x +ℤ y) sum) }
+  where
+    coordinates_sum_fits : (x y : ℤ) → nat_abs x ≤ 2 ^ 62 - 1 → nat_abs y ≤ 2 ^ 62 - 1 → FitsSigned w64 (x +ℤ y)
+    coordinates_sum_fits x y h k = omega (arith, ints)
+
+pub difference_exact : (x y : ℤ) → nat_abs x ≤ 2 ^ 62 - 1 → nat_abs y ≤ 2 ^ 62 - 1 → IsExactDifference x y
+difference_exact x y hx hy =
+    let first : sent x ≡ x = sent_same x (coordinate_fits x hx) in
+    let second : sent y ≡ y = sent_same y (coordinate_fits y hy) in
+    let difference : FitsSigned w64 (x -ℤ y) = coordinates_difference_fits x y hx hy in
+    record { fits = rw (first, second) difference; value = rw (first, second) (sent_same (x -ℤ y) difference) }
+  where
+    coordinates_difference_fits : (x y : ℤ) → nat_abs x ≤ 2 ^ 62 - 1 → nat_abs y ≤ 2 ^ 62 - 1 → FitsSigned w64 (x -ℤ y)
+    coordinates_difference_fits x y h k = omega (arith, ints)
+
 -- the code's products and their sum fit, and are exact
 pub record IsExact (a b : Vector) : Type 0 where
+  pub first_fits : FitsSigned w64 (sent a.x *ℤ sent b.x)
+  pub second_fits : FitsSigned w64 (sent a.y *ℤ sent b.y)
   pub fits : FitsSigned w64 (sent (sent a.x *ℤ sent b.x) +ℤ sent (sent a.y *ℤ sent b.y))
   pub value : sent (sent (sent a.x *ℤ sent b.x) +ℤ sent (sent a.y *ℤ sent b.y)) ≡ dot a b
 
@@ -39,10 +73,17 @@ dot_exact a b ha hb =
     let by : sent b.y ≡ b.y = sent_same b.y (number_fits b.y hb.y) in
     let xx = size_of_product a.x b.x (2 ^ 31 - 1) (2 ^ 31 - 1) ha.x hb.x in
     let yy = size_of_product a.y b.y (2 ^ 31 - 1) (2 ^ 31 - 1) ha.y hb.y in
-    let px : sent (a.x *ℤ b.x) ≡ (a.x *ℤ b.x) = sent_same (a.x *ℤ b.x) (product_fits (a.x *ℤ b.x) xx) in
-    let py : sent (a.y *ℤ b.y) ≡ (a.y *ℤ b.y) = sent_same (a.y *ℤ b.y) (product_fits (a.y *ℤ b.y) yy) in
+    let first : FitsSigned w64 (a.x *ℤ b.x) = product_fits (a.x *ℤ b.x) xx in
+    let second : FitsSigned w64 (a.y *ℤ b.y) = product_fits (a.y *ℤ b.y) yy in
+    let px : sent (a.x *ℤ b.x) ≡ (a.x *ℤ b.x) = sent_same (a.x *ℤ b.x) first in
+    let py : sent (a.y *ℤ b.y) ≡ (a.y *ℤ b.y) = sent_same (a.y *ℤ b.y) second in
     let sum = sum_fits (a.x *ℤ b.x) (a.y *ℤ b.y) xx yy in
-    record { fits = rw (ax, ay, bx, by, px, py) sum; value = rw (ax, ay, bx, by, px, py) (sent_same (dot a b) sum) }
+    record {
+      first_fits = rw (ax, bx) first;
+      second_fits = rw (ay, by) second;
+      fits = rw (ax, ay, bx, by, px, py) sum;
+      value = rw (ax, ay, bx, by, px, py) (sent_same (dot a b) sum);
+    }
   where
     number_fits : (x : ℤ) → nat_abs x ≤ 2 ^ 31 - 1 → FitsSigned w64 x
     number_fits x h = omega (arith, ints)
