@@ -4,13 +4,29 @@ use Rattle.std.specs.Prelude.{FitsSigned}
 use Rattle.std.proofs.lemmas.Int.{to_z-of_z}
 use mir.Syntax.{w64}
 use Rattle.contact_predictor.specs.Contact.{IsContactAfter, IsOnlyContactAfter}
+use Rattle.contact_predictor.proofs.Gaps.{sent_size}
 use Rattle.contact_predictor.proofs.contact_between.Goals as goal
+
+pub may_meet-requires-clause-distance : goal.may_meet-requires-clause-distance
+may_meet-requires-clause-distance c = sent_size c.args.distance 1073741824 c.ranges.distance c.requires.distance
 
 pub returns-then-not-may_meet-clause-found : goal.returns-then-not-may_meet-clause-found
 returns-then-not-may_meet-clause-found c =
     let f : FitsSigned w64 c.args.distance = c.ranges.distance in
     let never : c.may_meet.result ≡ false → (s : ℕ) → ¬ IsContactAfter c.args.r c.args.u c.args.distance s = simp to_z-of_z at c.may_meet.ensures.never in
     λ s le. never c.if-not-may_meet.true s
+
+pub quick_contact-requires-clause-distance : goal.quick_contact-requires-clause-distance
+quick_contact-requires-clause-distance c = sent_size c.args.distance 1073741824 c.ranges.distance c.requires.distance
+
+pub quick_contact-requires-clause-crossing : goal.quick_contact-requires-clause-crossing
+quick_contact-requires-clause-crossing c = (c.may_meet.ensures.fact.0 c.if-not-may_meet.false).crossing
+
+pub returns-then-ticks-span-clause-found : goal.returns-then-ticks-span-clause-found
+returns-then-ticks-span-clause-found c =
+    let f : FitsSigned w64 c.args.distance = c.ranges.distance in
+    let found : IsOnlyContactAfter c.args.r c.args.u c.args.distance c.in-Some.ticks = simp to_z-of_z at c.in-Some.ensures.found in
+    (c.if-ticks-span.true, found.contact)
 
 pub returns-then-ticks-span-clause-only : goal.returns-then-ticks-span-clause-only
 returns-then-ticks-span-clause-only c =
@@ -24,7 +40,18 @@ returns-else-ticks-span-clause-found c =
     let found : IsOnlyContactAfter c.args.r c.args.u c.args.distance c.in-Some.ticks = simp to_z-of_z at c.in-Some.ensures.found in
     λ s le contact. let e : s ≡ c.in-Some.ticks = found.only s contact in omega (arith, c.if-ticks-span.false)
 
+pub contact_by_halving-requires-clause-distance : goal.contact_by_halving-requires-clause-distance
+contact_by_halving-requires-clause-distance c = sent_size c.args.distance 1073741824 c.ranges.distance c.requires.distance
+
+pub contact_by_halving-requires-clause-may_meet : goal.contact_by_halving-requires-clause-may_meet
+contact_by_halving-requires-clause-may_meet c = c.may_meet.ensures.fact.0 c.if-not-may_meet.false
+
 pub returns-clause-found : goal.returns-clause-found
 returns-clause-found c =
     let f : FitsSigned w64 c.args.distance = c.ranges.distance in
     simp to_z-of_z at c.contact_by_halving.ensures.found
+
+pub returns-clause-only : goal.returns-clause-only
+returns-clause-only c =
+    let f : FitsSigned w64 c.args.distance = c.ranges.distance in
+    simp to_z-of_z at c.contact_by_halving.ensures.only

@@ -5,7 +5,15 @@ use Rattle.std.proofs.lemmas.Int.{to_z-of_z}
 use mir.Syntax.{w64}
 use Rattle.contact_predictor.specs.Contact.{IsApproachingAfter}
 use Rattle.contact_predictor.proofs.Approaching.{approaching_now, contact_at_last, no_contact_before, only_contact, after_size}
+use Rattle.contact_predictor.proofs.Gaps.{sent_size}
 use Rattle.contact_predictor.proofs.contact_by_halving.Goals as goal
+
+pub is_approaching_after-requires-clause-distance : goal.is_approaching_after-requires-clause-distance
+is_approaching_after-requires-clause-distance c = sent_size c.args.distance 1073741824 c.ranges.distance c.requires.distance
+
+pub is_approaching_after-requires-clause-later : goal.is_approaching_after-requires-clause-later
+is_approaching_after-requires-clause-later c =
+    after_size c.args.r c.args.u (c.args.span + 1) c.args.span c.requires.separation c.requires.velocity c.requires.later (omega arith)
 
 pub returns-then-is_approaching_after-clause-found : goal.returns-then-is_approaching_after-clause-found
 returns-then-is_approaching_after-clause-found c =
@@ -31,6 +39,26 @@ pub is_approaching_after-requires-in-loop-high-clause-later : goal.is_approachin
 is_approaching_after-requires-in-loop-high-clause-later c =
     after_size c.args.r c.args.u (c.loop-high.low + (c.loop-high.high - c.loop-high.low) / 2) c.args.span
     c.requires.separation c.requires.velocity c.requires.later (omega arith)
+
+pub is_approaching_after-requires-in-loop-high-clause-distance : goal.is_approaching_after-requires-in-loop-high-clause-distance
+is_approaching_after-requires-in-loop-high-clause-distance c = sent_size c.args.distance 1073741824 c.ranges.distance c.requires.distance
+
+pub loop-high-preserved-then-is_approaching_after-2 : goal.loop-high-preserved-then-is_approaching_after-2
+loop-high-preserved-then-is_approaching_after-2 c = record {
+  order = omega arith;
+  within = c.loop-high.invariant.within;
+  approaches = c.is_approaching_after-in-loop-high.ensures.0 c.if-is_approaching_after-2.true;
+  ends = c.loop-high.invariant.ends;
+}
+
+pub loop-high-preserved : goal.loop-high-preserved
+loop-high-preserved c = record {
+  order = omega arith;
+  within = omega arith;
+  approaches = c.loop-high.invariant.approaches;
+  ends = λ h. let t : c.is_approaching_after-in-loop-high.result ≡ true = c.is_approaching_after-in-loop-high.ensures.1 h in
+      let f : c.is_approaching_after-in-loop-high.result ≡ false = c.if-is_approaching_after-2.false in cc;
+}
 
 pub returns-clause-found : goal.returns-clause-found
 returns-clause-found c =
