@@ -6,7 +6,6 @@ ghost use Rattle.std.specs.Prelude.{◌≤◌, ◌<◌, IsTrue, nat_abs};
 use super::helpers::Numbers;
 use contact_predictor::{contact, stay};
 use plane_vectors::Vector;
-use std::process::Abort;
 
 // 2^30, 2^21 and 2^31, the greatest sizes.
 const FAR: i64 = 1_073_741_824;
@@ -14,6 +13,10 @@ const FAR: i64 = 1_073_741_824;
 const FAST: i64 = 2_097_152;
 
 const WIDE: i64 = 2_147_483_648;
+
+const FAR_SIZE: u64 = 1_073_741_824;
+
+const FAST_SIZE: u64 = 2_097_152;
 
 // A separation, a relative velocity, a diameter, a span, and what `contact` answers.
 type ContactRow = ((i64, i64), (i64, i64), i64, u64, Option<u64>);
@@ -54,39 +57,55 @@ const CONTACTS: &[ContactRow] = &[
 
 #[test]
 fn finds_each_contact_of_the_table(rt: HostRuntime) {
-    for &(separation, velocity, diameter, span, expected) in CONTACTS {
-        let (rx, ry) = separation;
-        let (ux, uy) = velocity;
-        let found = contact_of(&rt, separation, velocity, diameter, span);
-        assert_eq!(rt; found, expected, "at {rx} {ry} {ux} {uy} {diameter} {span}");
-    }
+    assert_eq!(rt; CONTACTS.iter().position(|row| !is_found(row)), None);
 }
 
-fn is_within(x: i64, most: i64) -> bool
-    ensures { IsTrue result → nat_abs x ≤ nat_abs most }
+fn is_found(&(separation, velocity, diameter, span, expected): &ContactRow) -> bool {
+    contact_of(separation, velocity, diameter, span) == Ok(expected)
+}
+
+fn is_within(x: i64, most: u64) -> bool
+    ensures { IsTrue result → nat_abs x ≤ most }
 {
-    x.unsigned_abs() <= most.unsigned_abs()
+    x.unsigned_abs() <= most
 }
 
-// Tests what `contact` requires, of which the rows of a table and generated numbers say nothing.
+// An error where the numbers are none that `contact` takes.
 fn contact_of(
-    rt: &impl Abort,
     (rx, ry): (i64, i64),
     (ux, uy): (i64, i64),
     diameter: i64,
     span: u64,
-) -> Option<u64> {
-    assert!(rt; is_within(rx, FAR));
-    assert!(rt; is_within(ry, FAR));
-    assert!(rt; is_within(ux, FAST));
-    assert!(rt; is_within(uy, FAST));
-    assert!(rt; diameter >= 2);
-    assert!(rt; is_within(diameter, FAR));
-    assert!(rt; span <= 1_073_741_824);
+) -> Result<Option<u64>, ()> {
+    if !is_within(rx, FAR_SIZE) {
+        return Err(());
+    }
+    if !is_within(ry, FAR_SIZE) {
+        return Err(());
+    }
+    if !is_within(ux, FAST_SIZE) {
+        return Err(());
+    }
+    if !is_within(uy, FAST_SIZE) {
+        return Err(());
+    }
+    if diameter < 2 {
+        return Err(());
+    }
+    if !is_within(diameter, FAR_SIZE) {
+        return Err(());
+    }
+    if span > FAR_SIZE {
+        return Err(());
+    }
     let later = Vector { x: rx, y: ry }.after(Vector { x: ux, y: uy }, span);
-    assert!(rt; is_within(later.x, FAR));
-    assert!(rt; is_within(later.y, FAR));
-    contact(rx, ry, ux, uy, diameter, span)
+    if !is_within(later.x, FAR_SIZE) {
+        return Err(());
+    }
+    if !is_within(later.y, FAR_SIZE) {
+        return Err(());
+    }
+    Ok(contact(rx, ry, ux, uy, diameter, span))
 }
 
 // Two bounds, a coordinate, a velocity, and what `stay` answers.
@@ -114,10 +133,17 @@ const STAYS: &[StayRow] = &[
 
 #[test]
 fn finds_how_long_a_coordinate_stays(rt: HostRuntime) {
-    for &(lo, hi, x, v, expected) in STAYS {
-        assert!(rt; -WIDE <= lo && lo <= x && x <= hi && hi <= WIDE && -WIDE <= v && v <= WIDE);
-        assert_eq!(rt; stay(lo, hi, x, v), expected, "at {lo} {hi} {x} {v}");
-    }
+    assert_eq!(rt; STAYS.iter().position(|row| !is_stay(row)), None);
+}
+
+fn is_stay(&(lo, hi, x, v, expected): &StayRow) -> bool {
+    -WIDE <= lo
+        && lo <= x
+        && x <= hi
+        && hi <= WIDE
+        && -WIDE <= v
+        && v <= WIDE
+        && stay(lo, hi, x, v) == expected
 }
 
 // Few pairs of the ranges below meet, and enough of them have to.
@@ -134,18 +160,18 @@ fn finds_what_trying_each_tick_finds(rt: HostRuntime) {
         let velocity = (numbers.next(-12, 25), numbers.next(-12, 25));
         let diameter = numbers.next(1, 10).wrapping_mul(2);
         let span = numbers.next(0, 41).unsigned_abs();
-        let found = contact_of(&rt, separation, velocity, diameter, span);
+        let found = contact_of(separation, velocity, diameter, span);
         let expected = contact_by_trying(separation, velocity, diameter, span);
-        assert_eq!(rt; found, expected, "at pair {pair}");
-        if found.is_some() {
+        assert!(rt; found == Ok(expected), "at pair {pair}");
+        if expected.is_some() {
             contacts = contacts.wrapping_add(1);
         }
     }
     assert!(rt; contacts >= LEAST_CONTACTS, "only {contacts} contacts");
 
     // Too far away to try each tick: the disks touch, at a separation of -4, after 2^29 ticks.
-    let found = contact_of(&rt, (-536_870_916, 0), (1, 0), 4, 1_073_741_824);
-    assert_eq!(rt; found, Some(536_870_912));
+    let found = contact_of((-536_870_916, 0), (1, 0), 4, 1_073_741_824);
+    assert!(rt; found == Ok(Some(536_870_912)));
 }
 
 // The numbers are small, so nothing wraps, and nothing has to be proved of it.
