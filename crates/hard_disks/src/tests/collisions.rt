@@ -1,5 +1,6 @@
 //! What collisions do, and at which limits they fail.
 
+use super::helpers::expect_none;
 use event_rules::{Change, Limit, apply, pair_event, wall_event};
 use event_stamps::{Kind, Stamp};
 use fixed_motion::{Disk, Rules};
@@ -52,7 +53,9 @@ const EARLY: Stamp = Stamp {
 const LATE: Stamp = Stamp { round: 1, ..EARLY };
 
 // The rules, two disks, and the two after they hit each other in the first tick.
-const COLLISIONS: &[(Rules, Record, Record, Result<(Record, Record), Limit>)] = &[
+type CollisionRow = (Rules, Record, Record, Result<(Record, Record), Limit>);
+
+const COLLISIONS: &[CollisionRow] = &[
     (
         RULES,
         (10, 10, 8, 0, 0),
@@ -91,20 +94,28 @@ fn change_to(rules: &Rules, (first, second): (Record, Record)) -> Change {
 
 #[test]
 fn changes_velocities_or_meets_a_limit(rt: HostRuntime) {
-    for &(rules, first, second, want) in COLLISIONS {
-        let (a, b) = (disk_of(&rules, first), disk_of(&rules, second));
-        assert!(rt; rules.check().is_ok());
-        assert!(rt; a.is_valid(&rules));
-        assert!(rt; b.is_valid(&rules));
-        match pair_event(&rules, 0, &a, 1, &b) {
-            None => panic!(rt; "no event of {a:?}"),
-            Some(stamp) => {
-                assert_eq!(rt;
-                    apply(&rules, &stamp, &a, Some(&b)),
-                    want.map(|records| change_to(&rules, records))
-                )
+    expect_none(&rt, COLLISIONS.iter().position(|row| !is_collision(row)));
+}
+
+fn is_collision(&(rules, first, second, want): &CollisionRow) -> bool {
+    let found = collision_of(&rules, &disk_of(&rules, first), &disk_of(&rules, second));
+    match want {
+        Ok(records) => found == Some(Ok(change_to(&rules, records))),
+        Err(limit) => found == Some(Err(limit)),
+    }
+}
+
+// What the disks 0 and 1 come to; none where the rules or the disks are not valid, or don't meet.
+fn collision_of(rules: &Rules, a: &Disk, b: &Disk) -> Option<Result<Change, Limit>> {
+    match rules.check() {
+        Ok(()) => {
+            if !a.is_valid(rules) || !b.is_valid(rules) {
+                return None;
             }
+            let stamp = pair_event(rules, 0, a, 1, b)?;
+            Some(apply(rules, &stamp, a, Some(b)))
         }
+        Err(_) => None,
     }
 }
 

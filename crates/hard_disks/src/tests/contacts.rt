@@ -3,7 +3,7 @@
 
 ghost use Rattle.std.specs.Prelude.{◌≤◌, ◌<◌, IsTrue, nat_abs};
 
-use super::helpers::Numbers;
+use super::helpers::{Numbers, expect_none};
 use contact_predictor::{contact, stay};
 use plane_vectors::Vector;
 
@@ -57,7 +57,7 @@ const CONTACTS: &[ContactRow] = &[
 
 #[test]
 fn finds_each_contact_of_the_table(rt: HostRuntime) {
-    assert_eq!(rt; CONTACTS.iter().position(|row| !is_found(row)), None);
+    expect_none(&rt, CONTACTS.iter().position(|row| !is_found(row)));
 }
 
 fn is_found(&(separation, velocity, diameter, span, expected): &ContactRow) -> bool {
@@ -133,7 +133,7 @@ const STAYS: &[StayRow] = &[
 
 #[test]
 fn finds_how_long_a_coordinate_stays(rt: HostRuntime) {
-    assert_eq!(rt; STAYS.iter().position(|row| !is_stay(row)), None);
+    expect_none(&rt, STAYS.iter().position(|row| !is_stay(row)));
 }
 
 fn is_stay(&(lo, hi, x, v, expected): &StayRow) -> bool {

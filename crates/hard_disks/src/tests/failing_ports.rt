@@ -1,5 +1,6 @@
 //! Ports over a reader and a writer that fail, call by call.
 
+use super::helpers::expect_none;
 use report_ports::{Given, Sink, Source, StdSink, StdSource, Taken};
 use std::io;
 use std::io::{ErrorKind, Read, Write};
@@ -50,7 +51,9 @@ impl Write for FailingWriter {
 }
 
 // The kind of error, how many reads fail, and the answers of the first two calls.
-const READS: &[(ErrorKind, u32, Taken, Taken)] = &[
+type ReadRow = (ErrorKind, u32, Taken, Taken);
+
+const READS: &[ReadRow] = &[
     (ErrorKind::Other, 0, Taken::End, Taken::End),
     (ErrorKind::Other, 1, Taken::Failed, Taken::End),
     (ErrorKind::Interrupted, 99, Taken::End, Taken::End),
@@ -60,18 +63,20 @@ const READS: &[(ErrorKind, u32, Taken, Taken)] = &[
 
 #[test]
 fn an_interrupted_read_is_tried_again(rt: HostRuntime) {
+    expect_none(&rt, READS.iter().position(|row| !is_read(row)));
+}
+
+fn is_read(&(kind, failing, first, second): &ReadRow) -> bool {
     let mut room = [0u8; 3];
-    for &(kind, failing, first, second) in READS {
-        let mut source = StdSource::new(FailingReader { kind, failing });
-        assert_eq!(rt; source.take(&mut room), first);
-        assert_eq!(rt; source.take(&mut room), second);
-        let faults = u64::from(first == Taken::Failed) + u64::from(second == Taken::Failed);
-        assert_eq!(rt; source.faults(), faults);
-    }
+    let mut source = StdSource::new(FailingReader { kind, failing });
+    let faults = u64::from(first == Taken::Failed) + u64::from(second == Taken::Failed);
+    source.take(&mut room) == first && source.take(&mut room) == second && source.faults() == faults
 }
 
 // The kind of error, how many writes and how many flushes fail, the piece, and the answer.
-const GIVES: &[(ErrorKind, u32, u32, &[u8], Given)] = &[
+type GiveRow = (ErrorKind, u32, u32, &'static [u8], Given);
+
+const GIVES: &[GiveRow] = &[
     (ErrorKind::Other, 0, 0, b"disks", Given::All),
     (ErrorKind::Other, 1, 0, b"disks", Given::Failed),
     (ErrorKind::Other, 1, 0, b"", Given::All),
@@ -84,16 +89,18 @@ const GIVES: &[(ErrorKind, u32, u32, &[u8], Given)] = &[
 
 #[test]
 fn a_piece_is_written_and_flushed(rt: HostRuntime) {
-    for &(kind, failing, unflushed, piece, given) in GIVES {
-        let mut writer = FailingWriter {
-            kind,
-            failing,
-            unflushed,
-            flushes: 0,
-        };
-        let mut sink = StdSink::new(&mut writer);
-        assert_eq!(rt; sink.give(piece), given);
-        assert_eq!(rt; sink.faults(), u64::from(given == Given::Failed));
-        assert_eq!(rt; writer.flushes, u32::from(given == Given::All));
-    }
+    expect_none(&rt, GIVES.iter().position(|row| !is_given(row)));
+}
+
+fn is_given(&(kind, failing, unflushed, piece, given): &GiveRow) -> bool {
+    let mut writer = FailingWriter {
+        kind,
+        failing,
+        unflushed,
+        flushes: 0,
+    };
+    let mut sink = StdSink::new(&mut writer);
+    sink.give(piece) == given
+        && sink.faults() == u64::from(given == Given::Failed)
+        && writer.flushes == u32::from(given == Given::All)
 }

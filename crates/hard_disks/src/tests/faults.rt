@@ -1,6 +1,6 @@
 //! Calls of the source and the sink that fail.
 
-use super::helpers::{AMPLE_ROOM, MEETING, MEETING_REPORT, PLAIN, output_between};
+use super::helpers::{AMPLE_ROOM, MEETING, MEETING_REPORT, PLAIN, comes_to};
 use crate::status::Status;
 use report_ports::{MemorySink, MemorySource};
 use std::alloc::{AllocError, Global};
@@ -12,18 +12,29 @@ const BYTES: u64 = 125;
 #[test]
 fn writes_nothing_where_a_take_fails(rt: HostRuntime) -> Result<(), Fail> {
     for call in 0..=BYTES + 1 {
-        let source = MemorySource::in_steps(rt.alloc(), MEETING.as_bytes(), &[call], 1)?;
-        let sink = MemorySink::new(rt.alloc(), &[], AMPLE_ROOM)?;
-        let (sink, status) = output_between(rt.alloc(), PLAIN, source, sink);
-        let (want, written) = if call <= BYTES {
+        let (status, written) = if call <= BYTES {
             (Status::ReadFault, "")
         } else {
             (Status::Done, MEETING_REPORT)
         };
-        assert_eq!(rt; status, want, "take {call}");
-        assert_eq!(rt; sink.bytes(), written.as_bytes(), "take {call}");
+        assert!(rt;
+            takes_all_but(rt.alloc(), call, status, written)?,
+            "take {call}"
+        );
     }
     Ok(())
+}
+
+// Whether the run of the meeting, of which this take fails, writes so much and ends so.
+fn takes_all_but(
+    alloc: Global,
+    call: u64,
+    status: Status,
+    written: &str,
+) -> Result<bool, AllocError> {
+    let source = MemorySource::in_steps(alloc, MEETING.as_bytes(), &[call], 1)?;
+    let sink = MemorySink::new(alloc, &[], AMPLE_ROOM)?;
+    Ok(comes_to(alloc, PLAIN, source, sink, status, written))
 }
 
 // The first lines of a text.
@@ -37,7 +48,9 @@ fn first_lines(alloc: Global, text: &str, count: usize) -> Result<String, AllocE
 }
 
 // The calls of the sink that fail, its room, the status, and how many lines it has taken.
-const GIVES: &[(&[u64], usize, Status, usize)] = &[
+type GiveRow = (&'static [u64], usize, Status, usize);
+
+const GIVES: &[GiveRow] = &[
     (&[0], AMPLE_ROOM, Status::WriteFault, 0),
     (&[1], AMPLE_ROOM, Status::WriteFault, 1),
     (&[2], AMPLE_ROOM, Status::WriteFault, 2),
@@ -55,19 +68,32 @@ const GIVES: &[(&[u64], usize, Status, usize)] = &[
 
 #[test]
 fn writes_the_lines_before_the_give_that_fails(rt: HostRuntime) -> Result<(), Fail> {
-    for &(failing, room, want, lines) in GIVES {
-        let source = MemorySource::new(rt.alloc(), MEETING.as_bytes(), &[])?;
-        let sink = MemorySink::new(rt.alloc(), failing, room)?;
-        let (sink, status) = output_between(rt.alloc(), PLAIN, source, sink);
-        let written = first_lines(rt.alloc(), MEETING_REPORT, lines)?;
-        assert_eq!(rt; status, want, "room {room}");
-        assert_eq!(rt; sink.bytes(), written.as_bytes(), "room {room}");
+    for row in GIVES {
+        assert!(rt; gives_all_before(rt.alloc(), row)?, "room {}", row.1);
     }
     Ok(())
 }
 
+fn gives_all_before(
+    alloc: Global,
+    &(failing, room, status, lines): &GiveRow,
+) -> Result<bool, AllocError> {
+    let source = MemorySource::new(alloc, MEETING.as_bytes(), &[])?;
+    let sink = MemorySink::new(alloc, failing, room)?;
+    let written = first_lines(alloc, MEETING_REPORT, lines)?;
+    Ok(comes_to(alloc, PLAIN, source, sink, status, written.as_str()))
+}
+
 // The words, the text, the calls of the source and of the sink that fail, and the status.
-const UNTOLD: &[(&[&str], &str, &[u64], &[u64], Status)] = &[
+type UntoldRow = (
+    &'static [&'static str],
+    &'static str,
+    &'static [u64],
+    &'static [u64],
+    Status,
+);
+
+const UNTOLD: &[UntoldRow] = &[
     (&[], MEETING, &[], &[0], Status::WriteFault),
     (&[], MEETING, &[0], &[0], Status::WriteFault),
     (PLAIN, "diameter = 5", &[], &[0], Status::WriteFault),
@@ -78,12 +104,17 @@ const UNTOLD: &[(&[&str], &str, &[u64], &[u64], Status)] = &[
 
 #[test]
 fn writes_no_line_where_the_first_call_fails(rt: HostRuntime) -> Result<(), Fail> {
-    for &(words, text, takes, gives, want) in UNTOLD {
-        let source = MemorySource::new(rt.alloc(), text.as_bytes(), takes)?;
-        let sink = MemorySink::new(rt.alloc(), gives, AMPLE_ROOM)?;
-        let (sink, status) = output_between(rt.alloc(), words, source, sink);
-        assert_eq!(rt; status, want, "{text}");
-        assert_eq!(rt; sink.bytes(), "".as_bytes());
+    for row in UNTOLD {
+        assert!(rt; is_untold(rt.alloc(), row)?, "{}", row.1);
     }
     Ok(())
+}
+
+fn is_untold(
+    alloc: Global,
+    &(words, text, takes, gives, status): &UntoldRow,
+) -> Result<bool, AllocError> {
+    let source = MemorySource::new(alloc, text.as_bytes(), takes)?;
+    let sink = MemorySink::new(alloc, gives, AMPLE_ROOM)?;
+    Ok(comes_to(alloc, words, source, sink, status, ""))
 }

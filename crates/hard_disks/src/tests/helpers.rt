@@ -6,6 +6,7 @@ use crate::status::Status;
 use crate::top::top;
 use report_ports::{MemorySink, MemorySource};
 use std::alloc::{AllocError, Global};
+use std::process::Abort;
 
 pub const PLAIN: &[&str] = &["--mode", "plain"];
 
@@ -84,6 +85,36 @@ pub fn output_between(
 ) -> (MemorySink, Status) {
     let status = top(alloc, words, &mut source, &mut sink);
     (sink, status)
+}
+
+/// Whether the top call writes this to a sink, and ends with this status.
+pub fn comes_to(
+    alloc: Global,
+    words: &[&str],
+    source: MemorySource,
+    sink: MemorySink,
+    status: Status,
+    text: &str,
+) -> bool {
+    let (sink, found) = output_between(alloc, words, source, sink);
+    found == status && sink.bytes() == text.as_bytes()
+}
+
+/// The same of a text in memory, where no call fails.
+pub fn answers(
+    alloc: Global,
+    words: &[&str],
+    text: &str,
+    status: Status,
+    want: &str,
+) -> Result<bool, AllocError> {
+    let (sink, found) = output(alloc, words, text.as_bytes())?;
+    Ok(found == status && sink.bytes() == want.as_bytes())
+}
+
+/// Stops a test at the first row of its table that is wrong, if there is one.
+pub fn expect_none(rt: &impl Abort, wrong_row: Option<usize>) {
+    assert_eq!(rt; wrong_row, None);
 }
 
 /// A linear congruential generator, of which the high bits are good enough for test data.

@@ -1,6 +1,6 @@
 //! Large inputs for which there is memory.
 
-use super::helpers::{AMPLE_ROOM, COUNT, PLAIN, SUMMARY, output, scene};
+use super::helpers::{AMPLE_ROOM, COUNT, PLAIN, SUMMARY, answers, scene};
 use crate::status::Status;
 use crate::top::top;
 use report_ports::{MemorySink, Source, Taken};
@@ -69,9 +69,10 @@ fn four_hundred_disks_have_room(rt: HostRuntime) -> Result<(), Fail> {
     let rows = many_rows(rt.alloc())?;
     let text = scene(rt.alloc(), SQUARE, 8, 2, rows.as_str())?;
     for &(words, want) in OUTPUTS {
-        let (sink, status) = output(rt.alloc(), words, text.as_bytes())?;
-        assert_eq!(rt; status, Status::Done, "{want}");
-        assert_eq!(rt; sink.bytes(), want.as_bytes());
+        assert!(rt;
+            answers(rt.alloc(), words, text.as_str(), Status::Done, want)?,
+            "{want}"
+        );
     }
     Ok(())
 }

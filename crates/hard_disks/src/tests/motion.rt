@@ -1,5 +1,6 @@
 //! Rules, places and vectors.
 
+use super::helpers::expect_none;
 use fixed_motion::{Disk, RuleFault, Rules, overlap};
 use plane_vectors::Vector;
 
@@ -62,13 +63,18 @@ const CASES: &[(Rules, Result<(), RuleFault>)] = &[
 
 #[test]
 fn finds_the_first_number_out_of_range(rt: HostRuntime) {
-    for &(rules, want) in CASES {
-        assert_eq!(rt; rules.check(), want, "{rules:?}");
-    }
+    expect_none(
+        &rt,
+        CASES
+            .iter()
+            .position(|(rules, want)| rules.check() != *want),
+    );
 }
 
 // A size, a tick, and the place of a disk of that size then.
-const PLACES: &[(i64, u64, Option<(i64, i64)>)] = &[
+type PlaceRow = (i64, u64, Option<(i64, i64)>);
+
+const PLACES: &[PlaceRow] = &[
     (4, 1, None),
     (4, 2, Some((10, 5))),
     (4, 4, Some((16, 3))),
@@ -80,21 +86,23 @@ const PLACES: &[(i64, u64, Option<(i64, i64)>)] = &[
 
 #[test]
 fn a_disk_has_a_place_from_its_base_to_the_side(rt: HostRuntime) {
+    expect_none(&rt, PLACES.iter().position(|row| !is_placed(row)));
+}
+
+fn is_placed(&(size, tick, want): &PlaceRow) -> bool {
     let rules = RULES;
-    assert!(rt; rules.check().is_ok());
-    for &(size, tick, want) in PLACES {
-        let disk = Disk {
-            x: 10,
-            y: 5,
-            vx: 3,
-            vy: -1,
-            size,
-            base: 2,
-            mark: 1,
-        };
-        assert!(rt; disk.is_valid(&rules));
-        assert!(rt; tick <= 9);
-        assert_eq!(rt; disk.place(&rules, tick), want, "size {size}, tick {tick}");
+    let disk = Disk {
+        x: 10,
+        y: 5,
+        vx: 3,
+        vy: -1,
+        size,
+        base: 2,
+        mark: 1,
+    };
+    match rules.check() {
+        Ok(()) => disk.is_valid(&rules) && tick <= 9 && disk.place(&rules, tick) == want,
+        Err(_) => false,
     }
 }
 
@@ -116,7 +124,10 @@ fn places_overlap_below_the_distance(rt: HostRuntime) {
     }
 }
 
-const SPEEDS: &[(i64, i64, bool)] = &[
+// A velocity, and whether it is slow.
+type SpeedRow = (i64, i64, bool);
+
+const SPEEDS: &[SpeedRow] = &[
     (8, -8, true),
     (-8, 8, true),
     (9, 0, false),
@@ -126,11 +137,12 @@ const SPEEDS: &[(i64, i64, bool)] = &[
 
 #[test]
 fn a_velocity_is_slow_up_to_the_limit(rt: HostRuntime) {
+    expect_none(&rt, SPEEDS.iter().position(|row| !is_speed(row)));
+}
+
+fn is_speed(&(x, y, want): &SpeedRow) -> bool {
     let rules = RULES;
-    assert!(rt; rules.check().is_ok());
-    for &(x, y, want) in SPEEDS {
-        assert_eq!(rt; rules.is_slow(Vector { x, y }), want, "{x} {y}");
-    }
+    rules.check().is_ok() && rules.is_slow(Vector { x, y }) == want
 }
 
 // The greatest size of a component in a scalar product.

@@ -2,6 +2,7 @@
 
 ghost use Rattle.std.specs.Prelude.{◌<◌};
 
+use super::helpers::expect_none;
 use event_rules::{pair_event, wall_event};
 use fixed_motion::{Disk, Rules};
 
@@ -93,7 +94,9 @@ const MARKED_LATER: Record = (20, 10, -1, 0, 2, 4);
 const STILL: Record = (10, 10, 0, 0, 0, 0);
 
 // The end of the run, two disks, and the tick and round at which they hit each other.
-const PAIRS: &[(u64, Record, Record, Event)] = &[
+type PairRow = (u64, Record, Record, Event);
+
+const PAIRS: &[PairRow] = &[
     (5, LEFT, RIGHT, Some((3, 0))),
     (4, LEFT, RIGHT, Some((3, 0))),
     (3, LEFT, RIGHT, None),
@@ -109,14 +112,17 @@ const PAIRS: &[(u64, Record, Record, Event)] = &[
 
 #[test]
 fn finds_when_two_disks_meet(rt: HostRuntime) {
-    for (i, &(end, first, second, want)) in PAIRS.iter().enumerate() {
-        let found = meeting(end, &disk_of(first), &disk_of(second));
-        assert_eq!(rt; found, Ok(want), "row {i}");
-    }
+    expect_none(&rt, PAIRS.iter().position(|row| !is_meeting(row)));
+}
+
+fn is_meeting(&(end, first, second, want): &PairRow) -> bool {
+    meeting(end, &disk_of(first), &disk_of(second)) == Ok(want)
 }
 
 // The end of the run, a disk, and when it hits the sides left, right, bottom and top.
-const WALLS: &[(u64, Record, Event, Event, Event, Event)] = &[
+type WallRow = (u64, Record, Event, Event, Event, Event);
+
+const WALLS: &[WallRow] = &[
     (
         3,
         (3, 3, -2, -2, 0, 0),
@@ -134,11 +140,13 @@ const WALLS: &[(u64, Record, Event, Event, Event, Event)] = &[
 
 #[test]
 fn finds_when_a_disk_hits_each_side(rt: HostRuntime) {
-    for (i, &(end, record, left, right, bottom, top)) in WALLS.iter().enumerate() {
-        let a = disk_of(record);
-        assert_eq!(rt; hit(end, &a, 0), Ok(left), "row {i}, left");
-        assert_eq!(rt; hit(end, &a, 1), Ok(right), "row {i}, right");
-        assert_eq!(rt; hit(end, &a, 2), Ok(bottom), "row {i}, bottom");
-        assert_eq!(rt; hit(end, &a, 3), Ok(top), "row {i}, top");
-    }
+    expect_none(&rt, WALLS.iter().position(|row| !is_hit(row)));
+}
+
+fn is_hit(&(end, record, left, right, bottom, top): &WallRow) -> bool {
+    let a = disk_of(record);
+    hit(end, &a, 0) == Ok(left)
+        && hit(end, &a, 1) == Ok(right)
+        && hit(end, &a, 2) == Ok(bottom)
+        && hit(end, &a, 3) == Ok(top)
 }

@@ -1,6 +1,6 @@
 //! Words and scenes that are refused.
 
-use super::helpers::{MEETING, PLAIN, SUMMARY, output};
+use super::helpers::{MEETING, PLAIN, SUMMARY, answers};
 use crate::status::Status;
 use std::alloc::{AllocError, Global};
 use std::test::Fail;
@@ -8,7 +8,9 @@ use std::test::Fail;
 const DISKS: &str = "disks = [\n  [10, 10, 1, 0],\n  [20, 10, -1, 0],\n]\n";
 
 // What is changed in that scene, into what, and the line of the refusal.
-const REFUSALS: &[(&str, &str, &str)] = &[
+type RefusalRow<'a> = (&'a str, &'a str, &'a str);
+
+const REFUSALS: &[RefusalRow<'static>] = &[
     (MEETING, "", "refused 4 missing key width\n"),
     (MEETING, "width = 40\nheight =", "refused 2 not toml\n"),
     (
@@ -116,7 +118,7 @@ const REFUSALS: &[(&str, &str, &str)] = &[
 ];
 
 // Two faults at once, of which the first in the order is told.
-const TWO_FAULTS: &[(&str, &str, &str)] = &[
+const TWO_FAULTS: &[RefusalRow<'static>] = &[
     (
         "40\nheight = 20\ndiameter = 4",
         "\"40\"\nheight = 20\ndiameter = 5",
@@ -166,39 +168,45 @@ fn changed(alloc: Global, old: &str, new: &str) -> Result<String, AllocError> {
 
 #[test]
 fn refuses_each_broken_scene(rt: HostRuntime) -> Result<(), Fail> {
-    for &(old, new, want) in REFUSALS {
-        let text = changed(rt.alloc(), old, new)?;
-        let (sink, status) = output(rt.alloc(), PLAIN, text.as_bytes())?;
-        assert_eq!(rt; status, Status::SceneRefused, "{want}");
-        assert_eq!(rt; sink.bytes(), want.as_bytes(), "{want}");
+    for row in REFUSALS {
+        assert!(rt; is_refused(rt.alloc(), PLAIN, row)?, "{}", row.2);
     }
     Ok(())
 }
 
+fn is_refused(
+    alloc: Global,
+    words: &[&str],
+    &(old, new, want): &RefusalRow<'_>,
+) -> Result<bool, AllocError> {
+    let text = changed(alloc, old, new)?;
+    answers(alloc, words, text.as_str(), Status::SceneRefused, want)
+}
+
 #[test]
 fn tells_the_first_of_two_faults(rt: HostRuntime) -> Result<(), Fail> {
-    for &(old, new, want) in TWO_FAULTS {
-        let text = changed(rt.alloc(), old, new)?;
-        let (sink, status) = output(rt.alloc(), SUMMARY, text.as_bytes())?;
-        assert_eq!(rt; status, Status::SceneRefused, "{want}");
-        assert_eq!(rt; sink.bytes(), want.as_bytes(), "{want}");
+    for row in TWO_FAULTS {
+        assert!(rt; is_refused(rt.alloc(), SUMMARY, row)?, "{}", row.2);
     }
     Ok(())
 }
 
 #[test]
 fn refuses_too_many_disks(rt: HostRuntime) -> Result<(), Fail> {
-    let mut rows = String::new(rt.alloc());
+    let rows = empty_rows(rt.alloc(), 65_537)?;
+    let row = (DISKS, rows.as_str(), "refused 7 too many disks 65537\n");
+    assert!(rt; is_refused(rt.alloc(), PLAIN, &row)?);
+    Ok(())
+}
+
+fn empty_rows(alloc: Global, count: u32) -> Result<String, AllocError> {
+    let mut rows = String::new(alloc);
     rows.push_str("disks = [")?;
-    for _ in 0..65_537 {
+    for _ in 0..count {
         rows.push_str("[],")?;
     }
     rows.push_str("]\n")?;
-    let text = changed(rt.alloc(), DISKS, rows.as_str())?;
-    let (sink, status) = output(rt.alloc(), PLAIN, text.as_bytes())?;
-    assert_eq!(rt; status, Status::SceneRefused);
-    assert_eq!(rt; sink.bytes(), "refused 7 too many disks 65537\n".as_bytes());
-    Ok(())
+    Ok(rows)
 }
 
 const NO_SETTINGS: &[&[&str]] = &[
@@ -215,9 +223,7 @@ const NO_SETTINGS: &[&[&str]] = &[
 #[test]
 fn refuses_words_without_settings(rt: HostRuntime) -> Result<(), Fail> {
     for words in NO_SETTINGS {
-        let (sink, status) = output(rt.alloc(), words, MEETING.as_bytes())?;
-        assert_eq!(rt; status, Status::BadWords);
-        assert_eq!(rt; sink.bytes(), "bad words\n".as_bytes());
+        assert!(rt; answers(rt.alloc(), words, MEETING, Status::BadWords, "bad words\n")?);
     }
     Ok(())
 }

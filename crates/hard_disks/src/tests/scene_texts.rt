@@ -1,13 +1,23 @@
 //! Scenes that are written as they were read.
 
-use super::helpers::{CHECK, COUNT, FOUR_IN_A_ROW, LONG, MEETING, PAIR, USUAL, output, scene};
+use super::helpers::{
+    CHECK, COUNT, FOUR_IN_A_ROW, LONG, MEETING, PAIR, USUAL, answers, output, scene,
+};
 use crate::status::Status;
+use std::alloc::{AllocError, Global};
 use std::test::Fail;
 
 const LARGEST_EVERY: &str = "every = 1099511627776\nwidth = 40\nheight = 20\ndiameter = 4\n";
 
 // The words, what stands before the limits of a scene, its disks, and the output.
-const TEXTS: &[(&[&str], &str, &str, &str)] = &[
+type TextRow = (
+    &'static [&'static str],
+    &'static str,
+    &'static str,
+    &'static str,
+);
+
+const TEXTS: &[TextRow] = &[
     (CHECK, USUAL, PAIR, MEETING),
     (
         CHECK,
@@ -45,17 +55,21 @@ const TEXTS: &[(&[&str], &str, &str, &str)] = &[
 
 #[test]
 fn writes_the_canonical_text_or_the_number_of_disks(rt: HostRuntime) -> Result<(), Fail> {
-    for &(words, sizes, disks, want) in TEXTS {
-        let text = scene(rt.alloc(), sizes, 8, 5, disks)?;
-        let (sink, status) = output(rt.alloc(), words, text.as_bytes())?;
-        assert_eq!(rt; status, Status::Done, "{want}");
-        assert_eq!(rt; sink.bytes(), want.as_bytes());
+    for row in TEXTS {
+        assert!(rt; is_written(rt.alloc(), row)?, "{}", row.3);
     }
     Ok(())
 }
 
+fn is_written(alloc: Global, &(words, sizes, disks, want): &TextRow) -> Result<bool, AllocError> {
+    let text = scene(alloc, sizes, 8, 5, disks)?;
+    answers(alloc, words, text.as_str(), Status::Done, want)
+}
+
 // What stands before the limits of a scene, its end, and its disks.
-const SCENES: &[(&str, u32, &str)] = &[
+type SceneRow = (&'static str, u32, &'static str);
+
+const SCENES: &[SceneRow] = &[
     (USUAL, 5, PAIR),
     (USUAL, 5, ""),
     (LONG, 40, FOUR_IN_A_ROW),
@@ -64,12 +78,15 @@ const SCENES: &[(&str, u32, &str)] = &[
 
 #[test]
 fn reads_a_canonical_text_back_as_the_same_scene(rt: HostRuntime) -> Result<(), Fail> {
-    for &(sizes, end, disks) in SCENES {
-        let text = scene(rt.alloc(), sizes, 8, end, disks)?;
-        let (first, _) = output(rt.alloc(), CHECK, text.as_bytes())?;
-        let (second, status) = output(rt.alloc(), CHECK, first.bytes())?;
-        assert_eq!(rt; status, Status::Done, "{disks}");
-        assert_eq!(rt; first.bytes(), second.bytes(), "{disks}");
+    for row in SCENES {
+        assert!(rt; is_read_back(rt.alloc(), row)?, "{}", row.2);
     }
     Ok(())
+}
+
+fn is_read_back(alloc: Global, &(sizes, end, disks): &SceneRow) -> Result<bool, AllocError> {
+    let text = scene(alloc, sizes, 8, end, disks)?;
+    let (first, _) = output(alloc, CHECK, text.as_bytes())?;
+    let (second, status) = output(alloc, CHECK, first.bytes())?;
+    Ok(status == Status::Done && first.bytes() == second.bytes())
 }
