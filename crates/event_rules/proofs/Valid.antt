@@ -1,6 +1,7 @@
 -- The records that an event makes are valid.
 use Rattle.std.proofs.Common.{◌≡◌, ◌≢◌, ℕ, ◌<◌, ◌≤◌, max, Bool, true, false, ap, sym, ◌∙◌, subst, refl, arith, Option, Some, None}
-use Rattle.std.specs.Prelude.{◌&&◌}
+use Rattle.std.specs.Prelude.{◌&&◌, Ok, Err}
+use Rattle.std.proofs.lemmas.Bool.Decides.{nat_tests}
 use Rattle.std.specs.Option.{ForSome}
 use Rattle.plane_vectors.specs.declared.Vector.{Vector}
 use Rattle.fixed_motion.specs.declared.rules.Rules.{Rules}
@@ -8,8 +9,9 @@ use Rattle.fixed_motion.specs.declared.disk.Disk.{Disk}
 use Rattle.fixed_motion.specs.Motion.{IsInside, IsValidDisk, IsSlow, is_slow, place_of, velocity_of, mark_at}
 use Rattle.event_stamps.specs.declared.Stamp.{Stamp}
 use Rattle.event_rules.specs.declared.change.Change.{Change}
+use Rattle.event_rules.specs.declared.change.Limit.TheVariants.{Rounds, Speed}
 use Rattle.event_rules.specs.Events.{IsEventOf}
-use Rattle.event_rules.specs.Effect.{change_of, keeps_speed, is_slow_disk, bounced, moved, turned, pushed, pushed_back, impulse_at, KeepsValid}
+use Rattle.event_rules.specs.Effect.{applied, change_of, keeps_speed, is_slow_disk, bounced, moved, turned, pushed, pushed_back, impulse_at, KeepsValid}
 
 both_true : (p q : Bool) → (p && q) ≡ true → (p ≡ true) × (q ≡ true)
 both_true true true h = (refl, refl)
@@ -66,3 +68,24 @@ pub within_valid : (rules : Rules) (s : Stamp) (a : Disk) (b : Option Disk) (c :
 within_valid rules s a b c slow ha hb event own other test h =
     subst (KeepsValid rules) (sym own)
     (change_valid rules s a b ha hb event other (ap (keeps_speed rules) (sym own) ∙ sym test ∙ h))
+
+-- ---- what the event comes to by the tests
+pub applied_last : (rules : Rules) (s : Stamp) (a : Disk) (b : Option Disk) →
+    s.round ≡ rules.round_limit → applied rules s a b ≡ Err (Rounds s)
+applied_last rules s a b last = grind (arith, nat_tests)
+
+pub applied_slow : (rules : Rules) (s : Stamp) (a : Disk) (b : Option Disk) (c : Change)
+    (slow : Bool) → c ≡ change_of s a b → s.round ≢ rules.round_limit → slow ≡ keeps_speed rules c →
+    slow ≡ true → applied rules s a b ≡ Ok c
+applied_slow rules s a b c slow own other test h =
+    let passed : keeps_speed rules (change_of s a b) ≡ true =
+    ap (keeps_speed rules) (sym own) ∙ sym test ∙ h in
+    grind (arith, nat_tests)
+
+pub applied_fast : (rules : Rules) (s : Stamp) (a : Disk) (b : Option Disk) (c : Change)
+    (slow : Bool) → c ≡ change_of s a b → s.round ≢ rules.round_limit → slow ≡ keeps_speed rules c →
+    slow ≡ false → applied rules s a b ≡ Err (Speed s)
+applied_fast rules s a b c slow own other test h =
+    let failed : keeps_speed rules (change_of s a b) ≡ false =
+    ap (keeps_speed rules) (sym own) ∙ sym test ∙ h in
+    grind (arith, nat_tests)

@@ -2,6 +2,7 @@
 use Rattle.std.proofs.Common.{◌≡◌, true, sym, subst, ◌∙◌}
 use Rattle.plane_vectors.specs.declared.Vector.{Vector}
 use Rattle.fixed_motion.specs.Motion.{IsInside}
+use Rattle.event_rules.proofs.Effects.{velocity_size}
 use Rattle.event_rules.proofs.Together.{ord_max_is}
 use Rattle.event_rules.proofs.Separations.{place_size, separated, never_outside}
 use Rattle.event_rules.proofs.predict.separate.Goals as goal
@@ -15,6 +16,15 @@ pub minus-requires-clause-other : goal.minus-requires-clause-other
 minus-requires-clause-other c =
     place_size c.args.rules.now c.args.b.now c.centre_at-q.result c.requires.checked c.requires.second_valid
     (c.is_inside-then-is_inside.ensures.fact.0 c.if-is_inside-2.true)
+
+pub minus-requires-then-is_inside-2-clause-own : goal.minus-requires-then-is_inside-2-clause-own
+minus-requires-then-is_inside-2-clause-own c =
+    velocity_size c.args.rules.now c.args.a.now c.velocity.result c.requires.checked c.requires.first_valid c.velocity.ensures
+
+pub minus-requires-then-is_inside-2-clause-other : goal.minus-requires-then-is_inside-2-clause-other
+minus-requires-then-is_inside-2-clause-other c =
+    velocity_size c.args.rules.now c.args.b.now c.velocity-then-is_inside-2.result c.requires.checked c.requires.second_valid
+    c.velocity-then-is_inside-2.ensures
 
 pub returns-then-is_inside-2 : goal.returns-then-is_inside-2
 returns-then-is_inside-2 c =
