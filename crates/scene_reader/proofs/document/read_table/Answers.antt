@@ -1,5 +1,5 @@
 -- Disks that passed the tests make a valid scene.
-use Rattle.std.proofs.Common.{sym, ap, ◌∙◌}
+use Rattle.std.proofs.Common.{sym, ap, ◌∙◌, rules}
 use Rattle.toml.specs.View.{items_view}
 use Rattle.scene_reader.specs.Disks.{disks_pass}
 use Rattle.scene_reader.specs.Seen.{parts_seen}
@@ -14,3 +14,7 @@ pub new-requires-2 : goal.new-requires-2
 new-requires-2 c =
     let passed = ap (disks_pass c.in_ok-rules.rules) (sym c.as_slice.ensures.value) ∙ sym c.check_disks.ensures ∙ c.in_ok-check_disks.was in
     valid (parts_seen c.in_ok-parts.parts) c.in_ok-rules.rules c.in_ok-every.every c.in_ok-disks.disks.items c.in_ok-rules.ensures.0 (sym c.every_of.ensures ∙ c.in_ok-every.was) c.in_ok-disks.ensures passed
+
+-- That it follows from the steps alone is said here, so that a wrong step is refused as soon as this fails.
+pub returns-in_err-disks : goal.returns-in_err-disks
+returns-in_err-disks c = search rules
