@@ -283,18 +283,38 @@ fn generated(alloc: Global, numbers: &mut Numbers) -> Result<String, AllocError>
     let speed = numbers.next(2, 3);
     let rounds = numbers.next(1, 3);
     let end = numbers.next(0, 40);
-    let mut rows = String::new(alloc);
-    for _ in 0..5 {
-        let (x, y) = (across(numbers, width), across(numbers, height));
-        let (vx, vy) = (numbers.next(-2, 5), numbers.next(-2, 5));
-        let size = numbers.next(1, 2).wrapping_mul(2);
-        if numbers.next(0, 3) > 0 {
-            rows.push_str(format!(in alloc; "[{x}, {y}, {vx}, {vy}, {size}],")?.as_str())?;
-        }
-    }
+    let rows = generated_rows(alloc, numbers, width, height)?;
     format!(in alloc;
         "width = {width}\nheight = {height}\ndiameter = 4\nspeed_limit = {speed}\nround_limit = {rounds}\nend = {end}\ndisks = [{rows}]\n"
     )
+}
+
+fn generated_rows(
+    alloc: Global,
+    numbers: &mut Numbers,
+    width: i64,
+    height: i64,
+) -> Result<String, AllocError> {
+    let mut rows = String::new(alloc);
+    for _ in 0..5 {
+        let row = generated_row(alloc, numbers, width, height)?;
+        if numbers.next(0, 3) > 0 {
+            rows.push_str(row.as_str())?;
+        }
+    }
+    Ok(rows)
+}
+
+fn generated_row(
+    alloc: Global,
+    numbers: &mut Numbers,
+    width: i64,
+    height: i64,
+) -> Result<String, AllocError> {
+    let (x, y) = (across(numbers, width), across(numbers, height));
+    let (vx, vy) = (numbers.next(-2, 5), numbers.next(-2, 5));
+    let size = numbers.next(1, 2).wrapping_mul(2);
+    format!(in alloc; "[{x}, {y}, {vx}, {vy}, {size}],")
 }
 
 // A coordinate at which a disk of the greatest size is inside.
