@@ -15,6 +15,24 @@ new-requires-2 c =
     let passed = ap (disks_pass c.in_ok-rules.rules) (sym c.as_slice.ensures.value) ∙ sym c.check_disks.ensures ∙ c.in_ok-check_disks.was in
     valid (parts_seen c.in_ok-parts.parts) c.in_ok-rules.rules c.in_ok-every.every c.in_ok-disks.disks.items c.in_ok-rules.ensures.0 (sym c.every_of.ensures ∙ c.in_ok-every.was) c.in_ok-disks.ensures passed
 
--- That it follows from the steps alone is said here, so that a wrong step is refused as soon as this fails.
+-- These follow from the steps alone. That is said here, so that a wrong step is refused as soon as this fails.
+pub returns-in_err-values : goal.returns-in_err-values
+returns-in_err-values c = search rules
+
+pub returns-in_err-parts : goal.returns-in_err-parts
+returns-in_err-parts c = search rules
+
+pub returns-in_err-rules : goal.returns-in_err-rules
+returns-in_err-rules c = search rules
+
+pub returns-in_err-every : goal.returns-in_err-every
+returns-in_err-every c = search rules
+
 pub returns-in_err-disks : goal.returns-in_err-disks
 returns-in_err-disks c = search rules
+
+pub returns-in_err-check_disks : goal.returns-in_err-check_disks
+returns-in_err-check_disks c = search rules
+
+pub returns : goal.returns
+returns c = search rules
