@@ -26,7 +26,7 @@ use Rattle.region_view.specs.declared.action.Action.TheVariants.{Cross, Hit}
 use Rattle.region_view.specs.Acting.{stamp_of, action_of, partner_in, disk_in}
 use Rattle.region_view.specs.Events.{IsEventBy}
 use Rattle.region_view.specs.Placing.{IsNearPair}
-use Rattle.region_view.proofs.Rows.{no_row}
+use Rattle.region_view.proofs.Seen.{no_row}
 use Rattle.cell_sequence.specs.Run.{disks_of, acted, IsStateCandidate, CellSteps}
 use Rattle.cell_sequence.specs.State.{CellStateData, IsCellState, last_stamp, start_of, followed}
 use Rattle.cell_sequence.specs.State.{HasRows, HasNext, IsCandidateOf, IsNextOf, ComesTo, AreInBox}

@@ -11,7 +11,7 @@ use Rattle.cell_grid.proofs.Owners.{each_cell_has_one_owner, reach_is_beside_own
 use Rattle.region_view.specs.declared.action.Placed.{Placed}
 use Rattle.region_view.specs.Placing.{Placing, IsCellCandidate, IsHome}
 use Rattle.region_view.specs.Acting.{action_of, partner_in, disk_in}
-use Rattle.region_view.specs.Views.{Rows, rows_in, IsViewOf}
+use Rattle.region_view.specs.Views.{ViewData, rows_in, IsViewOf}
 use Rattle.region_view.specs.Laws.{HasCells, EachEventHasOneHome, NativesAreHome, NativesActAlike}
 
 row_of : (rules : Rules) (grid : GridData) (at : Placing) (s : Stamp) →
@@ -41,7 +41,7 @@ beside_reach grid k own cell sizes region first second owns near =
     (reach_is_beside_own grid k cell sizes region second).1 (own, first, owns, near)
 
 -- ---- from the view to the state
-to_state : (rules : Rules) (grid : GridData) (k : ℕ) (at : Placing) (view : Rows) (s : Stamp) →
+to_state : (rules : Rules) (grid : GridData) (k : ℕ) (at : Placing) (view : ViewData) (s : Stamp) →
     IsViewOf grid k at view → IsCellCandidate rules grid (rows_in view) s →
     IsCellCandidate rules grid at s
 to_state rules grid k at view s is h = elim h [
@@ -60,11 +60,11 @@ to_state rules grid k at view s is h = elim h [
 ]
 
 -- ---- from the state to the view
-in_view : (grid : GridData) (k : ℕ) (at : Placing) (view : Rows) (i : ℕ) (p : Placed) →
+in_view : (grid : GridData) (k : ℕ) (at : Placing) (view : ViewData) (i : ℕ) (p : Placed) →
     IsViewOf grid k at view → at i ≡ Some p → Reaches grid k p.cell → rows_in view i ≡ Some p
 in_view grid k at view i p is row reach = (is i p).1 (row, reach)
 
-to_view : (rules : Rules) (grid : GridData) (k : ℕ) (at : Placing) (view : Rows) (s : Stamp) →
+to_view : (rules : Rules) (grid : GridData) (k : ℕ) (at : Placing) (view : ViewData) (s : Stamp) →
     HasSizes grid → IsRegion grid k → HasCells grid at →
     IsViewOf grid k at view → IsHome grid at k s → IsCellCandidate rules grid at s →
     IsCellCandidate rules grid (rows_in view) s
@@ -110,7 +110,7 @@ natives_are_home rules grid k at view s sizes region cells is = (
 )
 
 -- the partner of an event at home is seen
-partner_seen : (rules : Rules) (grid : GridData) (k : ℕ) (at : Placing) (view : Rows) (s : Stamp) →
+partner_seen : (rules : Rules) (grid : GridData) (k : ℕ) (at : Placing) (view : ViewData) (s : Stamp) →
     HasSizes grid → IsRegion grid k → HasCells grid at →
     IsViewOf grid k at view → IsHome grid at k s → IsCellCandidate rules grid at s →
     partner_in s.kind (rows_in view) s.second ≡ partner_in s.kind at s.second

@@ -1,3 +1,7 @@
+pub mod After
 mod First
 pub mod Homes
-pub mod Rows
+pub mod Puts
+pub mod Seen
+pub mod Told
+pub mod ValidRows

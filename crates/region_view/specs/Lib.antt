@@ -2,4 +2,6 @@ pub mod Events
 pub mod Placing
 pub mod Acting
 pub mod Views
+pub mod Setting
+pub mod Messages
 pub mod Laws

@@ -7,25 +7,25 @@ use Rattle.region_view.specs.declared.action.Placed.{Placed}
 use Rattle.region_view.specs.Placing.{Placing}
 
 -- what a view is seen as: placed disks by number
-abbrev pub Rows : Type 0
-Rows = map.FinMap nat_cmp Placed
+abbrev pub ViewData : Type 0
+ViewData = map.FinMap nat_cmp Placed
 
-abbrev pub rows_in : Rows → Placing
+abbrev pub rows_in : ViewData → Placing
 rows_in view = map.get view
 
 -- the view of a region: exactly the disks whose recorded cells are in its reach
-abbrev pub IsViewOf : GridData → ℕ → Placing → Rows → Type 0
+abbrev pub IsViewOf : GridData → ℕ → Placing → ViewData → Type 0
 IsViewOf grid region at view = (i : ℕ) (p : Placed) →
     (map.get view i ≡ Some p) ↔ ((at i ≡ Some p) × Reaches grid region p.cell)
 
 -- the same of the disks below a number
-abbrev pub IsViewBelow : GridData → ℕ → Placing → ℕ → Rows → Type 0
+abbrev pub IsViewBelow : GridData → ℕ → Placing → ℕ → ViewData → Type 0
 IsViewBelow grid region at n view =
     (i : ℕ) (p : Placed) → (map.get view i ≡ Some p) ↔
     ((at i ≡ Some p) × Reaches grid region p.cell × (i < n))
 
 -- the row of the least number from this one on, where there is one
-abbrev pub IsNextRow : Rows → ℕ → Option (ℕ × Placed) → Type 0
+abbrev pub IsNextRow : ViewData → ℕ → Option (ℕ × Placed) → Type 0
 IsNextRow view from None = (i : ℕ) → from ≤ i → map.get view i ≡ None
 IsNextRow view from (Some row) =
     (from ≤ row.0) × (map.get view row.0 ≡ Some row.1)

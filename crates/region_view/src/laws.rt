@@ -1,6 +1,7 @@
-//! Laws of events and their homes, for those who read the definitions alone.
+//! Laws of events and their homes, and of rows that are set and told, for those who read the definitions
+//! alone.
 
-ghost use Rattle.region_view.specs.Laws.{EachEventHasOneHome, NativesAreHome, NativesActAlike};
+ghost use Rattle.region_view.specs.Laws.{EachEventHasOneHome, NativesAreHome, NativesActAlike, SetRowsArePutOver, SwapIsUndone, SettingKeepsValid, ActionsHaveRows, ActionsAreValid, MessagesAreFaithful, HomeSees, ToldSees};
 
 /// Each event of placed disks has exactly one home.
 pub fn each_event_has_one_home()
@@ -15,4 +16,45 @@ pub fn natives_are_home()
 /// Such an event comes to the same in the view and in the state.
 pub fn natives_act_alike()
     ensures { NativesActAlike }
+{}
+
+/// Looking up after rows are set is looking up with the rows put over: a later row of a number wins.
+pub fn set_rows_are_put_over()
+    ensures { SetRowsArePutOver }
+{}
+
+/// What stood at the numbers of some rows undoes the setting of these.
+pub fn swap_is_undone()
+    ensures { SwapIsUndone }
+{}
+
+/// Valid rows leave a valid view valid.
+pub fn setting_keeps_valid()
+    ensures { SettingKeepsValid }
+{}
+
+/// An action sets at most two rows, the lesser number first.
+pub fn actions_have_rows()
+    ensures { ActionsHaveRows }
+{}
+
+/// What an event of valid placed disks comes to sets valid rows, also where disks overlap.
+pub fn actions_are_valid()
+    ensures { ActionsAreValid }
+{}
+
+/// The rows of a message are in order, and valid, where those of its action are.
+pub fn messages_are_faithful()
+    ensures { MessagesAreFaithful }
+{}
+
+/// A region that reaches all disks that an action changes sees what becomes of them.
+pub fn home_sees()
+    ensures { HomeSees }
+{}
+
+/// A region that is told what it is to be told sees the state after the action, and so does one that is
+/// told nothing.
+pub fn told_sees()
+    ensures { ToldSees }
 {}

@@ -1,6 +1,6 @@
 //! What a region sees of a state.
 
-use crate::Placed;
+use crate::{Action, Message, Placed, Rows, rows_of};
 use std::collections::BTreeMap;
 use std::marker::Model;
 
@@ -24,11 +24,12 @@ impl Model for View {
     ghost view = { λ v. map.from_entries v.rows.entries };
 }
 
-ghost use Rattle.std.specs.Prelude.{◌≡◌, ◌≤◌, length, slice_get, option_copied, option_map, IfOk, OnOk};
+ghost use Rattle.std.specs.Prelude.{◌≡◌, ◌≢◌, ◌<◌, ◌≤◌, [], ◌∷◌, length, slice_get, option_copied, option_map, IsSome, IsNone, IfOk, OnOk, OnErr};
 ghost use Rattle.std.specs.FinMap as map;
 ghost use Rattle.cell_grid.specs.Grid.{IsRegion};
 ghost use Rattle.region_view.specs.Laws.{HasCells};
-ghost use Rattle.region_view.specs.Views.{IsNextRow, IsViewOf, IsViewBelow};
+ghost use Rattle.region_view.specs.Views.{rows_in, IsNextRow, IsViewOf, IsViewBelow};
+ghost use Rattle.region_view.specs.Setting.{put, set_rows, rows_at, after_action, IsInOrder};
 
 use cell_grid::Grid;
 use std::alloc::{AllocError, Global};
@@ -50,6 +51,64 @@ impl View {
         Some((disk, row))
     }
 
+    /// A copy.
+    ///
+    /// # Errors
+    /// Out of memory.
+    pub fn copy(&self, alloc: Global) -> Result<View, AllocError>
+        ensures { IfOk result (λ view. view ≡ self.now) }
+    {
+        let rows = self
+            .rows
+            .iter()
+            .map(|(disk, row)| (*disk, *row))
+            .collect(alloc)?;
+        Ok(View { rows })
+    }
+
+    /// Sets these rows, and takes away what stands at the numbers of those that have no disk. Afterwards
+    /// `rows` holds what stood at these numbers before. Only a disk that had no row takes memory.
+    ///
+    /// # Errors
+    /// Out of memory: the view and the rows stay as they are.
+    pub fn swap(&mut self, rows: &mut Rows) -> Result<(), AllocError>
+        ensures view { OnOk result (self.new ≡ set_rows self.old rows.old) }
+        ensures rows { OnOk result (rows.new ≡ rows_at (rows_in self.old) rows.old) }
+        ensures unchanged { OnErr result ((self.new ≡ self.old) × (rows.new ≡ rows.old)) }
+    {
+        *rows = match rows.as_slice() {
+            [] => Rows::none(),
+            [(disk, row)] => Rows::one((*disk, self.replace(*disk, *row)?)),
+            [first, second, ..] => self.replace_both(*first, *second)?,
+        };
+        Ok(())
+    }
+
+    /// Sets the rows of a message.
+    ///
+    /// # Errors
+    /// Out of memory: the view stays as it is.
+    pub fn take_in(&mut self, message: &Message) -> Result<(), AllocError>
+        ensures taken { OnOk result (self.new ≡ set_rows self.old message.now.rows) }
+        ensures unchanged { OnErr result (self.new ≡ self.old) }
+    {
+        let mut rows = message.rows;
+        self.swap(&mut rows)
+    }
+
+    /// Sets the rows of an action.
+    ///
+    /// # Errors
+    /// Out of memory: the view stays as it is.
+    pub fn act(&mut self, action: &Action) -> Result<(), AllocError>
+        requires order { IsInOrder action.now }
+        ensures acted { OnOk result (self.new ≡ after_action self.old action.now) }
+        ensures unchanged { OnErr result (self.new ≡ self.old) }
+    {
+        let mut rows = rows_of(self, action);
+        self.swap(&mut rows)
+    }
+
     fn new(alloc: Global) -> View
         ensures { result ≡ map.empty }
     {
@@ -58,12 +117,79 @@ impl View {
         }
     }
 
-    // Sets the row of a disk.
-    fn put(&mut self, disk: u32, row: Placed) -> Result<(), AllocError>
-        ensures { OnOk result (self.new ≡ map.insert self.old disk row) }
+    // Sets the rows of two disks, or none, and answers what stood there.
+    fn replace_both(
+        &mut self,
+        first: (u32, Option<Placed>),
+        second: (u32, Option<Placed>),
+    ) -> Result<Rows, AllocError>
+        requires order { first.0 < second.0 }
+        ensures view { OnOk result (self.new ≡ set_rows self.old (first ∷ second ∷ [])) }
+        ensures rows { IfOk result
+            (λ rows. rows ≡ rows_at (rows_in self.old) (first ∷ second ∷ [])) }
+        ensures unchanged { OnErr result (self.new ≡ self.old) }
     {
-        self.rows.insert(disk, row)?;
-        Ok(())
+        // What is taken away comes last, since it would take memory to put it back.
+        if first.1.is_none() {
+            let (after, before) = self.replace_in_turn(second, first)?;
+            Ok(Rows::two((first.0, before), (second.0, after)))
+        } else {
+            let (before, after) = self.replace_in_turn(first, second)?;
+            Ok(Rows::two((first.0, before), (second.0, after)))
+        }
+    }
+
+    // Sets the rows of two disks in this order, or none, and answers what stood there.
+    fn replace_in_turn(
+        &mut self,
+        first: (u32, Option<Placed>),
+        second: (u32, Option<Placed>),
+    ) -> Result<(Option<Placed>, Option<Placed>), AllocError>
+        requires apart { first.0 ≢ second.0 }
+        requires taken_last { IsSome second.1 → IsSome first.1 }
+        ensures view { OnOk result (self.new ≡ set_rows self.old (first ∷ second ∷ [])) }
+        ensures rows { IfOk result
+            (λ before. before ≡ (map.get self.old first.0, map.get self.old second.0)) }
+        ensures unchanged { OnErr result (self.new ≡ self.old) }
+    {
+        let before = self.replace(first.0, first.1)?;
+        match self.replace(second.0, second.1) {
+            Ok(after) => Ok((before, after)),
+            Err(e) => {
+                self.put_back(first.0, before);
+                Err(e)
+            }
+        }
+    }
+
+    // Sets the row of a disk, and answers what stood there. Only a new row takes memory.
+    fn replace(&mut self, disk: u32, row: Option<Placed>) -> Result<Option<Placed>, AllocError>
+        ensures view { OnOk result (self.new ≡ put self.old disk row) }
+        ensures before { IfOk result (λ before. before ≡ map.get self.old disk) }
+        ensures unchanged { OnErr result (self.new ≡ self.old) }
+        ensures only_new { OnErr result (IsSome row × IsNone (map.get self.old disk)) }
+    {
+        match row {
+            Some(placed) => Ok(self.rows.insert(disk, placed)?),
+            None => Ok(self.rows.remove(&disk)),
+        }
+    }
+
+    // Sets the row of a disk that has one, or takes it away.
+    fn put_back(&mut self, disk: u32, row: Option<Placed>)
+        requires present { IsSome (map.get self.old disk) }
+        ensures { self.new ≡ put self.old disk row }
+    {
+        match row {
+            Some(placed) => {
+                if let Some(place) = self.rows.get_mut(&disk) {
+                    *place = placed;
+                }
+            }
+            None => {
+                self.rows.remove(&disk);
+            }
+        }
     }
 }
 
@@ -85,7 +211,7 @@ pub fn opening(
     let mut view = View::new(alloc);
     for (i, row) in placed.iter().enumerate() {
         if grid.in_reach(region, row.cell) {
-            view.put(i as u32, *row)?;
+            view.replace(i as u32, Some(*row))?;
         }
     }
     Ok(view)

@@ -4,7 +4,7 @@ use Rattle.std.specs.Prelude.{MatchOption}
 use Rattle.event_stamps.specs.Least.{HasNone, IsOnly, IsLeastOf}
 use Rattle.region_view.specs.declared.action.Placed.{Placed}
 use Rattle.region_view.specs.Events.{IsNear}
-use Rattle.region_view.proofs.Rows.{no_row, row_at}
+use Rattle.region_view.proofs.Seen.{no_row, row_at}
 use Rattle.cell_sequence.specs.Search.{IsNearBelow}
 use Rattle.cell_sequence.proofs.Found.{none_near, one_more_near}
 use Rattle.cell_sequence.proofs.search.first_near.Goals as goal

@@ -1,6 +1,6 @@
 use Rattle.std.proofs.Common.{get_or, sym, subst}
 use Rattle.event_stamps.specs.Least.{IsLeastOf}
-use Rattle.region_view.proofs.Rows.{no_row, row_at}
+use Rattle.region_view.proofs.Seen.{no_row, row_at}
 use Rattle.cell_sequence.specs.Run.{IsStateCandidate}
 use Rattle.cell_sequence.specs.Search.{IsFirstOf}
 use Rattle.cell_sequence.proofs.Found.{own_events}

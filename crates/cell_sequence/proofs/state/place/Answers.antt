@@ -2,7 +2,7 @@ use Rattle.std.proofs.Common.{get_or, sym, subst}
 use Rattle.fixed_motion.specs.declared.disk.Disk.{Disk}
 use Rattle.fixed_motion.specs.Motion.{IsInBox, centre_of}
 use Rattle.fixed_motion.proofs.Sizes.{in_box_sent}
-use Rattle.region_view.proofs.Rows.{no_row}
+use Rattle.region_view.proofs.Seen.{no_row}
 use Rattle.cell_sequence.proofs.Followed.{disk_read}
 use Rattle.cell_sequence.proofs.state.place.Goals as goal
 

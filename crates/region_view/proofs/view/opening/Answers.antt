@@ -1,8 +1,8 @@
 use Rattle.std.proofs.Common.{slice_get, get_or, ◌+◌, sym, ◌∙◌, subst}
 use Rattle.region_view.specs.Views.{IsViewBelow}
-use Rattle.region_view.proofs.Rows.{none_yet, one_seen, one_unseen, all_seen, no_row, row_at}
+use Rattle.region_view.proofs.Seen.{none_yet, one_seen, one_unseen, all_seen, no_row, row_at}
 use Rattle.region_view.proofs.view.opening.Goals as goal
-use Rattle.region_view.proofs.view.opening.Goals.{then-in_reach+in_ok-put, else-in_reach}
+use Rattle.region_view.proofs.view.opening.Goals.{then-in_reach+in_ok-replace, else-in_reach}
 
 pub loop-i-init : goal.loop-i-init
 loop-i-init c =
@@ -22,9 +22,9 @@ loop-i-preserved c =
     let row = row_at c.args.placed.now i c.loop-i-test.true in
     let p = get_or c.args.placed.now i no_row in
     elim c.if-in_reach.branch [
-      | then-in_reach+in_ok-put w ↦
+      | then-in_reach+in_ok-replace w ↦
           subst (IsViewBelow c.args.grid.now c.args.region at (i + 1))
-          (sym (w.view-is ∙ w.in_ok-put.ensures))
+          (sym (w.view-is ∙ w.in_ok-replace.ensures.view))
           (one_seen c.args.grid.now c.args.region i at p c.loop-i.view row
           (c.in_reach.ensures.0 w.if-in_reach.true) c.loop-i.invariant)
       | else-in_reach w ↦ subst (IsViewBelow c.args.grid.now c.args.region at (i + 1))
