@@ -1,5 +1,5 @@
 -- The lemmas of the crate.
-mod Blocks
+pub mod Blocks
 mod Chaining
 pub mod Firsts
 mod Listed

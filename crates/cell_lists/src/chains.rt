@@ -104,6 +104,13 @@ impl Chains {
         self.cells[disk as usize] = None;
     }
 
+    // The cell in which a disk is listed.
+    pub fn cell_of(&self, disk: u32) -> Option<u32>
+        ensures { result ≡ at self.now.cells disk }
+    {
+        *self.cells.get(disk as usize)?
+    }
+
     // The least disk listed in a cell.
     pub fn first_in(&self, cell: u32) -> Option<u32>
         ensures { IsFirstOf (IsIn self.now.cells cell) 0 result }

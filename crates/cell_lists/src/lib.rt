@@ -6,4 +6,4 @@ mod lists;
 mod near;
 
 pub use lists::Lists;
-pub use near::Ids;
+pub use near::{Block, Ids, block_around};

@@ -28,7 +28,7 @@ impl Model for Lists {
     ghost invariant = { λ a. AreCells a.grid a.chains.cells };
 }
 
-ghost use Rattle.std.specs.Prelude.{◌≡◌, ◌+◌, OnOk, OnErr, IfOk};
+ghost use Rattle.std.specs.Prelude.{◌≡◌, ◌+◌, OnOk, OnErr, IfOk, IfSome};
 ghost use Rattle.std.specs.FinMap as map;
 ghost use Rattle.cell_grid.specs.Grid.{IsCell};
 ghost use Rattle.cell_lists.specs.Listing.{lists_of, IsListed, IsFree, IsFirstIn, with_disk, without_disk};
@@ -69,6 +69,14 @@ impl Lists {
         ensures { self.new ≡ without_disk self.old disk }
     {
         self.chains.take(disk, cell);
+    }
+
+    /// The cell in which a disk is listed; none where it isn't listed.
+    pub fn cell_of(&self, disk: u32) -> Option<u32>
+        ensures value { result ≡ map.get self.now.cells disk }
+        ensures cell { IfSome result (IsCell self.now.grid) }
+    {
+        self.chains.cell_of(disk)
     }
 
     /// The least disk that is listed in a cell.

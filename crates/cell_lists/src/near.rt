@@ -35,13 +35,17 @@ impl Ids {
     }
 }
 
-// The cells in columns from `left` on, below `right`, and in rows from `low` on, below `high`.
+/// The cells in columns from `left` on, below `right`, and in rows from `low` on, below `high`.
 #[derive(Clone, Copy)]
-struct Block {
-    left: u32,
-    right: u32,
-    low: u32,
-    high: u32,
+pub struct Block {
+    /// The first column.
+    pub left: u32,
+    /// One past the last column.
+    pub right: u32,
+    /// The first row.
+    pub low: u32,
+    /// One past the last row.
+    pub high: u32,
 }
 
 // A walk through the disks of a cell, from the next one on.
@@ -138,8 +142,8 @@ fn least_next(walks: &[Walk]) -> Option<u32>
     least
 }
 
-// The cells adjacent to one.
-fn block_around(grid: &Grid, cell: u32) -> Block
+/// The cells adjacent to one of the grid, and this cell itself.
+pub fn block_around(grid: &Grid, cell: u32) -> Block
     requires { IsCell grid.now cell }
     ensures block { IsBlock grid.now result }
     ensures around { (other : ℕ) → IsCell grid.now other → (IsAdjacent grid.now cell other ↔ IsWithin grid.now result other) }
