@@ -1,0 +1,106 @@
+-- Loops that take what is kept of each disk again.
+use Rattle.std.proofs.Common.{◌≡◌, ◌≢◌, ◌⊎◌, inl, inr, ℕ, ◌<◌, List, [], ◌∷◌, ◌++◌, length, take, ◌≤◌, arith, refl, sym, subst, ap, ◌∙◌, true, false, cond}
+use Rattle.std.specs.Prelude.{Some, None, option_map}
+use Rattle.std.specs.List.{Contains}
+use Rattle.std.specs.Ordering.{nat_cmp, eq_by_cmp}
+use Rattle.std.specs.Cmp.{nat_cmp_total}
+use Rattle.std.specs.FinMap as map
+use Rattle.std.proofs.lemmas.Bool.{cases_eq}
+use Rattle.std.proofs.lemmas.Grind.{common_steps}
+use Rattle.std.proofs.lemmas.List.Elements.{Contains-push_cases, Contains-append_right, Contains-append_cases}
+use Rattle.event_tree.specs.Keys.{Key, IsSetAt, key_at}
+use Rattle.cell_lists.specs.Listing.{ListsData, with_disk, without_disk}
+use Rattle.region_view.specs.declared.action.Placed.{Placed}
+use Rattle.region_view.specs.Views.{ViewData, rows_in}
+use Rattle.region_queue.specs.declared.finder.Finder.{Finder}
+use Rattle.region_queue.specs.Finding.{Cells, cell_in, IsTakenOff, IsRelisted, AreRelisted, IsBest, AreRetaken}
+
+pub none_among : (i : ℕ) → ¬ Contains {X = ℕ} [] i
+none_among i h = let lt = h.1 in absurd (omega arith)
+
+pub among_or_not : (xs : List ℕ) (i : ℕ) → Contains xs i ⊎ ¬ Contains xs i
+among_or_not [] i = inr (none_among i)
+among_or_not (x ∷ xs) i = elim (cases_eq x i) [
+  | inl same ↦ inl (subst (λ (n : ℕ). Contains (x ∷ xs) n) same (0, first x xs, refl))
+  | inr other ↦ elim (among_or_not xs i) [
+    | inl later ↦ inl (Contains-append_right (x ∷ []) xs i later)
+    | inr none ↦ inr (λ h. elim (Contains-append_cases (x ∷ []) xs i h) [
+      | inl here ↦ elim (Contains-push_cases [] x i here) [ inl never ↦ none_among i never | inr same ↦ other same ]
+      | inr later ↦ none later
+    ])
+  ]
+]
+  where
+    first : (x : ℕ) (xs : List ℕ) → 0 < length (x ∷ xs)
+    first x xs = omega arith
+
+pub take_whole : (xs : List ℕ) (n : ℕ) → length xs ≤ n → take n xs ≡ xs
+take_whole xs n le = grind (arith, common_steps)
+
+-- ---- one more disk
+-- of the disks so far P holds, and each other one is as it was, or P holds of it too
+pub again_more : {A : Type 0} (P : ℕ → A → Type 0) (done : List ℕ) (id : ℕ) (old mid new : ℕ → A) →
+    ((i : ℕ) → P i (mid i) ⊎ ((mid i ≡ old i) × ¬ Contains done i)) → P id (new id) →
+    ((i : ℕ) → i ≢ id → new i ≡ mid i) →
+    (i : ℕ) → P i (new i) ⊎ ((new i ≡ old i) × ¬ Contains (done ++ id ∷ []) i)
+again_more {A} P done id old mid new before here others i = elim (cases_eq i id) [
+  | inl same ↦ inl (subst (λ (n : ℕ). P n (new n)) (sym same) here)
+  | inr ne ↦ elim (before i) [
+    | inl p ↦ inl (subst (λ (x : A). P i x) (sym (others i ne)) p)
+    | inr k ↦ inr (others i ne ∙ k.0, λ h. elim (Contains-push_cases done id i h) [ inl old ↦ k.1 old | inr e ↦ ne (sym e) ])
+  ]
+]
+
+pub again_none : {A : Type 0} (P : ℕ → A → Type 0) (old : ℕ → A) (i : ℕ) →
+    P i (old i) ⊎ ((old i ≡ old i) × ¬ Contains [] i)
+again_none P old i = inr (refl, none_among i)
+
+pub relisted_more : (view : ViewData) (done : List ℕ) (disk : ℕ) (old mid new : Cells) →
+    AreRelisted view done old mid → IsRelisted view disk mid new → AreRelisted view (done ++ disk ∷ []) old new
+relisted_more view done disk old mid new before is =
+    again_more (λ i o. o ≡ cell_in view i) done disk (map.get old) (map.get mid) (map.get new) before is.listed is.others
+
+pub retaken_more : (finder : Finder) (view : ViewData) (done : List ℕ) (disk : ℕ) (key : Key) (old mid new : List Key) →
+    AreRetaken finder view done old mid → IsSetAt disk key mid new → IsBest finder view disk key →
+    AreRetaken finder view (done ++ disk ∷ []) old new
+retaken_more finder view done disk key old mid new before is best =
+    again_more (IsBest finder view) done disk (key_at old) (key_at mid) (key_at new) before
+    (subst (IsBest finder view disk) (sym is.set) best) is.others
+
+-- ---- one disk
+tied : (q : ℕ) → eq_by_cmp nat_cmp q q ≡ true
+tied q = grind arith
+
+untied : (q n : ℕ) → q ≢ n → eq_by_cmp nat_cmp q n ≡ false
+untied q n ne = grind arith
+
+pub get_put : (cells : Cells) (disk cell : ℕ) → map.get (map.insert cells disk cell) disk ≡ Some cell
+get_put cells disk cell = map.get-insert nat_cmp_total cells disk cell disk ∙ ap (λ b. cond b (Some cell) (map.get cells disk)) (tied disk)
+
+pub get_put_other : (cells : Cells) (disk cell other : ℕ) → other ≢ disk → map.get (map.insert cells disk cell) other ≡ map.get cells other
+get_put_other cells disk cell other ne =
+    map.get-insert nat_cmp_total cells disk cell other ∙ ap (λ b. cond b (Some cell) (map.get cells other)) (untied other disk ne)
+
+pub taken_off : (old new : ListsData) (disk : ℕ) → new ≡ without_disk old disk → IsTakenOff disk old new
+taken_off old new disk is = record {
+  grid = ap (λ (l : ListsData). l.grid) is;
+  free = ap (λ (l : ListsData). map.get l.cells disk) is ∙ map.get-remove nat_cmp_total old.cells disk disk
+      ∙ ap (λ b. cond b None (map.get old.cells disk)) (tied disk);
+  others = λ other ne. ap (λ (l : ListsData). map.get l.cells other) is ∙ map.get-remove nat_cmp_total old.cells disk other
+      ∙ ap (λ b. cond b None (map.get old.cells other)) (untied other disk ne);
+}
+
+pub listed_again : (view : ViewData) (disk : ℕ) (row : Placed) (old off new : ListsData) → rows_in view disk ≡ Some row →
+    IsTakenOff disk old off → new ≡ with_disk off disk row.cell → IsRelisted view disk old.cells new.cells
+listed_again view disk row old off new at is put = record {
+  listed = ap (λ (l : ListsData). map.get l.cells disk) put ∙ get_put off.cells disk row.cell
+      ∙ sym (ap (option_map (λ (p : Placed). p.cell)) at);
+  others = λ other ne. ap (λ (l : ListsData). map.get l.cells other) put ∙ get_put_other off.cells disk row.cell other ne ∙ is.others other ne;
+}
+
+pub listed_nowhere : (view : ViewData) (disk : ℕ) (old off : ListsData) → rows_in view disk ≡ None → IsTakenOff disk old off →
+    IsRelisted view disk old.cells off.cells
+listed_nowhere view disk old off at is = record {
+  listed = is.free ∙ sym (ap (option_map (λ (p : Placed). p.cell)) at);
+  others = is.others;
+}

@@ -1,0 +1,293 @@
+-- The native candidates that name a disk: by itself, and with those near it.
+use Rattle.std.proofs.Common.{◌≡◌, ◌⊎◌, ◌↔◌, inl, inr, ℕ, ◌+◌, ◌*◌, ◌<◌, ◌≤◌, arith, refl, sym, subst, ap, ◌∙◌}
+use Rattle.std.specs.Prelude.{Option, Some, None, MatchOption, option_map}
+use Rattle.std.proofs.lemmas.Bool.{cases_lt}
+use Rattle.fixed_motion.specs.declared.rules.Rules.{Rules}
+use Rattle.event_stamps.specs.declared.Stamp.{Stamp}
+use Rattle.event_stamps.specs.declared.Kind.TheVariants.{Cross, Wall, Pair}
+use Rattle.event_stamps.specs.Least.{IsLeastOf, HasNone, IsOnly, earlier_of}
+use Rattle.event_stamps.proofs.Least.{only_least, least_of_either, least_same}
+use Rattle.event_rules.specs.Events.{IsWallEvent, IsPairEvent}
+use Rattle.cell_grid.specs.Grid.{GridData, IsCell, IsAdjacent, Owns}
+use Rattle.cell_grid.specs.Crossing.{IsCrossEvent}
+use Rattle.cell_lists.specs.declared.near.Block.{Block}
+use Rattle.cell_lists.specs.Listing.{ListsData, IsListed, IsFirstIn}
+use Rattle.cell_lists.specs.Nearby.{IsWithin, IsListedWithin, rows_to, columns_to}
+use Rattle.cell_lists.proofs.Blocks.{split_column, wider_column, in_last_column, split_row, join_row}
+use Rattle.region_view.specs.declared.action.Placed.{Placed}
+use Rattle.region_view.specs.Events.{IsAlone, IsNear}
+use Rattle.region_view.specs.Placing.{IsCellCandidate, IsNearPair, IsNative}
+use Rattle.region_view.specs.Views.{ViewData, rows_in}
+use Rattle.region_queue.specs.declared.finder.Finder.{Finder}
+use Rattle.region_queue.specs.Naming.{Names}
+use Rattle.region_queue.specs.Finding.{IsReady, IsFound, IsAloneAt, IsNativeOf, IsNativePair, IsNativeWith, IsBest, AreListed}
+
+pub same_row : (view : ViewData) (i j : ℕ) (p q : Placed) → rows_in view i ≡ Some p → rows_in view j ≡ Some q → i ≡ j → p ≡ q
+same_row view i j p q a b e = let at : Some p ≡ Some q = sym a ∙ ap (rows_in view) e ∙ b in cc
+
+-- ---- kinds
+pub near_pair : (rules : Rules) (grid : GridData) (region : ℕ) (view : ViewData) (s : Stamp) →
+    IsNative rules grid region (rows_in view) s → s.kind ≡ Pair → IsNearPair rules grid (rows_in view) s
+near_pair rules grid region view s native pair = from native.0
+  where
+    from : IsCellCandidate rules grid (rows_in view) s → IsNearPair rules grid (rows_in view) s
+    from (inl cross) =
+        let kind : s.kind ≡ Cross = ap (λ (v : Stamp). v.kind) cross.2.2 in
+        absurd (let no : Cross ≡ Pair = sym kind ∙ pair in cc)
+    from (inr (inl wall)) =
+        let kind : s.kind ≡ Wall = ap (λ (v : Stamp). v.kind) wall.2.2 in
+        absurd (let no : Wall ≡ Pair = sym kind ∙ pair in cc)
+    from (inr (inr near)) = near
+
+pub pair_kind : (rules : Rules) (grid : GridData) (view : ViewData) (s : Stamp) → IsNearPair rules grid (rows_in view) s → s.kind ≡ Pair
+pair_kind rules grid view s near = ap (λ (v : Stamp). v.kind) near.1.2.3.2
+
+by_itself : (s : Stamp) (disk : ℕ) → ¬ (s.kind ≡ Pair) → Names s disk → s.first ≡ disk
+by_itself s disk alone (inl first) = first
+by_itself s disk alone (inr pair) = absurd (alone pair.0)
+
+-- ---- a disk by itself
+pub alone_found : (finder : Finder) (view : ViewData) (disk : ℕ) (p : Placed) (s : Stamp) → rows_in view disk ≡ Some p →
+    IsAloneAt finder disk p s → IsFound finder view s × Names s disk
+alone_found finder view disk p s row h = from h.0
+  where
+    at : s.first ≡ disk → rows_in view s.first ≡ Some p
+    at e = ap (rows_in view) e ∙ row
+
+    from : IsAlone finder.rules finder.grid disk p s → IsFound finder view s × Names s disk
+    from (inl cross) =
+        let e : s.first ≡ disk = ap (λ (v : Stamp). v.first) cross.2 in
+        ((inl (p, at e, subst (λ (n : ℕ). IsCrossEvent finder.rules finder.grid n p.disk p.cell s) (sym e) cross), (p, at e, h.1)), inl e)
+    from (inr wall) =
+        let e : s.first ≡ disk = ap (λ (v : Stamp). v.first) wall.2 in
+        ((inr (inl (p, at e, subst (λ (n : ℕ). IsWallEvent finder.rules n p.disk s.second s) (sym e) wall)), (p, at e, h.1)), inl e)
+
+pub alone_or_pair : (finder : Finder) (view : ViewData) (disk : ℕ) (p : Placed) (s : Stamp) → rows_in view disk ≡ Some p →
+    IsFound finder view s → Names s disk → IsAloneAt finder disk p s ⊎ IsNearPair finder.rules finder.grid (rows_in view) s
+alone_or_pair finder view disk p s row found names = from found.0
+  where
+    owned : s.first ≡ disk → Owns finder.grid finder.region p.cell
+    owned e = subst (λ (q : Placed). Owns finder.grid finder.region q.cell) (same_row view s.first disk found.1.0 p found.1.1 row e) found.1.2
+
+    from : IsCellCandidate finder.rules finder.grid (rows_in view) s →
+        IsAloneAt finder disk p s ⊎ IsNearPair finder.rules finder.grid (rows_in view) s
+    from (inl cross) =
+        let kind : s.kind ≡ Cross = ap (λ (v : Stamp). v.kind) cross.2.2 in
+        let e = by_itself s disk (λ pair. let no : Cross ≡ Pair = sym kind ∙ pair in cc) names in
+        let same = same_row view s.first disk cross.0 p cross.1 row e in
+        inl (
+          inl (subst (λ (q : Placed). IsCrossEvent finder.rules finder.grid disk q.disk q.cell s) same
+              (subst (λ (n : ℕ). IsCrossEvent finder.rules finder.grid n cross.0.disk cross.0.cell s) e cross.2)),
+          owned e,
+        )
+    from (inr (inl wall)) =
+        let kind : s.kind ≡ Wall = ap (λ (v : Stamp). v.kind) wall.2.2 in
+        let e = by_itself s disk (λ pair. let no : Wall ≡ Pair = sym kind ∙ pair in cc) names in
+        let same = same_row view s.first disk wall.0 p wall.1 row e in
+        inl (
+          inr (subst (λ (q : Placed). IsWallEvent finder.rules disk q.disk s.second s) same
+              (subst (λ (n : ℕ). IsWallEvent finder.rules n wall.0.disk s.second s) e wall.2)),
+          owned e,
+        )
+    from (inr (inr near)) = inr near
+
+pub alone_owned : (finder : Finder) (disk : ℕ) (p : Placed) (o : Option Stamp) → Owns finder.grid finder.region p.cell →
+    IsLeastOf (IsAlone finder.rules finder.grid disk p) o → IsLeastOf (IsAloneAt finder disk p) o
+alone_owned finder disk p o owns h =
+    least_same (IsAlone finder.rules finder.grid disk p) (IsAloneAt finder disk p) o (λ t x. (x, owns)) (λ t x. x.0) h
+
+-- ---- two disks
+pub native_order : (finder : Finder) (view : ViewData) (i j : ℕ) (s : Stamp) → IsNativeOf finder view i j s → i < j
+native_order finder view i j s h =
+    let order : s.first < s.second = (near_pair finder.rules finder.grid finder.region view s h.0 h.1.0).0 in
+    let first : s.first ≡ i = h.1.1.0 in
+    let second : s.second ≡ j = h.1.1.1 in
+    omega arith
+
+pub native_is : (finder : Finder) (view : ViewData) (low high : ℕ) (p q : Placed) (o : Option Stamp) → low < high →
+    rows_in view low ≡ Some p → rows_in view high ≡ Some q → Owns finder.grid finder.region p.cell →
+    MatchOption o (HasNone (IsNear finder.rules finder.grid low p high q)) (IsOnly (IsNear finder.rules finder.grid low p high q)) →
+    IsLeastOf (IsNativeOf finder view low high) o
+native_is finder view low high p q o lt at_low at_high owns h =
+    least_same (IsNear finder.rules finder.grid low p high q) (IsNativeOf finder view low high) o to from
+    (only_least (IsNear finder.rules finder.grid low p high q) o h)
+  where
+    to : (s : Stamp) → IsNear finder.rules finder.grid low p high q s → IsNativeOf finder view low high s
+    to s n =
+        let kind : s.kind ≡ Pair = ap (λ (v : Stamp). v.kind) n.1.2 in
+        let first : s.first ≡ low = ap (λ (v : Stamp). v.first) n.1.2 in
+        let second : s.second ≡ high = ap (λ (v : Stamp). v.second) n.1.2 in
+        let here = ap (rows_in view) first ∙ at_low in
+        let there = ap (rows_in view) second ∙ at_high in
+        let order : s.first < s.second = omega arith in
+        let event = subst (λ (m : ℕ). IsPairEvent finder.rules s.first p.disk m q.disk s) (sym second)
+        (subst (λ (m : ℕ). IsPairEvent finder.rules m p.disk high q.disk s) (sym first) n.1) in
+        ((inr (inr (order, (p, here, (q, there, n.0, event)))), (p, here, owns)), (kind, (first, second)))
+
+    from : (s : Stamp) → IsNativeOf finder view low high s → IsNear finder.rules finder.grid low p high q s
+    from s n =
+        let near = near_pair finder.rules finder.grid finder.region view s n.0 n.1.0 in
+        let first : s.first ≡ low = n.1.1.0 in
+        let second : s.second ≡ high = n.1.1.1 in
+        let a = same_row view s.first low near.1.0 p near.1.1 at_low first in
+        let b = same_row view s.second high near.1.2.0 q near.1.2.1 at_high second in
+        subst (λ (x : Placed). IsNear finder.rules finder.grid low p high x s) b
+        (subst (λ (x : Placed). IsNear finder.rules finder.grid low x high near.1.2.0 s) a (
+          near.1.2.2,
+          subst (λ (m : ℕ). IsPairEvent finder.rules low near.1.0.disk m near.1.2.0.disk s) second
+              (subst (λ (m : ℕ). IsPairEvent finder.rules m near.1.0.disk s.second near.1.2.0.disk s) first near.1.2.3),
+        ))
+
+pub pair_low : (finder : Finder) (view : ViewData) (i j : ℕ) (o : Option Stamp) → i < j → IsLeastOf (IsNativeOf finder view i j) o →
+    IsLeastOf (IsNativePair finder view i j) o
+pair_low finder view i j o lt h = least_same (IsNativeOf finder view i j) (IsNativePair finder view i j) o (λ t x. inl x)
+    (λ t x. elim x [ inl y ↦ y | inr y ↦ (let back = native_order finder view j i t y in absurd (omega arith)) ]) h
+
+pub pair_high : (finder : Finder) (view : ViewData) (i j : ℕ) (o : Option Stamp) → j < i → IsLeastOf (IsNativeOf finder view j i) o →
+    IsLeastOf (IsNativePair finder view i j) o
+pair_high finder view i j o lt h = least_same (IsNativeOf finder view j i) (IsNativePair finder view i j) o (λ t x. inr x)
+    (λ t x. elim x [ inl y ↦ (let back = native_order finder view i j t y in absurd (omega arith)) | inr y ↦ y ]) h
+
+pub pair_found : (finder : Finder) (view : ViewData) (disk other : ℕ) (s : Stamp) → IsNativePair finder view disk other s →
+    IsFound finder view s × Names s disk
+pair_found finder view disk other s (inl h) = (h.0, inl h.1.1.0)
+pair_found finder view disk other s (inr h) = (h.0, inr (h.1.0, h.1.1.1))
+
+-- ---- walks
+pub with_none : (finder : Finder) (view : ViewData) (disk : ℕ) (With : ℕ → Type 0) → ((i : ℕ) → ¬ With i) →
+    IsLeastOf (IsNativeWith finder view disk With) None
+with_none finder view disk With none = λ s h. none h.0 h.1
+
+pub with_same : (finder : Finder) (view : ViewData) (disk : ℕ) (P Q : ℕ → Type 0) (o : Option Stamp) → ((i : ℕ) → P i → Q i) →
+    ((i : ℕ) → Q i → P i) → IsLeastOf (IsNativeWith finder view disk P) o → IsLeastOf (IsNativeWith finder view disk Q) o
+with_same finder view disk P Q o to from h =
+    least_same (IsNativeWith finder view disk P) (IsNativeWith finder view disk Q) o (λ s x. (x.0, to x.0 x.1, x.2)) (λ s x. (x.0, from x.0 x.1, x.2)) h
+
+pub with_more : (finder : Finder) (view : ViewData) (disk : ℕ) (P Q R : ℕ → Type 0) (a b : Option Stamp) → ((i : ℕ) → P i → R i) →
+    ((i : ℕ) → Q i → R i) → ((i : ℕ) → R i → P i ⊎ Q i) → IsLeastOf (IsNativeWith finder view disk P) a →
+    IsLeastOf (IsNativeWith finder view disk Q) b → IsLeastOf (IsNativeWith finder view disk R) (earlier_of a b)
+with_more finder view disk P Q R a b p q split ha hb =
+    least_of_either (IsNativeWith finder view disk P) (IsNativeWith finder view disk Q) (IsNativeWith finder view disk R) a b
+    (λ s x. (x.0, p x.0 x.1, x.2)) (λ s x. (x.0, q x.0 x.1, x.2))
+    (λ s x. elim (split x.0 x.1) [ inl y ↦ inl (x.0, y, x.2) | inr y ↦ inr (x.0, y, x.2) ]) ha hb
+
+-- the disks of a cell below a number
+abbrev pub ListedBelow : ListsData → ℕ → ℕ → ℕ → Type 0
+ListedBelow lists cell from i = IsListed lists cell i × (i < from)
+
+pub walk_begins : (finder : Finder) (view : ViewData) (disk cell : ℕ) → IsLeastOf (IsNativeWith finder view disk (ListedBelow finder.lists cell 0)) None
+walk_begins finder view disk cell = with_none finder view disk (ListedBelow finder.lists cell 0) (λ i h. let lt = h.1 in absurd (omega arith))
+
+pub walk_more : (finder : Finder) (view : ViewData) (disk cell from other : ℕ) (a b : Option Stamp) →
+    IsFirstIn finder.lists cell from (Some other) → IsLeastOf (IsNativeWith finder view disk (ListedBelow finder.lists cell from)) a →
+    IsLeastOf (IsNativePair finder view disk other) b →
+    IsLeastOf (IsNativeWith finder view disk (ListedBelow finder.lists cell (other + 1))) (earlier_of a b)
+walk_more finder view disk cell from other a b first ha hb =
+    with_more finder view disk (ListedBelow finder.lists cell from) (λ i. (i ≡ other) × IsListed finder.lists cell i)
+    (ListedBelow finder.lists cell (other + 1)) a b
+    (λ i h. let lt = h.1 in let low : from ≤ other = first.0 in (h.0, omega arith))
+    (λ i h. let e : i ≡ other = h.0 in (h.1, omega arith))
+    (λ i h. elim (cases_lt i from) [
+      | inl below ↦ inl (h.0, below)
+      | inr past ↦ inr (last i h.1 (λ lt. first.2 i past lt h.0), h.0)
+    ])
+    ha
+    (least_same (IsNativePair finder view disk other) (IsNativeWith finder view disk (λ i. (i ≡ other) × IsListed finder.lists cell i)) b
+    (λ s x. (other, (refl, first.1), x))
+    (λ s x. subst (λ (i : ℕ). IsNativePair finder view disk i s) x.1.0 x.2) hb)
+  where
+    last : (i : ℕ) → i < other + 1 → ¬ (i < other) → i ≡ other
+    last i lt not = grind arith
+
+pub walk_ends : (finder : Finder) (view : ViewData) (disk cell from : ℕ) (a : Option Stamp) → IsFirstIn finder.lists cell from None →
+    IsLeastOf (IsNativeWith finder view disk (ListedBelow finder.lists cell from)) a →
+    IsLeastOf (IsNativeWith finder view disk (IsListed finder.lists cell)) a
+walk_ends finder view disk cell from a none h =
+    with_same finder view disk (ListedBelow finder.lists cell from) (IsListed finder.lists cell) a (λ i x. x.0)
+    (λ i x. elim (cases_lt i from) [ inl lt ↦ (x, lt) | inr past ↦ absurd (none i past x) ]) h
+
+-- ---- blocks
+pub no_column : (lists : ListsData) (block : Block) (row i : ℕ) → ¬ IsListedWithin lists (columns_to block row block.left) i
+no_column lists block row i h = let a = h.2.0.0 in let b = h.2.0.1 in absurd (omega arith)
+
+pub no_row : (lists : ListsData) (block : Block) (i : ℕ) → ¬ IsListedWithin lists (rows_to block block.low) i
+no_row lists block i h = let a = h.2.1.0 in let b = h.2.1.1 in absurd (omega arith)
+
+pub column_more : (finder : Finder) (view : ViewData) (disk : ℕ) (block : Block) (row column : ℕ) (a b : Option Stamp) →
+    block.left ≤ column → column < finder.lists.grid.columns →
+    IsLeastOf (IsNativeWith finder view disk (IsListedWithin finder.lists (columns_to block row column))) a →
+    IsLeastOf (IsNativeWith finder view disk (IsListed finder.lists (row * finder.lists.grid.columns + column))) b →
+    IsLeastOf (IsNativeWith finder view disk (IsListedWithin finder.lists (columns_to block row (column + 1)))) (earlier_of a b)
+column_more finder view disk block row column a b left inside ha hb =
+    with_more finder view disk (IsListedWithin finder.lists (columns_to block row column))
+    (IsListed finder.lists (row * finder.lists.grid.columns + column)) (IsListedWithin finder.lists (columns_to block row (column + 1))) a b
+    (wider_column finder.lists block row column) (λ i x. in_last_column finder.lists block row column i left inside x)
+    (split_column finder.lists block row column) ha hb
+
+pub row_more : (finder : Finder) (view : ViewData) (disk : ℕ) (block : Block) (row : ℕ) (a b : Option Stamp) → block.low ≤ row →
+    IsLeastOf (IsNativeWith finder view disk (IsListedWithin finder.lists (rows_to block row))) a →
+    IsLeastOf (IsNativeWith finder view disk (IsListedWithin finder.lists (columns_to block row block.right))) b →
+    IsLeastOf (IsNativeWith finder view disk (IsListedWithin finder.lists (rows_to block (row + 1)))) (earlier_of a b)
+row_more finder view disk block row a b low ha hb =
+    with_more finder view disk (IsListedWithin finder.lists (rows_to block row)) (IsListedWithin finder.lists (columns_to block row block.right))
+    (IsListedWithin finder.lists (rows_to block (row + 1))) a b
+    (λ i x. join_row finder.lists block row i low (inl x)) (λ i x. join_row finder.lists block row i low (inr x))
+    (split_row finder.lists block row) ha hb
+
+-- ---- all that name the disk
+pub adjacent_back : (grid : GridData) (a b : ℕ) → IsAdjacent grid a b → IsAdjacent grid b a
+adjacent_back grid a b h = ((h.0.1, h.0.0), (h.1.1, h.1.0))
+
+-- where a view has the disk, it is listed
+pub listed_at : (view : ViewData) (lists : ListsData) (disk : ℕ) (p : Placed) → AreListed view lists.cells → rows_in view disk ≡ Some p →
+    IsListed lists p.cell disk
+listed_at view lists disk p listed row = listed disk ∙ ap (option_map (λ (q : Placed). q.cell)) row
+
+-- two disks of a pair are in adjacent cells, whichever is first
+pub pair_beside : (rules : Rules) (grid : GridData) (view : ViewData) (disk : ℕ) (p : Placed) (s : Stamp) → rows_in view disk ≡ Some p →
+    IsNearPair rules grid (rows_in view) s → Names s disk →
+    (other : ℕ) × (q : Placed) × (rows_in view other ≡ Some q) × IsAdjacent grid p.cell q.cell
+    × (((s.first ≡ disk) × (s.second ≡ other)) ⊎ ((s.first ≡ other) × (s.second ≡ disk)))
+pair_beside rules grid view disk p s row near (inl first) = (
+  s.second,
+  near.1.2.0,
+  near.1.2.1,
+  subst (λ (x : Placed). IsAdjacent grid x.cell near.1.2.0.cell) (same_row view s.first disk near.1.0 p near.1.1 row first) near.1.2.2,
+  inl (first, refl),
+)
+pair_beside rules grid view disk p s row near (inr second) = (
+  s.first,
+  near.1.0,
+  near.1.1,
+  adjacent_back grid near.1.0.cell p.cell
+      (subst (λ (x : Placed). IsAdjacent grid near.1.0.cell x.cell) (same_row view s.second disk near.1.2.0 p near.1.2.1 row second.1) near.1.2.2),
+  inr (refl, second.1),
+)
+
+pub best_is : (finder : Finder) (view : ViewData) (disk : ℕ) (p : Placed) (block : Block) (a b : Option Stamp) → IsReady finder view →
+    rows_in view disk ≡ Some p →
+    ((other : ℕ) → IsCell finder.grid other → (IsAdjacent finder.grid p.cell other ↔ IsWithin finder.grid block other)) →
+    IsLeastOf (IsAloneAt finder disk p) a → IsLeastOf (IsNativeWith finder view disk (IsListedWithin finder.lists block)) b →
+    AreListed view finder.lists.cells → IsBest finder view disk (earlier_of a b)
+best_is finder view disk p block a b ready row around ha hb listed =
+    least_of_either (IsAloneAt finder disk p) (IsNativeWith finder view disk (IsListedWithin finder.lists block))
+    (λ s. IsFound finder view s × Names s disk) a b
+    (λ s x. alone_found finder view disk p s row x) (λ s x. pair_found finder view disk x.0 s x.2)
+    (λ s x. elim (alone_or_pair finder view disk p s row x.0 x.1) [
+      | inl alone ↦ inl alone
+      | inr near ↦ inr (found s x.0 (pair_kind finder.rules finder.grid view s near) (pair_beside finder.rules finder.grid view disk p s row near x.1))
+    ])
+    ha hb
+  where
+    within : (q : Placed) (other : ℕ) → rows_in view other ≡ Some q → IsAdjacent finder.grid p.cell q.cell → IsListedWithin finder.lists block other
+    within q other at beside = (
+      q.cell,
+      listed_at view finder.lists other q listed at,
+      subst (λ (g : GridData). IsWithin g block q.cell) (sym ready.lists) ((around q.cell (ready.valid.cell other q at)).0 beside),
+    )
+
+    found : (s : Stamp) → IsFound finder view s → s.kind ≡ Pair →
+        (other : ℕ) × (q : Placed) × (rows_in view other ≡ Some q) × IsAdjacent finder.grid p.cell q.cell
+        × (((s.first ≡ disk) × (s.second ≡ other)) ⊎ ((s.first ≡ other) × (s.second ≡ disk))) →
+        IsNativeWith finder view disk (IsListedWithin finder.lists block) s
+    found s is kind h = (h.0, within h.1 h.0 h.2 h.3, elim h.4 [ inl e ↦ inl (is, (kind, e)) | inr e ↦ inr (is, (kind, e)) ])

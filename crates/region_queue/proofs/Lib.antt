@@ -1,0 +1,5 @@
+mod Again
+mod Candidates
+mod Covered
+mod Standing
+mod Stale

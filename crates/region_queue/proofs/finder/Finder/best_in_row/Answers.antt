@@ -1,0 +1,40 @@
+-- One more cell of the row.
+use Rattle.std.proofs.Common.{◌≡◌, ℕ, ◌+◌, ◌*◌, ◌≤◌, arith, sym, subst, ap, ◌∙◌}
+use Rattle.std.specs.Prelude.{Option}
+use Rattle.event_stamps.specs.declared.Stamp.{Stamp}
+use Rattle.event_stamps.specs.Least.{IsLeastOf}
+use Rattle.cell_grid.specs.Grid.{GridData}
+use Rattle.cell_lists.specs.Listing.{IsListed}
+use Rattle.cell_lists.specs.Nearby.{IsListedWithin, columns_to}
+use Rattle.region_queue.specs.Finding.{IsNativeWith}
+use Rattle.region_queue.proofs.Candidates.{with_none, no_column, column_more}
+use Rattle.region_queue.proofs.finder.Finder.best_in_row.Goals as goal
+
+pub loop-column-init : goal.loop-column-init
+loop-column-init c =
+    let lists = c.args.self.now.lists in
+    with_none c.args.self.now c.args.view.now c.args.disk
+    (IsListedWithin lists (columns_to c.args.block c.args.row c.args.block.left)) (no_column lists c.args.block c.args.row)
+
+pub loop-column-preserved : goal.loop-column-preserved
+loop-column-preserved c =
+    let finder = c.args.self.now in
+    let Found = IsNativeWith finder c.args.view.now c.args.disk in
+    let column = c.loop-column.column in
+    let most : c.args.block.right ≤ c.args.self.now.grid.columns = c.requires.block.most_columns in
+    let same : c.args.self.now.lists.grid.columns ≡ c.args.self.now.grid.columns =
+    ap (λ (g : GridData). g.columns) c.requires.ready.lists in
+    subst (λ (o : Option Stamp). IsLeastOf (Found (IsListedWithin finder.lists (columns_to c.args.block c.args.row (column + 1)))) o)
+    (sym c.earlier-best.ensures)
+    (column_more finder c.args.view.now c.args.disk c.args.block c.args.row column c.loop-column.best c.best_in_cell.result
+    c.loop-column.auto.column (omega arith) c.loop-column.invariant
+    (subst (λ (n : ℕ). IsLeastOf (Found (IsListed finder.lists (c.args.row * n + column))) c.best_in_cell.result)
+    (c.columns.ensures.value ∙ sym same) c.best_in_cell.ensures))
+
+pub returns : goal.returns
+returns c =
+    let finder = c.args.self.now in
+    let whole : c.loop-column.column ≡ c.args.block.right =
+    (let most = c.loop-column.auto.column-end c.requires.block.columns in omega arith) in
+    subst (λ (n : ℕ). IsLeastOf (IsNativeWith finder c.args.view.now c.args.disk
+    (IsListedWithin finder.lists (columns_to c.args.block c.args.row n))) c.loop-column.best) whole c.loop-column.invariant

@@ -1,0 +1,16 @@
+-- An empty queue takes in all disks of the view.
+use Rattle.std.proofs.Common.{List, ℕ, ◌∙◌, sym, subst}
+use Rattle.std.specs.FinMap as map
+use Rattle.region_queue.specs.Naming.{IsSameBut}
+use Rattle.region_queue.proofs.Standing.{none_in_empty}
+use Rattle.region_queue.proofs.queue.Queue.open.Goals as goal
+
+pub returns : goal.returns
+returns c =
+    let same = c.touched.ensures.same in
+    let is = c.in_ok-queue.ensures in (
+      record { rules = same.rules ∙ is.0.rules; grid = same.grid ∙ is.0.grid; region = same.region ∙ is.0.region },
+      c.in_ok-touched.ensures.stands map.empty is.1
+          (subst (λ (disks : List ℕ). IsSameBut disks map.empty c.args.view.now) (sym c.deref.ensures.value)
+          (λ i none. c.in_ok-disks.ensures i none ∙ sym (none_in_empty i))),
+    )

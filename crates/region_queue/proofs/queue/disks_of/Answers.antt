@@ -1,0 +1,19 @@
+-- The next disk is the first that isn't listed yet.
+use Rattle.std.proofs.Common.{◌<◌, arith}
+use Rattle.region_queue.proofs.Stale.{numbered_more, numbered_all}
+use Rattle.region_queue.proofs.queue.disks_of.Goals as goal
+
+pub loop-disk-preserved : goal.loop-disk-preserved
+loop-disk-preserved c =
+    let next = c.in-Some.ensures in
+    let few : c.in-Some.disk < 65536 = c.requires c.in-Some.disk c.in-Some.field-0-1.now next.1 in
+    rw c.in_ok-push.ensures.items
+    (record {
+      most = omega arith;
+      listed = numbered_more c.args.view.now c.loop-disk.from c.in-Some.disk c.in-Some.field-0-1.now c.loop-disk.disks.items next
+          c.loop-disk.invariant.listed;
+    })
+
+pub returns : goal.returns
+returns c =
+    numbered_all c.args.view.now c.loop-disk.from c.loop-disk.disks.items c.in_default.ensures c.loop-disk.invariant.listed

@@ -1,0 +1,4 @@
+pub mod Naming
+pub mod Finding
+pub mod Covering
+pub mod Queue

@@ -1,0 +1,54 @@
+-- What a region's queue is seen as, and which view it stands for.
+use Rattle.std.specs.Prelude.{◌≡◌, ℕ, List, refl}
+use Rattle.std.specs.Coded.{Coded, code_by, coded×, coded_ℕ}
+use Rattle.std.specs.FinMap as map
+use Rattle.fixed_motion.specs.declared.rules.Rules.{Rules}
+use Rattle.fixed_motion.specs.contracts.rules.Rules as rules_type
+use Rattle.fixed_motion.specs.Rules.{IsChecked}
+use Rattle.event_tree.specs.contracts.EventTree as tree_type
+use Rattle.event_tree.specs.Keys.{Key}
+use Rattle.cell_grid.specs.contracts.grid.Grid as grid_type
+use Rattle.cell_grid.specs.Grid.{GridData, IsGridOf, IsRegion}
+use Rattle.region_view.specs.Placing.{IsNative}
+use Rattle.region_view.specs.Views.{ViewData, rows_in}
+use Rattle.region_queue.specs.Finding.{Cells, AreListed}
+use Rattle.region_queue.specs.Covering.{Covers}
+
+-- what a queue is seen as: its region, the cell in which each disk is listed, and the key of each disk
+pub record QueueData : Type 0 where
+  pub rules : Rules
+  pub grid : GridData
+  pub region : ℕ
+  pub cells : Cells
+  pub keys : List Key
+
+abbrev pub queue_of : Rules → GridData → ℕ → Cells → List Key → QueueData
+queue_of rules grid region cells keys =
+    record { rules = rules; grid = grid; region = region; cells = cells; keys = keys }
+
+-- a queue is stored as its parts
+abbrev pub queue_code : Coded QueueData
+queue_code =
+    code_by (Rules × (GridData × (ℕ × (Cells × List Key))))
+    (coded× rules_type.the_row.coded (coded× grid_type.the_row.coded (coded× coded_ℕ
+    (coded× (map.code coded_ℕ coded_ℕ) tree_type.the_row.coded))))
+    (λ q. (q.rules, (q.grid, (q.region, (q.cells, q.keys)))))
+    (λ p. queue_of p.0 p.1.0 p.1.1.0 p.1.1.1.0 p.1.1.1.1) (λ _. refl)
+
+-- what each queue keeps: a region of a grid of checked rules, and lists of this grid
+pub record IsSound (r : Rules) (g : GridData) (k : ℕ) (listed : GridData) : Type 0 where
+  pub checked : IsChecked r
+  pub grid : IsGridOf r g
+  pub region : IsRegion g k
+  pub lists : listed ≡ g
+
+-- the queue is of these rules, this grid, and the region of this number
+pub record IsOf (queue : QueueData) (r : Rules) (g : GridData) (k : ℕ) : Type 0 where
+  pub rules : queue.rules ≡ r
+  pub grid : queue.grid ≡ g
+  pub region : queue.region ≡ k
+
+-- disks are listed where the view has them, and the keys cover the native candidates
+unfoldable pub StandsFor : QueueData → ViewData → Type 0
+StandsFor queue view = AreListed view queue.cells
+    × Covers (IsNative queue.rules queue.grid queue.region (rows_in view)) queue.keys

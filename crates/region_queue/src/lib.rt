@@ -1,0 +1,15 @@
+//! The next event of a region in its view, kept while disks change: the event queue of a logical process, as
+//! the literature on parallel simulation calls it.
+//!
+//! Each disk has one key, the least native candidate that names it, as of when the key was last taken. A
+//! candidate may be missing from the key of one of its two disks, never from both.
+#![tactic(auto)]
+
+mod finder;
+mod keys;
+mod laws;
+mod listing;
+mod queue;
+
+pub use laws::natives_stay;
+pub use queue::Queue;

@@ -1,0 +1,49 @@
+//! Lists of the disks of a view by cell.
+
+ghost use Rattle.std.specs.Prelude.{◌≡◌, OnOk};
+ghost use Rattle.region_view.specs.Laws.{HasCells};
+ghost use Rattle.region_view.specs.Views.{rows_in};
+ghost use Rattle.region_queue.specs.Finding.{IsTakenOff, IsRelisted, AreRelisted};
+
+use cell_lists::Lists;
+use region_view::View;
+use std::alloc::{AllocError, Global};
+
+// Lists these disks where a view has them, and nowhere else.
+pub(crate) fn list_again(
+    alloc: Global,
+    lists: &mut Lists,
+    view: &View,
+    disks: &[u32],
+) -> Result<(), AllocError>
+    requires { HasCells lists.old.grid (rows_in view.now) }
+    ensures grid { lists.new.grid ≡ lists.old.grid }
+    ensures listed { OnOk result (AreRelisted view.now disks.now lists.old.cells lists.new.cells) }
+{
+    for disk in disks {
+        list_one(alloc, lists, view, *disk)?;
+    }
+    Ok(())
+}
+
+// Lists one disk where a view has it, and nowhere else.
+fn list_one(alloc: Global, lists: &mut Lists, view: &View, disk: u32) -> Result<(), AllocError>
+    requires { HasCells lists.old.grid (rows_in view.now) }
+    ensures grid { lists.new.grid ≡ lists.old.grid }
+    ensures listed { OnOk result (IsRelisted view.now disk lists.old.cells lists.new.cells) }
+{
+    take_off(lists, disk);
+    if let Some(row) = view.get(disk) {
+        lists.put(alloc, disk, row.cell)?;
+    }
+    Ok(())
+}
+
+// Takes a disk off its cell, if it is listed.
+fn take_off(lists: &mut Lists, disk: u32)
+    ensures { IsTakenOff disk lists.old lists.new }
+{
+    if let Some(cell) = lists.cell_of(disk) {
+        lists.take(disk, cell);
+    }
+}

@@ -1,0 +1,131 @@
+//! The queue of a region.
+
+use crate::finder::Finder;
+use crate::keys::{stale_disks, take_keys};
+use crate::listing::list_again;
+use cell_grid::Grid;
+use cell_lists::Lists;
+use event_stamps::Stamp;
+use event_tree::EventTree;
+use fixed_motion::Rules;
+use region_view::View;
+use std::alloc::{AllocError, Global};
+use std::marker::Model;
+
+/// The native candidates of a region in one view, of which it finds the least.
+///
+/// Memory is taken for as many disks as the greatest number that the view ever had, or for up to twice as
+/// many.
+#[derive(Drop)]
+pub struct Queue {
+    finder: Finder,
+    keys: EventTree,
+}
+
+impl Model for Queue {
+    ghost use Rattle.region_queue.specs.Queue.{QueueData, queue_code, queue_of, IsSound};
+
+    ghost Value = { QueueData };
+
+    ghost coded = { queue_code };
+
+    ghost view = { λ a. queue_of a.finder.rules a.finder.grid a.finder.region a.finder.lists.cells a.keys };
+
+    ghost invariant = { λ a. IsSound a.finder.rules a.finder.grid a.finder.region a.finder.lists.grid };
+}
+
+ghost use Rattle.std.specs.Prelude.{◌≡◌, ℕ, ◌<◌, None, Some, IfOk, OnOk};
+ghost use Rattle.std.specs.FinMap as map;
+ghost use Rattle.std.specs.List.{Contains};
+ghost use Rattle.fixed_motion.specs.Rules.{IsChecked};
+ghost use Rattle.event_stamps.specs.Least.{IsLeastOf};
+ghost use Rattle.cell_grid.specs.Grid.{IsGridOf, IsRegion};
+ghost use Rattle.region_view.specs.declared.action.Placed.{Placed};
+ghost use Rattle.region_view.specs.Placing.{IsNative, IsValidPlacing};
+ghost use Rattle.region_view.specs.Views.{ViewData, rows_in};
+ghost use Rattle.region_queue.specs.Naming.{IsSameBut};
+ghost use Rattle.region_queue.specs.Queue.{IsOf, StandsFor};
+
+impl Queue {
+    /// The queue of a region in a view, of valid rows.
+    ///
+    /// # Errors
+    /// Out of memory.
+    pub fn open(
+        alloc: Global,
+        view: &View,
+        grid: &Grid,
+        rules: &Rules,
+        region: u32,
+    ) -> Result<Queue, AllocError>
+        requires checked { IsChecked rules.now }
+        requires grid { IsGridOf rules.now grid.now }
+        requires region { IsRegion grid.now region }
+        requires valid { IsValidPlacing rules.now grid.now (rows_in view.now) }
+        ensures { IfOk result (λ queue. IsOf queue rules.now grid.now region
+            × StandsFor queue view.now) }
+    {
+        let mut queue = Queue::empty(alloc, grid, rules, region)?;
+        let disks = disks_of(alloc, view)?;
+        queue.touched(alloc, view, &disks)?;
+        Ok(queue)
+    }
+
+    /// The stamp of the least native candidate; none where there is none. Takes constant time and no memory.
+    pub fn least(&self) -> Option<Stamp>
+        ensures { (view : ViewData) → StandsFor self.now view →
+            IsLeastOf (IsNative self.now.rules self.now.grid self.now.region (rows_in view)) result }
+    {
+        self.keys.least()
+    }
+
+    /// Takes in the changes of these disks, to what stands at their numbers in a view. The queue then stands
+    /// for this view where it stood for one that is the same at all other numbers.
+    ///
+    /// # Errors
+    /// Out of memory: the queue stands for no view that could be named, and has to be opened anew.
+    pub fn touched(&mut self, alloc: Global, view: &View, ids: &[u32]) -> Result<(), AllocError>
+        requires valid { IsValidPlacing self.old.rules self.old.grid (rows_in view.now) }
+        ensures same { IsOf self.new self.old.rules self.old.grid self.old.region }
+        ensures stands { OnOk result ((before : ViewData) → StandsFor self.old before →
+            IsSameBut ids.now before view.now → StandsFor self.new view.now) }
+    {
+        let stale = stale_disks(alloc, &self.finder.lists, &self.keys, ids)?;
+        list_again(alloc, &mut self.finder.lists, view, ids)?;
+        take_keys(alloc, &self.finder, &mut self.keys, view, ids)?;
+        take_keys(alloc, &self.finder, &mut self.keys, view, &stale)
+    }
+
+    // The queue of a region that sees no disk.
+    fn empty(alloc: Global, grid: &Grid, rules: &Rules, region: u32) -> Result<Queue, AllocError>
+        requires checked { IsChecked rules.now }
+        requires grid { IsGridOf rules.now grid.now }
+        requires region { IsRegion grid.now region }
+        ensures { IfOk result (λ queue. IsOf queue rules.now grid.now region
+            × StandsFor queue map.empty) }
+    {
+        Ok(Queue {
+            finder: Finder {
+                rules: *rules,
+                grid: *grid,
+                region,
+                lists: Lists::new(alloc, grid)?,
+            },
+            keys: EventTree::new(alloc),
+        })
+    }
+}
+
+// The numbers of the disks of a view.
+fn disks_of(alloc: Global, view: &View) -> Result<Vec<u32>, AllocError>
+    requires { (i : ℕ) (row : Placed) → map.get view.now i ≡ Some row → i < 65536 }
+    ensures { IfOk result (λ disks. (i : ℕ) → ¬ Contains disks.items i → map.get view.now i ≡ None) }
+{
+    let mut disks = Vec::new(alloc);
+    let mut from = 0;
+    while let Some((disk, _)) = view.next_row(from) {
+        disks.push(disk)?;
+        from = disk + 1;
+    }
+    Ok(disks)
+}
