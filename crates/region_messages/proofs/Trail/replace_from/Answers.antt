@@ -1,0 +1,30 @@
+use Rattle.std.proofs.Common.{◌≡◌, ◌∙◌, ◌-◌, Bool, true, false, List, ◌++◌, length, take, drop, sym, ap, subst}
+use Rattle.std.specs.Prelude.{if◌then◌else◌, is_ok}
+use Rattle.std.proofs.lemmas.List.{take_rest}
+use Rattle.region_view.specs.declared.rows.Message.{Message}
+use Rattle.region_messages.specs.Trails.{Rises, below, from}
+use Rattle.region_messages.proofs.Parts.{rises_replaced}
+use Rattle.region_messages.proofs.Trail.replace_from.Goals as goal
+
+either : (b : Bool) (kept all : List Message) → Rises kept → Rises all →
+    Rises (if b then all else kept)
+either true kept all rk ra = ra
+either false kept all rk ra = rk
+
+pub invariant_of-self : goal.invariant_of-self
+invariant_of-self c =
+    let t = c.args.at in
+    let start = c.count_below-start.result in
+    let own = c.self.inside.messages.items in
+    let others = c.other.inside.messages.items in
+    let kept : own ≡ below t c.args.self.now = c.self.view_is ∙ c.cut_from.ensures in
+    let more : take (length c.deref-2.result.now - start) (drop start c.deref-2.result.now)
+    ≡ from t others = take_rest c.deref-2.result.now start
+    ∙ ap (drop start) (c.deref-2.ensures.value ∙ sym c.deref.ensures.value)
+    ∙ c.count_below-start.ensures.from ∙ ap (from t) c.deref.ensures.value in
+    let all = ap (λ (v : List Message). own ++ v) more
+    ∙ ap (λ (v : List Message). v ++ from t others) kept in
+    subst Rises (sym c.extend_from_slice.ensures.items)
+    (either (is_ok c.extend_from_slice.result) _ _ c.self.invariant
+    (subst Rises (sym all) (rises_replaced t c.args.self.now others
+    (subst Rises kept c.self.invariant) c.other.invariant)))

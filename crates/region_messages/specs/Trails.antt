@@ -1,0 +1,60 @@
+-- Lists of messages, and where two of them first disagree.
+use Rattle.std.specs.Prelude.{◌≡◌, ◌⊎◌, ℕ, List, [], ◌∷◌, ⊤, Bool, None, if◌then◌else◌, take, slice_get}
+use Rattle.std.specs.Ordering.{is_lt}
+use Rattle.event_stamps.specs.declared.Stamp.{Stamp}
+use Rattle.event_stamps.specs.Order.{Before, stamp_cmp}
+use Rattle.event_stamps.specs.Least.{IsLeast}
+use Rattle.region_view.specs.declared.rows.Message.{Message}
+
+abbrev pub is_before : Stamp → Stamp → Bool
+is_before s t = is_lt (stamp_cmp s t)
+
+abbrev pub IsAmong : {A : Type 0} → A → List A → Type 0
+IsAmong x [] = ⊥
+IsAmong x (y ∷ ys) = (x ≡ y) ⊎ IsAmong x ys
+
+-- stamps rise strictly, all after one
+abbrev pub RisesFrom : Stamp → List Message → Type 0
+RisesFrom s [] = ⊤
+RisesFrom s (m ∷ ms) = Before s m.stamp × RisesFrom m.stamp ms
+
+-- stamps rise strictly
+abbrev pub Rises : List Message → Type 0
+Rises [] = ⊤
+Rises (m ∷ ms) = RisesFrom m.stamp ms
+
+-- the messages before a stamp, and those from it on
+abbrev pub below : Stamp → List Message → List Message
+below s [] = []
+below s (m ∷ ms) = if is_before m.stamp s then m ∷ below s ms else []
+
+abbrev pub from : Stamp → List Message → List Message
+from s [] = []
+from s (m ∷ ms) = if is_before m.stamp s then from s ms else m ∷ ms
+
+-- a stamp is after all of them
+abbrev pub IsAfterAll : List Message → Stamp → Type 0
+IsAfterAll ms s = (m : Message) → IsAmong m ms → Before m.stamp s
+
+-- the same messages before a stamp
+abbrev pub AgreeBelow : Stamp → List Message → List Message → Type 0
+AgreeBelow s a b = below s a ≡ below s b
+
+-- two lists are the same in their first messages, so many, and differ in the next unless both end there
+pub record StartAlike (n : ℕ) (a b : List Message) : Type 0 where
+  pub same : take n a ≡ take n b
+  pub apart : slice_get a n ≡ slice_get b n → slice_get a n ≡ None
+
+-- the first disagreement: they agree below each stamp up to it, and below none after it
+pub record AgreesUpTo (a b : List Message) (d : Stamp) : Type 0 where
+  pub below : (t : Stamp) → ¬ Before d t → AgreeBelow t a b
+  pub beyond : (t : Stamp) → Before d t → ¬ AgreeBelow t a b
+
+-- at this stamp a message of the one isn't among those of the other
+abbrev pub DisagreeAt : List Message → List Message → Stamp → Type 0
+DisagreeAt a b s = ((m : Message) × (m.stamp ≡ s) × IsAmong m a × ¬ IsAmong m b)
+    ⊎ ((m : Message) × (m.stamp ≡ s) × IsAmong m b × ¬ IsAmong m a)
+
+-- the first disagreement in other words: the least stamp at which they disagree
+abbrev pub IsFirstDisagreement : List Message → List Message → Stamp → Type 0
+IsFirstDisagreement a b s = IsLeast (DisagreeAt a b) s

@@ -1,0 +1,154 @@
+//! Messages in the order of their stamps, and where two such lists first disagree.
+//!
+//! What a region sent and what another heard from it are such lists: the output queue of the one logical
+//! process and the input queue of the other (Jefferson, Virtual Time, 1985).
+#![tactic(auto)]
+
+use region_view::Message;
+use std::marker::Model;
+
+/// Messages whose stamps rise strictly.
+#[derive(Drop)]
+pub struct Trail {
+    messages: Vec<Message>,
+}
+
+impl Model for Trail {
+    ghost use Rattle.std.specs.Prelude.{List};
+    ghost use Rattle.region_view.specs.declared.rows.Message.{Message};
+    ghost use Rattle.region_messages.specs.Trails.{Rises};
+
+    ghost Value = { List Message };
+
+    ghost view = { λ a. a.messages.items };
+
+    ghost invariant = { λ a. Rises a.messages.items };
+}
+
+ghost use Rattle.std.specs.Prelude.{◌≡◌, ◌≤◌, ◌++◌, ◌∷◌, [], length, take, drop, slice_get, option_copied, OnOk, OnErr, MatchOption, option_map, IsTrue, ◌↔◌};
+ghost use Rattle.region_messages.specs.Trails.{Rises, IsAfterAll, below, from, AgreesUpTo, IsFirstDisagreement, StartAlike};
+
+use event_stamps::{Stamp, earlier};
+use std::alloc::{AllocError, Global};
+
+mod laws;
+
+pub use laws::{
+    agree_until_first, agree_up_to, agreed_part_is_kept, below_is_before, parts_make_the_whole,
+};
+
+impl Trail {
+    /// No messages.
+    pub fn new(alloc: Global) -> Trail
+        ensures { result ≡ [] }
+    {
+        Trail {
+            messages: Vec::new(alloc),
+        }
+    }
+
+    /// Appends a message, whose stamp is after those of all others.
+    ///
+    /// # Errors
+    /// Out of memory: the trail stays as it is.
+    pub fn push(&mut self, message: Message) -> Result<(), AllocError>
+        requires { IsAfterAll self.old message.stamp }
+        ensures pushed { OnOk result (self.new ≡ self.old ++ message ∷ []) }
+        ensures unchanged { OnErr result (self.new ≡ self.old) }
+    {
+        self.messages.push(message)?;
+        Ok(())
+    }
+
+    /// The number of messages.
+    pub fn len(&self) -> usize
+        ensures { result ≡ length self.now }
+    {
+        self.messages.len()
+    }
+
+    /// The message at a place, from 0 on; none exactly where there is none.
+    pub fn get(&self, i: usize) -> Option<&Message>
+        ensures value { option_copied result ≡ slice_get self.now i }
+        ensures rises { Rises self.now }
+    {
+        self.messages.get(i)
+    }
+
+    /// Takes away the messages from the stamp `at` on. Takes no memory.
+    pub fn cut_from(&mut self, at: Stamp)
+        ensures { self.new ≡ below at self.old }
+    {
+        let kept = count_below(&self.messages, at);
+        self.messages.truncate(kept);
+    }
+
+    /// Takes away the messages before the stamp `at`. Takes no memory.
+    pub fn drop_before(&mut self, at: Stamp)
+        ensures { self.new ≡ from at self.old }
+    {
+        let dropped = count_below(&self.messages, at);
+        self.messages.drain(..dropped);
+    }
+
+    /// Takes the messages of `other` from the stamp `at` on, in place of its own from there on.
+    ///
+    /// # Errors
+    /// Out of memory: its own messages before `at` stay.
+    pub fn replace_from(&mut self, at: Stamp, other: &Trail) -> Result<(), AllocError>
+        ensures replaced { OnOk result (self.new ≡ below at self.old ++ from at other.now) }
+        ensures cut { OnErr result (self.new ≡ below at self.old) }
+    {
+        self.cut_from(at);
+        let start = count_below(&other.messages, at);
+        self.messages.extend_from_slice(&other.messages[start..])
+    }
+}
+
+/// The first stamp at which the two differ: there only one of them has a message, or their messages have
+/// other rows. None where they are the same. Takes no memory.
+pub fn first_disagreement(a: &Trail, b: &Trail) -> Option<Stamp>
+    ensures agree { MatchOption result (a.now ≡ b.now) (λ d. AgreesUpTo a.now b.now d) }
+    ensures first { MatchOption result (a.now ≡ b.now) (IsFirstDisagreement a.now b.now) }
+{
+    let same = count_same(&a.messages, &b.messages);
+    earlier(stamp_at(&a.messages, same), stamp_at(&b.messages, same))
+}
+
+// How many messages two lists have in common, from the front on.
+fn count_same(a: &[Message], b: &[Message]) -> usize
+    ensures { StartAlike result a.now b.now }
+{
+    let mut same = 0;
+    for (m, n) in a.iter().zip(b) {
+        if !is_same(m, n) {
+            return same;
+        }
+        same += 1;
+    }
+    same
+}
+
+// The stamp of the message at a place, where there is one.
+fn stamp_at(messages: &[Message], i: usize) -> Option<Stamp>
+    ensures { result ≡ option_map (λ m. m.stamp) (slice_get messages.now i) }
+{
+    messages.get(i).map(|m| m.stamp)
+}
+
+// How many messages are before a stamp.
+fn count_below(messages: &[Message], at: Stamp) -> usize
+    requires { Rises messages.now }
+    ensures within { result ≤ length messages.now }
+    ensures below { take result messages.now ≡ below at messages.now }
+    ensures from { drop result messages.now ≡ from at messages.now }
+{
+    messages.partition_point(|m| m.stamp < at)
+}
+
+// Whether two messages are the same.
+fn is_same(m: &Message, n: &Message) -> bool
+    ensures { IsTrue result ↔ (m.now ≡ n.now) }
+{
+    m.stamp == n.stamp && m.rows.as_slice() == n.rows.as_slice()
+}
