@@ -1,0 +1,68 @@
+-- What stays of kept views where those after a position, or before it, are dropped.
+use Rattle.std.proofs.Common.{◌≡◌, ℕ, zero, suc, ◌<◌, ◌≤◌, true, false, [], ◌∷◌, length, take, drop, sym, ap, ◌∙◌, refl, arith}
+use Rattle.std.specs.Prelude.{nat_le}
+use Rattle.region_view.specs.Views.{ViewData}
+use Rattle.saved_states.specs.Positions.{up_to, dropped_after, dropped_before}
+use Rattle.saved_states.specs.Steps.{StepList, last_position, undone, later, rebuilt}
+use Rattle.saved_states.proofs.Rising.{IsPlace, next_place}
+use Rattle.saved_states.proofs.Rebuilt.{undone_parts}
+
+le_true : (m n : ℕ) → m ≤ n → nat_le m n ≡ true
+le_true m n le = grind arith
+
+le_false : (m n : ℕ) → n < m → nat_le m n ≡ false
+le_false m n lt = grind arith
+
+later_up_to : (position n : ℕ) (view : ViewData) (steps : StepList) → IsPlace position steps n →
+    up_to position (later view steps) ≡ later (undone view (drop n steps)) (take n steps)
+later_up_to position zero view [] h = refl
+later_up_to position (suc n) view [] h = refl
+later_up_to position zero view (step ∷ steps) h =
+    let over : nat_le step.0 position ≡ false =
+    le_false step.0 position (h.1 0 step (omega arith) (omega arith)) in
+    rw over refl
+later_up_to position (suc n) view (step ∷ steps) h =
+    let within : nat_le step.0 position ≡ true =
+    le_true step.0 position (h.0 0 step (omega arith) (omega arith)) in
+    let here = undone_parts view n steps in
+    let more = later_up_to position n view steps (next_place position step steps n h) in
+    rw within (λ i. (step.0, here i) ∷ more i)
+
+pub cut : (position n first : ℕ) (view : ViewData) (steps : StepList) → IsPlace position steps n →
+    dropped_after position (rebuilt first view steps)
+    ≡ rebuilt first (undone view (drop n steps)) (take n steps)
+cut position n first view steps h =
+    let here = undone_parts view n steps in
+    let more = later_up_to position n view steps h in
+    λ i. (first, here i) ∷ more i
+
+pub dropped : (position n first : ℕ) (view : ViewData) (steps : StepList) →
+    IsPlace position steps n → dropped_before position (rebuilt first view steps)
+    ≡ rebuilt (last_position first (take n steps)) view (drop n steps)
+dropped position zero first view [] h = refl
+dropped position (suc n) first view [] h = refl
+dropped position zero first view (step ∷ steps) h =
+    let over : nat_le step.0 position ≡ false =
+    le_false step.0 position (h.1 0 step (omega arith) (omega arith)) in
+    rw over refl
+dropped position (suc n) first view (step ∷ steps) h =
+    let within : nat_le step.0 position ≡ true =
+    le_true step.0 position (h.0 0 step (omega arith) (omega arith)) in
+    rw within (dropped position n step.0 view steps (next_place position step steps n h))
+
+-- ---- steps that are undone one by one
+-- of the steps those from n on were undone, and the others are left
+pub record AreUndone (n : ℕ) (old : StepList) (newest : ViewData) (left : StepList) (before : ViewData) :
+    Type 0 where
+  pub within : n ≤ length old
+  pub steps : left ≡ take n old
+  pub view : before ≡ undone newest (drop n old)
+
+-- what is left is what is kept up to the last position left
+pub undone_is_cut : (position n first : ℕ) (steps : StepList) (newest : ViewData) (left : StepList)
+    (view : ViewData) → IsPlace position steps n → AreUndone n steps newest left view →
+    rebuilt first view left ≡ dropped_after position (rebuilt first newest steps)
+undone_is_cut position n first steps newest left view place undone_to =
+    ap (λ (v : ViewData). rebuilt first v left) undone_to.view
+    ∙ ap (rebuilt first (undone newest (drop n steps))) undone_to.steps
+    ∙ sym (cut position n first newest steps place)

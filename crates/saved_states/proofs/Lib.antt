@@ -1,0 +1,5 @@
+pub mod Undone
+pub mod Rising
+pub mod Rebuilt
+pub mod Cut
+pub mod Lowered

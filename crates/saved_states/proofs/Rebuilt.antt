@@ -1,0 +1,79 @@
+-- The views that steps lead back to.
+use Rattle.std.proofs.Common.{◌≡◌, ℕ, ◌<◌, [], ◌∷◌, ◌++◌, take, drop, sym, ap, ◌∙◌, subst, refl}
+use Rattle.std.proofs.lemmas.List.{take-append-drop}
+use Rattle.region_view.specs.Views.{ViewData, rows_in}
+use Rattle.region_view.specs.Setting.{RowList, set_rows, rows_at}
+use Rattle.saved_states.specs.Positions.{RiseFrom, AreSaved, last_of, EndsWith, IsAfterLast, Appends}
+use Rattle.saved_states.specs.Steps.{StepList, RiseAfter, last_position, undone, later, rebuilt}
+use Rattle.saved_states.proofs.Undone.{set_back}
+
+undone_join : (view : ViewData) (xs ys : StepList) →
+    undone view (xs ++ ys) ≡ undone (undone view ys) xs
+undone_join view [] ys = refl
+undone_join view (step ∷ xs) ys =
+    ap (λ (v : ViewData). set_rows v step.1) (undone_join view xs ys)
+
+-- all steps are undone, from the last on
+pub undone_parts : (view : ViewData) (n : ℕ) (steps : StepList) →
+    undone view steps ≡ undone (undone view (drop n steps)) (take n steps)
+undone_parts view n steps =
+    ap (undone view) (sym (take-append-drop n steps))
+    ∙ undone_join view (take n steps) (drop n steps)
+
+-- ---- the last pair
+last_of_later : (first : ℕ) (view : ViewData) (steps : StepList) →
+    last_of (first, undone view steps) (later view steps) ≡ (last_position first steps, view)
+last_of_later first view [] = refl
+last_of_later first view (step ∷ steps) = last_of_later step.0 view steps
+
+pub ends : (first : ℕ) (view : ViewData) (steps : StepList) →
+    EndsWith (rebuilt first view steps) (last_position first steps, view)
+ends first view steps = sym (last_of_later first view steps)
+
+pub last_before : (first position : ℕ) (view : ViewData) (steps : StepList) →
+    IsAfterLast (rebuilt first view steps) position → last_position first steps < position
+last_before first position view steps h =
+    subst (λ (pair : ℕ × ViewData). pair.0 < position) (last_of_later first view steps) h
+
+-- ---- positions rise
+later_rise : (n : ℕ) (view : ViewData) (steps : StepList) → RiseAfter n steps →
+    RiseFrom n (later view steps)
+later_rise n view [] r = tt
+later_rise n view (step ∷ steps) r = (r.0, later_rise step.0 view steps r.1)
+
+pub are_saved : (first : ℕ) (view : ViewData) (steps : StepList) → RiseAfter first steps →
+    AreSaved (rebuilt first view steps)
+are_saved first view steps r = later_rise first view steps r
+
+-- ---- one step more
+later_push : (old new : ViewData) (steps : StepList) (position : ℕ) (back : RowList) →
+    set_rows new back ≡ old →
+    later new (steps ++ (position, back) ∷ []) ≡ later old steps ++ (position, new) ∷ []
+later_push old new [] position back is = refl
+later_push old new (step ∷ steps) position back is =
+    let here : undone new (steps ++ (position, back) ∷ []) ≡ undone old steps =
+    undone_join new steps ((position, back) ∷ []) ∙ ap (λ (v : ViewData). undone v steps) is in
+    let more = later_push old new steps position back is in
+    λ i. (step.0, here i) ∷ more i
+
+rebuilt_push : (first : ℕ) (old new : ViewData) (steps : StepList) (position : ℕ) (back : RowList) →
+    set_rows new back ≡ old → rebuilt first new (steps ++ (position, back) ∷ [])
+    ≡ rebuilt first old steps ++ (position, new) ∷ []
+rebuilt_push first old new steps position back is =
+    let here : undone new (steps ++ (position, back) ∷ []) ≡ undone old steps =
+    undone_join new steps ((position, back) ∷ []) ∙ ap (λ (v : ViewData). undone v steps) is in
+    let more = later_push old new steps position back is in
+    λ i. (first, here i) ∷ more i
+
+-- rows are set, and what stood at their numbers is kept to set them back
+pub appends : (first : ℕ) (old new : ViewData) (steps : StepList) (position : ℕ)
+    (rows back : RowList) → new ≡ set_rows old rows → back ≡ rows_at (rows_in old) rows →
+    Appends (rebuilt first old steps) (rebuilt first new (steps ++ (position, back) ∷ [])) position rows
+appends first old new steps position rows back is was = (
+  (last_position first steps, old),
+  ends first old steps,
+  rebuilt_push first old new steps position back
+      (ap (λ (v : ViewData). set_rows v back) is ∙ ap (set_rows (set_rows old rows)) was
+      ∙ set_back old rows)
+      ∙ ap (λ (v : ViewData). rebuilt first old steps ++ (position, v) ∷ []) is,
+)

@@ -1,0 +1,63 @@
+-- Views by position.
+use Rattle.std.specs.Prelude.{◌≡◌, ℕ, ◌-◌, ◌<◌, List, [], ◌∷◌, ◌++◌, ⊤, map, nat_le, if◌then◌else◌}
+use Rattle.region_view.specs.Views.{ViewData}
+use Rattle.region_view.specs.Setting.{RowList, set_rows}
+
+-- the state of a region after so many steps, in the order of their numbers
+abbrev pub SavedData : Type 0
+SavedData = List (ℕ × ViewData)
+
+-- positions rise strictly, all after one
+abbrev pub RiseFrom : ℕ → SavedData → Type 0
+RiseFrom n [] = ⊤
+RiseFrom n (pair ∷ pairs) = (n < pair.0) × RiseFrom pair.0 pairs
+
+-- there is a first pair, and positions rise strictly
+abbrev pub AreSaved : SavedData → Type 0
+AreSaved [] = ⊥
+AreSaved (pair ∷ pairs) = RiseFrom pair.0 pairs
+
+-- the first position; of no pairs, 0
+abbrev pub first_position : SavedData → ℕ
+first_position [] = 0
+first_position (pair ∷ pairs) = pair.0
+
+abbrev pub last_of : ℕ × ViewData → SavedData → ℕ × ViewData
+last_of pair [] = pair
+last_of pair (next ∷ pairs) = last_of next pairs
+
+-- the last pair is this one
+abbrev pub EndsWith : SavedData → ℕ × ViewData → Type 0
+EndsWith [] pair = ⊥
+EndsWith (first ∷ pairs) pair = pair ≡ last_of first pairs
+
+-- a position is after the last one
+abbrev pub IsAfterLast : SavedData → ℕ → Type 0
+IsAfterLast [] position = ⊤
+IsAfterLast (first ∷ pairs) position = (last_of first pairs).0 < position
+
+-- one pair more: at this position, the last view with the rows set
+abbrev pub Appends : SavedData → SavedData → ℕ → RowList → Type 0
+Appends old new position rows = (last : ℕ × ViewData) × EndsWith old last
+    × (new ≡ old ++ (position, set_rows last.1 rows) ∷ [])
+
+-- those of a list whose positions aren't greater than one
+abbrev pub up_to : ℕ → SavedData → SavedData
+up_to position [] = []
+up_to position (pair ∷ pairs) = if nat_le pair.0 position then pair ∷ up_to position pairs else []
+
+-- the same, but for the first, which is kept
+abbrev pub dropped_after : ℕ → SavedData → SavedData
+dropped_after position [] = []
+dropped_after position (pair ∷ pairs) = pair ∷ up_to position pairs
+
+-- from the pair of the greatest position on that isn't greater than one
+abbrev pub dropped_before : ℕ → SavedData → SavedData
+dropped_before position [] = []
+dropped_before position (pair ∷ []) = pair ∷ []
+dropped_before position (pair ∷ next ∷ pairs) =
+    if nat_le next.0 position then dropped_before position (next ∷ pairs) else pair ∷ next ∷ pairs
+
+-- the same views at positions that are lower by so many
+abbrev pub lowered : ℕ → SavedData → SavedData
+lowered by pairs = map (λ pair. (pair.0 - by, pair.1)) pairs
