@@ -1,0 +1,223 @@
+-- What a region keeps with one more entry.
+use Rattle.std.proofs.Common.{◌≡◌, inl, inr, ℕ, ◌+◌, ◌<◌, ◌≤◌, List, [], ◌∷◌, ◌++◌, length, sym, ap, ◌∙◌, subst, refl, arith, Option}
+use Rattle.std.specs.Prelude.{IsSome}
+use Rattle.std.proofs.lemmas.List.{get_or-set_same, get_or-set_other, length-set}
+use Rattle.std.proofs.lemmas.List.Sums.{count_by-le-length}
+use Rattle.event_stamps.specs.declared.Stamp.{Stamp}
+use Rattle.cell_grid.specs.Grid.{IsRegion}
+use Rattle.region_view.specs.declared.action.Action.{Action}
+use Rattle.region_view.specs.declared.rows.Message.{Message}
+use Rattle.region_view.specs.Views.{ViewData, rows_in}
+use Rattle.region_view.specs.Setting.{set_rows, rows_set, after_action}
+use Rattle.region_view.specs.Messages.{message_of}
+use Rattle.region_messages.specs.Trails.{IsAmong, IsAfterAll}
+use Rattle.region_view.specs.Acting.{stamp_of}
+use Rattle.region_view.specs.Laws.{IsValidAction}
+use Rattle.saved_states.specs.Positions.{SavedData, EndsWith}
+use Rattle.region_queue.specs.Queue.{IsOf, StandsFor}
+use Rattle.region_core.specs.declared.home.Home.{Home}
+use Rattle.region_core.specs.declared.entry.Entry.{Entry}
+use Rattle.region_core.specs.declared.entry.Entry.TheVariants.{Native, Heard}
+use Rattle.region_core.specs.declared.entry.TheConstants.{MAX_ENTRIES}
+use Rattle.region_core.specs.declared.live.Live.{Live}
+use Rattle.region_core.specs.declared.moves.Move.TheVariants.{Run, TakeIn}
+use Rattle.region_core.specs.LocalRun.{At, Local, Trails, trail_of, told, start_of, now_of, after_entry, entry_stamp, IsInPlace, IsRight, IsMove}
+use Rattle.region_core.specs.Answers.{with_entry, IsInTurn}
+use Rattle.region_core.specs.Inbox.{InboxData, next_from, taken_from, with_taken}
+use Rattle.region_core.specs.Taken.{is_of, taken_of}
+use Rattle.region_core.specs.Live.{run_in, start_in, now_in, saved_along, AreSavedAlong, IsInbox, IsOutbox, IsLive}
+use Rattle.region_core.specs.Keeping.{SendsTo}
+use Rattle.region_core.specs.Moves.{Fits}
+use Rattle.region_core.proofs.Among.{same_or_other}
+use Rattle.region_core.proofs.Logs.{now_appended}
+use Rattle.region_core.proofs.Taken.{taken_native, taken_heard, taken_from_other}
+use Rattle.region_core.proofs.Sent.{sent_native, sent_heard, sent_before_turn}
+use Rattle.region_core.proofs.Right.{right_appended, waiting_was_heard}
+use Rattle.region_core.proofs.Along.{along_appended, along_ends}
+use Rattle.region_core.proofs.Valid.{valid_now, valid_action}
+use Rattle.region_core.proofs.NextMove.{next_of_waits}
+use Rattle.region_view.proofs.ValidRows.{setting_keeps_valid}
+use Rattle.region_view.specs.Placing.{IsValidPlacing}
+
+-- the parts of a body that is one entry further
+pub record IsFurther (home : Home) (live new : Live) (e : Entry) : Type 0 where
+  pub base : new.base ≡ live.base
+  pub heard : new.inbox.heard ≡ live.inbox.heard
+  pub log : new.log.items ≡ live.log.items ++ e ∷ []
+  pub saved : new.saved ≡ live.saved
+      ++ (length live.log.items + 1, (after_entry (now_in live) e).view) ∷ []
+  pub queue : IsOf new.queue home.rules home.grid home.number
+  pub stands : StandsFor new.queue (after_entry (now_in live) e).view
+  pub inbox : IsInbox home (live.log.items ++ e ∷ []) new.inbox
+  pub sent : IsOutbox home live.base (live.log.items ++ e ∷ []) new.sent.items
+
+pub further_run : (home : Home) (floor : Stamp) (live new : Live) (e : Entry) →
+    IsFurther home live new e → run_in floor new ≡ with_entry (run_in floor live) e
+further_run home floor live new e is = λ i. record {
+  floor = floor;
+  base = is.base i;
+  heard = is.heard i;
+  log = is.log i;
+}
+
+-- it keeps all again
+pub further_is : (home : Home) (floor : Stamp) (live new : Live) (e : Entry) → IsLive home floor live →
+    length live.log.items < MAX_ENTRIES → IsInTurn (run_in floor live) (entry_stamp e) →
+    IsMove home (now_in live) e → IsFurther home live new e → IsLive home floor new
+further_is home floor live new e kept room turn move is = record {
+  right = subst (IsRight home) run (right_appended home (run_in floor live) e kept.right room turn move);
+  inbox = subst (λ (r : Local). IsInbox home r.log new.inbox) run is.inbox;
+  sent = subst (λ (r : Local). IsOutbox home r.base r.log new.sent.items) run is.sent;
+  saved = subst (λ (r : Local). new.saved ≡ saved_along 0 (start_of r) r.log) run saved;
+  queue = is.queue;
+  stands = subst (λ (r : Local). StandsFor new.queue (now_of r).view) run
+      (subst (λ (a : At). StandsFor new.queue a.view) (sym (now_appended (run_in floor live) e)) is.stands);
+}
+  where
+    run : with_entry (run_in floor live) e ≡ run_in floor new
+    run = sym (further_run home floor live new e is)
+
+    first : 0 + length live.log.items + 1 ≡ length live.log.items + 1
+    first = omega arith
+
+    saved : new.saved ≡ saved_along 0 (start_in live) (live.log.items ++ e ∷ [])
+    saved = is.saved
+        ∙ ap (λ (n : ℕ). live.saved ++ (n, (after_entry (now_in live) e).view) ∷ []) (sym first)
+        ∙ ap (λ s. s ++ (0 + length live.log.items + 1, (after_entry (now_in live) e).view) ∷ []) kept.saved
+        ∙ sym (along_appended 0 (start_in live) live.log.items e)
+
+few_of : (q : ℕ) (log : List Entry) → taken_of q log ≤ length log
+few_of q log = count_by-le-length (is_of q) log
+
+-- ---- the inbox
+pub inbox_native : (home : Home) (log : List Entry) (inbox : InboxData) (x : Action) →
+    IsInbox home log inbox → IsInbox home (log ++ Native x ∷ []) inbox
+inbox_native home log inbox x is = record {
+  regions = is.regions;
+  counts = is.counts;
+  taken = λ q lt. is.taken q lt ∙ sym (taken_native q x log);
+}
+
+pub inbox_heard : (home : Home) (log : List Entry) (inbox : InboxData) (q : ℕ) (m : Message) →
+    IsRegion home.grid q → IsInbox home log inbox →
+    IsInbox home (log ++ Heard q m ∷ []) (with_taken inbox q)
+inbox_heard home log inbox q m region is = record {
+  regions = is.regions;
+  counts = length-set inbox.taken q (taken_from inbox q + 1) ∙ is.counts;
+  taken = λ p lt. elim (same_or_other p q) [
+    | inl same ↦ subst (λ (x : ℕ). taken_from (with_taken inbox q) x ≡ taken_of x (log ++ Heard q m ∷ []))
+        (sym same) here
+    | inr other ↦ get_or-set_other inbox.taken q p (taken_from inbox q + 1) 0 other ∙ is.taken p lt
+        ∙ sym (taken_from_other q p m log (λ e. other (sym e)))
+  ];
+}
+  where
+    within : q < length inbox.taken
+    within = let counts = is.counts in omega arith
+
+    here : taken_from (with_taken inbox q) q ≡ taken_of q (log ++ Heard q m ∷ [])
+    here = get_or-set_same inbox.taken q (taken_from inbox q + 1) 0 within
+        ∙ ap (λ (n : ℕ). n + 1) (is.taken q region) ∙ sym (taken_heard q m log)
+
+-- ---- the outbox
+pub outbox_heard : (home : Home) (floor : Stamp) (live : Live) (q : ℕ) (m : Message) →
+    IsOutbox home live.base live.log.items live.sent.items →
+    IsOutbox home live.base (live.log.items ++ Heard q m ∷ []) live.sent.items
+outbox_heard home floor live q m is = record {
+  regions = is.regions;
+  each = λ to lt linked. is.each to lt linked ∙ sym (sent_heard home.grid to (run_in floor live) q m);
+}
+
+pub outbox_native : (home : Home) (floor : Stamp) (live : Live) (x : Action) (sent : Trails) →
+    IsOutbox home live.base live.log.items live.sent.items → length sent ≡ length live.sent.items →
+    ((to : ℕ) → SendsTo home to → trail_of sent to ≡ trail_of live.sent.items to
+    ++ told (message_of home.grid to (rows_in (now_in live).view) x) []) →
+    IsOutbox home live.base (live.log.items ++ Native x ∷ []) sent
+outbox_native home floor live x sent is size each = record {
+  regions = size ∙ is.regions;
+  each = λ to lt linked. each to (lt, linked)
+      ∙ ap (λ (ms : List Message). ms ++ told (message_of home.grid to (rows_in (now_in live).view) x) [])
+      (is.each to lt linked)
+      ∙ sym (sent_native home.grid to (run_in floor live) x);
+}
+
+-- a message that waits is that of a region
+pub sender_is_region : (home : Home) (floor : Stamp) (live : Live) (q : ℕ) (m : Message) →
+    IsLive home floor live → Fits home (run_in floor live) (TakeIn q m) → IsRegion home.grid q
+sender_is_region home floor live q m is fits =
+    let first = fits.2.first in
+    let among = waiting_was_heard (start_in live) live.log.items q m
+    (subst (IsAmong m) (sym first.1) (inl refl)) in
+    ((is.right.heard q).linked m among).0
+
+-- ---- what may be taken in
+heard_among : (home : Home) (floor : Stamp) (live : Live) (q : ℕ) (m : Message) →
+    Fits home (run_in floor live) (TakeIn q m) → IsAmong m (trail_of live.inbox.heard q)
+heard_among home floor live q m fits =
+    waiting_was_heard (start_in live) live.log.items q m
+    (subst (IsAmong m) (sym fits.2.first.1) (inl refl))
+
+pub heard_valid : (home : Home) (floor : Stamp) (live : Live) (q : ℕ) (m : Message) → IsInPlace home →
+    IsLive home floor live → Fits home (run_in floor live) (TakeIn q m) →
+    IsValidPlacing live.queue.rules live.queue.grid (rows_in (set_rows (now_in live).view m.rows))
+heard_valid home floor live q m place is fits =
+    let rows = ((is.right.heard q).rows m (heard_among home floor live q m fits)).1 in
+    let valid = setting_keeps_valid home.rules home.grid (now_in live).view m.rows
+    (valid_now home (run_in floor live) place is.right) rows in
+    subst (λ (h : Home). IsValidPlacing h.rules h.grid (rows_in (set_rows (now_in live).view m.rows)))
+    (λ i. record {
+      number = home.number;
+      rules = sym is.queue.rules i;
+      grid = sym is.queue.grid i;
+    }) valid
+
+pub waits_in : (home : Home) (floor : Stamp) (live : Live) (q : ℕ) (m : Message) →
+    IsLive home floor live → Fits home (run_in floor live) (TakeIn q m) →
+    IsSome (next_from live.inbox q)
+waits_in home floor live q m is fits =
+    subst (λ (o : Option Message). IsSome o)
+    (sym (next_of_waits home live is.inbox q m fits.2.first.0 fits.2.first.1)) refl
+
+pub few_taken : (home : Home) (floor : Stamp) (live : Live) (q : ℕ) (m : Message) →
+    IsLive home floor live → Fits home (run_in floor live) (TakeIn q m) →
+    taken_from live.inbox q < MAX_ENTRIES
+few_taken home floor live q m is fits =
+    let same = is.inbox.taken q (sender_is_region home floor live q m is fits) in
+    let room = fits.0.0 in
+    let few = few_of q live.log.items in
+    omega arith
+
+-- ---- what may be run
+pub newest_is : (live : Live) (n : ℕ) (view : ViewData) → AreSavedAlong live →
+    EndsWith live.saved (n, view) → view ≡ (now_in live).view
+newest_is live n view saved ends = ap (λ (pair : ℕ × ViewData). pair.1)
+    (along_ends 0 (start_in live) live.log.items (n, view)
+    (subst (λ (s : SavedData). EndsWith s (n, view)) saved ends))
+
+pub native_action : (home : Home) (floor : Stamp) (live : Live) (x : Action) → IsInPlace home →
+    IsLive home floor live → Fits home (run_in floor live) (Run x) →
+    IsValidAction home.rules home.grid (rows_in (now_in live).view) (stamp_of x) x
+native_action home floor live x place is fits = valid_action home (now_in live) x place
+    (valid_now home (run_in floor live) place is.right) fits.2
+
+pub native_valid : (home : Home) (floor : Stamp) (live : Live) (x : Action) → IsInPlace home →
+    IsLive home floor live → Fits home (run_in floor live) (Run x) →
+    IsValidPlacing live.queue.rules live.queue.grid (rows_in (after_action (now_in live).view x))
+native_valid home floor live x place is fits =
+    let rows = (native_action home floor live x place is fits).rows in
+    let valid = setting_keeps_valid home.rules home.grid (now_in live).view
+    (rows_set (rows_in (now_in live).view) x)
+    (valid_now home (run_in floor live) place is.right) rows in
+    subst (λ (h : Home). IsValidPlacing h.rules h.grid (rows_in (after_action (now_in live).view x)))
+    (λ i. record {
+      number = home.number;
+      rules = sym is.queue.rules i;
+      grid = sym is.queue.grid i;
+    }) valid
+
+pub after_what_was_sent : (home : Home) (floor : Stamp) (live : Live) (x : Action) → IsLive home floor live →
+    Fits home (run_in floor live) (Run x) → (to : ℕ) → SendsTo home to →
+    IsAfterAll (trail_of live.sent.items to) (stamp_of x)
+after_what_was_sent home floor live x is fits to sends m among =
+    sent_before_turn home.grid to live.base floor (stamp_of x) live.log.items is.right.rises fits.1.1 m
+    (subst (IsAmong m) (is.sent.each to sends.0 sends.1) among)

@@ -1,0 +1,24 @@
+-- What each region keeps, as its value tells it.
+use Rattle.std.proofs.Common.{◌≡◌, Option, Some, None, subst}
+use Rattle.std.specs.Prelude.{option_map, IfSome}
+use Rattle.event_stamps.specs.declared.Stamp.{Stamp}
+use Rattle.region_core.specs.declared.home.Home.{Home}
+use Rattle.region_core.specs.declared.live.Live.{Live}
+use Rattle.region_core.specs.LocalRun.{IsRight}
+use Rattle.region_core.specs.Opening.{RegionData}
+use Rattle.region_core.specs.Live.{run_in, IsLive, IsSound}
+use Rattle.region_core.specs.Keeping.{IsKept}
+
+pub kept_is : (home : Home) (floor : Stamp) (live : Option Live) (region : RegionData) →
+    record { home = home; floor = floor; run = option_map (run_in floor) live } ≡ region →
+    IsSound home floor live → IsKept region
+kept_is home floor live region is sound = subst IsKept is record {
+  place = sound.place;
+  floor = sound.in_time;
+  run = right live sound.alive;
+}
+  where
+    right : (o : Option Live) → IfSome o (IsLive home floor) →
+        IfSome (option_map (run_in floor) o) (IsRight home)
+    right None h = h
+    right (Some live) h = h.right

@@ -1,0 +1,26 @@
+-- Lists of which one element after the other is changed.
+use Rattle.std.proofs.Common.{◌≡◌, ℕ, zero, suc, ◌+◌, ◌<◌, List, [], ◌∷◌, ◌++◌, length, slice_set, get_or, take, drop, map, ap, ◌∙◌, refl, arith}
+
+one_more_suc : {A : Type 0} (f : A → A) (xs : List A) (k : ℕ) (d y : A) → k < length xs →
+    y ≡ f (get_or xs k d) →
+    slice_set (map f (take k xs) ++ drop k xs) k y ≡ map f (take (suc k) xs) ++ drop (suc k) xs
+one_more_suc f [] k d y lt is = absurd (omega arith)
+one_more_suc f (x ∷ xs) zero d y lt is = ap (λ v. v ∷ xs) is
+one_more_suc f (x ∷ xs) (suc k) d y lt is =
+    ap (λ v. f x ∷ v) (one_more_suc f xs k d y (omega arith) is)
+
+get_left : {A : Type 0} (f : A → A) (xs : List A) (k : ℕ) (d : A) → k < length xs →
+    get_or (map f (take k xs) ++ drop k xs) k d ≡ get_or xs k d
+get_left f [] k d lt = absurd (omega arith)
+get_left f (x ∷ xs) zero d lt = refl
+get_left f (x ∷ xs) (suc k) d lt = get_left f xs k d (omega arith)
+
+-- where the first k are changed, and now the next one
+pub one_more : {A : Type 0} (f : A → A) (xs items : List A) (k : ℕ) (d y : A) → k < length xs →
+    items ≡ map f (take k xs) ++ drop k xs → y ≡ f (get_or items k d) →
+    slice_set items k y ≡ map f (take (k + 1) xs) ++ drop (k + 1) xs
+one_more f xs items k d y lt so_far is =
+    let next : suc k ≡ k + 1 = omega arith in
+    ap (λ v. slice_set v k y) so_far
+    ∙ one_more_suc f xs k d y lt (is ∙ ap (λ v. f (get_or v k d)) so_far ∙ ap f (get_left f xs k d lt))
+    ∙ ap (λ (n : ℕ). map f (take n xs) ++ drop n xs) next

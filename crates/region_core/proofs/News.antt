@@ -1,0 +1,158 @@
+-- A body that hears another trail of messages.
+use Rattle.std.proofs.Common.{◌≡◌, ◌≢◌, inl, inr, ℕ, zero, suc, ◌+◌, ◌<◌, Bool, List, [], ◌∷◌, ◌++◌, length, get_or, slice_set, Some, None, Result, Ok, Err, OnOk, sym, ap, subst, ◌∙◌, arith, refl}
+use Rattle.std.specs.Prelude.{◌↔◌, IsTrue}
+use Rattle.std.proofs.lemmas.List.{length-set, get_or-set_same, get_or-set_other}
+use Rattle.std.proofs.lemmas.Option.{none-some, same_Some}
+use Rattle.event_stamps.specs.declared.Stamp.{Stamp}
+use Rattle.event_stamps.specs.Order.{Before}
+use Rattle.region_view.specs.declared.rows.Message.{Message}
+use Rattle.region_view.specs.Views.{ViewData}
+use Rattle.region_view.specs.Setting.{set_rows, after_action}
+use Rattle.region_messages.specs.Trails.{is_before, AgreesUpTo, below, from}
+use Rattle.region_messages.proofs.Order.{is_before_true, before_from_true}
+use Rattle.region_messages.proofs.Parts.{agreed_part}
+use Rattle.region_queue.specs.Queue.{QueueData, IsOf, StandsFor}
+use Rattle.saved_states.specs.Positions.{SavedData}
+use Rattle.region_core.specs.declared.home.Home.{Home}
+use Rattle.region_core.specs.declared.entry.Entry.{Entry}
+use Rattle.region_core.specs.declared.entry.Entry.TheVariants.{Native, Heard}
+use Rattle.region_core.specs.declared.live.Live.{Live}
+use Rattle.region_core.specs.LocalRun.{Local, Trails, trail_of, start_of, now_of, after_log, without_first, entry_stamp, RiseFrom, IsHearable, IsRight, entries_below}
+use Rattle.region_core.specs.Answers.{clock_of, HasHeard}
+use Rattle.region_core.specs.Keeping.{last_stamp}
+use Rattle.region_core.specs.Live.{run_in, saved_along, IsInbox, IsOutbox, IsLive}
+use Rattle.region_core.specs.Replaced.{IsReplaced}
+use Rattle.region_core.proofs.Logs.{below_kept, kept_below, all_below, below_whole}
+use Rattle.region_core.proofs.Hears.{hearing, right_heard}
+
+-- ---- the last entry
+is_true : (b : Bool) (s t : Stamp) → b ≡ is_before s t → IsTrue b ↔ Before s t
+is_true b s t is = (
+  λ h. before_from_true s t (sym is ∙ h),
+  λ lt. is ∙ is_before_true s t lt,
+)
+
+pub none_there : (at : Stamp) (log : List Entry) → None ≡ last_stamp log → entries_below at log ≡ log
+none_there at [] last = refl
+none_there at (e ∷ es) last = cc
+
+pub ends_there : (f at s : Stamp) (log : List Entry) (b : Bool) → RiseFrom f log →
+    Some s ≡ last_stamp log → b ≡ is_before s at → IsTrue b ↔ (entries_below at log ≡ log)
+ends_there f at s [] b rises last is = absurd (none-some s (sym last))
+ends_there f at s (e ∷ es) b rises last is =
+    let clock : s ≡ clock_of f (e ∷ es) = same_Some s (clock_of (entry_stamp e) es) last in
+    let tested = is_true b s at is in (
+      λ h. below_kept f at (e ∷ es) rises (inr (subst (λ (v : Stamp). Before v at) clock (tested.0 h))),
+      λ same. tested.1 (elim (kept_below f at (e ∷ es) same) [
+        | inl none ↦ cc
+        | inr lt ↦ subst (λ (v : Stamp). Before v at) (sym clock) lt
+      ]),
+    )
+
+-- what is left when entries are taken back is all before the stamp
+pub nothing_more : (at : Stamp) (log left : List Entry) → left ≡ entries_below at log →
+    entries_below at left ≡ left
+nothing_more at log left is =
+    ap (entries_below at) is ∙ below_whole at (entries_below at log) (all_below at log) ∙ sym is
+
+-- ---- views don't depend on what waits
+saved_by_view : (p : ℕ) (view : ViewData) (w v : Trails) (log : List Entry) →
+    saved_along p (record { view = view; waiting = w }) log
+    ≡ saved_along p (record { view = view; waiting = v }) log
+saved_by_view p view w v [] = refl
+saved_by_view p view w v (Native x ∷ es) =
+    ap (λ (s : SavedData). (p, view) ∷ s) (saved_by_view (p + 1) (after_action view x) w v es)
+saved_by_view p view w v (Heard q m ∷ es) = ap (λ (s : SavedData). (p, view) ∷ s)
+    (saved_by_view (p + 1) (set_rows view m.rows) (without_first w q) (without_first v q) es)
+
+view_by_view : (view : ViewData) (w v : Trails) (log : List Entry) →
+    (after_log (record { view = view; waiting = w }) log).view
+    ≡ (after_log (record { view = view; waiting = v }) log).view
+view_by_view view w v [] = refl
+view_by_view view w v (Native x ∷ es) = view_by_view (after_action view x) w v es
+view_by_view view w v (Heard q m ∷ es) =
+    view_by_view (set_rows view m.rows) (without_first w q) (without_first v q) es
+
+-- ---- another trail
+pub heard_there : (ts : Trails) (k : ℕ) (sent : List Message) → k < length ts →
+    trail_of (slice_set ts k sent) k ≡ sent
+heard_there ts k sent lt = get_or-set_same ts k sent [] lt
+
+pub heard_elsewhere : (ts : Trails) (k q : ℕ) (sent : List Message) → q ≢ k →
+    trail_of (slice_set ts k sent) q ≡ trail_of ts q
+heard_elsewhere ts k q sent other = get_or-set_other ts k q sent [] other
+
+pub has_heard : (floor at : Stamp) (k : ℕ) (sent : List Message) (old mid new : Live) →
+    mid.base ≡ old.base → mid.inbox.heard ≡ old.inbox.heard →
+    mid.log.items ≡ entries_below at old.log.items → k < length mid.inbox.heard →
+    IsReplaced k sent mid new → HasHeard k sent (run_in floor old) at (run_in floor new)
+has_heard floor at k sent old mid new base heard log lt is = record {
+  base = is.base ∙ base;
+  floor = refl;
+  log = is.log ∙ log;
+  trail = ap (λ (ts : Trails). trail_of ts k) is.heard ∙ heard_there mid.inbox.heard k sent lt;
+  others = λ q other. ap (λ (ts : Trails). trail_of ts q) is.heard
+      ∙ heard_elsewhere mid.inbox.heard k q sent other ∙ ap (λ (ts : Trails). trail_of ts q) heard;
+}
+
+pub news_live : (home : Home) (floor at : Stamp) (k : ℕ) (sent : List Message) (mid new : Live) →
+    IsLive home floor mid → entries_below at mid.log.items ≡ mid.log.items →
+    AgreesUpTo (trail_of mid.inbox.heard k) sent at → IsHearable home floor k sent →
+    k < length mid.inbox.heard → IsReplaced k sent mid new → IsLive home floor new
+news_live home floor at k sent mid new live all agree hearable lt is = record {
+  right = subst (IsRight home) run (right_heard home (run_in floor mid) k sent at heard live.right agree hearable
+      (heard_there mid.inbox.heard k sent lt) (λ q other. heard_elsewhere mid.inbox.heard k q sent other));
+  inbox = subst (λ (es : List Entry). IsInbox home es new.inbox) (sym is.log) (record {
+    regions = ap length is.heard ∙ length-set mid.inbox.heard k sent ∙ live.inbox.regions;
+    counts = ap length is.taken ∙ live.inbox.counts;
+    taken = λ q region. ap (λ (v : List ℕ). get_or v q 0) is.taken ∙ live.inbox.taken q region;
+  });
+  sent = subst (λ (es : List Entry). IsOutbox home new.base es new.sent.items) (sym is.log)
+      (subst (λ (b : ViewData). IsOutbox home b mid.log.items new.sent.items) (sym is.base)
+      (subst (IsOutbox home mid.base mid.log.items) (sym is.own) live.sent));
+  saved = subst (λ (r : Local). new.saved ≡ saved_along 0 (start_of r) r.log) run
+      (is.saved ∙ live.saved ∙ saved_by_view 0 mid.base mid.inbox.heard heard mid.log.items
+      ∙ ap (saved_along 0 (record { view = mid.base; waiting = heard })) (sym all));
+  queue = subst (λ (q : QueueData). IsOf q home.rules home.grid home.number) (sym is.queue) live.queue;
+  stands = subst (λ (r : Local). StandsFor new.queue (now_of r).view) run
+      (subst (λ (q : QueueData). StandsFor q (now_of after).view) (sym is.queue)
+      (subst (StandsFor mid.queue)
+      (view_by_view mid.base mid.inbox.heard heard mid.log.items
+      ∙ ap (λ (es : List Entry). (after_log (record { view = mid.base; waiting = heard }) es).view) (sym all))
+      live.stands));
+}
+  where
+    heard : Trails
+    heard = slice_set mid.inbox.heard k sent
+
+    after : Local
+    after = hearing at heard (run_in floor mid)
+
+    run : hearing at (slice_set mid.inbox.heard k sent) (run_in floor mid) ≡ run_in floor new
+    run = λ i. record {
+      floor = floor;
+      base = sym is.base i;
+      heard = sym is.heard i;
+      log = (all ∙ sym is.log) i;
+    }
+
+-- ---- the steps of the code
+pub on_ok : {A E : Type 0} (r : Result A E) (P Q : Type 0) → (P → Q) → OnOk r P → OnOk r Q
+on_ok (Ok x) P Q f h = f h
+on_ok (Err e) P Q f h = h
+
+any_default : (ts : Trails) (k : ℕ) (d e : List Message) → k < length ts → get_or ts k d ≡ get_or ts k e
+any_default [] k d e lt = absurd (omega arith)
+any_default (t ∷ ts) zero d e lt = refl
+any_default (t ∷ ts) (suc k) d e lt = any_default ts k d e (omega arith)
+
+-- the trail from the first news on becomes what is sent
+pub replaced_by : (ts all : Trails) (k : ℕ) (at : Stamp) (was sent now : List Message) →
+    ts ≡ all → was ≡ get_or ts k was → k < length all → AgreesUpTo (trail_of all k) sent at →
+    now ≡ below at was ++ from at sent → slice_set ts k now ≡ slice_set all k sent
+replaced_by ts all k at was sent now same here lt agree is =
+    let there : was ≡ trail_of all k =
+    here ∙ ap (λ (v : Trails). get_or v k was) same ∙ any_default all k was [] lt in
+    ap (λ (v : Trails). slice_set v k now) same
+    ∙ ap (slice_set all k) (is ∙ ap (λ (v : List Message). below at v ++ from at sent) there
+    ∙ agreed_part (trail_of all k) sent at agree)

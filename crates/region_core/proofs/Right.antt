@@ -1,0 +1,60 @@
+-- Right local runs: what waits in them, one more entry, and an end that is taken back.
+use Rattle.std.proofs.Common.{ℕ, ◌<◌, List, [], ◌∷◌, length, length-append, sym, subst, arith}
+use Rattle.event_stamps.specs.declared.Stamp.{Stamp}
+use Rattle.region_view.specs.declared.rows.Message.{Message}
+use Rattle.region_messages.specs.Trails.{IsAmong, Rises}
+use Rattle.region_messages.proofs.Among.{rises_drop}
+use Rattle.region_core.specs.declared.home.Home.{Home}
+use Rattle.region_core.specs.declared.entry.Entry.{Entry}
+use Rattle.region_core.specs.declared.entry.TheConstants.{MAX_ENTRIES}
+use Rattle.region_core.specs.LocalRun.{At, Local, trail_of, start_of, now_of, after_log}
+use Rattle.region_core.specs.LocalRun.{entry_stamp, Moves, IsMove, IsRight, entries_below}
+use Rattle.region_core.specs.LocalRun.{entries_from}
+use Rattle.region_core.specs.Taken.{taken_of}
+use Rattle.region_core.specs.Answers.{with_entry, IsInTurn}
+use Rattle.region_core.proofs.Among.{AllRise, among_drop}
+use Rattle.region_core.proofs.Logs.{moves_split, moves_join, below_then_from, fewer_below}
+use Rattle.region_core.proofs.Logs.{rises_below, rises_appended}
+use Rattle.region_core.proofs.Taken.{waiting_is_drop}
+
+-- ---- what waits
+-- a message that waits was heard
+pub waiting_was_heard : (a : At) (log : List Entry) (q : ℕ) (m : Message) →
+    IsAmong m (trail_of (after_log a log).waiting q) → IsAmong m (trail_of a.waiting q)
+waiting_was_heard a log q m among = among_drop (taken_of q log) (trail_of a.waiting q) m
+    (subst (IsAmong m) (waiting_is_drop a log q) among)
+
+pub rise_along : (a : At) (log : List Entry) → AllRise a.waiting → AllRise (after_log a log).waiting
+rise_along a log rise q = subst Rises (sym (waiting_is_drop a log q))
+    (rises_drop (taken_of q log) (trail_of a.waiting q) (rise q))
+
+pub heard_rise : (h : Home) (r : Local) → IsRight h r → AllRise r.heard
+heard_rise h r right q = (right.heard q).rises
+
+pub waiting_rise : (h : Home) (r : Local) → IsRight h r → AllRise (now_of r).waiting
+waiting_rise h r right = rise_along (start_of r) r.log (heard_rise h r right)
+
+-- ---- one more entry
+pub right_appended : (h : Home) (r : Local) (e : Entry) → IsRight h r → length r.log < MAX_ENTRIES →
+    IsInTurn r (entry_stamp e) → IsMove h (now_of r) e → IsRight h (with_entry r e)
+right_appended h r e right room turn move = record {
+  base = right.base;
+  floor = right.floor;
+  heard = right.heard;
+  moves = moves_join h (start_of r) r.log (e ∷ []) right.moves (move, tt);
+  rises = rises_appended r.floor r.log e right.rises turn.0 turn.1;
+  few = simp length-append (omega arith);
+}
+
+-- ---- an end that is taken back
+pub right_rewound : (h : Home) (r : Local) (at : Stamp) → IsRight h r →
+    IsRight h (record r { log = entries_below at r.log })
+right_rewound h r at right = record {
+  base = right.base;
+  floor = right.floor;
+  heard = right.heard;
+  moves = (moves_split h (start_of r) (entries_below at r.log) (entries_from at r.log)
+      (subst (Moves h (start_of r)) (below_then_from at r.log) right.moves)).0;
+  rises = rises_below r.floor at r.log right.rises;
+  few = let fewer = fewer_below at r.log in let few = right.few in omega arith;
+}

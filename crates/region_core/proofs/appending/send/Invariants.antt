@@ -1,0 +1,7 @@
+use Rattle.region_view.specs.Views.{rows_in}
+use Rattle.region_core.proofs.Sending.{IsSentBelow}
+use Rattle.region_core.proofs.appending.send.Given as goal
+
+abbrev pub invariant-loop-to : goal.invariant-loop-to
+invariant-loop-to l =
+    IsSentBelow l.home (rows_in l.before) l.action l.to l.fn.sent.items l.sent.items

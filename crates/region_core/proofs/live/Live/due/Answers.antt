@@ -1,0 +1,21 @@
+use Rattle.std.proofs.Common.{Option, sym, subst}
+use Rattle.event_stamps.specs.declared.Stamp.{Stamp}
+use Rattle.event_stamps.specs.Least.{IsLeastOf, earlier_of}
+use Rattle.region_core.specs.LocalRun.{IsOffered}
+use Rattle.region_core.specs.Inbox.{head_stamp}
+use Rattle.region_core.specs.Live.{now_in}
+use Rattle.region_core.proofs.Heads.{due_of_both}
+use Rattle.region_core.proofs.NextMove.{least_waiting}
+use Rattle.region_core.proofs.live.Live.due.Goals as goal
+
+pub returns : goal.returns
+returns c =
+    let home = c.args.home.now in
+    let live = c.args.self.now in
+    subst (IsLeastOf (IsOffered home (now_in live))) (sym c.earlier.ensures)
+    (subst (λ (o : Option Stamp). IsLeastOf (IsOffered home (now_in live))
+    (earlier_of c.least_own.result o))
+    (sym c.stamp_of.ensures)
+    (due_of_both home (now_in live) c.least_own.result (head_stamp c.least.result)
+    c.least_own.ensures
+    (least_waiting home c.requires.0 live c.least.result c.requires.1 c.least.ensures)))

@@ -1,0 +1,12 @@
+use Rattle.region_core.proofs.Shown.{heard_shown}
+use Rattle.region_core.proofs.Kept.{kept_is}
+use Rattle.region_core.proofs.region.Region.heard.Goals as goal
+
+pub returns-in-Some-clause-kept : goal.returns-in-Some-clause-kept
+returns-in-Some-clause-kept c = kept_is _ _ _ _ c.self.view_is c.self.invariant
+
+pub returns-in-None-clause-kept : goal.returns-in-None-clause-kept
+returns-in-None-clause-kept c = kept_is _ _ _ _ c.self.view_is c.self.invariant
+
+pub returns-in-Some-clause-value : goal.returns-in-Some-clause-value
+returns-in-Some-clause-value c = heard_shown (λ t. t.now) c.heard_from.result _ _ _ c.in-Some.live _ c.args.from c.self.view_is c.in-Some.is c.heard_from.ensures

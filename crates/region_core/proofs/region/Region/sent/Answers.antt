@@ -1,0 +1,12 @@
+use Rattle.region_core.proofs.Shown.{sent_shown}
+use Rattle.region_core.proofs.Kept.{kept_is}
+use Rattle.region_core.proofs.region.Region.sent.Goals as goal
+
+pub returns-in-Some-clause-kept : goal.returns-in-Some-clause-kept
+returns-in-Some-clause-kept c = kept_is _ _ _ _ c.self.view_is c.self.invariant
+
+pub returns-in-None-clause-kept : goal.returns-in-None-clause-kept
+returns-in-None-clause-kept c = kept_is _ _ _ _ c.self.view_is c.self.invariant
+
+pub returns-in-Some-clause-value : goal.returns-in-Some-clause-value
+returns-in-Some-clause-value c = sent_shown (λ t. t.now) c.sent_to.result _ _ _ c.in-Some.live _ c.args.to c.self.view_is c.in-Some.is c.sent_to.ensures

@@ -1,0 +1,70 @@
+-- What a region heard from the others, and how much of it was taken in.
+use Rattle.std.specs.Prelude.{◌≡◌, ◌≢◌, ℕ, ◌+◌, ◌<◌, List, [], Option, Some, None, length, replicate, get_or, slice_get, slice_set, if◌then◌else◌}
+use Rattle.event_stamps.specs.declared.Stamp.{Stamp}
+use Rattle.event_stamps.specs.Order.{Before}
+use Rattle.region_view.specs.declared.rows.Message.{Message}
+use Rattle.region_messages.specs.Trails.{is_before}
+use Rattle.region_core.specs.LocalRun.{Trails, trail_of}
+
+-- by the number of the region: the messages heard from it, and how many of them were taken in
+pub record InboxData : Type 0 where
+  pub heard : Trails
+  pub taken : List ℕ
+
+-- so many of both
+abbrev pub HasSizes : ℕ → InboxData → Type 0
+HasSizes regions inbox = (length inbox.heard ≡ regions) × (length inbox.taken ≡ regions)
+
+abbrev pub empty_inbox : ℕ → InboxData
+empty_inbox regions = record { heard = replicate regions []; taken = replicate regions 0 }
+
+abbrev pub taken_from : InboxData → ℕ → ℕ
+taken_from inbox q = get_or inbox.taken q 0
+
+-- the first message of a region that wasn't taken in
+abbrev pub next_from : InboxData → ℕ → Option Message
+next_from inbox q = slice_get (trail_of inbox.heard q) (taken_from inbox q)
+
+-- of the first messages of the regions below a number, none is before it; or there are none
+abbrev pub IsLeastBelow : InboxData → ℕ → Option (ℕ × Message) → Type 0
+IsLeastBelow inbox n None = (q : ℕ) → q < n → next_from inbox q ≡ None
+IsLeastBelow inbox n (Some head) = (next_from inbox head.0 ≡ Some head.1)
+    × ((q : ℕ) (m : Message) → q < n → next_from inbox q ≡ Some m → ¬ Before m.stamp head.1.stamp)
+
+-- the lesser of two first messages; of one stamp, the one that was there
+abbrev pub nearer_of : Option (ℕ × Message) → ℕ → Option Message → Option (ℕ × Message)
+nearer_of least from None = least
+nearer_of None from (Some m) = Some (from, m)
+nearer_of (Some head) from (Some m) =
+    if is_before m.stamp head.1.stamp then Some (from, m) else Some head
+
+abbrev pub HasStamp : Option Message → Stamp → Type 0
+HasStamp None s = ⊥
+HasStamp (Some m) s = m.stamp ≡ s
+
+-- the same of all regions
+abbrev pub IsLeastHead : InboxData → Option (ℕ × Message) → Type 0
+IsLeastHead inbox None = (q : ℕ) → next_from inbox q ≡ None
+IsLeastHead inbox (Some head) = (next_from inbox head.0 ≡ Some head.1)
+    × ((q : ℕ) (m : Message) → next_from inbox q ≡ Some m → ¬ Before m.stamp head.1.stamp)
+
+-- the first message of another region below a number has this stamp
+abbrev pub IsSharedBelow : InboxData → ℕ → ℕ → Stamp → Type 0
+IsSharedBelow inbox n from s = (q : ℕ) × (m : Message) × (q < n) × (q ≢ from)
+    × (next_from inbox q ≡ Some m) × (m.stamp ≡ s)
+
+-- the first message of another region has this stamp
+abbrev pub IsSharedHead : InboxData → ℕ → Stamp → Type 0
+IsSharedHead inbox from s = (q : ℕ) × (m : Message) × (q ≢ from)
+    × (next_from inbox q ≡ Some m) × (m.stamp ≡ s)
+
+-- one more message of a region is taken in
+abbrev pub with_taken : InboxData → ℕ → InboxData
+with_taken inbox q = record {
+  heard = inbox.heard;
+  taken = slice_set inbox.taken q (taken_from inbox q + 1);
+}
+
+abbrev pub head_stamp : Option (ℕ × Message) → Option Stamp
+head_stamp None = None
+head_stamp (Some head) = Some head.1.stamp

@@ -1,0 +1,14 @@
+pub mod LocalRun
+pub mod Taken
+pub mod Answers
+pub mod Opening
+pub mod Inbox
+pub mod Live
+pub mod Codes
+pub mod Keeping
+pub mod Laws
+pub mod Touched
+pub mod Hearing
+pub mod Replaced
+pub mod Moves
+pub mod Steps

@@ -1,0 +1,69 @@
+-- What a region keeps beside its local run, so that it need not be found again.
+use Rattle.std.specs.Prelude.{◌≡◌, ℕ, ◌+◌, List, [], ◌∷◌, length, Option, IfSome}
+use Rattle.event_stamps.specs.declared.Stamp.{Stamp}
+use Rattle.event_stamps.specs.Order.{Before, end_stamp}
+use Rattle.cell_grid.specs.Grid.{IsRegion, AreLinked}
+use Rattle.region_view.specs.Views.{ViewData}
+use Rattle.region_queue.specs.Queue.{IsOf, StandsFor}
+use Rattle.saved_states.specs.Positions.{SavedData}
+use Rattle.region_core.specs.declared.home.Home.{Home}
+use Rattle.region_core.specs.declared.entry.Entry.{Entry}
+use Rattle.region_core.specs.declared.live.Live.{Live}
+use Rattle.region_core.specs.LocalRun.{Local, At, Trails, trail_of, after_entry, after_log, sent_to, IsInPlace, IsRight}
+use Rattle.region_core.specs.Inbox.{InboxData, taken_from}
+use Rattle.region_core.specs.Taken.{taken_of}
+
+-- the local run that is kept
+abbrev pub run_in : Stamp → Live → Local
+run_in floor live = record {
+  floor = floor;
+  base = live.base;
+  heard = live.inbox.heard;
+  log = live.log.items;
+}
+
+-- what the region is at where it begins, and after its whole log
+abbrev pub start_in : Live → At
+start_in live = record { view = live.base; waiting = live.inbox.heard }
+
+abbrev pub now_in : Live → At
+now_in live = after_log (start_in live) live.log.items
+
+-- the views along a log, by position
+abbrev pub saved_along : ℕ → At → List Entry → SavedData
+saved_along position a [] = (position, a.view) ∷ []
+saved_along position a (e ∷ es) = (position, a.view) ∷ saved_along (position + 1) (after_entry a e) es
+
+-- of each region there is a trail, and the log took in so many of its messages
+pub record IsInbox (home : Home) (log : List Entry) (inbox : InboxData) : Type 0 where
+  pub regions : length inbox.heard ≡ home.grid.regions
+  pub counts : length inbox.taken ≡ home.grid.regions
+  pub taken : (q : ℕ) → IsRegion home.grid q → taken_from inbox q ≡ taken_of q log
+
+-- for each linked region what the log sends to it
+pub record IsOutbox (home : Home) (base : ViewData) (log : List Entry) (sent : Trails) : Type 0 where
+  pub regions : length sent ≡ home.grid.regions
+  pub each : (q : ℕ) → IsRegion home.grid q → AreLinked home.grid home.number q →
+      trail_of sent q ≡ sent_to home.grid q base log
+
+abbrev pub AreSavedAlong : Live → Type 0
+AreSavedAlong live = live.saved ≡ saved_along 0 (start_in live) live.log.items
+
+-- a right local run, and what is kept beside it is what it comes to
+pub record IsLive (home : Home) (floor : Stamp) (live : Live) : Type 0 where
+  pub right : IsRight home (run_in floor live)
+  pub inbox : IsInbox home live.log.items live.inbox
+  pub sent : IsOutbox home live.base live.log.items live.sent.items
+  pub saved : AreSavedAlong live
+  pub queue : IsOf live.queue home.rules home.grid home.number
+  pub stands : StandsFor live.queue (now_in live).view
+
+-- the same from some floor on
+abbrev pub HasRun : Home → Live → Type 0
+HasRun home live = (floor : Stamp) × IsLive home floor live
+
+-- what each region keeps
+pub record IsSound (home : Home) (floor : Stamp) (live : Option Live) : Type 0 where
+  pub place : IsInPlace home
+  pub in_time : ¬ Before (end_stamp home.rules.end) floor
+  pub alive : IfSome live (IsLive home floor)

@@ -1,0 +1,44 @@
+//! What the calls of a region answer.
+
+use event_rules::Limit;
+use event_stamps::Stamp;
+
+/// What one step came to.
+#[derive(Clone, Copy, Debug, PartialEq, Eq)]
+pub enum Step {
+    /// The event with this stamp was run.
+    Ran(Stamp),
+    /// The message with this stamp was taken in.
+    Heard(Stamp),
+    /// Nothing is due.
+    Idle,
+    /// What is due is before the floor, or not after the last entry.
+    Past {
+        /// The stamp that is due.
+        due: Stamp,
+        /// The stamp of the last entry; of an empty log, the floor.
+        clock: Stamp,
+    },
+    /// Two or more of the events and messages have the stamp that is due.
+    Tied(Stamp),
+    /// The event that is due fails this limit.
+    Halted(Limit),
+    /// The log is full.
+    Held,
+    /// The region is spent.
+    Spent,
+}
+
+/// What one hearing came to.
+#[derive(Clone, Copy, Debug, PartialEq, Eq)]
+pub enum Hearing {
+    /// Nothing is new.
+    Same,
+    /// From this stamp on something is new, and the entries from it on are taken back.
+    Rewound(Stamp),
+    /// From this stamp on, after the last entry, something is new.
+    Later(Stamp),
+    /// The two can't hear each other: one is spent, they have other rules, grids or floors, or they
+    /// aren't linked.
+    Apart,
+}

@@ -1,0 +1,162 @@
+//! One more entry of a log, and what it changes beside the log.
+
+ghost use Rattle.std.specs.Prelude.{◌≡◌, ◌+◌, ◌<◌, ◌++◌, ◌∷◌, [], ℕ, length, map, OnOk, IfOk, IfSome};
+ghost use Rattle.region_view.specs.Placing.{IsValidPlacing};
+ghost use Rattle.region_view.specs.Views.{ViewData, rows_in};
+ghost use Rattle.region_view.specs.Acting.{stamp_of};
+ghost use Rattle.region_view.specs.Laws.{HasCells};
+ghost use Rattle.region_view.specs.Setting.{set_rows, IsInOrder};
+ghost use Rattle.region_view.specs.Messages.{message_of, RecordsCell};
+ghost use Rattle.region_messages.specs.Trails.{IsAfterAll};
+ghost use Rattle.cell_grid.specs.Grid.{IsRegion};
+ghost use Rattle.region_queue.specs.Queue.{IsOf, StandsFor};
+ghost use Rattle.region_core.specs.declared.entry.Entry.TheVariants.{Native, Heard};
+ghost use Rattle.region_core.specs.declared.moves.Move.TheVariants.{Run, TakeIn};
+ghost use Rattle.region_core.specs.LocalRun.{IsInPlace, trail_of, told};
+ghost use Rattle.region_core.specs.Answers.{with_entry};
+ghost use Rattle.region_core.specs.Live.{run_in, now_in, IsLive, AreSavedAlong};
+ghost use Rattle.region_core.specs.Keeping.{SendsTo};
+ghost use Rattle.region_core.specs.Moves.{Fits};
+
+use crate::live::Live;
+use crate::{Entry, Home, MAX_ENTRIES};
+use event_stamps::Stamp;
+use region_messages::Trail;
+use region_queue::Queue;
+use region_view::{Action, Message, Rows, View, message_for, rows_of};
+use std::alloc::{AllocError, Global};
+
+impl Live {
+    // Sets rows in the view after the whole log, before the entry that sets them is appended.
+    fn set(&mut self, alloc: Global, rows: Rows) -> Result<(), AllocError>
+        requires saved { AreSavedAlong self.old }
+        requires room { length self.old.log.items < MAX_ENTRIES }
+        requires stands { StandsFor self.old.queue (now_in self.old).view }
+        requires valid { IsValidPlacing self.old.queue.rules self.old.queue.grid
+            (rows_in (set_rows (now_in self.old).view rows)) }
+        ensures saved { OnOk result (self.new.saved ≡ self.old.saved
+            ++ (length self.old.log.items + 1, set_rows (now_in self.old).view rows) ∷ []) }
+        ensures queue { OnOk result (IsOf self.new.queue self.old.queue.rules self.old.queue.grid
+            self.old.queue.region) }
+        ensures stands { OnOk result
+            (StandsFor self.new.queue (set_rows (now_in self.old).view rows)) }
+        ensures base { self.new.base ≡ self.old.base }
+        ensures inbox { self.new.inbox ≡ self.old.inbox }
+        ensures sent { self.new.sent ≡ self.old.sent }
+        ensures log { self.new.log ≡ self.old.log }
+    {
+        let position = self.log.len() as u64 + 1;
+        self.saved.append(position, rows)?;
+        touch(alloc, &mut self.queue, self.saved.newest(), &rows)?;
+        Ok(())
+    }
+
+    /// Takes in the first message of a region, which is what comes next.
+    pub(crate) fn take_in(
+        mut self,
+        alloc: Global,
+        home: &Home,
+        floor: Stamp,
+        from: u32,
+        message: Message,
+    ) -> Result<Live, AllocError>
+        requires place { IsInPlace home.now }
+        requires live { IsLive home.now floor self }
+        requires fits { Fits home.now (run_in floor self) (TakeIn from message) }
+        ensures live { IfOk result (λ live. IsLive home.now floor live) }
+        ensures run { IfOk result (λ live.
+            run_in floor live ≡ with_entry (run_in floor self) (Heard from message)) }
+    {
+        let _home = home;
+        let _floor = floor;
+        self.set(alloc, message.rows)?;
+        self.inbox.take(from);
+        self.log.push(Entry::Heard { from, message })?;
+        Ok(self)
+    }
+}
+
+impl Live {
+    /// Runs an event of its own columns, which is what comes next, and sends its messages.
+    pub(crate) fn run(
+        mut self,
+        alloc: Global,
+        home: &Home,
+        floor: Stamp,
+        action: Action,
+    ) -> Result<Live, AllocError>
+        requires place { IsInPlace home.now }
+        requires live { IsLive home.now floor self }
+        requires fits { Fits home.now (run_in floor self) (Run action) }
+        ensures live { IfOk result (λ live. IsLive home.now floor live) }
+        ensures run { IfOk result (λ live.
+            run_in floor live ≡ with_entry (run_in floor self) (Native action)) }
+    {
+        let _floor = floor;
+        let view = self.saved.newest();
+        let rows = rows_of(view, &action);
+        send(&mut self.sent, home, view, &action)?;
+        self.set(alloc, rows)?;
+        self.log.push(Entry::Native(action))?;
+        Ok(self)
+    }
+}
+
+// Sends the messages of an action.
+fn send(
+    sent: &mut Vec<Trail>,
+    home: &Home,
+    before: &View,
+    action: &Action,
+) -> Result<(), AllocError>
+    requires number { IsRegion home.now.grid home.now.number }
+    requires cells { HasCells home.now.grid (rows_in before.now) }
+    requires order { IsInOrder action.now }
+    requires cell { RecordsCell home.now.grid action.now }
+    requires size { length sent.old.items ≡ home.now.grid.regions }
+    requires after { (to : ℕ) → SendsTo home.now to →
+        IsAfterAll (trail_of sent.old.items to) (stamp_of action.now) }
+    ensures size { OnOk result (length sent.new.items ≡ length sent.old.items) }
+    ensures told { OnOk result ((to : ℕ) → SendsTo home.now to → trail_of sent.new.items to
+        ≡ trail_of sent.old.items to
+        ++ told (message_of home.now.grid to (rows_in before.now) action.now) []) }
+{
+    for to in 0..home.grid.regions() {
+        if !home.sends_to(to) {
+            continue;
+        }
+        let message = message_for(before, action, &home.grid, to);
+        send_one(&mut sent[to as usize], message)?;
+    }
+    Ok(())
+}
+
+// Appends a message, if there is one.
+fn send_one(trail: &mut Trail, message: Option<Message>) -> Result<(), AllocError>
+    requires { IfSome message (λ m. IsAfterAll trail.old m.stamp) }
+    ensures { OnOk result (trail.new ≡ trail.old ++ told message []) }
+{
+    if let Some(message) = message {
+        trail.push(message)?;
+    }
+    Ok(())
+}
+
+// Tells the queue of rows that were set.
+fn touch(alloc: Global, queue: &mut Queue, view: &View, rows: &Rows) -> Result<(), AllocError>
+    requires valid { IsValidPlacing queue.old.rules queue.old.grid (rows_in view.now) }
+    ensures queue { OnOk result (IsOf queue.new queue.old.rules queue.old.grid queue.old.region) }
+    ensures stands { OnOk result ((before : ViewData) → StandsFor queue.old before →
+        view.now ≡ set_rows before rows.now → StandsFor queue.new view.now) }
+{
+    let disks = numbers(alloc, rows)?;
+    queue.touched(alloc, view, &disks)?;
+    Ok(())
+}
+
+// The numbers of the disks whose rows they are.
+fn numbers(alloc: Global, rows: &Rows) -> Result<Vec<u32>, AllocError>
+    ensures { IfOk result (λ disks. disks.items ≡ map (λ row. row.0) rows.now) }
+{
+    rows.as_slice().iter().map(|row| row.0).collect(alloc)
+}

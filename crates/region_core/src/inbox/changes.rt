@@ -1,0 +1,60 @@
+//! What a rollback and a hearing make of the input queue.
+
+ghost use Rattle.std.specs.Prelude.{◌≡◌, ℕ, ◌+◌, ◌<◌, ◌≤◌, length, get_or, slice_set, MatchOption, OnOk};
+ghost use Rattle.region_messages.specs.Trails.{AgreesUpTo};
+ghost use Rattle.region_core.specs.LocalRun.{trail_of};
+ghost use Rattle.region_core.specs.Inbox.{taken_from};
+ghost use Rattle.region_core.specs.Taken.{taken_of};
+
+use crate::Entry;
+use crate::inbox::Inbox;
+use event_stamps::Stamp;
+use region_messages::{Trail, first_disagreement};
+use std::alloc::{AllocError, Global};
+
+impl Inbox {
+    /// Takes back that some entries took messages in: these wait again.
+    pub(crate) fn give_back(&mut self, entries: &[Entry])
+        requires { (q : ℕ) → taken_of q entries.now ≤ taken_from self.old q }
+        ensures heard { self.new.heard ≡ self.old.heard }
+        ensures counts { length self.new.taken ≡ length self.old.taken }
+        ensures taken { (q : ℕ) → taken_from self.new q + taken_of q entries.now ≡ taken_from self.old q }
+    {
+        count_down(&mut self.taken, entries);
+    }
+
+    /// From which stamp on what a region sends differs from what was heard from it; none where it is the
+    /// same.
+    pub(crate) fn first_new(&self, from: u32, sent: &Trail) -> Option<Stamp>
+        requires { from < length self.now.heard }
+        ensures { MatchOption result (trail_of self.now.heard from ≡ sent.now)
+            (λ at. AgreesUpTo (trail_of self.now.heard from) sent.now at) }
+    {
+        first_disagreement(&self.heard[from as usize], sent)
+    }
+
+    /// Hears from a region what it sends, which from the stamp `at` on differs from what was heard.
+    ///
+    /// # Errors
+    /// Out of memory: what is heard of that region is only a part of it.
+    pub(crate) fn replace(&mut self, from: u32, at: Stamp, sent: &Trail) -> Result<(), AllocError>
+        requires region { from < length self.old.heard }
+        requires agree { AgreesUpTo (trail_of self.old.heard from) sent.now at }
+        ensures heard { OnOk result (self.new.heard ≡ slice_set self.old.heard from sent.now) }
+        ensures taken { OnOk result (self.new.taken ≡ self.old.taken) }
+    {
+        self.heard[from as usize].replace_from(at, sent)
+    }
+}
+
+// Counts one less for each message that some entries took in, by the number of the region.
+fn count_down(counts: &mut [usize], entries: &[Entry])
+    requires { (q : ℕ) → taken_of q entries.now ≤ get_or counts.old q 0 }
+    ensures { (q : ℕ) → get_or counts.new q 0 + taken_of q entries.now ≡ get_or counts.old q 0 }
+{
+    for entry in entries {
+        if let Entry::Heard { from, .. } = entry {
+            counts[*from as usize] -= 1;
+        }
+    }
+}

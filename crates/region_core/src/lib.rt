@@ -1,0 +1,28 @@
+//! One region's run ahead of the others: it steps, hears what its neighbours send, and rolls back where
+//! it was wrong.
+//!
+//! A region is a logical process with a local virtual time, an input queue, an output queue and saved
+//! states (Jefferson, Virtual Time, 1985).
+#![tactic(auto)]
+
+pub mod answers;
+mod appending;
+pub mod entry;
+mod hearing;
+pub mod home;
+mod inbox;
+mod laws;
+mod live;
+mod moves;
+pub mod region;
+mod rollback;
+
+pub use answers::{Hearing, Step};
+pub use entry::{Entry, MAX_ENTRIES};
+pub use home::Home;
+pub use laws::{
+    entries_were_due, hearings_have_one_answer, hearings_keep_right, logs_go_one_way,
+    messages_are_in_turn, rollbacks_keep_right, sent_may_be_heard, steps_go_one_way,
+    steps_keep_right, views_are_valid,
+};
+pub use region::Region;

@@ -1,0 +1,89 @@
+//! What a region that isn't spent has.
+
+use crate::Entry;
+use crate::inbox::Inbox;
+use region_messages::Trail;
+use region_queue::Queue;
+use region_view::View;
+use saved_states::Saved;
+
+/// The body of a region: the view at the floor, the log of what it did from there on, and what this comes
+/// to, kept up to date.
+#[derive(Drop)]
+pub(crate) struct Live {
+    pub(crate) base: View,
+    // The saved state queue: the views at the positions of the log.
+    pub(crate) saved: Saved,
+    // The events of its own columns that may come next.
+    pub(crate) queue: Queue,
+    pub(crate) inbox: Inbox,
+    // The output queue: by number of the region that it goes to.
+    pub(crate) sent: Vec<Trail>,
+    pub(crate) log: Vec<Entry>,
+}
+
+ghost use Rattle.std.specs.Prelude.{◌≡◌, [], replicate, IfOk, MatchOption};
+ghost use Rattle.event_stamps.specs.declared.Stamp.{Stamp};
+ghost use Rattle.event_stamps.specs.Order.{Before, end_stamp};
+ghost use Rattle.region_view.specs.Views.{rows_in};
+ghost use Rattle.region_view.specs.Placing.{IsValidPlacing};
+ghost use Rattle.cell_grid.specs.Grid.{IsRegion};
+ghost use Rattle.region_core.specs.LocalRun.{IsInPlace, trail_of, sent_to};
+ghost use Rattle.region_core.specs.Live.{IsLive, IsInbox, IsOutbox};
+ghost use Rattle.region_core.specs.Keeping.{SendsTo, HearsOf};
+
+use crate::Home;
+use crate::inbox::empty_trails;
+use std::alloc::{AllocError, Global};
+
+impl Live {
+    /// An empty log over a view, with nothing heard.
+    pub(crate) fn open(alloc: Global, home: &Home, base: View) -> Result<Live, AllocError>
+        requires place { IsInPlace home.now }
+        requires valid { IsValidPlacing home.now.rules home.now.grid (rows_in base) }
+        ensures base { IfOk result (λ live. live.base ≡ base) }
+        ensures heard { IfOk result (λ live. live.inbox.heard ≡ replicate home.now.grid.regions []) }
+        ensures log { IfOk result (λ live. live.log.items ≡ []) }
+        ensures live { IfOk result (λ live. (floor : Stamp) → ¬ Before (end_stamp home.now.rules.end) floor →
+            IsLive home.now floor live) }
+    {
+        let regions = home.grid.regions();
+        Ok(Live {
+            saved: Saved::open(alloc, 0, &base)?,
+            queue: Queue::open(alloc, &base, &home.grid, &home.rules, home.number)?,
+            inbox: Inbox::new(alloc, regions)?,
+            sent: empty_trails(alloc, regions)?,
+            log: Vec::new(alloc),
+            base,
+        })
+    }
+
+    /// What goes to a region; none where the two aren't linked.
+    pub(crate) fn sent_to(&self, home: &Home, to: u32) -> Option<&Trail>
+        requires number { IsRegion home.now.grid home.now.number }
+        requires sent { IsOutbox home.now self.now.base self.now.log.items self.now.sent.items }
+        ensures { MatchOption result (¬ SendsTo home.now to)
+            (λ trail. SendsTo home.now to
+            × (trail.now ≡ sent_to home.now.grid to self.now.base self.now.log.items)) }
+    {
+        if home.sends_to(to) {
+            self.sent.get(to as usize)
+        } else {
+            None
+        }
+    }
+
+    /// What was heard from a region; none where the two aren't linked.
+    pub(crate) fn heard_from(&self, home: &Home, from: u32) -> Option<&Trail>
+        requires number { IsRegion home.now.grid home.now.number }
+        requires inbox { IsInbox home.now self.now.log.items self.now.inbox }
+        ensures { MatchOption result (¬ HearsOf home.now from)
+            (λ trail. HearsOf home.now from × (trail.now ≡ trail_of self.now.inbox.heard from)) }
+    {
+        if home.hears_of(from) {
+            self.inbox.heard(from)
+        } else {
+            None
+        }
+    }
+}

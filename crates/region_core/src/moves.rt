@@ -1,0 +1,251 @@
+//! What a region does next.
+
+ghost use Rattle.std.specs.Prelude.{◌≡◌, ◌↔◌, Some, IsTrue, IfOk, MatchOption};
+ghost use Rattle.event_stamps.specs.Order.{Before};
+ghost use Rattle.event_stamps.specs.Least.{IsLeastOf};
+ghost use Rattle.region_view.specs.Placing.{IsValidPlacing};
+ghost use Rattle.region_view.specs.Views.{rows_in};
+ghost use Rattle.region_core.specs.LocalRun.{IsInPlace, IsOwn, IsOffered, IsDue, IsDueOrEnd, IsWaiting, ComesTo};
+ghost use Rattle.region_core.specs.Answers.{clock_of, HasDue, IsInTurn, StepsTo};
+ghost use Rattle.region_core.specs.Inbox.{head_stamp, next_from};
+ghost use Rattle.region_core.specs.Live.{run_in, now_in, IsLive, HasRun, AreSavedAlong};
+ghost use Rattle.region_core.specs.Moves.{Fits, ComesAfter};
+
+use crate::live::Live;
+use crate::region::last_stamp;
+use crate::{Entry, Home, MAX_ENTRIES, Step};
+use event_rules::Limit;
+use event_stamps::{Kind, Stamp, compare, earlier};
+use region_view::{Action, Message, View, act};
+use std::alloc::{AllocError, Global};
+use std::cmp::Ordering;
+
+/// What a region does next.
+#[derive(Clone, Copy)]
+pub(crate) enum Move {
+    /// Nothing: it answers this.
+    Answer(Step),
+    /// It runs an event of its own columns.
+    Run(Action),
+    /// It takes in the first message of a region.
+    TakeIn {
+        /// The number of the region that sent it.
+        from: u32,
+        /// The message.
+        message: Message,
+    },
+}
+
+impl Live {
+    /// The view after the whole log.
+    pub(crate) fn view(&self) -> &View
+        requires { AreSavedAlong self.now }
+        ensures { result.now ≡ (now_in self.now).view }
+    {
+        self.saved.newest()
+    }
+
+    /// The least stamp of its native candidates.
+    pub(crate) fn least_own(&self, home: &Home) -> Option<Stamp>
+        requires { HasRun home.now self.now }
+        ensures { IsLeastOf (IsOwn home.now (now_in self.now).view) result }
+    {
+        let _home = home;
+        self.queue.least()
+    }
+
+    /// The stamp that is due; none exactly where nothing is.
+    pub(crate) fn due(&self, home: &Home) -> Option<Stamp>
+        requires { HasRun home.now self.now }
+        ensures { IsLeastOf (IsOffered home.now (now_in self.now)) result }
+    {
+        earlier(self.least_own(home), stamp_of(self.inbox.least()))
+    }
+
+    /// The stamp that is due, or the end stamp where nothing is.
+    pub(crate) fn due_or_end(&self, home: &Home) -> Stamp
+        requires { HasRun home.now self.now }
+        ensures { IsDueOrEnd home.now (now_in self.now) result }
+    {
+        match self.due(home) {
+            Some(due) => due,
+            None => Stamp::end_of(home.rules.end),
+        }
+    }
+
+    /// What comes next.
+    pub(crate) fn next_move(&self, home: &Home, floor: Stamp) -> Move
+        requires place { IsInPlace home.now }
+        requires live { IsLive home.now floor self.now }
+        ensures { Fits home.now (run_in floor self.now) result }
+    {
+        if self.log.len() >= MAX_ENTRIES {
+            return Move::Answer(Step::Held);
+        }
+        let Some(due) = self.due(home) else {
+            return Move::Answer(Step::Idle);
+        };
+        if !is_in_turn(&floor, last_stamp(&self.log), &due) {
+            let clock = clock(floor, &self.log);
+            return Move::Answer(Step::Past { due, clock });
+        }
+        match self.message_at(home, &due) {
+            Some((from, message)) => self.message_move(home, floor, from, message),
+            None => self.event_move(home, floor, due),
+        }
+    }
+
+    /// One step: what it answers, and what is left.
+    ///
+    /// # Errors
+    /// Out of memory.
+    pub(crate) fn step(
+        self,
+        alloc: Global,
+        home: &Home,
+        floor: Stamp,
+    ) -> Result<(Step, Live), AllocError>
+        requires place { IsInPlace home.now }
+        requires live { IsLive home.now floor self }
+        ensures live { IfOk result (λ left. IsLive home.now floor left.1) }
+        ensures steps { IfOk result
+            (λ left. StepsTo home.now (run_in floor self) left.0 (run_in floor left.1)) }
+    {
+        match self.next_move(home, floor) {
+            Move::Answer(step) => Ok((step, self)),
+            Move::Run(action) => {
+                let stamp = action.stamp();
+                let live = self.run(alloc, home, floor, action)?;
+                Ok((Step::Ran(stamp), live))
+            }
+            Move::TakeIn { from, message } => {
+                let stamp = message.stamp;
+                let live = self.take_in(alloc, home, floor, from, message)?;
+                Ok((Step::Heard(stamp), live))
+            }
+        }
+    }
+
+    // Whether the stamp, which is due, is that of a native candidate.
+    fn is_own(&self, home: &Home, due: &Stamp) -> bool
+        requires live { HasRun home.now self.now }
+        requires due { IsDue home.now (now_in self.now) due.now }
+        ensures { IsTrue result ↔ IsOwn home.now (now_in self.now).view due.now }
+    {
+        match self.least_own(home) {
+            Some(own) => is_same(&own, due),
+            None => false,
+        }
+    }
+
+    // The first message of a region that has the due stamp, with the region; none exactly where no
+    // message has it.
+    fn message_at(&self, home: &Home, due: &Stamp) -> Option<(u32, Message)>
+        requires live { HasRun home.now self.now }
+        requires due { IsDue home.now (now_in self.now) due.now }
+        ensures { MatchOption result (¬ IsWaiting (now_in self.now).waiting due.now)
+            (λ head. (next_from self.now.inbox head.0 ≡ Some head.1) × (head.1.stamp ≡ due.now)) }
+    {
+        let _home = home;
+        let (from, message) = self.inbox.least()?;
+        if is_same(&message.stamp, due) {
+            Some((from, message))
+        } else {
+            None
+        }
+    }
+
+    // What comes next where the first message of a region has the due stamp, and is in turn.
+    fn message_move(&self, home: &Home, floor: Stamp, from: u32, message: Message) -> Move
+        requires live { IsLive home.now floor self.now }
+        requires due { HasDue home.now (run_in floor self.now) message.stamp }
+        requires turn { IsInTurn (run_in floor self.now) message.stamp }
+        requires first { next_from self.now.inbox from ≡ Some message }
+        ensures { Fits home.now (run_in floor self.now) result }
+    {
+        let due = message.stamp;
+        if self.is_own(home, &due) {
+            Move::Answer(Step::Tied(due))
+        } else if self.inbox.is_shared(from, &due) {
+            Move::Answer(Step::Tied(due))
+        } else {
+            Move::TakeIn { from, message }
+        }
+    }
+
+    // What comes next where no message has the due stamp, which is in turn.
+    fn event_move(&self, home: &Home, floor: Stamp, due: Stamp) -> Move
+        requires place { IsInPlace home.now }
+        requires live { IsLive home.now floor self.now }
+        requires due { HasDue home.now (run_in floor self.now) due }
+        requires turn { IsInTurn (run_in floor self.now) due }
+        requires alone { ¬ IsWaiting (now_in self.now).waiting due }
+        ensures { Fits home.now (run_in floor self.now) result }
+    {
+        match outcome(home, self.view(), &due) {
+            Ok(action) => Move::Run(action),
+            Err(limit) => Move::Answer(Step::Halted(limit)),
+        }
+    }
+}
+
+// The last stamp of a log; of an empty log, the floor.
+fn clock(floor: Stamp, log: &[Entry]) -> Stamp
+    ensures { result ≡ clock_of floor log.now }
+{
+    match last_stamp(log) {
+        Some(stamp) => stamp,
+        None => floor,
+    }
+}
+
+fn is_same(a: &Stamp, b: &Stamp) -> bool
+    ensures { IsTrue result ↔ (a.now ≡ b.now) }
+{
+    *a == *b
+}
+
+fn is_before(a: &Stamp, b: &Stamp) -> bool
+    ensures { IsTrue result ↔ Before a.now b.now }
+{
+    compare(a, b) == Ordering::Less
+}
+
+// Whether the stamp isn't before the floor, and is after that of the last entry, if there is one.
+fn is_in_turn(floor: &Stamp, clock: Option<Stamp>, stamp: &Stamp) -> bool
+    ensures { IsTrue result ↔ ComesAfter floor.now clock stamp.now }
+{
+    if is_before(stamp, floor) {
+        return false;
+    }
+    match clock {
+        Some(last) => is_before(&last, stamp),
+        None => true,
+    }
+}
+
+fn stamp_of(head: Option<(u32, Message)>) -> Option<Stamp>
+    ensures { result ≡ head_stamp head }
+{
+    match head {
+        Some((_, message)) => Some(message.stamp),
+        None => None,
+    }
+}
+
+// What a native candidate of a view comes to.
+fn outcome(home: &Home, view: &View, stamp: &Stamp) -> Result<Action, Limit>
+    requires place { IsInPlace home.now }
+    requires valid { IsValidPlacing home.now.rules home.now.grid (rows_in view.now) }
+    requires own { IsOwn home.now view.now stamp.now }
+    ensures { ComesTo home.now view.now stamp.now result }
+{
+    let row = view.get(stamp.first).unwrap();
+    match stamp.kind {
+        Kind::Pair => {
+            let other = view.get(stamp.second).unwrap();
+            act(&home.rules, &home.grid, stamp, row, Some(&other.disk))
+        }
+        _ => act(&home.rules, &home.grid, stamp, row, None),
+    }
+}

@@ -1,0 +1,222 @@
+//! A region.
+
+mod hearing;
+
+use crate::Home;
+use crate::live::Live;
+use event_stamps::Stamp;
+use std::marker::Model;
+
+/// One region of a grid, with its run from a floor on.
+///
+/// After want of memory it is spent: it has no run any more, and is opened anew.
+#[derive(Drop)]
+pub struct Region {
+    home: Home,
+    floor: Stamp,
+    // None: it is spent.
+    live: Option<Live>,
+}
+
+impl Model for Region {
+    ghost use Rattle.std.specs.Prelude.{option_map};
+    ghost use Rattle.region_core.specs.Opening.{RegionData};
+    ghost use Rattle.region_core.specs.Codes.{region_code};
+    ghost use Rattle.region_core.specs.Live.{run_in, IsSound};
+
+    ghost Value = { RegionData };
+
+    ghost coded = { region_code };
+
+    ghost view = { λ s. record {
+      home = s.home;
+      floor = s.floor;
+      run = option_map (run_in s.floor) s.live;
+    } };
+
+    ghost invariant = { λ s. IsSound s.home s.floor s.live };
+}
+
+ghost use Rattle.std.specs.Prelude.{◌≡◌, ◌↔◌, ◌⊎◌, List, length, slice_get, None, IsTrue, IfOk, OnErr, MatchOption};
+ghost use Rattle.cell_grid.specs.Grid.{IsRegion};
+ghost use Rattle.region_core.specs.Opening.{IsOpened, spent};
+ghost use Rattle.region_core.specs.Steps.{Steps};
+ghost use Rattle.region_core.specs.Keeping.{IsKept, entries_of, native_in, last_stamp, IsDueIn, SendsTo, HearsOf, IsSent, IsHeard};
+
+use crate::{Entry, Step};
+use cell_grid::Grid;
+use cell_sequence::CellState;
+use fixed_motion::Rules;
+use region_messages::Trail;
+use region_view::{Action, opening};
+use std::alloc::{AllocError, Global};
+
+impl Region {
+    /// A region of a cell state, by number: nothing done and nothing heard since the floor of the state.
+    ///
+    /// # Errors
+    /// Out of memory.
+    pub fn open(alloc: Global, state: &CellState, number: u32) -> Result<Region, AllocError>
+        requires { IsRegion state.now.grid number }
+        ensures { IfOk result (λ region. IsOpened state.now number region) }
+    {
+        let home = Home {
+            number,
+            rules: *state.rules(),
+            grid: *state.grid(),
+        };
+        let base = opening(alloc, state.placed(), state.grid(), number)?;
+        let live = Live::open(alloc, &home, base)?;
+        Ok(Region {
+            home,
+            floor: state.floor(),
+            live: Some(live),
+        })
+    }
+
+    /// One step: runs the event that is due, or takes in the message that is.
+    ///
+    /// # Errors
+    /// Out of memory: the region is spent.
+    pub fn step(&mut self, alloc: Global) -> Result<Step, AllocError>
+        ensures step { IfOk result (λ answer. Steps self.old answer self.new) }
+        ensures spent { OnErr result (self.new ≡ spent self.old) }
+    {
+        let Some(live) = self.live.take() else {
+            return Ok(Step::Spent);
+        };
+        let (step, live) = live.step(alloc, &self.home, self.floor)?;
+        self.live = Some(live);
+        Ok(step)
+    }
+
+    /// The number of the region.
+    pub fn number(&self) -> u32
+        ensures value { result ≡ self.now.home.number }
+        ensures kept { IsKept self.now }
+    {
+        self.home.number
+    }
+
+    /// The rules of the scene.
+    pub fn rules(&self) -> &Rules
+        ensures value { result.now ≡ self.now.home.rules }
+        ensures kept { IsKept self.now }
+    {
+        &self.home.rules
+    }
+
+    /// The grid.
+    pub fn grid(&self) -> &Grid
+        ensures value { result.now ≡ self.now.home.grid }
+        ensures kept { IsKept self.now }
+    {
+        &self.home.grid
+    }
+
+    /// The stamp from which on it runs events.
+    pub fn floor(&self) -> Stamp
+        ensures value { result ≡ self.now.floor }
+        ensures kept { IsKept self.now }
+    {
+        self.floor
+    }
+
+    /// Whether it has no run any more, since there was no memory for it.
+    pub fn is_spent(&self) -> bool
+        ensures value { IsTrue result ↔ (self.now.run ≡ None) }
+        ensures kept { IsKept self.now }
+    {
+        self.live.is_none()
+    }
+
+    /// The number of entries of its log, at most [`MAX_ENTRIES`](crate::MAX_ENTRIES); 0 where it is spent.
+    pub fn entries(&self) -> usize
+        ensures value { result ≡ length (entries_of self.now) }
+        ensures kept { IsKept self.now }
+    {
+        self.log().len()
+    }
+
+    /// The action of an entry, by its place in the log from 0 on. None exactly where there is no such entry,
+    /// and where it is a message that was taken in.
+    pub fn native(&self, i: usize) -> Option<Action>
+        ensures value { result ≡ native_in (slice_get (entries_of self.now) i) }
+        ensures kept { IsKept self.now }
+    {
+        native_at(self.log(), i)
+    }
+
+    /// The stamp of the last entry; none exactly where there is no entry.
+    pub fn clock(&self) -> Option<Stamp>
+        ensures value { result ≡ last_stamp (entries_of self.now) }
+        ensures kept { IsKept self.now }
+    {
+        last_stamp(self.log())
+    }
+
+    /// The stamp that is due: the least of its own events that may come next and of the messages that wait;
+    /// the end stamp where there is none. Of a spent region, the floor.
+    pub fn due(&self) -> Stamp
+        ensures value { IsDueIn self.now result }
+        ensures kept { IsKept self.now }
+    {
+        match &self.live {
+            Some(live) => live.due_or_end(&self.home),
+            None => self.floor,
+        }
+    }
+
+    /// What it sends to a region, by number. None exactly where it is spent, and where it isn't linked with
+    /// that region.
+    pub fn sent(&self, to: u32) -> Option<&Trail>
+        ensures value { MatchOption result ((self.now.run ≡ None) ⊎ ¬ SendsTo self.now.home to)
+            (λ trail. IsSent self.now to trail.now) }
+        ensures kept { IsKept self.now }
+    {
+        match &self.live {
+            Some(live) => live.sent_to(&self.home, to),
+            None => None,
+        }
+    }
+
+    /// What it heard from a region, by number. None exactly where it is spent, and where it isn't linked
+    /// with that region.
+    pub fn heard(&self, from: u32) -> Option<&Trail>
+        ensures value { MatchOption result ((self.now.run ≡ None) ⊎ ¬ HearsOf self.now.home from)
+            (λ trail. IsHeard self.now from trail.now) }
+        ensures kept { IsKept self.now }
+    {
+        match &self.live {
+            Some(live) => live.heard_from(&self.home, from),
+            None => None,
+        }
+    }
+
+    // The entries of the log; none where it is spent.
+    fn log(&self) -> &[Entry]
+        ensures value { result.now ≡ entries_of self.now }
+        ensures kept { IsKept self.now }
+    {
+        match &self.live {
+            Some(live) => &live.log,
+            None => &[],
+        }
+    }
+}
+
+fn native_at(log: &[Entry], i: usize) -> Option<Action>
+    ensures { result ≡ native_in (slice_get log.now i) }
+{
+    match log.get(i)? {
+        Entry::Native(action) => Some(*action),
+        Entry::Heard { .. } => None,
+    }
+}
+
+pub(crate) fn last_stamp(log: &[Entry]) -> Option<Stamp>
+    ensures { result ≡ last_stamp log.now }
+{
+    let entry = log.last()?;
+    Some(entry.stamp())
+}
