@@ -4,3 +4,4 @@ pub mod OneOutput
 pub mod Wrote
 pub mod Answered
 pub mod Reported
+pub mod Views

@@ -2,15 +2,15 @@
 
 ghost use Rattle.cell_grid.specs.Grid.{IsAsked};
 
-use super::helpers::{FOUR_IN_A_ROW, LONG, Numbers, PLAIN, USUAL, output, scene};
+use super::helpers::{
+    FOUR_IN_A_ROW, LONG, Numbers, PLAIN, SLOW_CROSSING, USUAL, generated, output, scene, scene_of,
+};
 use crate::status::Status;
 use cell_sequence::CellState;
 use event_rules::{Change, Limit};
 use event_stamps::{Kind, Stamp};
 use fixed_motion::{Disk, Scene};
 use region_view::Action;
-use report_ports::MemorySource;
-use scene_reader::read_scene;
 use std::alloc::{AllocError, Global};
 use std::test::Fail;
 
@@ -151,15 +151,6 @@ fn place_at(disk: &Disk, tick: u64) -> (i64, i64) {
     )
 }
 
-// The scene of a text; none where it is refused.
-fn scene_of(alloc: Global, text: &str) -> Result<Option<Scene>, AllocError> {
-    let mut source = MemorySource::new(alloc, text.as_bytes(), &[])?;
-    match read_scene(alloc, &mut source) {
-        Ok(scene) => Ok(Some(scene)),
-        Err(_) => Ok(None),
-    }
-}
-
 const CORNER: &str = "[3, 3, -2, -2]";
 
 // Disk 0 comes into the next column at tick 4, and disk 1 goes up and down.
@@ -191,15 +182,6 @@ fn cell_runs_give_the_report(rt: HostRuntime) -> Result<(), Fail> {
     }
     Ok(())
 }
-
-// A box of 20 columns, with the disks that go up and down and to the right.
-const SLOW_CROSSING: &str = "width = 400\n\
-    height = 20\n\
-    diameter = 4\n\
-    speed_limit = 8\n\
-    round_limit = 8\n\
-    end = 20\n\
-    disks = [[96, 10, 1, 0], [190, 10, 0, 8]]\n";
 
 // A box of 4 columns; the cells of the disks are adjacent only from the tick of their contact on.
 const COMING_NEAR: &str = "width = 32\n\
@@ -275,53 +257,6 @@ const LEAST_CROSSINGS: u32 = 200;
 const LEAST_PAIRS: u32 = 200;
 
 const LEAST_LIMITS: u32 = 20;
-
-// Up to five disks in a box of up to eight columns and five rows.
-fn generated(alloc: Global, numbers: &mut Numbers) -> Result<String, AllocError> {
-    let width = numbers.next(20, 60);
-    let height = numbers.next(8, 40);
-    let speed = numbers.next(2, 3);
-    let rounds = numbers.next(1, 3);
-    let end = numbers.next(0, 40);
-    let rows = generated_rows(alloc, numbers, width, height)?;
-    format!(in alloc;
-        "width = {width}\nheight = {height}\ndiameter = 4\nspeed_limit = {speed}\nround_limit = {rounds}\nend = {end}\ndisks = [{rows}]\n"
-    )
-}
-
-fn generated_rows(
-    alloc: Global,
-    numbers: &mut Numbers,
-    width: i64,
-    height: i64,
-) -> Result<String, AllocError> {
-    let mut rows = String::new(alloc);
-    for _ in 0..5 {
-        let row = generated_row(alloc, numbers, width, height)?;
-        if numbers.next(0, 3) > 0 {
-            rows.push_str(row.as_str())?;
-        }
-    }
-    Ok(rows)
-}
-
-fn generated_row(
-    alloc: Global,
-    numbers: &mut Numbers,
-    width: i64,
-    height: i64,
-) -> Result<String, AllocError> {
-    let (x, y) = (across(numbers, width), across(numbers, height));
-    let (vx, vy) = (numbers.next(-2, 5), numbers.next(-2, 5));
-    let size = numbers.next(1, 2).wrapping_mul(2);
-    format!(in alloc; "[{x}, {y}, {vx}, {vy}, {size}],")
-}
-
-// A coordinate at which a disk of the greatest size is inside.
-fn across(numbers: &mut Numbers, length: i64) -> i64 {
-    let part = numbers.next(0, 1024);
-    (part.wrapping_mul(length.wrapping_sub(3)) / 1024).wrapping_add(2)
-}
 
 #[test]
 fn cell_runs_of_generated_scenes_give_the_report(rt: HostRuntime) -> Result<(), Fail> {

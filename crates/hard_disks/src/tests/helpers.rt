@@ -1,10 +1,17 @@
 //! Words, scenes and calls that several tests share.
 
-ghost use Rattle.std.specs.Prelude.{◌<◌};
+ghost use Rattle.std.specs.Prelude.{◌<◌, IfOk};
+ghost use Rattle.cell_grid.specs.Grid.{IsRegion};
+ghost use Rattle.region_view.specs.Placing.{IsValidPlacing};
+ghost use Rattle.region_view.specs.Views.{rows_in};
 
 use crate::status::Status;
 use crate::top::top;
+use cell_sequence::CellState;
+use fixed_motion::Scene;
+use region_view::{View, opening};
 use report_ports::{MemorySink, MemorySource};
+use scene_reader::read_scene;
 use std::alloc::{AllocError, Global};
 use std::process::Abort;
 
@@ -49,6 +56,15 @@ pub const CRADLE: &str = "[10, 10, 2, 0], [15, 10, 0, 0], [20, 10, 0, 0]";
 
 pub const FOUR_IN_A_ROW: &str = "[80, 10, 8, 0], [120, 10, 0, 0], [240, 10, 0, 0], [340, 10, 0, 0]";
 
+/// A box of 20 columns, with the disks that go up and down and to the right.
+pub const SLOW_CROSSING: &str = "width = 400\n\
+    height = 20\n\
+    diameter = 4\n\
+    speed_limit = 8\n\
+    round_limit = 8\n\
+    end = 20\n\
+    disks = [[96, 10, 1, 0], [190, 10, 0, 8]]\n";
+
 /// More bytes than each report of a test has.
 pub const AMPLE_ROOM: usize = 65_536;
 
@@ -63,6 +79,23 @@ pub fn scene(
     format!(in alloc;
         "{sizes}speed_limit = 8\nround_limit = {rounds}\nend = {end}\ndisks = [{rows}]\n"
     )
+}
+
+/// The scene of a text; none where it is refused.
+pub fn scene_of(alloc: Global, text: &str) -> Result<Option<Scene>, AllocError> {
+    let mut source = MemorySource::new(alloc, text.as_bytes(), &[])?;
+    match read_scene(alloc, &mut source) {
+        Ok(scene) => Ok(Some(scene)),
+        Err(_) => Ok(None),
+    }
+}
+
+/// What a region sees of a state.
+pub fn view_of(alloc: Global, state: &CellState, region: u32) -> Result<View, AllocError>
+    requires { IsRegion state.now.grid region }
+    ensures { IfOk result (λ view. IsValidPlacing state.now.rules state.now.grid (rows_in view)) }
+{
+    opening(alloc, state.placed(), state.grid(), region)
 }
 
 /// What the top call writes to memory, where no call fails, and its status.
@@ -134,4 +167,51 @@ impl Numbers {
             .wrapping_add(1_442_695_040_888_963_407);
         least.wrapping_add(((self.state >> 33) % count) as i64)
     }
+}
+
+/// The text of a scene of up to five disks in a box of up to eight columns and five rows.
+pub fn generated(alloc: Global, numbers: &mut Numbers) -> Result<String, AllocError> {
+    let width = numbers.next(20, 60);
+    let height = numbers.next(8, 40);
+    let speed = numbers.next(2, 3);
+    let rounds = numbers.next(1, 3);
+    let end = numbers.next(0, 40);
+    let rows = generated_rows(alloc, numbers, width, height)?;
+    format!(in alloc;
+        "width = {width}\nheight = {height}\ndiameter = 4\nspeed_limit = {speed}\nround_limit = {rounds}\nend = {end}\ndisks = [{rows}]\n"
+    )
+}
+
+fn generated_rows(
+    alloc: Global,
+    numbers: &mut Numbers,
+    width: i64,
+    height: i64,
+) -> Result<String, AllocError> {
+    let mut rows = String::new(alloc);
+    for _ in 0..5 {
+        let row = generated_row(alloc, numbers, width, height)?;
+        if numbers.next(0, 3) > 0 {
+            rows.push_str(row.as_str())?;
+        }
+    }
+    Ok(rows)
+}
+
+fn generated_row(
+    alloc: Global,
+    numbers: &mut Numbers,
+    width: i64,
+    height: i64,
+) -> Result<String, AllocError> {
+    let (x, y) = (across(numbers, width), across(numbers, height));
+    let (vx, vy) = (numbers.next(-2, 5), numbers.next(-2, 5));
+    let size = numbers.next(1, 2).wrapping_mul(2);
+    format!(in alloc; "[{x}, {y}, {vx}, {vy}, {size}],")
+}
+
+// A coordinate at which a disk of the greatest size is inside.
+fn across(numbers: &mut Numbers, length: i64) -> i64 {
+    let part = numbers.next(0, 1024);
+    (part.wrapping_mul(length.wrapping_sub(3)) / 1024).wrapping_add(2)
 }
