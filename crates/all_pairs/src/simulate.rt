@@ -3,8 +3,7 @@
 ghost use Rattle.std.specs.Prelude.{◌≡◌, ◌<◌, length, IfOk, IfErr, IfSome};
 ghost use Rattle.fixed_motion.specs.Rules.{IsChecked};
 ghost use Rattle.event_rules.specs.Run.{IsNext, IsValidState, ComesTo, effect, spots_of};
-ghost use Rattle.event_rules.specs.Tellings.{RunTold, RunCutShort};
-ghost use Rattle.all_pairs.specs.Tells.{RunDone, StepsCutShort, CountsRun, scene_of};
+ghost use Rattle.event_rules.specs.Tellings.{RunTold, RunCutShort, RunDone, StepsCutShort, CountsRun, scene_of};
 
 use crate::search::next;
 use event_rules::{Change, FinalState, Limit, Listener, Outcome, RunFault, Spot, apply};

@@ -9,6 +9,7 @@ pub mod OneTick
 pub mod Ran
 pub mod Ranges
 pub mod Rise
+pub mod RunsTold
 pub mod Separations
 pub mod States
 pub mod Telling

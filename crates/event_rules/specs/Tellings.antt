@@ -1,11 +1,14 @@
 -- What of a run a listener was told.
-use Rattle.std.specs.Prelude.{ℕ, List, take, Option}
+use Rattle.std.specs.Prelude.{◌≡◌, ℕ, ◌≤◌, List, take, Option, None, Result, Ok, Err}
+use Rattle.report_ports.specs.Ports.{Rose}
 use Rattle.fixed_motion.specs.Scene.{SceneData}
+use Rattle.fixed_motion.specs.declared.rules.Rules.{Rules}
+use Rattle.fixed_motion.specs.declared.disk.Disk.{Disk}
 use Rattle.event_rules.specs.declared.change.Change.{Change}
 use Rattle.event_rules.specs.declared.outcome.Outcome.{Outcome}
 use Rattle.event_rules.specs.declared.outcome.RunFault.{RunFault}
 use Rattle.event_rules.specs.declared.outcome.RunFault.TheVariants.{Listener, NoMemory}
-use Rattle.event_rules.specs.Run.{IsRun}
+use Rattle.event_rules.specs.Run.{IsRun, Steps}
 use Rattle.event_rules.specs.Told.{Told, PrefixTold}
 use Rattle.event_rules.specs.Laws.{KeepsApart}
 
@@ -29,3 +32,28 @@ RunBegunWhole after scene old new =
 abbrev pub RunCutShort : {M : Type 0} → (M → Change → M) → (M → Change → M → Type 0) → SceneData → RunFault → Option M → Option M → Type 0
 RunCutShort after torn scene Listener old new = RunBegun after torn scene old new
 RunCutShort after torn scene NoMemory old new = RunBegunWhole after scene old new
+
+-- a listener's count of refusals before and after: it rose where the listener refused a change, and else is what it was
+abbrev pub CountsRun : ℕ → ℕ → Result Outcome RunFault → Type 0
+CountsRun before after (Ok outcome) = after ≡ before
+CountsRun before after (Err Listener) = (before ≤ after) × Rose before after
+CountsRun before after (Err NoMemory) = after ≡ before
+
+-- ---- how an engine says it of the rules and disks alone
+-- the scene of these rules and disks, without state blocks
+abbrev pub scene_of : Rules → List Disk → SceneData
+scene_of rules disks = record { rules = rules; disks = disks; every = None }
+
+-- the changes of the scene's run were told, in order, and this is how it ends
+abbrev pub RunDone : {M : Type 0} → (M → Change → M) → SceneData → Outcome → Option M → Option M → Type 0
+RunDone after scene outcome old new =
+    (changes : List Change) × IsRun scene changes outcome × Told after old changes new
+
+-- what was told of changes that lead on from the scene, where a run breaks off
+abbrev pub StepsCutShort : {M : Type 0} → (M → Change → M) → (M → Change → M → Type 0) → SceneData → RunFault → Option M → Option M → Type 0
+StepsCutShort after torn scene Listener old new =
+    (changes : List Change) × (later : List Disk) × Steps scene.rules scene.disks changes later
+    × PrefixTold after torn old changes new
+StepsCutShort after torn scene NoMemory old new =
+    (changes : List Change) × (later : List Disk) × Steps scene.rules scene.disks changes later
+    × ((n : ℕ) × Told after old (take n changes) new)

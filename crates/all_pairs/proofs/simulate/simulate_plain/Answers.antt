@@ -3,8 +3,8 @@ use Rattle.std.proofs.lemmas.Result.{IfOk-weaker, IfErr-weaker}
 use Rattle.fixed_motion.specs.Scene.{SceneData, IsValidScene}
 use Rattle.event_rules.specs.Run.{IsValidState}
 use Rattle.event_rules.proofs.Ranges.{starts_valid}
-use Rattle.all_pairs.specs.Tells.{RunDone, StepsCutShort, scene_of}
-use Rattle.all_pairs.proofs.Turns.{run_told, cut_short}
+use Rattle.event_rules.specs.Tellings.{RunDone, StepsCutShort, scene_of}
+use Rattle.event_rules.proofs.RunsTold.{run_told, cut_short}
 use Rattle.all_pairs.proofs.simulate.simulate_plain.Goals as goal
 
 pub run-requires-clause-valid : goal.run-requires-clause-valid
