@@ -57,7 +57,7 @@ one_next rules grid placed s t r q h k hr kq =
     one_result rules grid placed s r q hr
     (subst (λ (v : Stamp). ActsAs rules grid (slice_get placed) v q) same kq)
 
-one_action : (rules : Rules) (grid : GridData) (placed : List Placed) (x y : Action) →
+pub one_action : (rules : Rules) (grid : GridData) (placed : List Placed) (x y : Action) →
     IsCellNext rules grid placed (stamp_of x) → IsCellNext rules grid placed (stamp_of y) →
     ActsAs rules grid (slice_get placed) (stamp_of x) (Ok x) →
     ActsAs rules grid (slice_get placed) (stamp_of y) (Ok y) → x ≡ y
@@ -65,7 +65,7 @@ one_action rules grid placed x y h k hr kq =
     let e : ◌≡◌ {A = Result Action Limit} (Ok x) (Ok y) =
     one_next rules grid placed (stamp_of x) (stamp_of y) (Ok x) (Ok y) h k hr kq in cc
 
-never_both : (rules : Rules) (grid : GridData) (placed : List Placed) (s : Stamp) (x : Action)
+pub never_both : (rules : Rules) (grid : GridData) (placed : List Placed) (s : Stamp) (x : Action)
     (l : Limit) → IsCellNext rules grid placed s → IsCellNext rules grid placed (stamp_of x) →
     ActsAs rules grid (slice_get placed) s (Err l) →
     ActsAs rules grid (slice_get placed) (stamp_of x) (Ok x) → ⊥

@@ -11,9 +11,9 @@ use Rattle.fixed_motion.proofs.Sizes.{inside_in_box}
 use Rattle.event_stamps.specs.declared.Stamp.{Stamp}
 use Rattle.event_stamps.specs.declared.Kind.{Kind}
 use Rattle.event_stamps.specs.declared.Kind.TheVariants.{Cross as Crossing, Wall, Pair}
-use Rattle.event_stamps.specs.Order.{end_stamp}
+use Rattle.event_stamps.specs.Order.{Before, end_stamp}
 use Rattle.event_stamps.specs.Least.{IsLeastOf}
-use Rattle.event_stamps.proofs.StampOrder.{before_trans, before_tick, not_before_itself}
+use Rattle.event_stamps.proofs.StampOrder.{before_decides, same_stamp, before_trans, before_tick, not_before_itself}
 use Rattle.event_stamps.proofs.StampOrder.{none_before_first}
 use Rattle.event_rules.specs.Events.{IsWallEvent, IsPairEvent}
 use Rattle.event_rules.specs.declared.change.Limit.{Limit}
@@ -28,7 +28,7 @@ use Rattle.region_view.specs.Events.{IsEventBy}
 use Rattle.region_view.specs.Placing.{IsNearPair}
 use Rattle.region_view.proofs.Seen.{no_row}
 use Rattle.cell_sequence.specs.Run.{disks_of, acted, IsStateCandidate, CellSteps}
-use Rattle.cell_sequence.specs.State.{CellStateData, IsCellState, last_stamp, start_of, followed}
+use Rattle.cell_sequence.specs.State.{CellStateData, IsCellState, IsNotBefore, HasNoneBelow, last_stamp, start_of, followed, raised}
 use Rattle.cell_sequence.specs.State.{HasRows, HasNext, IsCandidateOf, IsNextOf, ComesTo, AreInBox}
 use Rattle.cell_sequence.proofs.After.{no_crossing}
 use Rattle.cell_sequence.proofs.Next.{row_of_candidate, cell_candidate_before_end}
@@ -242,3 +242,24 @@ few_rows state is =
 pub disk_read : (disks : List Disk) (i : ℕ) → i < length disks →
     slice_get disks i ≡ Some (get_or disks i no_row.disk)
 disk_read disks i lt = slice_get-get_or disks i no_row.disk lt
+
+-- ---- with a later floor
+not_before_later : (last : Option Stamp) (s t : Stamp) → IsNotBefore last s → ¬ Before t s →
+    IsNotBefore last t
+not_before_later None s t after late = tt
+not_before_later (Some last) s t after late = λ before. late (by_order before (before_decides last s))
+  where
+    by_order : Before t last → Before last s ⊎ ¬ Before last s → Before t s
+    by_order before (inl less) = before_trans t last s before less
+    by_order before (inr not_less) = subst (Before t) (same_stamp last s not_less after) before
+
+pub raised_is : (state : CellStateData) (to : Stamp) → IsCellState state → ¬ Before to state.floor →
+    ¬ Before (end_stamp state.rules.end) to → HasNoneBelow state to → IsCellState (raised to state)
+raised_is state to is not_lowered in_time none = record {
+  scene = is.scene;
+  grid = is.grid;
+  reached = is.reached;
+  after_last = not_before_later state.last state.floor to is.after_last not_lowered;
+  before_end = in_time;
+  none_below = none;
+}

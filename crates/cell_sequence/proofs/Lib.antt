@@ -5,7 +5,9 @@ pub mod Followed
 mod Found
 pub mod Hits
 pub mod Joins
-mod Lists
+pub mod Lists
 mod Next
 pub mod Orderly
+pub mod Seen
 mod Settled
+mod Touched

@@ -243,6 +243,38 @@ pair_of rules grid placed c h collision event comes some = elim h [
     kinds Wall e f = cc
     kinds Pair e f = cc
 
+-- the home reaches the disks of a collision
+pub hit_in_reach : (state : CellStateData) → Known state → (c : Change) (region i : ℕ) (p : Placed) →
+    IsRegion state.grid region → IsCellNext state.rules state.grid state.placed c.stamp →
+    ActsAs state.rules state.grid (slice_get state.placed) c.stamp (Ok (Hit c)) →
+    IsHome state.grid (slice_get state.placed) region c.stamp →
+    (i ≡ c.stamp.first) ⊎ ((c.second ≡ None → ⊥) × (i ≡ c.stamp.second)) →
+    slice_get state.placed i ≡ Some p → Reaches state.grid region p.cell
+hit_in_reach state k c region i p within next acts home touches at = elim touches [
+  | inl first ↦ own_is_in_reach state.grid region p.cell
+      (owned p (ap (slice_get state.placed) (sym first) ∙ at))
+  | inr second ↦
+      let turned = turn state.rules state.grid state.placed k.from
+      (Hit c) k.checked k.of k.settled next acts in
+      let collision : ¬ (c.stamp.kind ≡ Crossing) =
+      no_crossing c.stamp.kind (candidate_kind state.rules
+      (disks_of state.placed) c.stamp turned.0.0) in
+      let pair = pair_of state.rules state.grid state.placed c next.0 collision turned.0 turned.1
+      second.0 in
+      let a = pair.1.0 in
+      let b = pair.1.2.0 in
+      let same : b ≡ p = same_Some b p (sym pair.1.2.1 ∙ ap (slice_get state.placed) (sym second.1) ∙ at) in
+      let near = subst (λ (q : Placed). IsAdjacent state.grid a.cell q.cell) same pair.1.2.2 in
+      beside_reach state.grid region a.cell p.cell k.sizes within
+      (orderly_rows state k c.stamp.first a pair.1.1)
+      (orderly_rows state k i p at) (owned a pair.1.1) near
+]
+  where
+    owned : (q : Placed) → slice_get state.placed c.stamp.first ≡ Some q →
+        Owns state.grid region q.cell
+    owned q at = subst (λ (r : Placed). Owns state.grid region r.cell)
+        (same_Some home.0 q (sym home.1 ∙ at)) home.2
+
 stays : (state : CellStateData) → Known state → (x : Action) (region i : ℕ) →
     IsRegion state.grid region → IsCellNext state.rules state.grid state.placed (stamp_of x) →
     ActsAs state.rules state.grid (slice_get state.placed) (stamp_of x) (Ok x) →
@@ -282,27 +314,10 @@ stays state k (Cross t cell) region i within next acts home = elim (kind_decides
             ◌≡◌ {A = Result Action Limit} (Ok (Cross t cell)) (hit_of q) → ⊥
         by_result (Ok c) e = cc
         by_result (Err l) e = cc
-stays state k (Hit c) region i within next acts home =
-    let turned = turn state.rules state.grid state.placed k.from
-    (Hit c) k.checked k.of k.settled next acts in
-    let collision : ¬ (c.stamp.kind ≡ Crossing) =
-    no_crossing c.stamp.kind (candidate_kind state.rules
-    (disks_of state.placed) c.stamp turned.0.0) in
-    let owned = λ (p : Placed) (at : slice_get state.placed c.stamp.first ≡ Some p).
-    subst (λ (q : Placed). Owns state.grid region q.cell)
-    (same_Some home.0 p (sym home.1 ∙ at)) home.2 in
-    hit_touches state.grid state.placed c region i
-    (λ p at. own_is_in_reach state.grid region p.cell (owned p at))
+stays state k (Hit c) region i within next acts home = hit_touches state.grid state.placed c region i
+    (λ p at. hit_in_reach state k c region c.stamp.first p within next acts home (inl refl) at)
     (λ some p at.
-    let pair = pair_of state.rules state.grid state.placed c next.0 collision turned.0 turned.1 some
-    in
-    let a = pair.1.0 in
-    let b = pair.1.2.0 in
-    let same : b ≡ p = same_Some b p (sym pair.1.2.1 ∙ at) in
-    let near = subst (λ (q : Placed). IsAdjacent state.grid a.cell q.cell) same pair.1.2.2 in
-    beside_reach state.grid region a.cell p.cell k.sizes within
-    (orderly_rows state k c.stamp.first a pair.1.1)
-    (orderly_rows state k c.stamp.second p at) (owned a pair.1.1) near)
+    hit_in_reach state k c region c.stamp.second p within next acts home (inr (some, refl)) at)
 
 pub cell_states_are_orderly : CellStatesAreOrderly
 cell_states_are_orderly state is =

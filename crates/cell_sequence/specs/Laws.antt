@@ -1,5 +1,5 @@
 -- What holds of all cell runs.
-use Rattle.std.specs.Prelude.{◌≡◌, ◌⊎◌, ℕ, List, [], ◌∷◌, ◌++◌, slice_get, Some, Result, Ok}
+use Rattle.std.specs.Prelude.{◌≡◌, ◌≢◌, ◌⊎◌, ℕ, List, [], ◌∷◌, ◌++◌, slice_get, Some, None, Result, Ok}
 use Rattle.fixed_motion.specs.declared.rules.Rules.{Rules}
 use Rattle.fixed_motion.specs.Scene.{SceneData, IsValidScene}
 use Rattle.event_stamps.specs.declared.Stamp.{Stamp}
@@ -8,15 +8,19 @@ use Rattle.event_stamps.specs.declared.Kind.TheVariants.{Cross as Crossing}
 use Rattle.event_rules.specs.declared.change.Limit.{Limit}
 use Rattle.event_rules.specs.declared.outcome.Outcome.{Outcome}
 use Rattle.event_rules.specs.Run.{IsRun, Steps, IsValidState}
-use Rattle.cell_grid.specs.Grid.{GridData, grid_of, IsAsked, IsCell, IsRegion, IsAdjacent, Reaches}
+use Rattle.cell_grid.specs.Grid.{GridData, grid_of, IsAsked, IsCell, IsRegion, IsAdjacent, AreLinked, Reaches}
 use Rattle.region_view.specs.declared.action.Placed.{Placed}
 use Rattle.region_view.specs.declared.action.Action.{Action}
 use Rattle.region_view.specs.declared.action.Action.TheVariants.{Cross}
 use Rattle.region_view.specs.Placing.{IsValidPlacing, IsHome}
 use Rattle.region_view.specs.Acting.{stamp_of, ActsAs}
+use Rattle.region_view.specs.Views.{ViewData, rows_in, IsViewOf}
+use Rattle.region_view.specs.Setting.{set_rows, after_action}
+use Rattle.region_view.specs.Messages.{message_of}
+use Rattle.region_view.specs.declared.rows.Message.{Message}
 use Rattle.cell_sequence.specs.Run.{opened, disks_of, acted, IsStateCandidate, IsCellNext}
 use Rattle.cell_sequence.specs.Run.{CellSteps, CellRuns, IsCellRun, hits}
-use Rattle.cell_sequence.specs.State.{CellStateData, IsCellState}
+use Rattle.cell_sequence.specs.State.{CellStateData, IsCellState, IsCandidateOf, IsNextOf, ComesTo, followed}
 
 -- a cell state has one run
 abbrev pub OneCellRun : Type 0
@@ -112,3 +116,38 @@ RunsJoin = (rules : Rules) (grid : GridData) (placed mid : List Placed) (xs ys :
 
 abbrev pub HitsJoin : Type 0
 HitsJoin = (xs ys : List Action) → hits (xs ++ ys) ≡ hits xs ++ hits ys
+
+-- ---- what the regions see
+-- a view is that of a region in a state
+abbrev pub Sees : CellStateData → ℕ → ViewData → Type 0
+Sees state k view = IsViewOf state.grid k (slice_get state.placed) view
+
+-- the next event comes to this action
+abbrev pub IsNextAction : CellStateData → Action → Type 0
+IsNextAction state x = IsNextOf state (stamp_of x) × ComesTo state (stamp_of x) (Ok x)
+
+-- the region is the home of an event
+abbrev pub IsHomeOf : CellStateData → Stamp → ℕ → Type 0
+IsHomeOf state s k = IsRegion state.grid k × IsHome state.grid (slice_get state.placed) k s
+
+-- the next action of a state, and what the regions see of it
+pub record IsSeen (state : CellStateData) (x : Action) : Type 0 where
+  -- it leads to a state of the cell run, whose events come after it
+  pub leads : IsCellState (followed state x)
+  pub rises : (s : Stamp) → IsCandidateOf (followed state x) s → Before (stamp_of x) s
+  -- its home sees by itself what becomes of the disks
+  pub home : (k : ℕ) (view : ViewData) → IsHomeOf state (stamp_of x) k → Sees state k view →
+      Sees (followed state x) k (after_action view x)
+  -- another region by the message that the home sends
+  pub told : (k q : ℕ) (view seen : ViewData) (m : Message) → IsHomeOf state (stamp_of x) k →
+      Sees state k view → Sees state q seen → message_of state.grid q (rows_in view) x ≡ Some m →
+      Sees (followed state x) q (set_rows seen m.rows)
+  -- and one that is told nothing sees what it saw
+  pub kept : (k q : ℕ) (view seen : ViewData) → IsHomeOf state (stamp_of x) k → Sees state k view →
+      Sees state q seen → k ≢ q → IsRegion state.grid q →
+      (AreLinked state.grid k q → message_of state.grid q (rows_in view) x ≡ None) →
+      Sees (followed state x) q seen
+
+abbrev pub NextActionsAreSeen : Type 0
+NextActionsAreSeen = (state : CellStateData) (x : Action) → IsCellState state → IsNextAction state x →
+    IsSeen state x

@@ -1,5 +1,5 @@
 -- What a cell state keeps.
-use Rattle.std.specs.Prelude.{◌≡◌, ℕ, ◌<◌, List, [], ◌∷◌, length, slice_get, ⊤, Option, Some, None}
+use Rattle.std.specs.Prelude.{◌≡◌, ℕ, ◌<◌, List, [], ◌∷◌, length, fold, slice_get, ⊤, Option, Some, None}
 use Rattle.std.specs.Prelude.{IfSome, Result, Ok, Err}
 use Rattle.fixed_motion.specs.declared.rules.Rules.{Rules}
 use Rattle.fixed_motion.specs.declared.disk.Disk.{Disk}
@@ -92,6 +92,18 @@ RunsNext old (Ok x) new = IsNextOf old (stamp_of x) × ComesTo old (stamp_of x) 
     × (new ≡ followed old x)
 RunsNext old (Err limit) new = (s : Stamp) × IsNextOf old s × ComesTo old s (Err limit)
     × (new ≡ old)
+
+-- the state after some actions
+abbrev pub followed_by : CellStateData → List Action → CellStateData
+followed_by state xs = fold followed state xs
+
+-- no event is left before a stamp
+abbrev pub HasNoneBelow : CellStateData → Stamp → Type 0
+HasNoneBelow state s = (t : Stamp) → IsCandidateOf state t → ¬ Before t s
+
+-- the same state with another floor
+abbrev pub raised : Stamp → CellStateData → CellStateData
+raised to state = record state { floor = to }
 
 -- ---- rows
 -- the rows that an action changes are there

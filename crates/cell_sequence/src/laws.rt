@@ -1,6 +1,6 @@
 //! Laws of cell runs, for those who read the definitions alone.
 
-ghost use Rattle.cell_sequence.specs.Laws.{OneCellRun, CellStepsBegin, HitsAreChanges, HitsAreSteps, ActionsRise, EachSceneCellRuns, CellStatesAreOrderly, StepsJoin, RunsJoin, HitsJoin};
+ghost use Rattle.cell_sequence.specs.Laws.{OneCellRun, CellStepsBegin, HitsAreChanges, HitsAreSteps, ActionsRise, EachSceneCellRuns, CellStatesAreOrderly, StepsJoin, RunsJoin, HitsJoin, NextActionsAreSeen};
 
 /// A cell state has one run.
 pub fn one_cell_run()
@@ -55,4 +55,10 @@ pub fn runs_join()
 /// second.
 pub fn hits_join()
     ensures { HitsJoin }
+{}
+
+/// The next action of a cell state leads to another one, whose events come after it. Its home sees by itself
+/// what becomes of the disks, and the other regions by the messages that it sends.
+pub fn next_actions_are_seen()
+    ensures { NextActionsAreSeen }
 {}

@@ -8,6 +8,7 @@ pub mod state;
 
 pub use laws::{
     actions_rise, cell_states_are_orderly, cell_steps_begin, each_scene_cell_runs,
-    hits_are_changes, hits_are_steps, hits_join, one_cell_run, runs_join, steps_join,
+    hits_are_changes, hits_are_steps, hits_join, next_actions_are_seen, one_cell_run, runs_join,
+    steps_join,
 };
 pub use state::CellState;

@@ -46,11 +46,12 @@ impl Model for CellState {
 }
 
 ghost use Rattle.std.specs.Prelude.{◌≡◌, Ok, IfOk};
+ghost use Rattle.event_stamps.specs.Order.{Before, end_stamp};
 ghost use Rattle.event_stamps.specs.Least.{IsLeastOf};
 ghost use Rattle.cell_grid.specs.Grid.{IsAsked};
 ghost use Rattle.region_view.specs.Acting.{stamp_of};
 ghost use Rattle.cell_sequence.specs.Run.{opened, acted};
-ghost use Rattle.cell_sequence.specs.State.{IsCellState, start_of, followed, HasRows, HasNext, IsNextOf, IsCandidateOf, ComesTo, RunsNext, AreInBox};
+ghost use Rattle.cell_sequence.specs.State.{IsCellState, start_of, followed, HasRows, HasNext, IsNextOf, IsCandidateOf, ComesTo, RunsNext, AreInBox, HasNoneBelow, raised};
 
 use crate::search;
 use event_rules::Limit;
@@ -151,8 +152,8 @@ impl CellState {
         }
     }
 
-    // Goes on by the action that the next event comes to.
-    fn follow(&mut self, action: &Action)
+    /// Goes on by an action, which the next event comes to. Its stamp becomes the floor.
+    pub fn follow(&mut self, action: &Action)
         requires next { IsNextOf self.old (stamp_of action.now) }
         requires comes { ComesTo self.old (stamp_of action.now) (Ok action.now) }
         ensures { self.new ≡ followed self.old action.now }
@@ -161,6 +162,17 @@ impl CellState {
         put(&mut self.placed, action);
         self.last = Some(stamp);
         self.floor = stamp;
+    }
+
+    /// Raises the floor to a stamp, which isn't before it nor after the end, and before which no event is
+    /// left.
+    pub fn raise_floor(&mut self, to: Stamp)
+        requires not_lowered { ¬ Before to self.old.floor }
+        requires in_time { ¬ Before (end_stamp self.old.rules.end) to }
+        requires none_below { HasNoneBelow self.old to }
+        ensures { self.new ≡ raised to self.old }
+    {
+        self.floor = to;
     }
 }
 
