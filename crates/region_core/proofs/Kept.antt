@@ -1,5 +1,5 @@
 -- What each region keeps, as its value tells it.
-use Rattle.std.proofs.Common.{◌≡◌, Option, Some, None, subst}
+use Rattle.std.proofs.Common.{◌≡◌, Option, Some, None, subst, refl}
 use Rattle.std.specs.Prelude.{option_map, IfSome}
 use Rattle.event_stamps.specs.declared.Stamp.{Stamp}
 use Rattle.region_core.specs.declared.home.Home.{Home}
@@ -16,9 +16,14 @@ kept_is home floor live region is sound = subst IsKept is record {
   place = sound.place;
   floor = sound.in_time;
   run = right live sound.alive;
+  begins = begins live;
 }
   where
     right : (o : Option Live) → IfSome o (IsLive home floor) →
         IfSome (option_map (run_in floor) o) (IsRight home)
     right None h = h
     right (Some live) h = h.right
+
+    begins : (o : Option Live) → IfSome (option_map (run_in floor) o) (λ run. run.floor ≡ floor)
+    begins None = tt
+    begins (Some live) = refl

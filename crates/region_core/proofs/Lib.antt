@@ -29,3 +29,6 @@ pub mod Along
 pub mod Touched
 pub mod Appended
 pub mod Sending
+pub mod Raised
+pub mod LetGo
+pub mod Stands

@@ -8,8 +8,7 @@ use Rattle.event_stamps.specs.Order.{Before}
 use Rattle.region_view.specs.declared.rows.Message.{Message}
 use Rattle.region_view.specs.Views.{ViewData}
 use Rattle.region_view.specs.Setting.{set_rows, after_action}
-use Rattle.region_messages.specs.Trails.{is_before, AgreesUpTo, below, from}
-use Rattle.region_messages.proofs.Order.{is_before_true, before_from_true}
+use Rattle.region_messages.specs.Trails.{AgreesUpTo, below, from}
 use Rattle.region_messages.proofs.Parts.{agreed_part}
 use Rattle.region_queue.specs.Queue.{QueueData, IsOf, StandsFor}
 use Rattle.saved_states.specs.Positions.{SavedData}
@@ -26,22 +25,15 @@ use Rattle.region_core.proofs.Logs.{below_kept, kept_below, all_below, below_who
 use Rattle.region_core.proofs.Hears.{hearing, right_heard}
 
 -- ---- the last entry
-is_true : (b : Bool) (s t : Stamp) → b ≡ is_before s t → IsTrue b ↔ Before s t
-is_true b s t is = (
-  λ h. before_from_true s t (sym is ∙ h),
-  λ lt. is ∙ is_before_true s t lt,
-)
-
 pub none_there : (at : Stamp) (log : List Entry) → None ≡ last_stamp log → entries_below at log ≡ log
 none_there at [] last = refl
 none_there at (e ∷ es) last = cc
 
 pub ends_there : (f at s : Stamp) (log : List Entry) (b : Bool) → RiseFrom f log →
-    Some s ≡ last_stamp log → b ≡ is_before s at → IsTrue b ↔ (entries_below at log ≡ log)
-ends_there f at s [] b rises last is = absurd (none-some s (sym last))
-ends_there f at s (e ∷ es) b rises last is =
-    let clock : s ≡ clock_of f (e ∷ es) = same_Some s (clock_of (entry_stamp e) es) last in
-    let tested = is_true b s at is in (
+    Some s ≡ last_stamp log → IsTrue b ↔ Before s at → IsTrue b ↔ (entries_below at log ≡ log)
+ends_there f at s [] b rises last tested = absurd (none-some s (sym last))
+ends_there f at s (e ∷ es) b rises last tested =
+    let clock : s ≡ clock_of f (e ∷ es) = same_Some s (clock_of (entry_stamp e) es) last in (
       λ h. below_kept f at (e ∷ es) rises (inr (subst (λ (v : Stamp). Before v at) clock (tested.0 h))),
       λ same. tested.1 (elim (kept_below f at (e ∷ es) same) [
         | inl none ↦ cc

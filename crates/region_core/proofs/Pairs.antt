@@ -68,7 +68,7 @@ rules_eq a b = int_eq a.width b.width && (int_eq a.height b.height
     && (int_eq a.diameter b.diameter && (int_eq a.speed_limit b.speed_limit
     && (a.round_limit == b.round_limit && a.end == b.end))))
 
-rules_decide : (a b : Rules) → Decides (rules_eq a b) (a ≡ b)
+pub rules_decide : (a b : Rules) → Decides (rules_eq a b) (a ≡ b)
 rules_decide a b = Decides-like (rules_eq a b)
     (λ h i. record {
       width = h.0 i;
@@ -100,7 +100,7 @@ abbrev pub grid_eq : GridData → GridData → Bool
 grid_eq a b = a.columns == b.columns && (a.rows == b.rows
     && (a.side_x == b.side_x && (a.side_y == b.side_y && a.regions == b.regions)))
 
-grid_decides : (a b : GridData) → Decides (grid_eq a b) (a ≡ b)
+pub grid_decides : (a b : GridData) → Decides (grid_eq a b) (a ≡ b)
 grid_decides a b = Decides-like (grid_eq a b)
     (λ h i. record {
       columns = h.0 i;

@@ -28,10 +28,10 @@ use Rattle.region_core.proofs.Untouched.{same_but_touched}
 use Rattle.region_core.proofs.Valid.{valid_now}
 
 -- ---- saved views
-is_up_to : (m n : ℕ) → m ≤ n → nat_le m n ≡ true
+pub is_up_to : (m n : ℕ) → m ≤ n → nat_le m n ≡ true
 is_up_to m n le = grind arith
 
-is_past : (m n : ℕ) → n < m → nat_le m n ≡ false
+pub is_past : (m n : ℕ) → n < m → nat_le m n ≡ false
 is_past m n lt = grind arith
 
 none_up_to : (n p : ℕ) (a : At) (log : List Entry) → n < p → up_to n (saved_along p a log) ≡ []

@@ -50,7 +50,7 @@ abbrev pub HaveValidRows : Home → Trails → Type 0
 HaveValidRows h ts = (q : ℕ) (m : Message) → IsAmong m (trail_of ts q) →
     AreValidRows h.rules h.grid m.rows
 
-valid_without : (h : Home) (ts : Trails) (q : ℕ) → HaveValidRows h ts →
+pub valid_without : (h : Home) (ts : Trails) (q : ℕ) → HaveValidRows h ts →
     HaveValidRows h (without_first ts q)
 valid_without h ts q valid k m among = valid k m (elim (same_or_other k q) [
   | inl same ↦ among_rest (trail_of ts k) m (subst (IsAmong m) (same_trail ts k)

@@ -12,11 +12,12 @@ use Rattle.region_core.specs.LocalRun.{Local, now_of, IsDueOrEnd, IsInPlace, IsR
 use Rattle.region_core.specs.Answers.{clock_of}
 use Rattle.region_core.specs.Opening.{RegionData}
 
--- it is one of a grid, its floor isn't after the end, and its run is right unless it is spent
+-- it is one of a grid, its floor isn't after the end, and its run is right and begins there unless it is spent
 pub record IsKept (region : RegionData) : Type 0 where
   pub place : IsInPlace region.home
   pub floor : ¬ Before (end_stamp region.home.rules.end) region.floor
   pub run : IfSome region.run (IsRight region.home)
+  pub begins : IfSome region.run (λ run. run.floor ≡ region.floor)
 
 -- ---- the log
 abbrev pub entries_in : Option Local → List Entry

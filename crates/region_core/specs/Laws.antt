@@ -1,6 +1,7 @@
 -- What holds of all right local runs.
 use Rattle.std.specs.Prelude.{◌≡◌, ℕ, ◌≤◌, List, ◌∷◌, ◌++◌, length, take}
 use Rattle.event_stamps.specs.declared.Stamp.{Stamp}
+use Rattle.event_stamps.specs.Order.{Before, end_stamp}
 use Rattle.cell_grid.specs.Grid.{AreLinked}
 use Rattle.region_view.specs.Placing.{IsValidPlacing}
 use Rattle.region_view.specs.Views.{rows_in}
@@ -14,6 +15,7 @@ use Rattle.region_core.specs.LocalRun.{IsInPlace, Local, start_of, now_of, after
 use Rattle.region_core.specs.LocalRun.{entries_below, IsWaiting, IsDue, IsHearable, IsRight}
 use Rattle.region_core.specs.LocalRun.{sent_to}
 use Rattle.region_core.specs.Answers.{IsInTurn, StepsTo, HearsFrom}
+use Rattle.region_core.specs.Raising.{IsRaised, HasNoneWaitingBelow}
 
 -- ---- what a local run knows
 -- each entry was due at its place: nothing that was offered there came before it
@@ -69,3 +71,10 @@ abbrev pub SentMayBeHeard : Type 0
 SentMayBeHeard = (h k : Home) (r : Local) (floor : Stamp) → h.rules ≡ k.rules → h.grid ≡ k.grid →
     floor ≡ r.floor → IsInPlace k → IsRight k r → AreLinked h.grid k.number h.number →
     IsHearable h floor k.number (sent_to h.grid h.number r.base r.log)
+
+-- ---- a later floor
+-- where nothing that waits is before the new floor, the run from there on is right, is at what it was at, and
+-- sends what it sent from there on
+abbrev pub RaisingKeepsRight : Type 0
+RaisingKeepsRight = (h : Home) (r : Local) (to : Stamp) → IsInPlace h → IsRight h r → ¬ Before to r.floor →
+    ¬ Before (end_stamp h.rules.end) to → HasNoneWaitingBelow to r → IsRaised h to r

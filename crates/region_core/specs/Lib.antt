@@ -12,3 +12,6 @@ pub mod Hearing
 pub mod Replaced
 pub mod Moves
 pub mod Steps
+pub mod Raising
+pub mod Standing
+pub mod Bursts

@@ -42,3 +42,30 @@ pub enum Hearing {
     /// aren't linked.
     Apart,
 }
+
+/// In what a region, first of all, doesn't stand on a cell state.
+#[derive(Clone, Copy, Debug, PartialEq, Eq)]
+pub enum Differs {
+    /// It is spent.
+    Spent,
+    /// It has another number.
+    Number {
+        /// The number that was asked for.
+        kept: u32,
+        /// The region's.
+        given: u32,
+    },
+    /// It has other rules.
+    Rules,
+    /// It has another grid.
+    Grid,
+    /// It has another floor.
+    Floor {
+        /// The state's.
+        kept: Stamp,
+        /// The region's.
+        given: Stamp,
+    },
+    /// It begins with another row of this disk, the least such number.
+    Row(u32),
+}

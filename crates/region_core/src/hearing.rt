@@ -3,13 +3,14 @@
 ghost use Rattle.std.specs.Prelude.{◌≡◌, ◌↔◌, ◌<◌, length, IfOk, IsTrue};
 ghost use Rattle.event_stamps.specs.declared.Stamp.{Stamp};
 ghost use Rattle.cell_grid.specs.Grid.{IsRegion};
-ghost use Rattle.region_messages.specs.Trails.{is_before, AgreesUpTo};
+ghost use Rattle.region_messages.specs.Trails.{AgreesUpTo};
 ghost use Rattle.region_core.specs.LocalRun.{RiseFrom, IsInPlace, IsHearable, trail_of, entries_below};
 ghost use Rattle.region_core.specs.Answers.{HearsFrom};
 ghost use Rattle.region_core.specs.Live.{run_in, IsLive, HasRun};
 ghost use Rattle.region_core.specs.Replaced.{IsReplaced};
 
 use crate::live::Live;
+use crate::moves::is_before;
 use crate::region::last_stamp;
 use crate::{Entry, Hearing, Home};
 use event_stamps::Stamp;
@@ -76,14 +77,7 @@ fn ends_before(log: &[Entry], at: Stamp) -> bool
     ensures { IsTrue result ↔ (entries_below at log.now ≡ log.now) }
 {
     match last_stamp(log) {
-        Some(stamp) => comes_before(&stamp, &at),
+        Some(stamp) => is_before(&stamp, &at),
         None => true,
     }
-}
-
-// Whether a stamp comes before another.
-fn comes_before(stamp: &Stamp, other: &Stamp) -> bool
-    ensures { result ≡ is_before stamp.now other.now }
-{
-    stamp < other
 }

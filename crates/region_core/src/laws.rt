@@ -1,6 +1,6 @@
 //! Laws of local runs, for those who read the definitions alone.
 
-ghost use Rattle.region_core.specs.Laws.{EntriesWereDue, MessagesAreInTurn, LogsGoOneWay, StepsGoOneWay, HearingsHaveOneAnswer, StepsKeepRight, HearingsKeepRight, RollbacksKeepRight, ViewsAreValid, SentMayBeHeard};
+ghost use Rattle.region_core.specs.Laws.{EntriesWereDue, MessagesAreInTurn, LogsGoOneWay, StepsGoOneWay, HearingsHaveOneAnswer, StepsKeepRight, HearingsKeepRight, RollbacksKeepRight, ViewsAreValid, SentMayBeHeard, RaisingKeepsRight};
 
 /// Each entry of a right log was due at its place: nothing that was offered there came before it.
 pub fn entries_were_due()
@@ -53,4 +53,10 @@ pub fn rollbacks_keep_right()
 /// What a region sends to a linked one of the same rules, grid and floor, that one may hear.
 pub fn sent_may_be_heard()
     ensures { SentMayBeHeard }
+{}
+
+/// Where nothing that waits is before a later floor, a right local run from that floor on is right, is at what
+/// it was at, and sends what it sent from there on.
+pub fn raising_keeps_right()
+    ensures { RaisingKeepsRight }
 {}

@@ -7,6 +7,7 @@
 
 pub mod answers;
 mod appending;
+pub mod burst;
 pub mod entry;
 mod hearing;
 pub mod home;
@@ -14,15 +15,17 @@ mod inbox;
 mod laws;
 mod live;
 mod moves;
+mod raising;
 pub mod region;
 mod rollback;
 
-pub use answers::{Hearing, Step};
+pub use answers::{Differs, Hearing, Step};
+pub use burst::Burst;
 pub use entry::{Entry, MAX_ENTRIES};
 pub use home::Home;
 pub use laws::{
     entries_were_due, hearings_have_one_answer, hearings_keep_right, logs_go_one_way,
-    messages_are_in_turn, rollbacks_keep_right, sent_may_be_heard, steps_go_one_way,
-    steps_keep_right, views_are_valid,
+    messages_are_in_turn, raising_keeps_right, rollbacks_keep_right, sent_may_be_heard,
+    steps_go_one_way, steps_keep_right, views_are_valid,
 };
 pub use region::Region;

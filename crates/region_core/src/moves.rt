@@ -164,9 +164,7 @@ impl Live {
         ensures { Fits home.now (run_in floor self.now) result }
     {
         let due = message.stamp;
-        if self.is_own(home, &due) {
-            Move::Answer(Step::Tied(due))
-        } else if self.inbox.is_shared(from, &due) {
+        if self.is_own(home, &due) || self.inbox.is_shared(from, &due) {
             Move::Answer(Step::Tied(due))
         } else {
             Move::TakeIn { from, message }
@@ -205,7 +203,7 @@ fn is_same(a: &Stamp, b: &Stamp) -> bool
     *a == *b
 }
 
-fn is_before(a: &Stamp, b: &Stamp) -> bool
+pub(crate) fn is_before(a: &Stamp, b: &Stamp) -> bool
     ensures { IsTrue result ↔ Before a.now b.now }
 {
     compare(a, b) == Ordering::Less

@@ -1,6 +1,8 @@
 //! A region.
 
 mod hearing;
+mod raising;
+mod standing;
 
 use crate::Home;
 use crate::live::Live;
@@ -38,7 +40,9 @@ impl Model for Region {
 }
 
 ghost use Rattle.std.specs.Prelude.{◌≡◌, ◌↔◌, ◌⊎◌, List, length, slice_get, None, IsTrue, IfOk, OnErr, MatchOption};
+ghost use Rattle.event_stamps.specs.Order.{Before, end_stamp};
 ghost use Rattle.cell_grid.specs.Grid.{IsRegion};
+ghost use Rattle.region_core.specs.LocalRun.{IsInPlace};
 ghost use Rattle.region_core.specs.Opening.{IsOpened, spent};
 ghost use Rattle.region_core.specs.Steps.{Steps};
 ghost use Rattle.region_core.specs.Keeping.{IsKept, entries_of, native_in, last_stamp, IsDueIn, SendsTo, HearsOf, IsSent, IsHeard};
@@ -72,6 +76,27 @@ impl Region {
             floor: state.floor(),
             live: Some(live),
         })
+    }
+
+    /// A region that is spent, of checked rules and a grid of them, with a floor not after the end.
+    pub fn spent(number: u32, rules: &Rules, grid: &Grid, floor: Stamp) -> Region
+        requires place { IsInPlace (record { number = number; rules = rules.now; grid = grid.now }) }
+        requires in_time { ¬ Before (end_stamp rules.now.end) floor }
+        ensures { result ≡ record {
+          home = record { number = number; rules = rules.now; grid = grid.now };
+          floor = floor;
+          run = None;
+        } }
+    {
+        Region {
+            home: Home {
+                number,
+                rules: *rules,
+                grid: *grid,
+            },
+            floor,
+            live: None,
+        }
     }
 
     /// One step: runs the event that is due, or takes in the message that is.

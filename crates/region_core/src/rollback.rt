@@ -53,8 +53,8 @@ impl Live {
     }
 }
 
-// How many entries of a log, whose stamps rise, are before a stamp.
-fn count_before(log: &[Entry], at: Stamp) -> usize
+/// How many entries of a log, whose stamps rise, are before a stamp.
+pub(crate) fn count_before(log: &[Entry], at: Stamp) -> usize
     requires { (floor : Stamp) × RiseFrom floor log.now }
     ensures within { result ≤ length log.now }
     ensures before { take result log.now ≡ entries_below at log.now }

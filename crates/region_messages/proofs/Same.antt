@@ -125,7 +125,7 @@ disk_decides a b = Decides-like (disk_eq a b)
 abbrev placed_eq : Placed → Placed → Bool
 placed_eq p q = disk_eq p.disk q.disk && p.cell == q.cell
 
-placed_decides : (p q : Placed) → Decides (placed_eq p q) (p ≡ q)
+pub placed_decides : (p q : Placed) → Decides (placed_eq p q) (p ≡ q)
 placed_decides p q = Decides-like (placed_eq p q)
     (λ h i. record { disk = h.0 i; cell = h.1 i })
     (λ e. (ap (λ (v : Placed). v.disk) e, ap (λ (v : Placed). v.cell) e))

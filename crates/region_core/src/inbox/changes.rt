@@ -1,13 +1,14 @@
 //! What a rollback and a hearing make of the input queue.
 
-ghost use Rattle.std.specs.Prelude.{◌≡◌, ℕ, ◌+◌, ◌<◌, ◌≤◌, length, get_or, slice_set, MatchOption, OnOk};
-ghost use Rattle.region_messages.specs.Trails.{AgreesUpTo};
+ghost use Rattle.std.specs.Prelude.{◌≡◌, ℕ, ◌+◌, ◌<◌, ◌≤◌, length, get_or, slice_set, map, MatchOption, OnOk};
+ghost use Rattle.region_messages.specs.Trails.{AgreesUpTo, from};
 ghost use Rattle.region_core.specs.LocalRun.{trail_of};
 ghost use Rattle.region_core.specs.Inbox.{taken_from};
 ghost use Rattle.region_core.specs.Taken.{taken_of};
 
 use crate::Entry;
 use crate::inbox::Inbox;
+use crate::raising::drop_before;
 use event_stamps::Stamp;
 use region_messages::{Trail, first_disagreement};
 use std::alloc::{AllocError, Global};
@@ -20,6 +21,17 @@ impl Inbox {
         ensures counts { length self.new.taken ≡ length self.old.taken }
         ensures taken { (q : ℕ) → taken_from self.new q + taken_of q entries.now ≡ taken_from self.old q }
     {
+        count_down(&mut self.taken, entries);
+    }
+
+    /// Takes away the messages before a stamp, those that some entries took in.
+    pub(crate) fn drop_before(&mut self, to: Stamp, entries: &[Entry])
+        requires { (q : ℕ) → taken_of q entries.now ≤ taken_from self.old q }
+        ensures heard { self.new.heard ≡ map (from to) self.old.heard }
+        ensures counts { length self.new.taken ≡ length self.old.taken }
+        ensures taken { (q : ℕ) → taken_from self.new q + taken_of q entries.now ≡ taken_from self.old q }
+    {
+        drop_before(&mut self.heard, to);
         count_down(&mut self.taken, entries);
     }
 

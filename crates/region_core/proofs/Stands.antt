@@ -1,0 +1,141 @@
+-- Whether a view is what a region sees of placed disks, row by row.
+use Rattle.std.proofs.Common.{◌≡◌, ◌≢◌, ◌⊎◌, inl, inr, ℕ, ◌<◌, ◌≤◌, Bool, true, false, Decides, List, length, Option, Some, None, refl, sym, ap, ◌∙◌, subst, arith}
+use Rattle.std.specs.Prelude.{◌↔◌, IsTrue, slice_get, option_map, not}
+use Rattle.std.specs.FinMap as map
+use Rattle.std.proofs.lemmas.Option.{none-some, same_Some, slice_get_within}
+use Rattle.std.proofs.lemmas.Bool.{false≢true}
+use Rattle.event_stamps.specs.declared.Stamp.{Stamp}
+use Rattle.cell_grid.specs.Grid.{GridData, Reaches}
+use Rattle.region_view.specs.declared.action.Placed.{Placed}
+use Rattle.region_view.specs.Views.{ViewData, IsViewOf}
+use Rattle.cell_sequence.specs.State.{CellStateData}
+use Rattle.region_core.specs.declared.home.Home.{Home}
+use Rattle.region_core.specs.declared.live.Live.{Live}
+use Rattle.region_core.specs.LocalRun.{Local}
+use Rattle.region_core.specs.Opening.{RegionData}
+use Rattle.region_core.specs.Live.{run_in}
+use Rattle.region_core.specs.Standing.{StandsOn, SeesRow, IsSeenAt, IsUnseenFirst, DiffersFirstAt}
+use Rattle.region_core.proofs.Shown.{seen_as}
+
+-- ---- one row
+sees_here : (grid : GridData) (k : ℕ) (row : Placed) → Reaches grid k row.cell →
+    SeesRow grid k (Some row) (Some row)
+sees_here grid k row reach p = (
+  λ e. (e, subst (λ (r : Placed). Reaches grid k r.cell) (same_Some row p e) reach),
+  λ h. h.0,
+)
+
+-- another row is found where it is this one, and in reach
+pub sees_found : (grid : GridData) (k : ℕ) (p row : Placed) →
+    SeesRow grid k (Some row) (Some p) ↔ (Reaches grid k row.cell × (p ≡ row))
+sees_found grid k p row = (
+  λ sees.
+      let there = (sees p).0 refl in
+      let same : row ≡ p = same_Some row p there.0 in
+      (subst (λ (r : Placed). Reaches grid k r.cell) (sym same) there.1, sym same),
+  λ h. subst (λ (v : Placed). SeesRow grid k (Some row) (Some v)) (sym h.1) (sees_here grid k row h.0),
+)
+
+-- what the code finds
+pub found_in_reach : (grid : GridData) (k : ℕ) (p row : Placed) (found : Option Placed) (same : Bool) →
+    found ≡ Some p → Reaches grid k row.cell → Decides same (p ≡ row) →
+    IsTrue same ↔ SeesRow grid k (Some row) found
+found_in_reach grid k p row found same is reach decides =
+    subst (λ (o : Option Placed). IsTrue same ↔ SeesRow grid k (Some row) o) (sym is) (
+      λ h. (sees_found grid k p row).1 (reach, decides.0 h),
+      λ sees. decides.1 ((sees_found grid k p row).0 sees).1,
+    )
+
+pub found_out_of_reach : (grid : GridData) (k : ℕ) (p row : Placed) (found : Option Placed)
+    (reached : Bool) → found ≡ Some p → IsTrue reached ↔ Reaches grid k row.cell → reached ≡ false →
+    IsTrue reached ↔ SeesRow grid k (Some row) found
+found_out_of_reach grid k p row found reached is reach out = (
+  λ h. absurd (false≢true (sym out ∙ h)),
+  λ sees. reach.1 ((sees_found grid k p row).0 (subst (SeesRow grid k (Some row)) is sees)).0,
+)
+
+-- the same at a number of placed disks and a view
+pub seen_at : (grid : GridData) (k : ℕ) (placed : List Placed) (view : ViewData) (i : ℕ) (row : Placed)
+    (found : Option Placed) (result : Bool) → slice_get placed i ≡ Some row → found ≡ map.get view i →
+    IsTrue result ↔ SeesRow grid k (Some row) found →
+    IsTrue result ↔ IsSeenAt grid k (slice_get placed) view i
+seen_at grid k placed view i row found result at is sees =
+    subst (λ (o : Option Placed). IsTrue result ↔ SeesRow grid k (slice_get placed i) o) is
+    (subst (λ (r : Option Placed). IsTrue result ↔ SeesRow grid k r found) (sym at) sees)
+
+-- ---- all rows
+past_row : (grid : GridData) (k : ℕ) (placed : List Placed) (view : ViewData) (i : ℕ) →
+    length placed ≤ i → map.get view i ≡ None → IsSeenAt grid k (slice_get placed) view i
+past_row grid k placed view i past none p = (
+  λ e. absurd (none-some p (sym none ∙ e)),
+  λ h. absurd (let within = slice_get_within placed i p h.0 in omega arith),
+)
+
+below_or_past : (i n : ℕ) → (i < n) ⊎ (n ≤ i)
+below_or_past i n = grind arith
+
+pub sees_all : (grid : GridData) (k : ℕ) (placed : List Placed) (view : ViewData) →
+    ((i : ℕ) → i < length placed → IsSeenAt grid k (slice_get placed) view i) →
+    ((i : ℕ) → length placed ≤ i → map.get view i ≡ None) → IsViewOf grid k (slice_get placed) view
+sees_all grid k placed view seen none i = elim (below_or_past i (length placed)) [
+  | inl lt ↦ seen i lt
+  | inr past ↦ past_row grid k placed view i past (none i past)
+]
+
+-- a row of a number past the last disk
+pub unseen_past : (grid : GridData) (k : ℕ) (placed : List Placed) (view : ViewData) (disk : ℕ) (p : Placed) →
+    ((i : ℕ) → i < length placed → IsSeenAt grid k (slice_get placed) view i) → length placed ≤ disk →
+    map.get view disk ≡ Some p → ((i : ℕ) → length placed ≤ i → i < disk → map.get view i ≡ None) →
+    IsUnseenFirst grid k (slice_get placed) view disk
+unseen_past grid k placed view disk p seen past is none = (
+  λ here. let within = slice_get_within placed disk p ((here p).0 is).0 in omega arith,
+  λ i lt. elim (below_or_past i (length placed)) [
+    | inl before ↦ seen i before
+    | inr after ↦ past_row grid k placed view i after (none i after lt)
+  ],
+)
+
+-- ---- the whole
+-- the local run of a region that there is a body of
+pub run_seen : (home : Home) (floor : Stamp) (o : Option Live) (live : Live) (region : RegionData) →
+    seen_as home floor o ≡ region → o ≡ Some live → region.run ≡ Some (run_in floor live)
+run_seen home floor o live region here is =
+    sym (ap (λ (r : RegionData). r.run) here) ∙ ap (option_map (run_in floor)) is
+
+pub not_spent : (run : Local) (region : RegionData) → region.run ≡ Some run → region.run ≢ None
+not_spent run region is none = none-some run (sym none ∙ is)
+
+-- what the code's `!=` says of two values that it has
+pub differ : {A : Type 0} {x y a b : A} {eq ne : Bool} → x ≡ a → y ≡ b → Decides eq (x ≡ y) → ne ≡ not eq →
+    ne ≡ true → a ≢ b
+differ here there decides is differs same =
+    let found = decides.1 (here ∙ same ∙ sym there) in cc
+
+pub agree : {A : Type 0} {x y a b : A} {eq ne : Bool} → x ≡ a → y ≡ b → Decides eq (x ≡ y) → ne ≡ not eq →
+    ne ≡ false → a ≡ b
+agree {eq = true} here there decides is same = sym here ∙ decides.0 refl ∙ there
+agree {eq = false} here there decides is same = cc
+
+pub stands : (state : CellStateData) (k : ℕ) (run : Local) (region : RegionData) (grid : GridData)
+    (placed : List Placed) → region.run ≡ Some run → region.home.number ≡ k →
+    region.home.rules ≡ state.rules → region.home.grid ≡ state.grid → region.floor ≡ state.floor →
+    grid ≡ state.grid → placed ≡ state.placed → IsViewOf grid k (slice_get placed) run.base →
+    StandsOn state k region
+stands state k run region grid placed alive number rules grids floor grid_is placed_is base = record {
+  run = run;
+  alive = alive;
+  number = number;
+  rules = rules;
+  grid = grids;
+  floor = floor;
+  base = subst (λ (g : GridData). IsViewOf g k (slice_get state.placed) run.base) grid_is
+      (subst (λ (ps : List Placed). IsViewOf grid k (slice_get ps) run.base) placed_is base);
+}
+
+pub differs_in_row : (state : CellStateData) (k : ℕ) (view : ViewData) (grid : GridData)
+    (placed : List Placed) (i : ℕ) → grid ≡ state.grid → placed ≡ state.placed →
+    IsUnseenFirst grid k (slice_get placed) view i → DiffersFirstAt state k view i
+differs_in_row state k view grid placed i grid_is placed_is unseen =
+    let here = subst (λ (g : GridData). IsUnseenFirst g k (slice_get state.placed) view i) grid_is
+    (subst (λ (ps : List Placed). IsUnseenFirst grid k (slice_get ps) view i) placed_is unseen) in
+    record { here = here.0; before = here.1 }

@@ -1,0 +1,7 @@
+use Rattle.std.proofs.Common.{◌≡◌, take}
+use Rattle.region_core.specs.LocalRun.{Trails, after_log}
+use Rattle.region_core.proofs.raising.bring_forward.Given as goal
+
+abbrev pub invariant-loop-entry : goal.invariant-loop-entry
+invariant-loop-entry l = (waiting : Trails) →
+    l.view ≡ (after_log (record { view = l.fn.view; waiting = waiting }) (take l.entry-index l.entries)).view

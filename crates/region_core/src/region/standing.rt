@@ -1,0 +1,86 @@
+//! Whether a region stands on a cell state.
+
+ghost use Rattle.std.specs.Prelude.{◌↔◌, ◌≤◌, length, slice_get, option_copied, Some, IsTrue, MatchOption};
+ghost use Rattle.cell_grid.specs.Grid.{IsRegion, IsCell};
+ghost use Rattle.region_view.specs.Laws.{HasCells};
+ghost use Rattle.region_view.specs.Views.{IsViewOf};
+ghost use Rattle.region_core.specs.Keeping.{IsKept};
+ghost use Rattle.region_core.specs.Standing.{TellsStanding, SeesRow, IsUnseenFirst};
+
+use crate::Differs;
+use crate::region::Region;
+use cell_grid::Grid;
+use cell_sequence::CellState;
+use region_view::{Placed, View};
+
+impl Region {
+    /// Whether it stands on a cell state with a number: it is the region of this number, with the rules, the
+    /// grid and the floor of the state, and begins in the view that it has of the state.
+    ///
+    /// # Errors
+    /// The first that differs, in the order of [`Differs`].
+    pub fn stands_on(&self, state: &CellState, number: u32) -> Result<(), Differs>
+        ensures value { TellsStanding state.now number self.now result }
+        ensures kept { IsKept self.now }
+    {
+        let Some(live) = &self.live else {
+            return Err(Differs::Spent);
+        };
+        let own = self.number();
+        if own != number {
+            return Err(Differs::Number {
+                kept: number,
+                given: own,
+            });
+        }
+        if self.rules() != state.rules() {
+            return Err(Differs::Rules);
+        }
+        let grid = state.grid();
+        if self.grid() != grid {
+            return Err(Differs::Grid);
+        }
+        let floor = state.floor();
+        if self.floor() != floor {
+            return Err(Differs::Floor {
+                kept: floor,
+                given: self.floor(),
+            });
+        }
+        match first_apart(&live.base, state.placed(), grid, number) {
+            Some(disk) => Err(Differs::Row(disk)),
+            None => Ok(()),
+        }
+    }
+}
+
+// The least number at which a view isn't what a region sees of placed disks; none where it is that.
+fn first_apart(view: &View, placed: &[Placed], grid: &Grid, number: u32) -> Option<u32>
+    requires region { IsRegion grid.now number }
+    requires cells { HasCells grid.now (slice_get placed.now) }
+    requires count { length placed.now ≤ 65536 }
+    ensures { MatchOption result (IsViewOf grid.now number (slice_get placed.now) view.now)
+        (IsUnseenFirst grid.now number (slice_get placed.now) view.now) }
+{
+    for (i, row) in placed.iter().enumerate() {
+        let disk = i as u32;
+        if !sees_row(view.get(disk), row, grid, number) {
+            return Some(disk);
+        }
+    }
+    let (disk, _) = view.next_row(placed.len() as u32)?;
+    Some(disk)
+}
+
+// Whether what a view has at a number is exactly what a region sees of the row there.
+fn sees_row(found: Option<&Placed>, row: &Placed, grid: &Grid, number: u32) -> bool
+    requires region { IsRegion grid.now number }
+    requires cell { IsCell grid.now row.now.cell }
+    ensures { IsTrue result ↔ SeesRow grid.now number (Some row.now) (option_copied found.entry) }
+{
+    let reached = grid.in_reach(number, row.cell);
+    match found {
+        Some(placed) => reached && placed == row,
+        None => !reached,
+    }
+}
