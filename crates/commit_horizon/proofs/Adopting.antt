@@ -1,0 +1,133 @@
+-- Regions that are opened or taken over, one place after the other.
+use Rattle.std.proofs.Common.{◌≡◌, ◌⊎◌, inl, inr, ℕ, zero, suc, ◌+◌, ◌<◌, ◌≤◌, List, [], ◌∷◌, ◌++◌, length, slice_get, slice_set, sym, ap, ◌∙◌, subst, refl, arith, Some}
+use Rattle.std.proofs.lemmas.List.{length-append}
+use Rattle.std.proofs.lemmas.Option.{none-some, same_Some, slice_get_within}
+use Rattle.cell_sequence.specs.State.{CellStateData}
+use Rattle.cell_sequence.proofs.Lists.{get_other, get_here}
+use Rattle.region_core.specs.Opening.{RegionData, IsOpened}
+use Rattle.region_core.specs.Standing.{StandsOn}
+use Rattle.commit_horizon.specs.declared.committed.Adopted.{Adopted}
+use Rattle.commit_horizon.specs.declared.committed.Adopted.TheVariants.{Kept, Made}
+use Rattle.commit_horizon.specs.Horizon.{AllStand}
+use Rattle.commit_horizon.specs.Commits.{Adopts, IsAdopted, AllAdopted, region_in}
+use Rattle.commit_horizon.proofs.Standing.{at_number}
+
+-- ---- one more at the end
+get_pushed : {A : Type 0} (xs : List A) (x y : A) (k : ℕ) → slice_get (xs ++ x ∷ []) k ≡ Some y →
+    ((k ≡ length xs) × (y ≡ x)) ⊎ (slice_get xs k ≡ Some y)
+get_pushed [] x y zero at = inl (refl, sym (same_Some x y at))
+get_pushed [] x y (suc k) at = absurd (none-some y at)
+get_pushed (z ∷ xs) x y zero at = inr at
+get_pushed (z ∷ xs) x y (suc k) at = elim (get_pushed xs x y k at) [
+  | inl last ↦ inl (ap suc last.0, last.1)
+  | inr before ↦ inr before
+]
+
+-- ---- one place written
+length_set : {A : Type 0} (xs : List A) (i : ℕ) (v : A) → length (slice_set xs i v) ≡ length xs
+length_set [] i v = refl
+length_set (x ∷ xs) zero v = refl
+length_set (x ∷ xs) (suc i) v = ap suc (length_set xs i v)
+
+-- ---- opened
+pub opened_stands : (state : CellStateData) (k : ℕ) (region : RegionData) → IsOpened state k region →
+    StandsOn state k region
+opened_stands state k region is = record {
+  run = record { floor = state.floor; base = is.run.0; heard = _; log = [] };
+  alive = is.run.2;
+  number = ap (λ h. h.number) is.home;
+  rules = ap (λ h. h.rules) is.home;
+  grid = ap (λ h. h.grid) is.home;
+  floor = is.floor;
+  base = is.run.1;
+}
+
+-- the first places, so many, stand
+pub record StandUpTo (state : CellStateData) (n : ℕ) (regions : List RegionData) : Type 0 where
+  pub count : length regions ≡ n
+  pub each : (k : ℕ) (region : RegionData) → slice_get regions k ≡ Some region → StandsOn state k region
+
+pub one_more_stands : (state : CellStateData) (n : ℕ) (regions : List RegionData) (region : RegionData) →
+    StandUpTo state n regions → StandsOn state n region →
+    StandUpTo state (n + 1) (regions ++ region ∷ [])
+one_more_stands state n regions region so_far stands = record {
+  count = length-append regions (region ∷ []) ∙ ap (λ (m : ℕ). m + 1) so_far.count;
+  each = λ k other at. elim (get_pushed regions region other k at) [
+    | inl last ↦ subst (λ (m : ℕ). StandsOn state m other) (sym (last.0 ∙ so_far.count))
+        (subst (StandsOn state n) (sym last.1) stands)
+    | inr before ↦ so_far.each k other before
+  ];
+}
+
+-- ---- adopted
+adopted_stands : (state : CellStateData) (k : ℕ) (given : RegionData) (adopted : Adopted) →
+    Adopts state k given adopted → StandsOn state k (region_in adopted)
+adopted_stands state k given (Kept kept) is = subst (StandsOn state k) (sym is.1) is.0
+adopted_stands state k given (Made made differs) is = opened_stands state k made is.1
+
+pub is_adopted_stands : (state : CellStateData) (k : ℕ) (given region : RegionData) →
+    IsAdopted state k given region → StandsOn state k region
+is_adopted_stands state k given region is =
+    subst (StandsOn state k) (sym is.2) (adopted_stands state k given is.0 is.1)
+
+-- the first places, so many, are adopted, and the others are as they were
+pub record AdoptedUpTo (state : CellStateData) (given : List RegionData) (n : ℕ)
+    (regions : List RegionData) : Type 0 where
+  pub count : length regions ≡ length given
+  pub done : (k : ℕ) (old : RegionData) → k < n → slice_get given k ≡ Some old →
+      (region : RegionData) × (slice_get regions k ≡ Some region) × IsAdopted state k old region
+  pub rest : (k : ℕ) → n ≤ k → slice_get regions k ≡ slice_get given k
+
+pub one_more_adopted : (state : CellStateData) (given regions : List RegionData) (n : ℕ)
+    (old region : RegionData) → AdoptedUpTo state given n regions → slice_get regions n ≡ Some old →
+    IsAdopted state n old region → AdoptedUpTo state given (n + 1) (slice_set regions n region)
+one_more_adopted state given regions n old region so_far at is = record {
+  count = length_set regions n region ∙ so_far.count;
+  done = λ k other lt there. elim (last_or_before k lt) [
+    | inl last ↦ here k other last there
+    | inr before ↦ let was = so_far.done k other before there in
+        (was.0, get_other regions n k region (omega (arith, before)) ∙ was.1, was.2)
+  ];
+  rest = λ k le. get_other regions n k region (omega (arith, le)) ∙ so_far.rest k (omega (arith, le));
+}
+  where
+    last_or_before : (k : ℕ) → k < n + 1 → (k ≡ n) ⊎ (k < n)
+    last_or_before k lt = grind arith
+
+    here : (k : ℕ) (other : RegionData) → k ≡ n → slice_get given k ≡ Some other →
+        (left : RegionData) × (slice_get (slice_set regions n region) k ≡ Some left)
+        × IsAdopted state k other left
+    here k other last there =
+        let le : n ≤ n = omega arith in
+        let same : other ≡ old = same_Some other old
+        (sym there ∙ ap (slice_get given) last ∙ sym (so_far.rest n le) ∙ at) in (
+          region,
+          subst (λ (m : ℕ). slice_get (slice_set regions n region) m ≡ Some region) (sym last)
+              (get_here regions n region old at),
+          subst (λ (m : ℕ). IsAdopted state m other region) (sym last)
+              (subst (λ (v : RegionData). IsAdopted state n v region) (sym same) is),
+        )
+
+pub all_adopted : (state : CellStateData) (given regions : List RegionData) (n : ℕ) → n ≡ length given →
+    AdoptedUpTo state given n regions → AllAdopted state given regions
+all_adopted state given regions n whole all = record {
+  count = all.count;
+  each = λ k old at. all.done k old
+      (subst (λ (m : ℕ). k < m) (sym whole) (slice_get_within given k old at)) at;
+}
+
+pub all_adopted_stand : (state : CellStateData) (given regions : List RegionData) →
+    length given ≡ state.grid.regions → AllAdopted state given regions → AllStand state regions
+all_adopted_stand state given regions count all = record {
+  count = all.count ∙ count;
+  each = λ k region at. by_place k region at (at_number given k (within k region at));
+}
+  where
+    within : (k : ℕ) (region : RegionData) → slice_get regions k ≡ Some region → k < length given
+    within k region at = subst (λ (n : ℕ). k < n) all.count (slice_get_within regions k region at)
+
+    by_place : (k : ℕ) (region : RegionData) → slice_get regions k ≡ Some region →
+        (old : RegionData) × (slice_get given k ≡ Some old) → StandsOn state k region
+    by_place k region at (old, there) =
+        let is = all.each k old there in
+        subst (StandsOn state k) (same_Some is.0 region (sym is.1 ∙ at)) (is_adopted_stands state k old is.0 is.2)

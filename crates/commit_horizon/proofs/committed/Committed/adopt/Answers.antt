@@ -1,0 +1,13 @@
+use Rattle.std.proofs.Common.{subst}
+use Rattle.cell_sequence.specs.State.{CellStateData}
+use Rattle.region_core.specs.Opening.{IsOpened}
+use Rattle.region_core.specs.Standing.{DiffersBy}
+use Rattle.commit_horizon.proofs.committed.Committed.adopt.Goals as goal
+
+pub returns-in_ok-made-in-Err : goal.returns-in_ok-made-in-Err
+returns-in_ok-made-in-Err c = (
+  subst (λ (v : CellStateData). DiffersBy v c.args.number c.args.region c.in-Err.differs) c.self.view_is
+      c.in-Err.ensures.value,
+  subst (λ (v : CellStateData). IsOpened v c.args.number c.in_ok-made-in-Err.made) c.self.view_is
+      c.in_ok-made-in-Err.ensures,
+)

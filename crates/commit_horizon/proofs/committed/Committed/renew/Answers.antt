@@ -1,0 +1,24 @@
+use Rattle.std.proofs.Common.{subst, refl}
+use Rattle.cell_sequence.specs.State.{CellStateData}
+use Rattle.region_core.specs.Opening.{IsOpened}
+use Rattle.region_core.specs.Standing.{StandsOn, DiffersBy}
+use Rattle.commit_horizon.specs.declared.committed.Adopted.TheVariants.{Kept, Made}
+use Rattle.commit_horizon.proofs.committed.Committed.renew.Goals as goal
+
+pub returns-in-Ok : goal.returns-in-Ok
+returns-in-Ok c =
+    let given = c.args.region.now in
+    let stands = subst (λ (state : CellStateData). StandsOn state c.args.number given) c.self.view_is
+    c.in-Ok.ensures.value in
+    (Kept given, (stands, refl), refl)
+
+pub returns-in_ok-region-in-Err : goal.returns-in_ok-region-in-Err
+returns-in_ok-region-in-Err c =
+    let number = c.args.number in
+    let made = c.in_ok-region-in-Err.field-0 in
+    let differs = c.in-Err.field-0 in
+    let why = subst (λ (state : CellStateData). DiffersBy state number c.args.region.now differs)
+    c.self.view_is c.in-Err.ensures.value in
+    let opened = subst (λ (state : CellStateData). IsOpened state number made) c.self.view_is
+    c.in_ok-region-in-Err.ensures in
+    (Made made differs, (why, opened), refl)

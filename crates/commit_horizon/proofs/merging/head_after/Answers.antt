@@ -1,0 +1,26 @@
+use Rattle.std.proofs.Common.{sym, subst, ◌∙◌, arith}
+use Rattle.region_core.specs.Keeping.{entries_of}
+use Rattle.commit_horizon.specs.Merging.{IsHeadAfter}
+use Rattle.commit_horizon.proofs.Heads.{head_found, head_passed, head_past}
+use Rattle.commit_horizon.proofs.merging.head_after.Goals as goal
+
+pub returns-in-Some : goal.returns-in-Some
+returns-in-Some c =
+    let log = entries_of c.args.region.now in
+    let count = c.entries-place-end.ensures.value in
+    subst (IsHeadAfter c.args.horizon log c.args.done) (sym c.head_before.ensures)
+    (head_found c.args.horizon log c.args.done c.loop-place.place c.in-Some.action (omega arith) (omega arith)
+    (sym c.in-Some.ensures.value) c.loop-place.invariant)
+
+pub loop-place-preserved : goal.loop-place-preserved
+loop-place-preserved c =
+    let log = entries_of c.args.region.now in
+    let count = c.entries-place-end.ensures.value in
+    c.loop-place.invariant
+    ∙ head_passed c.args.horizon log c.loop-place.place (omega arith) (sym c.in_default.ensures.value)
+
+pub returns : goal.returns
+returns c =
+    let log = entries_of c.args.region.now in
+    let count = c.entries-place-end.ensures.value in
+    head_past c.args.horizon log c.args.done c.loop-place.place (omega arith) c.loop-place.invariant

@@ -1,0 +1,47 @@
+-- What is taken over from a burst, and what a commit makes of the state and of the regions.
+use Rattle.std.specs.Prelude.{◌≡◌, ℕ, List, Some, length, map, slice_get}
+use Rattle.event_stamps.specs.declared.Stamp.{Stamp}
+use Rattle.region_view.specs.declared.action.Action.{Action}
+use Rattle.cell_sequence.specs.Run.{CellSteps}
+use Rattle.cell_sequence.specs.State.{CellStateData, followed_by, HasNoneBelow}
+use Rattle.cell_sequence.specs.State.{raised as raised_state}
+use Rattle.region_core.specs.Opening.{RegionData, IsOpened}
+use Rattle.region_core.specs.Standing.{StandsOn, DiffersBy}
+use Rattle.region_core.specs.Raising.{raised as raised_region}
+use Rattle.commit_horizon.specs.declared.committed.Adopted.{Adopted}
+use Rattle.commit_horizon.specs.declared.committed.Adopted.TheVariants.{Kept, Made}
+use Rattle.commit_horizon.specs.Horizon.{runs_of, IsHorizon, IsMerged, AllStand}
+
+-- exactly a region that stands on the state is kept, as it is; else it is opened anew, and what differs is said
+abbrev pub Adopts : CellStateData → ℕ → RegionData → Adopted → Type 0
+Adopts state k region (Kept kept) = StandsOn state k region × (kept ≡ region)
+Adopts state k region (Made made differs) = DiffersBy state k region differs × IsOpened state k made
+
+-- the region that comes of it
+abbrev pub region_in : Adopted → RegionData
+region_in (Kept kept) = kept
+region_in (Made made differs) = made
+
+-- a region for a number, given or opened anew
+abbrev pub IsAdopted : CellStateData → ℕ → RegionData → RegionData → Type 0
+IsAdopted state k given region =
+    (adopted : Adopted) × Adopts state k given adopted × (region ≡ region_in adopted)
+
+-- the same at each place
+pub record AllAdopted (state : CellStateData) (given regions : List RegionData) : Type 0 where
+  pub count : length regions ≡ length given
+  pub each : (k : ℕ) (old : RegionData) → slice_get given k ≡ Some old →
+      (region : RegionData) × (slice_get regions k ≡ Some region) × IsAdopted state k old region
+
+-- the batch is what the regions did before the horizon, which is what the cell run does next; the state has
+-- gone on by it, and all floors are raised to the horizon
+pub record Commits (old : CellStateData) (given : List RegionData) (batch : List Action)
+    (new : CellStateData) (left : List RegionData) : Type 0 where
+  pub horizon : Stamp
+  pub is_horizon : IsHorizon old (runs_of given) horizon
+  pub merged : IsMerged old (runs_of given) horizon batch
+  pub steps : CellSteps old.rules old.grid old.placed batch new.placed
+  pub none_below : HasNoneBelow new horizon
+  pub state : new ≡ raised_state horizon (followed_by old batch)
+  pub regions : left ≡ map (raised_region horizon) given
+  pub stand : AllStand new left

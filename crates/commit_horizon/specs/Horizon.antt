@@ -1,0 +1,94 @@
+-- The commit horizon of the regions of a cell state: what they did before it is final.
+use Rattle.std.specs.Prelude.{◌≡◌, ◌⊎◌, ℕ, List, [], ◌∷◌, ⊤, Option, Some, None, length, slice_get}
+use Rattle.std.specs.FinMap as map
+use Rattle.event_stamps.specs.declared.Stamp.{Stamp}
+use Rattle.event_stamps.specs.Order.{Before, first_stamp, end_stamp}
+use Rattle.cell_grid.specs.Grid.{IsRegion, AreLinked}
+use Rattle.region_view.specs.declared.action.Action.{Action}
+use Rattle.region_view.specs.Acting.{stamp_of}
+use Rattle.region_messages.specs.Trails.{IsAmong, AgreeBelow}
+use Rattle.cell_sequence.specs.State.{CellStateData}
+use Rattle.cell_sequence.specs.Laws.{Sees}
+use Rattle.region_core.specs.declared.entry.Entry.TheVariants.{Native}
+use Rattle.region_core.specs.LocalRun.{Local, now_of, sent_to, trail_of, IsOffered, IsRight}
+use Rattle.region_core.specs.Opening.{RegionData, home_of}
+use Rattle.region_core.specs.Keeping.{IsKept}
+use Rattle.region_core.specs.Standing.{StandsOn}
+
+-- ---- the regions of a state
+-- the local run of each region, by its number
+abbrev pub Runs : Type 0
+Runs = ℕ → Local
+
+-- a right local run from the state's floor on, which begins in the region's view of the state
+pub record IsStanding (state : CellStateData) (k : ℕ) (run : Local) : Type 0 where
+  pub floor : run.floor ≡ state.floor
+  pub base : Sees state k run.base
+  pub right : IsRight (home_of state k) run
+
+abbrev pub AreStanding : CellStateData → Runs → Type 0
+AreStanding state runs = (k : ℕ) → IsRegion state.grid k → IsStanding state k (runs k)
+
+-- ---- the horizon
+-- a stamp that isn't before the floor nor after the end, nor after what a region has due, unless that is before
+-- the floor, nor after the first disagreement of what one region sent and another heard from it
+pub record IsBound (state : CellStateData) (runs : Runs) (h : Stamp) : Type 0 where
+  pub end : ¬ Before (end_stamp state.rules.end) h
+  pub floor : ¬ Before h state.floor
+  pub due : (k : ℕ) (s : Stamp) → IsRegion state.grid k →
+      IsOffered (home_of state k) (now_of (runs k)) s →
+      (¬ Before s h) ⊎ (¬ Before state.floor h)
+  pub agree : (k q : ℕ) → IsRegion state.grid k → IsRegion state.grid q → AreLinked state.grid k q →
+      AgreeBelow h (sent_to state.grid q (runs k).base (runs k).log) (trail_of (runs q).heard k)
+
+-- the horizon: no bound is after it
+pub record IsHorizon (state : CellStateData) (runs : Runs) (h : Stamp) : Type 0 where
+  pub bound : IsBound state runs h
+  pub greatest : (t : Stamp) → IsBound state runs t → ¬ Before h t
+
+-- ---- merged logs
+-- stamps rise strictly
+abbrev pub ActionsRise : List Action → Type 0
+ActionsRise [] = ⊤
+ActionsRise (x ∷ xs) =
+    ((y : Action) → IsAmong y xs → Before (stamp_of x) (stamp_of y)) × ActionsRise xs
+
+-- a region ran it, before a stamp
+pub record IsDone (state : CellStateData) (runs : Runs) (h : Stamp) (x : Action) : Type 0 where
+  pub home : ℕ
+  pub within : IsRegion state.grid home
+  pub among : IsAmong (Native x) (runs home).log
+  pub before : Before (stamp_of x) h
+
+-- what the regions ran before a stamp, in the order of stamps
+pub record IsMerged (state : CellStateData) (runs : Runs) (h : Stamp) (xs : List Action) : Type 0 where
+  pub rise : ActionsRise xs
+  pub are : (x : Action) → IsAmong x xs → IsDone state runs h x
+  pub all : (x : Action) → IsDone state runs h x → IsAmong x xs
+
+-- ---- lists of regions
+-- a run of which nothing is known, for a number of which there is no region
+abbrev pub no_run : Local
+no_run = record { floor = first_stamp; base = map.empty; heard = []; log = [] }
+
+abbrev pub run_in : Option Local → Local
+run_in None = no_run
+run_in (Some run) = run
+
+abbrev pub run_of : Option RegionData → Local
+run_of None = no_run
+run_of (Some region) = run_in region.run
+
+-- the local runs of some regions, by their places
+unfoldable pub runs_of : List RegionData → Runs
+runs_of regions k = run_of (slice_get regions k)
+
+-- as many regions as the grid has, and each stands on the state with its place as its number
+pub record AllStand (state : CellStateData) (regions : List RegionData) : Type 0 where
+  pub count : length regions ≡ state.grid.regions
+  pub each : (k : ℕ) (region : RegionData) → slice_get regions k ≡ Some region →
+      StandsOn state k region
+
+-- what each region keeps
+abbrev pub AllKept : List RegionData → Type 0
+AllKept regions = (k : ℕ) (region : RegionData) → slice_get regions k ≡ Some region → IsKept region

@@ -1,0 +1,41 @@
+//! What a commit made final.
+
+use region_view::Action;
+use std::marker::Model;
+
+/// The actions of a commit, in the order of their stamps.
+#[derive(Drop)]
+pub struct Batch {
+    pub(crate) actions: Vec<Action>,
+}
+
+impl Model for Batch {
+    ghost use Rattle.std.specs.Prelude.{List};
+    ghost use Rattle.region_view.specs.declared.action.Action.{Action};
+
+    ghost Value = { List Action };
+
+    ghost view = { λ s. s.actions.items };
+}
+
+ghost use Rattle.std.specs.Prelude.{◌≡◌, []};
+
+use std::alloc::Global;
+
+impl Batch {
+    /// No actions.
+    pub fn new(alloc: Global) -> Batch
+        ensures { result ≡ [] }
+    {
+        Batch {
+            actions: Vec::new(alloc),
+        }
+    }
+
+    /// The actions, in order.
+    pub fn as_slice(&self) -> &[Action]
+        ensures { result.now ≡ self.now }
+    {
+        &self.actions
+    }
+}

@@ -1,0 +1,112 @@
+//! The committed state, and the regions that stand on it.
+
+use cell_sequence::CellState;
+use region_core::{Differs, Region};
+use std::marker::Model;
+
+/// The state of the cell run up to which all is final.
+#[derive(Drop)]
+pub struct Committed {
+    pub(crate) state: CellState,
+}
+
+impl Model for Committed {
+    ghost use Rattle.cell_sequence.specs.State.{CellStateData};
+
+    ghost Value = { CellStateData };
+
+    ghost view = { λ s. s.state };
+}
+
+/// A region that stands on the committed state.
+#[derive(Drop)]
+pub enum Adopted {
+    /// The region that was given, which stands on it.
+    Kept(Region),
+    /// One that was opened anew, and why the given one doesn't stand on the state.
+    Made(Region, Differs),
+}
+
+ghost use Rattle.std.specs.Prelude.{◌≡◌, IfOk};
+ghost use Rattle.cell_grid.specs.Grid.{IsRegion, IsAsked};
+ghost use Rattle.cell_sequence.specs.State.{IsCellState, start_of};
+ghost use Rattle.commit_horizon.specs.Horizon.{runs_of, IsHorizon, AllStand, AllKept};
+ghost use Rattle.commit_horizon.specs.Commits.{Adopts, Commits};
+
+use crate::Batch;
+use crate::bounding::least_bound;
+use crate::merging::merge;
+use crate::raising::raise_floors;
+use event_stamps::Stamp;
+use fixed_motion::Scene;
+use std::alloc::{AllocError, Global};
+
+impl Committed {
+    /// The state with which the cell run of a scene begins, on a grid for so many regions, 1 to
+    /// [`MAX_REGIONS`](cell_grid::MAX_REGIONS).
+    ///
+    /// # Errors
+    /// Out of memory.
+    pub fn open(alloc: Global, scene: &Scene, regions: u32) -> Result<Committed, AllocError>
+        requires { IsAsked regions }
+        ensures { IfOk result (λ committed. committed ≡ start_of scene.now regions) }
+    {
+        Ok(Committed {
+            state: CellState::open(alloc, scene, regions)?,
+        })
+    }
+
+    /// The committed state.
+    pub fn state(&self) -> &CellState
+        ensures value { result.now ≡ self.now }
+        ensures kept { IsCellState self.now }
+    {
+        let _floor = self.state.floor();
+        &self.state
+    }
+
+    /// A region for a number: the given one exactly where it stands on the committed state with this number,
+    /// whoever made it; else one that is opened anew.
+    ///
+    /// # Errors
+    /// Out of memory.
+    pub fn adopt(&self, alloc: Global, number: u32, region: Region) -> Result<Adopted, AllocError>
+        requires { IsRegion self.now.grid number }
+        ensures { IfOk result (Adopts self.now number region) }
+    {
+        match region.stands_on(&self.state, number) {
+            Ok(()) => Ok(Adopted::Kept(region)),
+            Err(differs) => {
+                let made = Region::open(alloc, &self.state, number)?;
+                Ok(Adopted::Made(made, differs))
+            }
+        }
+    }
+
+    /// The commit horizon of regions that stand on the committed state, by number: the least of the end, of
+    /// what each region has due (of the floor, where that is before it), and of the first disagreement of
+    /// what each sent and what each linked one heard from it.
+    pub fn horizon(&self, regions: &[Region]) -> Stamp
+        requires { AllStand self.now regions.now }
+        ensures value { IsHorizon self.now (runs_of regions.now) result }
+        ensures kept { AllKept regions.now }
+    {
+        least_bound(Stamp::end_of(self.state.rules().end), regions)
+    }
+
+    /// Makes final what the regions, which stand on the committed state by number, did before the commit
+    /// horizon: the state goes on by it, and all floors are raised to the horizon.
+    ///
+    /// # Errors
+    /// Out of memory: the committed state and the regions are to be given up.
+    pub fn commit(&mut self, alloc: Global, regions: &mut [Region]) -> Result<Batch, AllocError>
+        requires { AllStand self.old regions.old }
+        ensures { IfOk result (λ batch. Commits self.old regions.old batch self.new regions.new) }
+    {
+        let horizon = self.horizon(regions);
+        let actions = merge(&mut self.state, alloc, regions, horizon)?;
+        raise_floors(alloc, regions, horizon)?;
+        self.state.raise_floor(horizon);
+        Ok(Batch { actions })
+    }
+}
