@@ -1,0 +1,19 @@
+pub mod Hearing
+pub mod Pass
+pub mod Fresh
+pub mod Places
+pub mod Standing
+pub mod Passed
+pub mod Taken
+pub mod Dues
+pub mod Homes
+pub mod Parts
+mod Stamps
+pub mod Event
+pub mod Advancing
+pub mod Left
+pub mod Simulating
+pub mod Calls
+pub mod Batches
+pub mod SoFar
+pub mod Spots

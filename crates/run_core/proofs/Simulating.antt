@@ -1,0 +1,226 @@
+-- What was told of the run of a scene, one advance after the other.
+use Rattle.std.proofs.Common.{◌≡◌, inl, inr, ℕ, List, [], ◌∷◌, ◌++◌, append-nil, append_assoc, length, take, sym, ap, ◌∙◌, subst, refl, arith, Option, Some, None}
+use Rattle.std.proofs.lemmas.Grind.{common_steps}
+use Rattle.fixed_motion.specs.declared.rules.Rules.{Rules}
+use Rattle.fixed_motion.specs.declared.disk.Disk.{Disk}
+use Rattle.fixed_motion.specs.Scene.{SceneData, IsValidScene}
+use Rattle.event_stamps.specs.Least.{HasNone}
+use Rattle.event_rules.specs.declared.change.Change.{Change}
+use Rattle.event_rules.specs.declared.change.Limit.{Limit as Failure}
+use Rattle.event_rules.specs.declared.outcome.Spot.{Spot}
+use Rattle.event_rules.specs.declared.outcome.Outcome.{Outcome}
+use Rattle.event_rules.specs.declared.outcome.Outcome.TheVariants.{Done, Limit as Passes}
+use Rattle.event_rules.specs.Run.{IsRun, Steps, spots_of, effect}
+use Rattle.event_rules.specs.Told.{IsTellable, told, Told, Torn, PrefixTold}
+use Rattle.event_rules.proofs.Ran.{ran, ran_tellable}
+use Rattle.event_rules.proofs.Telling.{told_none}
+use Rattle.cell_grid.specs.Grid.{GridData, grid_of, IsAsked}
+use Rattle.region_view.specs.declared.action.Action.{Action}
+use Rattle.region_messages.specs.Trails.{IsAmong}
+use Rattle.region_messages.proofs.Among.{among_right}
+use Rattle.cell_sequence.specs.Run.{opened, disks_of, hits, CellSteps, CellRuns}
+use Rattle.cell_sequence.specs.State.{CellStateData, IsCandidateOf, followed, followed_by, start_of}
+use Rattle.cell_sequence.proofs.Joins.{steps_join, runs_join, hits_join}
+use Rattle.cell_sequence.proofs.Hits.{hits_are_changes, hits_are_steps}
+use Rattle.commit_horizon.specs.Horizon.{Runs}
+use Rattle.run_core.specs.declared.answers.Advance.{Advance}
+use Rattle.run_core.specs.declared.answers.Advance.TheVariants.{Raised, End, Limit}
+use Rattle.run_core.specs.Advances.{Leads, FailsNext, IsAdvance}
+use Rattle.run_core.specs.Simulates.{batch_of}
+use Rattle.run_core.specs.Laws.{LimitsEndTheRun}
+use Rattle.run_core.proofs.Advancing.{rules_after}
+
+-- ---- tellings, one after the other
+told_joined : {M C : Type 0} (after : M → C → M) (m : M) (xs ys : List C) →
+    told after m (xs ++ ys) ≡ told after (told after m xs) ys
+told_joined after m [] ys = refl
+told_joined after m (x ∷ xs) ys = told_joined after (after m x) xs ys
+
+pub told_in_turn : {M C : Type 0} (after : M → C → M) (old mid new : Option M) (xs ys : List C) →
+    Told after old xs mid → Told after mid ys new → Told after old (xs ++ ys) new
+told_in_turn after None mid new xs ys h k = tt
+told_in_turn after (Some m) None new xs ys h k = absurd h
+told_in_turn after (Some m) (Some n) None xs ys h k = absurd k
+told_in_turn after (Some m) (Some n) (Some p) xs ys h k =
+    k ∙ ap (λ v. told after v ys) h ∙ sym (told_joined after m xs ys)
+
+refused_after : {M C : Type 0} (after : M → C → M) (torn : M → C → M → Type 0) (old mid new : Option M)
+    (xs : List C) (c : C) (rest : List C) → Told after old xs mid → Torn torn mid c new →
+    PrefixTold after torn old (xs ++ c ∷ rest) new
+refused_after {C = C} after torn old mid new xs c rest h k = (
+  length xs,
+  inr (
+    mid,
+    c,
+    rest,
+    grind (arith, common_steps),
+    subst (λ (v : List C). Told after old v mid) (take_front xs (c ∷ rest)) h,
+    k,
+  ),
+)
+  where
+    take_front : (xs ys : List C) → xs ≡ take (length xs) (xs ++ ys)
+    take_front xs ys = grind (arith, common_steps)
+
+-- changes that were run can be told
+steps_tellable : (rules : Rules) (disks later : List Disk) (changes : List Change) (c : Change) →
+    Steps rules disks changes later → IsAmong c changes → IsTellable c
+steps_tellable rules disks later [] c steps among = absurd among
+steps_tellable rules disks later (x ∷ xs) c steps (inl same) = subst IsTellable (sym same)
+    (ran_tellable rules disks x (ran rules disks x steps.0.0 steps.1))
+steps_tellable rules disks later (x ∷ xs) c steps (inr more) =
+    steps_tellable rules (effect disks x) later xs c steps.2 more
+
+-- ---- advances
+pub leads_of : (old new : CellStateData) (runs : Runs) (answer : Advance) → IsAdvance old runs answer new →
+    Leads old runs (batch_of answer) new
+leads_of old new runs (Raised batch) h = h.0
+leads_of old new runs (End batch) h = h.0
+leads_of old new runs (Limit batch limit) h = h.0
+
+grid_after : (xs : List Action) (state : CellStateData) → (followed_by state xs).grid ≡ state.grid
+grid_after [] state = refl
+grid_after (x ∷ xs) state = grid_after xs (followed state x)
+
+-- a limit that is answered ends the cell run
+pub limits_end_the_run : LimitsEndTheRun
+limits_end_the_run old new runs batch limit (leads, fails) =
+    let rules = ap (λ (v : CellStateData). v.rules) leads.state ∙ rules_after batch old in
+    let grid = ap (λ (v : CellStateData). v.grid) leads.state ∙ grid_after batch old in
+    subst (λ (v : List Action). CellRuns old.rules old.grid old.placed v (Passes limit)) (append-nil batch)
+    (runs_join old.rules old.grid old.placed new.placed batch [] (Passes limit) leads.steps
+    (subst (λ (g : GridData). CellRuns old.rules g new.placed [] (Passes limit)) grid
+    (subst (λ (r : Rules). CellRuns r new.grid new.placed [] (Passes limit)) rules fails)))
+
+-- ---- what was told so far
+-- the state is one of the run of the scene, and the collisions of its actions were told
+pub record IsTold {M : Type 0} (after : M → Change → M) (scene : SceneData) (asked : ℕ)
+    (state : CellStateData) (old new : Option M) : Type 0 where
+  pub rules : state.rules ≡ scene.rules
+  pub grid : state.grid ≡ grid_of scene.rules asked
+  pub actions : List Action
+  pub steps : CellSteps scene.rules (grid_of scene.rules asked)
+      (opened (grid_of scene.rules asked) scene.disks) actions state.placed
+  pub told : Told after old (hits actions) new
+
+module _ {M : Type 0} (after : M → Change → M) (torn : M → Change → M → Type 0) (scene : SceneData)
+    (asked : ℕ) (valid : IsValidScene scene) (some : IsAsked asked) where
+  -- at the start nothing was
+  pub open_told : (old : Option M) → IsTold after scene asked (start_of scene asked) old old
+  open_told old = record {
+    rules = refl;
+    grid = refl;
+    actions = [];
+    steps = refl;
+    told = told_none after old;
+  }
+
+  -- the actions so far and those of a batch
+  joined : (state later : CellStateData) (runs : Runs) (batch : List Action) (old mid : Option M)
+      (so_far : IsTold after scene asked state old mid) → Leads state runs batch later →
+      CellSteps scene.rules (grid_of scene.rules asked) (opened (grid_of scene.rules asked) scene.disks)
+      (so_far.actions ++ batch) later.placed
+  joined state later runs batch old mid so_far leads =
+      steps_join scene.rules (grid_of scene.rules asked) (opened (grid_of scene.rules asked) scene.disks)
+      state.placed later.placed so_far.actions batch so_far.steps
+      (subst (λ (g : GridData). CellSteps scene.rules g state.placed batch later.placed) so_far.grid
+      (subst (λ (r : Rules). CellSteps r state.grid state.placed batch later.placed) so_far.rules
+      leads.steps))
+
+  -- after an advance whose batch was told
+  pub goes_on : (state later : CellStateData) (runs : Runs) (answer : Advance) (old mid new : Option M) →
+      IsTold after scene asked state old mid → IsAdvance state runs answer later →
+      Told after mid (hits (batch_of answer)) new → IsTold after scene asked later old new
+  goes_on state later runs answer old mid new so_far advance told =
+      let batch = batch_of answer in
+      let leads = leads_of state later runs answer advance in record {
+        rules = ap (λ (v : CellStateData). v.rules) leads.state ∙ rules_after batch state ∙ so_far.rules;
+        grid = ap (λ (v : CellStateData). v.grid) leads.state ∙ grid_after batch state ∙ so_far.grid;
+        actions = so_far.actions ++ batch;
+        steps = joined state later runs batch old mid so_far leads;
+        told = subst (λ (v : List Change). Told after old v new) (sym (hits_join so_far.actions batch))
+            (told_in_turn after old mid new (hits so_far.actions) (hits batch) so_far.told told);
+      }
+
+  -- the changes of the run that were told
+  pub so_far_told : (state : CellStateData) (old new : Option M) → IsTold after scene asked state old new →
+      (changes : List Change) × (later : List Disk) × Steps scene.rules scene.disks changes later
+      × Told after old changes new
+  so_far_told state old new is = (
+    hits is.actions,
+    disks_of state.placed,
+    hits_are_steps scene asked is.actions state.placed valid some is.steps,
+    is.told,
+  )
+
+  -- those of a batch, after those so far
+  all_steps : (state later : CellStateData) (runs : Runs) (answer : Advance) (old mid : Option M)
+      (so_far : IsTold after scene asked state old mid) → IsAdvance state runs answer later →
+      Steps scene.rules scene.disks (hits so_far.actions ++ hits (batch_of answer)) (disks_of later.placed)
+  all_steps state later runs answer old mid so_far advance =
+      let batch = batch_of answer in
+      subst (λ (v : List Change). Steps scene.rules scene.disks v (disks_of later.placed))
+      (hits_join so_far.actions batch)
+      (hits_are_steps scene asked (so_far.actions ++ batch) later.placed valid some
+      (joined state later runs batch old mid so_far (leads_of state later runs answer advance)))
+
+  -- can be told
+  pub can_be_told : (state later : CellStateData) (runs : Runs) (answer : Advance) (old mid : Option M)
+      (change : Change) → IsTold after scene asked state old mid → IsAdvance state runs answer later →
+      IsAmong change (hits (batch_of answer)) → IsTellable change
+  can_be_told state later runs answer old mid change so_far advance among =
+      steps_tellable scene.rules scene.disks (disks_of later.placed)
+      (hits so_far.actions ++ hits (batch_of answer)) change
+      (all_steps state later runs answer old mid so_far advance)
+      (among_right change (hits so_far.actions) (hits (batch_of answer)) among)
+
+  -- where one of them was refused
+  pub refused_told : (state later : CellStateData) (runs : Runs) (answer : Advance)
+      (old mid between new : Option M) (done rest : List Change) (change : Change) →
+      IsTold after scene asked state old mid → IsAdvance state runs answer later →
+      hits (batch_of answer) ≡ done ++ change ∷ rest → Told after mid done between →
+      Torn torn between change new →
+      (changes : List Change) × (end : List Disk) × Steps scene.rules scene.disks changes end
+      × PrefixTold after torn old changes new
+  refused_told state later runs answer old mid between new done rest change so_far advance is told refused =
+      let sooner = hits so_far.actions in
+      let split : (sooner ++ done) ++ change ∷ rest ≡ sooner ++ hits (batch_of answer) =
+      append_assoc sooner done (change ∷ rest) ∙ ap (λ (v : List Change). sooner ++ v) (sym is) in (
+        sooner ++ hits (batch_of answer),
+        disks_of later.placed,
+        all_steps state later runs answer old mid so_far advance,
+        subst (λ (v : List Change). PrefixTold after torn old v new) split
+            (refused_after after torn old between new (sooner ++ done) change rest
+            (told_in_turn after old mid between sooner done so_far.told told) refused),
+      )
+
+  -- ---- the end
+  -- the run as it ends in this state
+  ends : (state : CellStateData) (old new : Option M) (outcome : Outcome)
+      (is : IsTold after scene asked state old new) →
+      CellRuns state.rules state.grid state.placed [] outcome →
+      (changes : List Change) × IsRun scene changes outcome × Told after old changes new
+  ends state old new outcome is end = (
+    hits is.actions,
+    hits_are_changes scene asked is.actions outcome valid some
+        (subst (λ (v : List Action). CellRuns scene.rules (grid_of scene.rules asked)
+        (opened (grid_of scene.rules asked) scene.disks) v outcome) (append-nil is.actions)
+        (runs_join scene.rules (grid_of scene.rules asked) (opened (grid_of scene.rules asked) scene.disks)
+        state.placed is.actions [] outcome is.steps
+        (subst (λ (g : GridData). CellRuns scene.rules g state.placed [] outcome) is.grid
+        (subst (λ (r : Rules). CellRuns r state.grid state.placed [] outcome) is.rules end)))),
+    is.told,
+  )
+
+  -- no event is left
+  pub done_told : (state : CellStateData) (old new : Option M) (spots : List Spot) →
+      IsTold after scene asked state old new → HasNone (IsCandidateOf state) →
+      spots ≡ spots_of state.rules.end (disks_of state.placed) →
+      (changes : List Change) × IsRun scene changes (Done spots) × Told after old changes new
+  done_told state old new spots is none at = ends state old new (Done spots) is (none, at)
+
+  -- or the next one fails a limit
+  pub limit_told : (state : CellStateData) (old new : Option M) (limit : Failure) →
+      IsTold after scene asked state old new → FailsNext state limit →
+      (changes : List Change) × IsRun scene changes (Passes limit) × Told after old changes new
+  limit_told state old new limit is fails = ends state old new (Passes limit) is fails

@@ -1,0 +1,118 @@
+-- One region after the other takes in what it is told.
+use Rattle.std.proofs.Common.{◌≡◌, ◌⊎◌, inl, inr, ℕ, ◌+◌, ◌<◌, List, sym, ◌∙◌, subst, refl, arith}
+use Rattle.event_stamps.specs.declared.Stamp.{Stamp}
+use Rattle.cell_grid.specs.Grid.{IsRegion, AreLinked}
+use Rattle.cell_sequence.specs.State.{CellStateData}
+use Rattle.region_core.specs.declared.answers.Step.{Step}
+use Rattle.region_core.specs.declared.answers.Hearing.{Hearing}
+use Rattle.region_core.specs.declared.answers.Hearing.TheVariants.{Same, Rewound, Later, Apart}
+use Rattle.region_core.specs.LocalRun.{Local, sent_to}
+use Rattle.region_core.specs.Answers.{StepsTo, HearsFrom}
+use Rattle.region_core.specs.Opening.{RegionData, home_of}
+use Rattle.commit_horizon.specs.Horizon.{Runs, runs_of, AllStand}
+use Rattle.run_core.specs.Hearings.{sent_by}
+use Rattle.run_core.specs.Second.{StepsIfLater}
+use Rattle.run_core.specs.Taking.{TookIn, OneTookIn, TookInUpTo}
+use Rattle.run_core.specs.Turns.{Turns, Meets}
+use Rattle.run_core.proofs.Standing.{HasHeardAt, has_heard, HasStepped, has_stepped}
+
+-- ---- one region
+-- it isn't told anything
+pub not_told : (state : CellStateData) (regions : List RegionData) (k q : ℕ) → AllStand state regions →
+    ¬ AreLinked state.grid k q → OneTookIn state regions regions k q
+not_told state regions k q stand not =
+    record { took = inr (not, refl); others = λ x ne. refl; teller = refl; stand = stand }
+
+stays : (state : CellStateData) (q : ℕ) (answer : Hearing) (run : Local) →
+    ((d : Stamp) → ¬ (answer ≡ Later d)) → StepsIfLater state q answer run run
+stays state q Same run not = refl
+stays state q (Rewound d) run not = refl
+stays state q (Later d) run not = absurd (not d refl)
+stays state q Apart run not = refl
+
+module _ (state : CellStateData) (old mid : List RegionData) (k q : ℕ) (answer : Hearing)
+    (stand : AllStand state old) (is_q : IsRegion state.grid q) (is_k : IsRegion state.grid k)
+    (linked : AreLinked state.grid k q) (meets : Meets old q k answer mid) where
+  heard : HasHeardAt state old mid q k answer
+  heard = has_heard state old mid q k answer stand is_q is_k linked meets
+
+  hears_it : HearsFrom k (sent_by state (runs_of old) k q) (runs_of old q) answer (runs_of mid q)
+  hears_it = subst (λ (v : Local). HearsFrom k (sent_by state (runs_of old) k q) (runs_of old q) answer v)
+      (sym heard.changes.here) heard.hears
+
+  -- it heard nothing new
+  pub no_news : ((d : Stamp) → ¬ (answer ≡ Later d)) → OneTookIn state old mid k q
+  no_news not = record {
+    took = inl (
+      linked,
+      record {
+        answer = answer;
+        mid = runs_of mid q;
+        hears = hears_it;
+        steps = stays state q answer (runs_of mid q) not;
+      },
+    );
+    others = heard.changes.others;
+    teller = heard.changes.others k linked.0;
+    stand = heard.changes.stand;
+  }
+
+  -- it heard something new, and made a step
+  module _ (d : Stamp) (later : answer ≡ Later d) (new : List RegionData) (s : Step)
+      (turns : Turns mid q s new) where
+    stepped : HasStepped state mid new q s
+    stepped = has_stepped state mid new q s heard.changes.stand is_q turns
+
+    steps_it : StepsTo (home_of state q) (runs_of mid q) s (runs_of new q)
+    steps_it = subst (StepsTo (home_of state q) (runs_of mid q) s) (sym stepped.changes.here) stepped.steps
+
+    pub news : OneTookIn state old new k q
+    news = record {
+      took = inl (
+        linked,
+        record {
+          answer = answer;
+          mid = runs_of mid q;
+          hears = hears_it;
+          steps = subst (λ (v : Hearing). StepsIfLater state q v (runs_of mid q) (runs_of new q)) (sym later)
+              (s, steps_it);
+        },
+      );
+      others = λ x ne. stepped.changes.others x ne ∙ heard.changes.others x ne;
+      teller = stepped.changes.others k linked.0 ∙ heard.changes.others k linked.0;
+      stand = stepped.changes.stand;
+    }
+
+-- ---- all regions
+below_or_last : (q i : ℕ) → q < i + 1 → (q < i) ⊎ (q ≡ i)
+below_or_last q i lt = grind arith
+
+-- what region q makes of it depends on the teller and on q alone
+took_from : (state : CellStateData) (runs mid : Runs) (k q : ℕ) (after : Local) → mid k ≡ runs k →
+    mid q ≡ runs q → TookIn state mid k q after → TookIn state runs k q after
+took_from state runs mid k q after teller same (inl (linked, takes)) = inl (
+  linked,
+  record {
+    answer = takes.answer;
+    mid = takes.mid;
+    hears = subst
+        (λ (v : Local). HearsFrom k (sent_to state.grid q v.base v.log) (runs q) takes.answer takes.mid) teller
+        (subst (λ (v : Local). HearsFrom k (sent_by state mid k q) v takes.answer takes.mid) same takes.hears);
+    steps = takes.steps;
+  },
+)
+took_from state runs mid k q after teller same (inr (not, is)) = inr (not, is ∙ same)
+
+pub one_more_took : (state : CellStateData) (old mid new : List RegionData) (k i : ℕ) →
+    TookInUpTo state old mid k i → OneTookIn state mid new k i → TookInUpTo state old new k (i + 1)
+one_more_took state old mid new k i so_far one = record {
+  took = λ q lt. elim (below_or_last q i lt) [
+    | inl less ↦ subst (TookIn state (runs_of old) k q) (sym (one.others q (omega arith))) (so_far.took q less)
+    | inr same ↦ subst (λ (n : ℕ). TookIn state (runs_of old) k n (runs_of new n)) (sym same)
+        (took_from state (runs_of old) (runs_of mid) k i (runs_of new i) so_far.teller
+        (so_far.rest i (omega arith)) one.took)
+  ];
+  rest = λ q le. one.others q (omega arith) ∙ so_far.rest q (omega arith);
+  teller = one.teller ∙ so_far.teller;
+  stand = one.stand;
+}

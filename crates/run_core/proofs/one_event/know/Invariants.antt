@@ -1,0 +1,9 @@
+use Rattle.std.proofs.Common.{◌≡◌, ℕ, ◌<◌, Some}
+use Rattle.std.specs.Prelude.{slice_get}
+use Rattle.region_core.specs.Opening.{RegionData}
+use Rattle.region_core.specs.Keeping.{IsKept}
+use Rattle.run_core.proofs.one_event.know.Given as goal
+
+abbrev pub invariant-loop-region : goal.invariant-loop-region
+invariant-loop-region l = (k : ℕ) (region : RegionData) → k < l.region-index →
+    slice_get l.regions k ≡ Some region → IsKept region

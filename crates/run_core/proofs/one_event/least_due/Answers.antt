@@ -1,0 +1,30 @@
+use Rattle.std.proofs.Common.{length, refl, sym, ◌∙◌}
+use Rattle.std.proofs.lemmas.Option.{slice_get_read}
+use Rattle.region_messages.proofs.Order.{before_from_true, not_before_from_false}
+use Rattle.run_core.proofs.Dues.{due_first, due_there, due_before}
+use Rattle.run_core.proofs.one_event.least_due.Goals.{then-comes_before, else-comes_before}
+use Rattle.run_core.proofs.one_event.least_due.Goals as goal
+
+pub loop-k-init : goal.loop-k-init
+loop-k-init c =
+    due_first c.args.regions.now c.index-regions-0.result c.due-least.result
+    (slice_get_read c.args.regions.now (length c.args.regions.now) 0 _ refl c.requires c.index-regions-0.is)
+    c.due-least.ensures.value
+
+pub loop-k-preserved : goal.loop-k-preserved
+loop-k-preserved c =
+    let regions = c.args.regions.now in
+    let here = slice_get_read regions (length regions) c.loop-k.k c.index-regions-k.result refl c.loop-k-test.true
+    c.index-regions-k.is in
+    elim c.if-comes_before.branch [
+      | then-comes_before w ↦
+          rw w.home-is (rw w.least-is (due_there regions c.loop-k.k c.loop-k.home c.loop-k.least c.due-due.result
+          c.index-regions-k.result c.loop-k.invariant here c.due-due.ensures.value
+          (before_from_true c.due-due.result c.loop-k.least
+          (sym c.comes_before.ensures ∙ w.if-comes_before.true))))
+      | else-comes_before w ↦
+          rw w.home-is (rw w.least-is (due_before regions c.loop-k.k c.loop-k.home c.loop-k.least c.due-due.result
+          c.index-regions-k.result c.loop-k.invariant here c.due-due.ensures.value
+          (not_before_from_false c.due-due.result c.loop-k.least
+          (sym c.comes_before.ensures ∙ w.if-comes_before.false))))
+    ]

@@ -1,0 +1,10 @@
+pub mod Hearings
+pub mod Laws
+pub mod Second
+pub mod Advances
+pub mod Simulates
+pub mod Turns
+pub mod Plays
+pub mod Passing
+pub mod Taking
+pub mod Tells

@@ -1,0 +1,48 @@
+-- Passes of hearings over regions that stand on a state.
+use Rattle.std.specs.Prelude.{◌≡◌, ℕ, ◌<◌, Bool, true, false, nat_lt, List}
+use Rattle.cell_grid.specs.Grid.{AreLinked}
+use Rattle.region_messages.specs.Trails.{IsAmong}
+use Rattle.cell_sequence.specs.State.{CellStateData}
+use Rattle.region_core.specs.declared.answers.Hearing.{Hearing}
+use Rattle.region_core.specs.declared.answers.Hearing.TheVariants.{Same, Rewound, Later, Apart}
+use Rattle.region_core.specs.Opening.{RegionData}
+use Rattle.commit_horizon.specs.Horizon.{runs_of, AllStand}
+use Rattle.run_core.specs.Hearings.{Call, Hearings, rewinds, Passes, entries_of}
+
+-- whether the hearer was rewound
+abbrev pub is_rewound : Hearing → Bool
+is_rewound Same = false
+is_rewound (Rewound d) = true
+is_rewound (Later d) = false
+is_rewound Apart = false
+
+-- calls, of which P holds, made this of the regions; `more` says whether one rewound its hearer
+pub record Heard (state : CellStateData) (old new : List RegionData) (more : Bool)
+    (P : List Call → Type 0) : Type 0 where
+  pub calls : List Call
+  pub hearings : Hearings state (runs_of old) calls (runs_of new)
+  pub tells : more ≡ nat_lt 0 (rewinds calls)
+  pub stand : AllStand state new
+  pub covers : P calls
+
+-- region q hears region k, where they are linked
+abbrev pub HearsOne : CellStateData → ℕ → ℕ → List Call → Type 0
+HearsOne state q k calls = AreLinked state.grid k q →
+    (a : Hearing) × IsAmong (record { hearer = q; sender = k; answer = a }) calls
+
+-- region q hears each of the first j
+abbrev pub HearsUpTo : CellStateData → ℕ → ℕ → List Call → Type 0
+HearsUpTo state q j calls = (k : ℕ) → k < j → HearsOne state q k calls
+
+-- each of the first i hears each region
+abbrev pub AllHearUpTo : CellStateData → ℕ → List Call → Type 0
+AllHearUpTo state i calls = (q : ℕ) → q < i → HearsUpTo state q state.grid.regions calls
+
+-- passes, of which the last alone rewinds none, made this of the regions
+pub record Agrees (state : CellStateData) (old new : List RegionData) : Type 0 where
+  pub passes : List (List Call)
+  pub hear : Passes state (runs_of old) passes (runs_of new)
+
+-- all entries of the regions
+unfoldable pub entries_left : CellStateData → List RegionData → ℕ
+entries_left state regions = entries_of state.grid.regions (runs_of regions)

@@ -1,0 +1,30 @@
+-- How far a run has come.
+use Rattle.std.specs.Prelude.{ℕ, ◌+◌, ◌-◌, List, Option, Some, None}
+use Rattle.event_stamps.specs.declared.Stamp.{Stamp}
+use Rattle.event_stamps.specs.Order.{end_stamp, rank}
+use Rattle.region_view.specs.declared.action.Action.{Action}
+use Rattle.cell_sequence.specs.State.{CellStateData}
+use Rattle.commit_horizon.specs.Horizon.{Runs}
+use Rattle.run_core.specs.declared.answers.Advance.{Advance}
+use Rattle.run_core.specs.declared.answers.Advance.TheVariants.{Raised, End, Limit}
+use Rattle.run_core.specs.Advances.{IsAdvance}
+
+-- the actions that an advance committed
+abbrev pub batch_of : Advance → List Action
+batch_of (Raised batch) = batch
+batch_of (End batch) = batch
+batch_of (Limit batch limit) = batch
+
+-- a number that is less for the stamps before it, and least where there is none
+abbrev pub rank_of : Option Stamp → ℕ
+rank_of None = 0
+rank_of (Some s) = rank s + 1
+
+-- how far the last action is from the end
+unfoldable pub work_left : CellStateData → ℕ
+work_left state = rank (end_stamp state.rules.end) - rank_of state.last
+
+-- an advance, of some regions that stand on the state
+pub record Advances (old : CellStateData) (answer : Advance) (new : CellStateData) : Type 0 where
+  pub runs : Runs
+  pub is : IsAdvance old runs answer new

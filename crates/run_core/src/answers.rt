@@ -1,0 +1,31 @@
+//! What an advance of the committed state answers.
+
+use commit_horizon::Batch;
+use event_rules::Limit;
+
+/// What an advance answers.
+#[derive(Drop)]
+pub enum Advance {
+    /// Some actions were committed.
+    Raised(Batch),
+    /// These were committed, and no event is left.
+    End(Batch),
+    /// These were committed, and the next event fails the limit.
+    Limit(Batch, Limit),
+}
+
+ghost use Rattle.std.specs.Prelude.{◌≡◌};
+ghost use Rattle.run_core.specs.Simulates.{batch_of};
+
+impl Advance {
+    /// The actions that were committed.
+    pub fn batch(&self) -> &Batch
+        ensures { result.now ≡ batch_of self.now }
+    {
+        match self {
+            Advance::Raised(batch) => batch,
+            Advance::End(batch) => batch,
+            Advance::Limit(batch, _) => batch,
+        }
+    }
+}

@@ -1,0 +1,20 @@
+//! The run over all regions: they hear each other, and what they did before the commit horizon is taken over.
+#![tactic(auto)]
+
+pub mod answers;
+mod laws;
+mod one_event;
+mod pairs;
+mod passes;
+pub mod playing;
+pub mod progress;
+pub mod scripted;
+mod simulation;
+mod telling;
+
+pub use answers::Advance;
+pub use laws::{advances_end, hearings_keep_bounds, limits_end_the_run, passes_end};
+pub use playing::{Answer, CoreStep, Played, play};
+pub use progress::advance;
+pub use scripted::Scripted;
+pub use simulation::simulate;

@@ -1,0 +1,39 @@
+//! How the committed state goes on.
+
+ghost use Rattle.std.specs.Prelude.{IfOk, OnOk};
+ghost use Rattle.commit_horizon.specs.Horizon.{runs_of, AllStand};
+ghost use Rattle.run_core.specs.Advances.{IsAdvance};
+
+use crate::Advance;
+use crate::one_event::{know, one_event};
+use crate::passes::agree;
+use commit_horizon::Committed;
+use region_core::Region;
+use std::alloc::{AllocError, Global};
+
+/// Makes final what the regions did, which stand on the committed state by number: they hear each other
+/// until that takes nothing back, and what they did before the commit horizon is committed. Where that is
+/// nothing, the next event of the cell run is made by its home, and committed; or there is none, or it fails
+/// a limit.
+///
+/// # Errors
+/// Out of memory: the committed state and the regions are to be given up.
+pub fn advance(
+    alloc: Global,
+    committed: &mut Committed,
+    regions: &mut [Region],
+) -> Result<Advance, AllocError>
+    requires { AllStand committed.old regions.old }
+    ensures answer { IfOk result (λ answer.
+        IsAdvance committed.old (runs_of regions.old) answer committed.new) }
+    ensures stand { OnOk result (AllStand committed.new regions.new) }
+{
+    know(regions);
+    agree(alloc, committed.state(), regions)?;
+    let batch = committed.commit(alloc, regions)?;
+    if batch.as_slice().is_empty() {
+        one_event(alloc, committed, regions)
+    } else {
+        Ok(Advance::Raised(batch))
+    }
+}

@@ -1,0 +1,63 @@
+//! A burst that makes given calls.
+
+use crate::playing::CoreStep;
+use std::marker::Model;
+
+/// Makes the calls of a list in one burst, and none in the next ones.
+#[derive(Drop)]
+pub struct Scripted {
+    steps: Vec<CoreStep>,
+}
+
+impl Model for Scripted {
+    ghost use Rattle.std.specs.Prelude.{List};
+    ghost use Rattle.run_core.specs.declared.playing.CoreStep.{CoreStep};
+
+    ghost Value = { List CoreStep };
+
+    ghost view = { λ s. s.steps.items };
+}
+
+ghost use Rattle.std.specs.Prelude.{◌≡◌, List, [], length, IfOk, OnOk};
+ghost use Rattle.run_core.specs.declared.playing.Answer.{Answer};
+ghost use Rattle.run_core.specs.Plays.{Plays};
+
+use crate::playing::play;
+use region_core::{Burst, Region};
+use std::alloc::{AllocError, Global};
+use std::sync::Wait;
+use std::thread::Threads;
+
+impl Scripted {
+    /// The burst of these calls.
+    ///
+    /// # Errors
+    /// Out of memory.
+    pub fn new(alloc: Global, steps: &[CoreStep]) -> Result<Scripted, AllocError>
+        ensures { IfOk result (λ scripted. scripted ≡ steps.now) }
+    {
+        Ok(Scripted {
+            steps: Vec::from_slice(alloc, steps)?,
+        })
+    }
+}
+
+impl Burst for Scripted {
+    ghost ready = { λ _. Unit {0} };
+
+    fn burst<R: Threads + Wait + Sync>(
+        &mut self,
+        _rt: &R,
+        alloc: Global,
+        mut regions: Vec<Region>,
+    ) -> Result<Vec<Region>, AllocError>
+        ensures count { IfOk result (λ worked. length worked.items ≡ length regions.items) }
+        ensures plays { IfOk result (λ worked.
+            (answers : List Answer) × Plays regions.items self.old answers worked.items) }
+        ensures empty { OnOk result (self.new ≡ []) }
+    {
+        play(alloc, &mut regions, &self.steps)?;
+        self.steps.clear();
+        Ok(regions)
+    }
+}

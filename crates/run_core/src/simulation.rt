@@ -1,0 +1,102 @@
+//! The run of a scene over regions.
+
+ghost use Rattle.std.specs.Prelude.{◌≡◌, IfOk, IfErr, OnOk};
+ghost use Rattle.fixed_motion.specs.Rules.{IsChecked};
+ghost use Rattle.event_rules.specs.Run.{IsValidState, spots_of};
+ghost use Rattle.event_rules.specs.Tellings.{RunTold, RunCutShort, CountsRun};
+ghost use Rattle.cell_grid.specs.Grid.{IsAsked};
+ghost use Rattle.cell_sequence.specs.Run.{disks_of};
+ghost use Rattle.commit_horizon.specs.Horizon.{AllStand};
+ghost use Rattle.run_core.specs.Simulates.{Advances};
+
+use crate::answers::Advance;
+use crate::progress::advance;
+use crate::telling::tell;
+use commit_horizon::Committed;
+use event_rules::{FinalState, Listener, Outcome, RunFault, Spot};
+use fixed_motion::{Rules, Scene};
+use region_core::{Burst, Region};
+use region_view::Placed;
+use std::alloc::{AllocError, Global};
+use std::sync::Wait;
+use std::thread::Threads;
+
+/// Runs a scene over so many regions, 1 to [`MAX_REGIONS`](cell_grid::MAX_REGIONS), and tells each change in
+/// the order of the stamps. The burst may do with the regions what it will: the run is the same.
+///
+/// # Errors
+/// The listener refused a change, and its count of refusals rose; or out of memory.
+pub fn simulate<B: Burst, R: Threads + Wait + Sync, L: Listener>(
+    rt: &R,
+    alloc: Global,
+    scene: &Scene,
+    regions: u32,
+    burst: &mut B,
+    listener: &mut L,
+) -> Result<Outcome, RunFault>
+    requires asked { IsAsked regions }
+    requires ready { B.ready burst.old }
+    ensures run { IfOk result (λ outcome.
+        RunTold L.after scene.now outcome (L.meaning listener.old) (L.meaning listener.new)) }
+    ensures cut_short { IfErr result (λ fault.
+        RunCutShort L.after L.torn scene.now fault
+        (L.meaning listener.old) (L.meaning listener.new)) }
+    ensures counts { CountsRun (L.faults listener.old) (L.faults listener.new) result }
+{
+    let rules = &scene.rules;
+    let mut committed = Committed::open(alloc, scene, regions)?;
+    let mut standing = committed.open_all(alloc)?;
+    'bursts: loop {
+        let (answer, left) = work(rt, alloc, &mut committed, standing, burst)?;
+        tell(answer.batch().as_slice(), listener)?;
+        match answer {
+            Advance::Raised(_) => standing = left,
+            Advance::End(_) => {
+                let spots = final_state(alloc, rules, committed.state().placed())?;
+                return Ok(Outcome::Done(spots));
+            }
+            Advance::Limit(_, limit) => return Ok(Outcome::Limit(limit)),
+        }
+    }
+}
+
+// Lets a burst work on the regions of the committed state, and advances by those of its regions that stand
+// on that state.
+fn work<R: Threads + Wait + Sync, B: Burst>(
+    rt: &R,
+    alloc: Global,
+    committed: &mut Committed,
+    regions: Vec<Region>,
+    burst: &mut B,
+) -> Result<(Advance, Vec<Region>), AllocError>
+    requires stand { AllStand committed.old regions.items }
+    requires ready { B.ready burst.old }
+    ensures answer { IfOk result (λ worked. Advances committed.old worked.0 committed.new) }
+    ensures stand { IfOk result (λ worked. AllStand committed.new worked.1.items) }
+    ensures ready { OnOk result (B.ready burst.new) }
+{
+    let worked = burst.burst(rt, alloc, regions)?;
+    let mut standing = committed.adopt_all(alloc, worked)?;
+    let answer = advance(alloc, committed, &mut standing)?;
+    Ok((answer, standing))
+}
+
+// Where all disks are in the end.
+fn final_state(alloc: Global, rules: &Rules, placed: &[Placed]) -> Result<FinalState, AllocError>
+    requires checked { IsChecked rules.now }
+    requires valid { IsValidState rules.now (disks_of placed.now) }
+    ensures { IfOk result (λ spots. spots ≡ spots_of rules.now.end (disks_of placed.now)) }
+{
+    let mut spots = Vec::new(alloc);
+    for row in placed {
+        let disk = &row.disk;
+        let centre = disk.centre_at(rules, rules.end);
+        spots.push(Spot {
+            x: centre.x,
+            y: centre.y,
+            vx: disk.vx,
+            vy: disk.vy,
+        })?;
+    }
+    Ok(FinalState::new(spots))
+}
