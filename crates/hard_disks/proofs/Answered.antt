@@ -12,7 +12,7 @@ use Rattle.hard_disks.specs.declared.status.Status.{Status}
 use Rattle.hard_disks.specs.declared.status.Status.TheVariants.{Done, BadWords, SceneRefused, SpeedLimit, RoundLimit, ReadFault, WriteFault, NoMemory}
 use Rattle.collision_report.specs.declared.format.Format.{Format}
 use Rattle.hard_disks.specs.declared.words.Mode.{Mode}
-use Rattle.hard_disks.specs.declared.words.Mode.TheVariants.{Plain, Check}
+use Rattle.hard_disks.specs.declared.words.Mode.TheVariants.{Run, Plain, Check}
 use Rattle.hard_disks.specs.declared.words.Settings.{Settings}
 use Rattle.hard_disks.specs.Refusals.{bad_words_line, refusal_line}
 use Rattle.hard_disks.specs.Output.{Reading, IsOutput, OfMode}
@@ -62,6 +62,7 @@ out_of_memory settings left taken taken' h =
 
 -- in each mode a refusal's output is its line
 refusal : (mode : Mode) (format : Format) (f : SceneFault) → OfMode mode format (Err f) (refusal_line f) SceneRefused
+refusal Run format f = (refl, refl)
 refusal Plain format f = (refl, refl)
 refusal Check format f = (refl, refl)
 

@@ -9,7 +9,7 @@ use Rattle.collision_report.specs.Report.{report}
 use Rattle.hard_disks.specs.declared.status.Status.{Status}
 use Rattle.hard_disks.specs.declared.status.Status.TheVariants.{Done, BadWords, SceneRefused}
 use Rattle.hard_disks.specs.declared.words.Mode.{Mode}
-use Rattle.hard_disks.specs.declared.words.Mode.TheVariants.{Plain, Check}
+use Rattle.hard_disks.specs.declared.words.Mode.TheVariants.{Run, Plain, Check}
 use Rattle.hard_disks.specs.Refusals.{bad_words_line, refusal_line}
 use Rattle.hard_disks.specs.Output.{Reading, OfMode, OfReading, IsReport, IsSceneText, scene_text_of, status_of}
 use Rattle.hard_disks.specs.Laws.{OneOutput}
@@ -39,6 +39,7 @@ of_reading shown (Ok scene) one valid = one scene valid
 of_reading shown (Err fault) one refusal = (refusal_line fault, SceneRefused, (refl, refl), λ other own h. h)
 
 of_mode : (mode : Mode) (format : Format) (said : Reading) → IsSceneOrRefusal said → HasOne (OfMode mode format said)
+of_mode Run format said h = of_reading (IsReport format) said (one_report format) h
 of_mode Plain format said h = of_reading (IsReport format) said (one_report format) h
 of_mode Check format said h = of_reading (IsSceneText format) said (λ scene valid. one_text format scene) h
 

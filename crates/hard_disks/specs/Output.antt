@@ -15,7 +15,7 @@ use Rattle.collision_report.specs.Report.{report}
 use Rattle.hard_disks.specs.declared.status.Status.{Status}
 use Rattle.hard_disks.specs.declared.status.Status.TheVariants.{Done, BadWords, SceneRefused, SpeedLimit, RoundLimit}
 use Rattle.hard_disks.specs.declared.words.Mode.{Mode}
-use Rattle.hard_disks.specs.declared.words.Mode.TheVariants.{Plain, Check}
+use Rattle.hard_disks.specs.declared.words.Mode.TheVariants.{Run, Plain, Check}
 use Rattle.hard_disks.specs.declared.words.Settings.{Settings}
 use Rattle.hard_disks.specs.Refusals.{bad_words_line, refusal_line}
 
@@ -48,6 +48,7 @@ OfReading shown (Err fault) text status = (text ≡ refusal_line fault) × (stat
 
 -- the output of each mode
 abbrev pub OfMode : Mode → Format → Reading → List ℕ → Status → Type 0
+OfMode Run format said text status = OfReading (IsReport format) said text status
 OfMode Plain format said text status = OfReading (IsReport format) said text status
 OfMode Check format said text status = OfReading (IsSceneText format) said text status
 

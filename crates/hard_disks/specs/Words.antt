@@ -3,12 +3,13 @@ use Rattle.std.specs.Prelude.{ℕ, List, [], ◌∷◌, ◌&&◌, bytes_eq, code
 use Rattle.collision_report.specs.declared.format.Format.{Format}
 use Rattle.collision_report.specs.declared.format.Format.TheVariants.{Lines, Summary}
 use Rattle.hard_disks.specs.declared.words.Mode.{Mode}
-use Rattle.hard_disks.specs.declared.words.Mode.TheVariants.{Plain, Check}
+use Rattle.hard_disks.specs.declared.words.Mode.TheVariants.{Run, Plain, Check}
 use Rattle.hard_disks.specs.declared.words.Settings.{Settings}
 
 abbrev pub mode_of : List ℕ → Option Mode
 mode_of word =
-    if bytes_eq word (codes "plain") then Some Plain
+    if bytes_eq word (codes "run") then Some Run
+    else if bytes_eq word (codes "plain") then Some Plain
     else if bytes_eq word (codes "check") then Some Check
     else None
 

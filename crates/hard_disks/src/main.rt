@@ -3,6 +3,7 @@
 //! It reads a scene in TOML on standard input and writes the report of its run on standard output.
 #![tactic(auto)]
 
+mod engines;
 mod laws;
 mod refusals;
 mod show;
@@ -22,6 +23,8 @@ use report_ports::{StdSink, StdSource};
 use status::Status;
 use std::env::{Env, FillError};
 use std::process::ExitCode;
+use std::sync::Wait;
+use std::thread::Threads;
 use std::{env, io};
 
 fn main(rt: HostRuntime) -> ExitCode {
@@ -60,7 +63,7 @@ impl<'r, R: Env> Env for AfterName<'r, R> {
 
 // Collects the words after the program's name. Words that aren't UTF-8 have no settings, as no words
 // at all.
-fn run<R: AllocGlobal + Env + Input + Print>(rt: &R) -> Status {
+fn run<R: AllocGlobal + Env + Input + Print + Threads + Wait + Sync>(rt: &R) -> Status {
     match env::args(&(AfterName { rt }, rt.alloc())) {
         Ok(words) => match words.collect::<Vec<String>>(rt.alloc()) {
             Ok(words) => run_args(rt, &words),
@@ -72,7 +75,10 @@ fn run<R: AllocGlobal + Env + Input + Print>(rt: &R) -> Status {
 }
 
 // Calls the top call with these words.
-fn run_args<R: AllocGlobal + Input + Print>(rt: &R, words: &[String]) -> Status
+fn run_args<R: AllocGlobal + Input + Print + Threads + Wait + Sync>(
+    rt: &R,
+    words: &[String],
+) -> Status
     ensures { Answers (settings_of (map string_bytes words.now)) None None None result }
 {
     match words
@@ -87,10 +93,13 @@ fn run_args<R: AllocGlobal + Input + Print>(rt: &R, words: &[String]) -> Status
 
 // Calls the top call over standard input and output, which know no bytes: so what is known of the
 // status is what the words decide.
-fn run_words<R: AllocGlobal + Input + Print>(rt: &R, words: &[&str]) -> Status
+fn run_words<R: AllocGlobal + Input + Print + Threads + Wait + Sync>(
+    rt: &R,
+    words: &[&str],
+) -> Status
     ensures { Answers (settings_of (map (λ w. w.now) words.now)) None None None result }
 {
     let mut source = StdSource::new(rt.reader());
     let mut sink = StdSink::new(io::writer(rt));
-    top::top(rt.alloc(), words, &mut source, &mut sink)
+    top::top(rt, rt.alloc(), words, &mut source, &mut sink)
 }

@@ -6,15 +6,18 @@ ghost use Rattle.hard_disks.specs.Output.{status_of, OfMode, IsReport, IsSceneTe
 ghost use Rattle.hard_disks.specs.Answers.{Wrote, CountsWrites};
 ghost use Rattle.hard_disks.specs.Shows.{WritesText, IsOfScene};
 
+use crate::engines::{AllPairs, Engine, Regions};
 use crate::status::Status;
 use crate::words::{Mode, Settings};
-use all_pairs::simulate_plain;
 use collision_report::{Format, Reporter, StateTable};
 use event_rules::{Limit, Outcome, RunFault};
 use fixed_motion::Scene;
 use report_ports::{Given, Sink};
+use run_core::Scripted;
 use scene_maker::scene_text;
 use std::alloc::Global;
+use std::sync::Wait;
+use std::thread::Threads;
 use text_lines::Line;
 
 /// Gives a text as one piece; the status is `own` where all of it was taken.
@@ -30,20 +33,62 @@ pub fn write_text<K: Sink>(sink: &mut K, text: &[u8], own: Status) -> Status
 }
 
 /// Does what the settings ask for.
-pub fn show<K: Sink>(alloc: Global, settings: Settings, scene: &Scene, sink: &mut K) -> Status
+pub fn show<R: Threads + Wait + Sync, K: Sink>(
+    rt: &R,
+    alloc: Global,
+    settings: Settings,
+    scene: &Scene,
+    sink: &mut K,
+) -> Status
     ensures wrote { Wrote (OfMode settings.mode settings.format (Ok scene.now))
         (K.taken sink.old) (K.taken sink.new) result }
     ensures of_scene { IsOfScene result }
     ensures counts { CountsWrites (K.faults sink.old) (K.faults sink.new) result }
 {
     match settings.mode {
-        Mode::Plain => run_plain(alloc, settings.format, scene, sink),
+        Mode::Run => run_regions(rt, alloc, settings.format, scene, sink),
+        Mode::Plain => write_report(rt, alloc, &mut AllPairs, settings.format, scene, sink),
         Mode::Check => write_scene(alloc, settings.format, scene, sink),
     }
 }
 
-// Runs the scene by the reference engine, and writes the report.
-fn run_plain<K: Sink>(alloc: Global, format: Format, scene: &Scene, sink: &mut K) -> Status
+// How many regions there are where nothing else is asked for.
+const REGIONS: u32 = 4;
+
+// Runs the scene by the engine with regions, on which nothing works between two commits, and writes the report.
+fn run_regions<R: Threads + Wait + Sync, K: Sink>(
+    rt: &R,
+    alloc: Global,
+    format: Format,
+    scene: &Scene,
+    sink: &mut K,
+) -> Status
+    ensures wrote { Wrote (IsReport format scene.now) (K.taken sink.old) (K.taken sink.new) result }
+    ensures of_scene { IsOfScene result }
+    ensures counts { CountsWrites (K.faults sink.old) (K.faults sink.new) result }
+{
+    // The clause of this call says that the scene is valid, so it has a run.
+    let _count = scene.count();
+    let Ok(burst) = Scripted::new(alloc, &[]) else {
+        return Status::NoMemory;
+    };
+    let mut engine = Regions {
+        regions: REGIONS,
+        burst,
+    };
+    write_report(rt, alloc, &mut engine, format, scene, sink)
+}
+
+/// Runs the scene by an engine, and writes the report.
+pub fn write_report<R: Threads + Wait + Sync, E: Engine, K: Sink>(
+    rt: &R,
+    alloc: Global,
+    engine: &mut E,
+    format: Format,
+    scene: &Scene,
+    sink: &mut K,
+) -> Status
+    requires { E.ready engine.old }
     ensures wrote { Wrote (IsReport format scene.now) (K.taken sink.old) (K.taken sink.new) result }
     ensures of_scene { IsOfScene result }
     ensures counts { CountsWrites (K.faults sink.old) (K.faults sink.new) result }
@@ -54,7 +99,7 @@ fn run_plain<K: Sink>(alloc: Global, format: Format, scene: &Scene, sink: &mut K
         return Status::NoMemory;
     };
     let mut reporter = Reporter::new(&mut table, sink, format);
-    match simulate_plain(alloc, scene, &mut reporter) {
+    match engine.run(rt, alloc, scene, &mut reporter) {
         Ok(outcome) => match reporter.finish(scene, &outcome) {
             Ok(()) => status_of(&outcome),
             Err(_) => Status::WriteFault,

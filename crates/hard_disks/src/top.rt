@@ -22,20 +22,27 @@ use crate::words::{Settings, read_words};
 use report_ports::{Sink, Source};
 use scene_reader::{SceneFault, read_scene};
 use std::alloc::Global;
+use std::sync::Wait;
+use std::thread::Threads;
 
 /// Reads the words and then a scene from the source, does what the words ask for, and writes the
 /// output to the sink.
 ///
+/// Whatever the scene, the number of regions and what works on them, a run that returns has written exactly the
+/// report that looking at all pairs gives: each collision once, in the order of stamps, then the final state or
+/// the limit that was passed. What was written at any commit is a prefix of it, and is never taken back.
+///
 /// The output depends on the words and the scene alone. Each status but three says that the whole
 /// output was written; after [`Status::ReadFault`] nothing was, and after [`Status::WriteFault`] and
 /// [`Status::NoMemory`] a prefix of it.
-pub fn top<S: Source, K: Sink>(
+pub fn top<R: Threads + Wait + Sync, S: Source, K: Sink>(
+    rt: &R,
     alloc: Global,
     words: &[&str],
     source: &mut S,
     sink: &mut K,
 ) -> Status
-    ensures answers { Answers (settings_of (map (λ w. w.now) words.now)) (S.left source.old)
+    ensures headline { Answers (settings_of (map (λ w. w.now) words.now)) (S.left source.old)
         (K.taken sink.old) (K.taken sink.new) result }
 
     // Words without settings leave the source alone, and whoever read a scene has read it to its end.
@@ -56,11 +63,12 @@ pub fn top<S: Source, K: Sink>(
 {
     match read_words(words) {
         None => write_text(sink, bad_words_line().as_bytes(), Status::BadWords),
-        Some(settings) => with_settings(alloc, settings, source, sink),
+        Some(settings) => with_settings(rt, alloc, settings, source, sink),
     }
 }
 
-fn with_settings<S: Source, K: Sink>(
+fn with_settings<R: Threads + Wait + Sync, S: Source, K: Sink>(
+    rt: &R,
     alloc: Global,
     settings: Settings,
     source: &mut S,
@@ -73,7 +81,7 @@ fn with_settings<S: Source, K: Sink>(
     ensures writes { CountsWrites (K.faults sink.old) (K.faults sink.new) result }
 {
     match read_scene(alloc, source) {
-        Ok(scene) => show(alloc, settings, &scene, sink),
+        Ok(scene) => show(rt, alloc, settings, &scene, sink),
         Err(fault) => refuse(&fault, sink),
     }
 }

@@ -8,6 +8,8 @@ use collision_report::Format;
 /// What the program does with a scene.
 #[derive(Clone, Copy, Debug, PartialEq, Eq)]
 pub enum Mode {
+    /// Runs it by the engine with regions, and writes the report.
+    Run,
     /// Runs it by the reference engine, and writes the report.
     Plain,
     /// Writes its canonical text.
@@ -62,6 +64,7 @@ fn mode_of(word: &str) -> Option<Mode>
     ensures { result ≡ mode_of word.now }
 {
     match word {
+        "run" => Some(Mode::Run),
         "plain" => Some(Mode::Plain),
         "check" => Some(Mode::Check),
         _ => None,

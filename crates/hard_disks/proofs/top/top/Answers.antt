@@ -7,8 +7,8 @@ use Rattle.hard_disks.specs.Answers.{Answers}
 use Rattle.hard_disks.proofs.Answered.{bad_words_answered, completed}
 use Rattle.hard_disks.proofs.top.top.Goals as goal
 
-pub returns-in-None-clause-answers : goal.returns-in-None-clause-answers
-returns-in-None-clause-answers g c = let K = g.K.Sink in let S = g.S.Source in
+pub returns-in-None-clause-headline : goal.returns-in-None-clause-headline
+returns-in-None-clause-headline g c = let K = g.K.Sink in let S = g.S.Source in
     let none : None ≡ settings_of (map (λ w. w.now) c.args.words.now) = sym c.in-None.is ∙ c.read_words.ensures in
     subst (λ (settings : Option Settings). Answers settings (S.left c.args.source.now) (K.taken c.args.sink.now) (K.taken c.write_text.new.sink) c.write_text.result) none
     (bad_words_answered (S.left c.args.source.now) (K.taken c.args.sink.now) (K.taken c.write_text.new.sink) c.write_text.result
