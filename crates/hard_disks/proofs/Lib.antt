@@ -5,3 +5,4 @@ pub mod Wrote
 pub mod Answered
 pub mod Reported
 pub mod Views
+pub mod Raisable

@@ -1,6 +1,7 @@
 //! Whole outputs, of which the expected ones were worked out by hand, and the parts of the program on
 //! tables.
 
+mod bursts;
 mod cell_runs;
 mod cells;
 mod collisions;
@@ -8,6 +9,7 @@ mod contacts;
 mod failing_ports;
 mod faults;
 mod helpers;
+mod horizons;
 mod impulses;
 mod memory;
 mod motion;
@@ -19,4 +21,5 @@ mod regions;
 mod reports;
 mod scene_texts;
 mod stamps;
+mod strangers;
 mod views;

@@ -176,7 +176,7 @@ fn cell_runs_give_the_report(rt: HostRuntime) -> Result<(), Fail> {
             let (report, actions) = report_of_cells(rt.alloc(), &found, 4)?;
             let collisions = actions.walls.wrapping_add(actions.pairs);
             assert_eq!(rt; (actions.crossings, collisions), counts, "{disks}");
-            let (sink, _) = output(rt.alloc(), PLAIN, text.as_bytes())?;
+            let (sink, _) = output(&rt, rt.alloc(), PLAIN, text.as_bytes())?;
             assert_eq!(rt; report.as_bytes(), sink.bytes(), "{disks}");
         }
     }
@@ -266,7 +266,7 @@ fn cell_runs_of_generated_scenes_give_the_report(rt: HostRuntime) -> Result<(), 
         let text = generated(rt.alloc(), &mut numbers)?;
         if let Some(read) = scene_of(rt.alloc(), text.as_str())? {
             let (report, actions) = report_of_cells(rt.alloc(), &read, 8)?;
-            let (sink, status) = output(rt.alloc(), PLAIN, text.as_bytes())?;
+            let (sink, status) = output(&rt, rt.alloc(), PLAIN, text.as_bytes())?;
             assert_eq!(rt; report.as_bytes(), sink.bytes(), "{text}");
             scenes = scenes.wrapping_add(1);
             crossings = crossings.wrapping_add(actions.crossings);

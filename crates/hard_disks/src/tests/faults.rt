@@ -1,10 +1,12 @@
 //! Calls of the source and the sink that fail.
 
-use super::helpers::{AMPLE_ROOM, MEETING, MEETING_REPORT, PLAIN, comes_to};
+use super::helpers::{AMPLE_ROOM, MEETING, MEETING_REPORT, PLAIN, RUN, comes_to};
 use crate::status::Status;
 use report_ports::{MemorySink, MemorySource};
 use std::alloc::{AllocError, Global};
+use std::sync::Wait;
 use std::test::Fail;
+use std::thread::Threads;
 
 // The number of bytes of the text, which a source in steps of one byte gives call by call.
 const BYTES: u64 = 125;
@@ -17,24 +19,28 @@ fn writes_nothing_where_a_take_fails(rt: HostRuntime) -> Result<(), Fail> {
         } else {
             (Status::Done, MEETING_REPORT)
         };
-        assert!(rt;
-            takes_all_but(rt.alloc(), call, status, written)?,
-            "take {call}"
-        );
+        for words in [PLAIN, RUN] {
+            assert!(rt;
+                takes_all_but(&rt, rt.alloc(), words, call, status, written)?,
+                "take {call}"
+            );
+        }
     }
     Ok(())
 }
 
 // Whether the run of the meeting, of which this take fails, writes so much and ends so.
 fn takes_all_but(
+    rt: &(impl Threads + Wait + Sync),
     alloc: Global,
+    words: &[&str],
     call: u64,
     status: Status,
     written: &str,
 ) -> Result<bool, AllocError> {
     let source = MemorySource::in_steps(alloc, MEETING.as_bytes(), &[call], 1)?;
     let sink = MemorySink::new(alloc, &[], AMPLE_ROOM)?;
-    Ok(comes_to(alloc, PLAIN, source, sink, status, written))
+    Ok(comes_to(rt, alloc, words, source, sink, status, written))
 }
 
 // The first lines of a text.
@@ -69,19 +75,27 @@ const GIVES: &[GiveRow] = &[
 #[test]
 fn writes_the_lines_before_the_give_that_fails(rt: HostRuntime) -> Result<(), Fail> {
     for row in GIVES {
-        assert!(rt; gives_all_before(rt.alloc(), row)?, "room {}", row.1);
+        for words in [PLAIN, RUN] {
+            assert!(rt;
+                gives_all_before(&rt, rt.alloc(), words, row)?,
+                "room {}",
+                row.1
+            );
+        }
     }
     Ok(())
 }
 
 fn gives_all_before(
+    rt: &(impl Threads + Wait + Sync),
     alloc: Global,
+    words: &[&str],
     &(failing, room, status, lines): &GiveRow,
 ) -> Result<bool, AllocError> {
     let source = MemorySource::new(alloc, MEETING.as_bytes(), &[])?;
     let sink = MemorySink::new(alloc, failing, room)?;
     let written = first_lines(alloc, MEETING_REPORT, lines)?;
-    Ok(comes_to(alloc, PLAIN, source, sink, status, written.as_str()))
+    Ok(comes_to(rt, alloc, words, source, sink, status, written.as_str()))
 }
 
 // The words, the text, the calls of the source and of the sink that fail, and the status.
@@ -100,21 +114,24 @@ const UNTOLD: &[UntoldRow] = &[
     (PLAIN, "diameter = 5", &[0], &[0], Status::ReadFault),
     (PLAIN, MEETING, &[0], &[], Status::ReadFault),
     (PLAIN, MEETING, &[1], &[], Status::ReadFault),
+    (RUN, "diameter = 5", &[], &[0], Status::WriteFault),
+    (RUN, MEETING, &[0], &[], Status::ReadFault),
 ];
 
 #[test]
 fn writes_no_line_where_the_first_call_fails(rt: HostRuntime) -> Result<(), Fail> {
     for row in UNTOLD {
-        assert!(rt; is_untold(rt.alloc(), row)?, "{}", row.1);
+        assert!(rt; is_untold(&rt, rt.alloc(), row)?, "{}", row.1);
     }
     Ok(())
 }
 
 fn is_untold(
+    rt: &(impl Threads + Wait + Sync),
     alloc: Global,
     &(words, text, takes, gives, status): &UntoldRow,
 ) -> Result<bool, AllocError> {
     let source = MemorySource::new(alloc, text.as_bytes(), takes)?;
     let sink = MemorySink::new(alloc, gives, AMPLE_ROOM)?;
-    Ok(comes_to(alloc, words, source, sink, status, ""))
+    Ok(comes_to(rt, alloc, words, source, sink, status, ""))
 }

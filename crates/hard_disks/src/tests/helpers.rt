@@ -14,6 +14,12 @@ use report_ports::{MemorySink, MemorySource};
 use scene_reader::read_scene;
 use std::alloc::{AllocError, Global};
 use std::process::Abort;
+use std::sync::Wait;
+use std::thread::Threads;
+
+pub const RUN: &[&str] = &["--mode", "run"];
+
+pub const RUN_SUMMARY: &[&str] = &["--mode", "run", "--format", "summary"];
 
 pub const PLAIN: &[&str] = &["--mode", "plain"];
 
@@ -100,28 +106,31 @@ pub fn view_of(alloc: Global, state: &CellState, region: u32) -> Result<View, Al
 
 /// What the top call writes to memory, where no call fails, and its status.
 pub fn output(
+    rt: &(impl Threads + Wait + Sync),
     alloc: Global,
     words: &[&str],
     text: &[u8],
 ) -> Result<(MemorySink, Status), AllocError> {
     let source = MemorySource::new(alloc, text, &[])?;
     let sink = MemorySink::new(alloc, &[], AMPLE_ROOM)?;
-    Ok(output_between(alloc, words, source, sink))
+    Ok(output_between(rt, alloc, words, source, sink))
 }
 
 /// What the top call writes to a sink, and its status.
 pub fn output_between(
+    rt: &(impl Threads + Wait + Sync),
     alloc: Global,
     words: &[&str],
     mut source: MemorySource,
     mut sink: MemorySink,
 ) -> (MemorySink, Status) {
-    let status = top(alloc, words, &mut source, &mut sink);
+    let status = top(rt, alloc, words, &mut source, &mut sink);
     (sink, status)
 }
 
 /// Whether the top call writes this to a sink, and ends with this status.
 pub fn comes_to(
+    rt: &(impl Threads + Wait + Sync),
     alloc: Global,
     words: &[&str],
     source: MemorySource,
@@ -129,19 +138,20 @@ pub fn comes_to(
     status: Status,
     text: &str,
 ) -> bool {
-    let (sink, found) = output_between(alloc, words, source, sink);
+    let (sink, found) = output_between(rt, alloc, words, source, sink);
     found == status && sink.bytes() == text.as_bytes()
 }
 
 /// The same of a text in memory, where no call fails.
 pub fn answers(
+    rt: &(impl Threads + Wait + Sync),
     alloc: Global,
     words: &[&str],
     text: &str,
     status: Status,
     want: &str,
 ) -> Result<bool, AllocError> {
-    let (sink, found) = output(alloc, words, text.as_bytes())?;
+    let (sink, found) = output(rt, alloc, words, text.as_bytes())?;
     Ok(found == status && sink.bytes() == want.as_bytes())
 }
 

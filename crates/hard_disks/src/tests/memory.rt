@@ -31,7 +31,7 @@ impl Source for EndlessComment {
 #[test]
 fn a_text_without_an_end_is_too_long(rt: HostRuntime) -> Result<(), Fail> {
     let mut sink = MemorySink::new(rt.alloc(), &[], AMPLE_ROOM)?;
-    let status = top(rt.alloc(), PLAIN, &mut EndlessComment, &mut sink);
+    let status = top(&rt, rt.alloc(), PLAIN, &mut EndlessComment, &mut sink);
     assert_eq!(rt; status, Status::SceneRefused);
     assert_eq!(rt; sink.bytes(), "refused 1 too long\n".as_bytes());
     Ok(())
@@ -70,7 +70,7 @@ fn four_hundred_disks_have_room(rt: HostRuntime) -> Result<(), Fail> {
     let text = scene(rt.alloc(), SQUARE, 8, 2, rows.as_str())?;
     for &(words, want) in OUTPUTS {
         assert!(rt;
-            answers(rt.alloc(), words, text.as_str(), Status::Done, want)?,
+            answers(&rt, rt.alloc(), words, text.as_str(), Status::Done, want)?,
             "{want}"
         );
     }

@@ -1,9 +1,11 @@
 //! Words and scenes that are refused.
 
-use super::helpers::{MEETING, PLAIN, SUMMARY, answers};
+use super::helpers::{MEETING, PLAIN, RUN, SUMMARY, answers};
 use crate::status::Status;
 use std::alloc::{AllocError, Global};
+use std::sync::Wait;
 use std::test::Fail;
+use std::thread::Threads;
 
 const DISKS: &str = "disks = [\n  [10, 10, 1, 0],\n  [20, 10, -1, 0],\n]\n";
 
@@ -169,24 +171,27 @@ fn changed(alloc: Global, old: &str, new: &str) -> Result<String, AllocError> {
 #[test]
 fn refuses_each_broken_scene(rt: HostRuntime) -> Result<(), Fail> {
     for row in REFUSALS {
-        assert!(rt; is_refused(rt.alloc(), PLAIN, row)?, "{}", row.2);
+        for words in [PLAIN, RUN] {
+            assert!(rt; is_refused(&rt, rt.alloc(), words, row)?, "{}", row.2);
+        }
     }
     Ok(())
 }
 
 fn is_refused(
+    rt: &(impl Threads + Wait + Sync),
     alloc: Global,
     words: &[&str],
     &(old, new, want): &RefusalRow<'_>,
 ) -> Result<bool, AllocError> {
     let text = changed(alloc, old, new)?;
-    answers(alloc, words, text.as_str(), Status::SceneRefused, want)
+    answers(rt, alloc, words, text.as_str(), Status::SceneRefused, want)
 }
 
 #[test]
 fn tells_the_first_of_two_faults(rt: HostRuntime) -> Result<(), Fail> {
     for row in TWO_FAULTS {
-        assert!(rt; is_refused(rt.alloc(), SUMMARY, row)?, "{}", row.2);
+        assert!(rt; is_refused(&rt, rt.alloc(), SUMMARY, row)?, "{}", row.2);
     }
     Ok(())
 }
@@ -195,7 +200,7 @@ fn tells_the_first_of_two_faults(rt: HostRuntime) -> Result<(), Fail> {
 fn refuses_too_many_disks(rt: HostRuntime) -> Result<(), Fail> {
     let rows = empty_rows(rt.alloc(), 65_537)?;
     let row = (DISKS, rows.as_str(), "refused 7 too many disks 65537\n");
-    assert!(rt; is_refused(rt.alloc(), PLAIN, &row)?);
+    assert!(rt; is_refused(&rt, rt.alloc(), PLAIN, &row)?);
     Ok(())
 }
 
@@ -213,7 +218,6 @@ const NO_SETTINGS: &[&[&str]] = &[
     &[],
     &["--mode"],
     &["--mode", "fast"],
-    &["--mode", "run"],
     &["--format", "lines"],
     &["plain", "--mode"],
     &["--mode", "plain", "--format", "rows"],
@@ -223,7 +227,16 @@ const NO_SETTINGS: &[&[&str]] = &[
 #[test]
 fn refuses_words_without_settings(rt: HostRuntime) -> Result<(), Fail> {
     for words in NO_SETTINGS {
-        assert!(rt; answers(rt.alloc(), words, MEETING, Status::BadWords, "bad words\n")?);
+        assert!(rt;
+            answers(
+                &rt,
+                rt.alloc(),
+                words,
+                MEETING,
+                Status::BadWords,
+                "bad words\n"
+            )?
+        );
     }
     Ok(())
 }

@@ -13,9 +13,9 @@ use std::alloc::{AllocError, Global};
 use std::test::Fail;
 
 // A tick, a round, a kind and two numbers.
-type Key = (u64, u32, Kind, u32, u32);
+pub type Key = (u64, u32, Kind, u32, u32);
 
-fn stamp_of((tick, round, kind, first, second): Key) -> Stamp {
+pub fn stamp_of((tick, round, kind, first, second): Key) -> Stamp {
     Stamp {
         tick,
         round,
@@ -27,12 +27,16 @@ fn stamp_of((tick, round, kind, first, second): Key) -> Stamp {
 
 // What a region did at a stamp.
 #[derive(Clone, Copy, Debug, PartialEq, Eq)]
-enum Did {
+pub enum Did {
     Ran(Key),
     Heard(Key),
     PassedSpeed(Key),
+    Past(Key, Key),
+    Tied(Key),
+    Spent,
     Rewound(Key),
     Later(Key),
+    Apart,
     Other,
 }
 
@@ -51,6 +55,9 @@ fn done_by(step: &Step) -> Did {
         Step::Ran(stamp) => Did::Ran(key_of(stamp)),
         Step::Heard(stamp) => Did::Heard(key_of(stamp)),
         Step::Halted(Limit::Speed(stamp)) => Did::PassedSpeed(key_of(stamp)),
+        Step::Past { due, clock } => Did::Past(key_of(due), key_of(clock)),
+        Step::Tied(stamp) => Did::Tied(key_of(stamp)),
+        Step::Spent => Did::Spent,
         _ => Did::Other,
     }
 }
@@ -59,23 +66,24 @@ fn heard_by(hearing: Option<Hearing>) -> Did {
     match hearing {
         Some(Hearing::Rewound(stamp)) => Did::Rewound(key_of(&stamp)),
         Some(Hearing::Later(stamp)) => Did::Later(key_of(&stamp)),
+        Some(Hearing::Apart) => Did::Apart,
         _ => Did::Other,
     }
 }
 
 // A region by number, and from which other one it hears; without one it makes a step.
-type Call = (usize, Option<usize>, Did);
+pub type Call = (usize, Option<usize>, Did);
 
-const REGIONS: u32 = 4;
+pub const REGIONS: u32 = 4;
 
 const UP: u32 = 3;
 
 const DOWN: u32 = 2;
 
 // Disk 1 goes up and down in region 1, at the border of region 2, and disk 0 comes from region 0.
-const ROLLED_BACK: &str = "[96, 10, 1, 0], [190, 10, 0, 8]";
+pub const ROLLED_BACK: &str = "[96, 10, 1, 0], [190, 10, 0, 8]";
 
-const ROLLBACK: &[Call] = &[
+pub const ROLLBACK: &[Call] = &[
     (1, None, Did::Ran((1, 0, Kind::Wall, 1, UP))),
     (1, None, Did::Ran((3, 0, Kind::Wall, 1, DOWN))),
     (1, None, Did::Ran((5, 0, Kind::Wall, 1, UP))),
@@ -103,10 +111,10 @@ const ROLLBACK: &[Call] = &[
 ];
 
 // Disks 1 and 2 hit each other in region 0, and disk 0 comes towards them from region 1.
-const MISLED: &str = "[120, 6, -8, 1], [84, 9, 8, 1], [90, 9, 0, 1]";
+pub const MISLED: &str = "[120, 6, -8, 1], [84, 9, 8, 1], [90, 9, 0, 1]";
 
 // Region 1 passes the speed limit only until it is told of disk 1.
-const LIMIT_BY_MISTAKE: &[Call] = &[
+pub const LIMIT_BY_MISTAKE: &[Call] = &[
     (1, None, Did::Ran((1, 0, Kind::Cross, 0, 0))),
     (1, None, Did::PassedSpeed((2, 0, Kind::Pair, 0, 1))),
     (0, None, Did::Ran((0, 0, Kind::Pair, 1, 2))),
@@ -169,7 +177,7 @@ fn step(alloc: Global, regions: &mut [Region], number: usize) -> Result<Did, All
 }
 
 // A step, or a hearing.
-fn act(
+pub fn act(
     alloc: Global,
     regions: &mut [Region],
     number: usize,
@@ -181,15 +189,14 @@ fn act(
     }
 }
 
-// The place of the first call of a script that is answered otherwise.
-fn first_wrong(
+/// The place of the first call of a script that is answered otherwise.
+pub fn first_wrong(
     alloc: Global,
-    state: &CellState,
+    regions: &mut [Region],
     calls: &[Call],
 ) -> Result<Option<usize>, AllocError> {
-    let mut regions = opened(alloc, state)?;
     for (i, &(number, from, expected)) in calls.iter().enumerate() {
-        if act(alloc, regions.as_mut_slice(), number, from)? != expected {
+        if act(alloc, regions, number, from)? != expected {
             return Ok(Some(i));
         }
     }
@@ -213,16 +220,17 @@ fn regions_roll_back_and_go_on(rt: HostRuntime) -> Result<(), Fail> {
         let read = state_of(rt.alloc(), text.as_str(), REGIONS)?;
         assert!(rt; read.is_some(), "{disks}");
         if let Some(state) = read {
-            expect_none(&rt, first_wrong(rt.alloc(), &state, calls)?);
+            let mut regions = opened(rt.alloc(), &state)?;
+            expect_none(&rt, first_wrong(rt.alloc(), &mut regions, calls)?);
         }
     }
     Ok(())
 }
 
 // One disk, which goes up and down every other tick.
-const BOUNCING: &str = "[10, 10, 0, 8]";
+pub const BOUNCING: &str = "[10, 10, 0, 8]";
 
-const LONG_END: u32 = 10_000;
+pub const LONG_END: u32 = 10_000;
 
 const MOST_ENTRIES: u32 = 4_096;
 
@@ -268,7 +276,7 @@ fn a_region_holds_with_a_full_log(rt: HostRuntime) -> Result<(), Fail> {
 
 const SCENES: u32 = 10;
 
-const CALLS: u32 = 2_000;
+const CALLS: u32 = 9_000;
 
 // How often all regions of all scenes have to do what.
 const LEAST_RAN: u32 = 500;
@@ -278,7 +286,7 @@ const LEAST_HEARD: u32 = 200;
 const LEAST_REWOUND: u32 = 100;
 
 // Eight disks side by side in a box of ten columns or more.
-fn wide(alloc: Global, numbers: &mut Numbers) -> Result<String, AllocError> {
+pub fn wide(alloc: Global, numbers: &mut Numbers) -> Result<String, AllocError> {
     let width = numbers.next(200, 20);
     let height = numbers.next(20, 21);
     let mut rows = String::new(alloc);

@@ -1,11 +1,14 @@
 //! Runs with their reports.
 
 use super::helpers::{
-    CRADLE, FOUR_IN_A_ROW, LONG, MEETING_REPORT, PAIR, PLAIN, SUMMARY, USUAL, answers, scene,
+    CRADLE, FOUR_IN_A_ROW, LONG, MEETING_REPORT, PAIR, PLAIN, RUN, RUN_SUMMARY, SUMMARY, USUAL,
+    answers, scene,
 };
 use crate::status::Status;
 use std::alloc::{AllocError, Global};
+use std::sync::Wait;
 use std::test::Fail;
+use std::thread::Threads;
 
 const NARROW: &str = "width = 4\nheight = 20\ndiameter = 4\n";
 
@@ -304,32 +307,40 @@ fn without_lists(alloc: Global, report: &str) -> Result<String, AllocError> {
 #[test]
 fn writes_each_report(rt: HostRuntime) -> Result<(), Fail> {
     for row in REPORTS {
-        assert!(rt; is_reported(rt.alloc(), row)?, "{}", row.3);
+        for words in [PLAIN, RUN] {
+            assert!(rt; is_reported(&rt, rt.alloc(), words, row)?, "{}", row.3);
+        }
     }
     Ok(())
 }
 
 fn is_reported(
+    rt: &(impl Threads + Wait + Sync),
     alloc: Global,
+    words: &[&str],
     &(sizes, rounds, end, disks, status, want): &ReportRow,
 ) -> Result<bool, AllocError> {
     let text = scene(alloc, sizes, rounds, end, disks)?;
-    answers(alloc, PLAIN, text.as_str(), status, want)
+    answers(rt, alloc, words, text.as_str(), status, want)
 }
 
 #[test]
 fn a_summary_lists_nothing(rt: HostRuntime) -> Result<(), Fail> {
     for row in REPORTS {
-        assert!(rt; is_summed_up(rt.alloc(), row)?, "{}", row.3);
+        for words in [SUMMARY, RUN_SUMMARY] {
+            assert!(rt; is_summed_up(&rt, rt.alloc(), words, row)?, "{}", row.3);
+        }
     }
     Ok(())
 }
 
 fn is_summed_up(
+    rt: &(impl Threads + Wait + Sync),
     alloc: Global,
+    words: &[&str],
     &(sizes, rounds, end, disks, status, report): &ReportRow,
 ) -> Result<bool, AllocError> {
     let text = scene(alloc, sizes, rounds, end, disks)?;
     let want = without_lists(alloc, report)?;
-    answers(alloc, SUMMARY, text.as_str(), status, want.as_str())
+    answers(rt, alloc, words, text.as_str(), status, want.as_str())
 }

@@ -5,7 +5,9 @@ use super::helpers::{
 };
 use crate::status::Status;
 use std::alloc::{AllocError, Global};
+use std::sync::Wait;
 use std::test::Fail;
+use std::thread::Threads;
 
 const LARGEST_EVERY: &str = "every = 1099511627776\nwidth = 40\nheight = 20\ndiameter = 4\n";
 
@@ -56,14 +58,18 @@ const TEXTS: &[TextRow] = &[
 #[test]
 fn writes_the_canonical_text_or_the_number_of_disks(rt: HostRuntime) -> Result<(), Fail> {
     for row in TEXTS {
-        assert!(rt; is_written(rt.alloc(), row)?, "{}", row.3);
+        assert!(rt; is_written(&rt, rt.alloc(), row)?, "{}", row.3);
     }
     Ok(())
 }
 
-fn is_written(alloc: Global, &(words, sizes, disks, want): &TextRow) -> Result<bool, AllocError> {
+fn is_written(
+    rt: &(impl Threads + Wait + Sync),
+    alloc: Global,
+    &(words, sizes, disks, want): &TextRow,
+) -> Result<bool, AllocError> {
     let text = scene(alloc, sizes, 8, 5, disks)?;
-    answers(alloc, words, text.as_str(), Status::Done, want)
+    answers(rt, alloc, words, text.as_str(), Status::Done, want)
 }
 
 // What stands before the limits of a scene, its end, and its disks.
@@ -79,14 +85,18 @@ const SCENES: &[SceneRow] = &[
 #[test]
 fn reads_a_canonical_text_back_as_the_same_scene(rt: HostRuntime) -> Result<(), Fail> {
     for row in SCENES {
-        assert!(rt; is_read_back(rt.alloc(), row)?, "{}", row.2);
+        assert!(rt; is_read_back(&rt, rt.alloc(), row)?, "{}", row.2);
     }
     Ok(())
 }
 
-fn is_read_back(alloc: Global, &(sizes, end, disks): &SceneRow) -> Result<bool, AllocError> {
+fn is_read_back(
+    rt: &(impl Threads + Wait + Sync),
+    alloc: Global,
+    &(sizes, end, disks): &SceneRow,
+) -> Result<bool, AllocError> {
     let text = scene(alloc, sizes, 8, end, disks)?;
-    let (first, _) = output(alloc, CHECK, text.as_bytes())?;
-    let (second, status) = output(alloc, CHECK, first.bytes())?;
+    let (first, _) = output(rt, alloc, CHECK, text.as_bytes())?;
+    let (second, status) = output(rt, alloc, CHECK, first.bytes())?;
     Ok(status == Status::Done && first.bytes() == second.bytes())
 }
