@@ -9,6 +9,7 @@ pub mod events;
 mod laws;
 pub mod messages;
 pub mod rows;
+mod slots;
 pub mod view;
 
 pub use action::{Action, Placed};

@@ -1,13 +1,16 @@
 //! What a region sees of a state.
 
+use crate::slots::Slots;
 use crate::{Action, Message, Placed, Rows, rows_of};
-use std::collections::BTreeMap;
 use std::marker::Model;
 
 /// Placed disks by number.
+///
+/// Memory is taken for each number up to the greatest one that ever had a row, or for up to twice as many,
+/// and at the opening for those of all disks.
 #[derive(Drop)]
 pub struct View {
-    rows: BTreeMap<u32, Placed>,
+    slots: Slots,
 }
 
 impl Model for View {
@@ -16,12 +19,13 @@ impl Model for View {
     ghost use Rattle.region_view.specs.declared.action.Placed.{Placed};
     ghost use Rattle.region_view.specs.contracts.action.Placed as placed;
     ghost use Rattle.std.specs.Coded.{coded_ℕ};
+    ghost use Rattle.region_view.specs.Slots.{placed_in};
 
     ghost Value = { map.FinMap nat_cmp Placed };
 
     ghost coded = { map.code coded_ℕ placed.the_row.coded };
 
-    ghost view = { λ v. map.from_entries v.rows.entries };
+    ghost view = { λ v. placed_in v.slots };
 }
 
 ghost use Rattle.std.specs.Prelude.{◌≡◌, ◌≢◌, ◌<◌, ◌≤◌, [], ◌∷◌, length, slice_get, option_copied, option_map, IsSome, IsNone, IfOk, OnOk, OnErr};
@@ -39,7 +43,7 @@ impl View {
     pub fn get(&self, disk: u32) -> Option<&Placed>
         ensures { option_copied result ≡ map.get self.now disk }
     {
-        self.rows.get(&disk)
+        self.slots.get(disk)
     }
 
     /// The first disk from number `from` on that has a row: its number and the row. None says that no
@@ -47,8 +51,7 @@ impl View {
     pub fn next_row(&self, from: u32) -> Option<(u32, &Placed)>
         ensures { IsNextRow self.now from (option_map (λ row. (row.0, row.1.now)) result) }
     {
-        let (&disk, row) = self.rows.range(from..).next()?;
-        Some((disk, row))
+        self.slots.next_row(from)
     }
 
     /// A copy.
@@ -58,12 +61,9 @@ impl View {
     pub fn copy(&self, alloc: Global) -> Result<View, AllocError>
         ensures { IfOk result (λ view. view ≡ self.now) }
     {
-        let rows = self
-            .rows
-            .iter()
-            .map(|(disk, row)| (*disk, *row))
-            .collect(alloc)?;
-        Ok(View { rows })
+        Ok(View {
+            slots: self.slots.copy(alloc)?,
+        })
     }
 
     /// Sets these rows, and takes away what stands at the numbers of those that have no disk. Afterwards
@@ -109,12 +109,13 @@ impl View {
         self.swap(&mut rows)
     }
 
-    fn new(alloc: Global) -> View
-        ensures { result ≡ map.empty }
+    // No row, with memory for those of the disks below a number.
+    fn with_capacity(alloc: Global, count: usize) -> Result<View, AllocError>
+        ensures { IfOk result (λ view. view ≡ map.empty) }
     {
-        View {
-            rows: BTreeMap::new(alloc),
-        }
+        Ok(View {
+            slots: Slots::with_capacity(alloc, count)?,
+        })
     }
 
     // Sets the rows of two disks, or none, and answers what stood there.
@@ -169,10 +170,10 @@ impl View {
         ensures unchanged { OnErr result (self.new ≡ self.old) }
         ensures only_new { OnErr result (IsSome row × IsNone (map.get self.old disk)) }
     {
-        match row {
-            Some(placed) => Ok(self.rows.insert(disk, placed)?),
-            None => Ok(self.rows.remove(&disk)),
+        if row.is_some() {
+            self.slots.make_room(disk)?;
         }
+        Ok(self.slots.replace(disk, row))
     }
 
     // Sets the row of a disk that has one, or takes it away.
@@ -180,16 +181,7 @@ impl View {
         requires present { IsSome (map.get self.old disk) }
         ensures { self.new ≡ put self.old disk row }
     {
-        match row {
-            Some(placed) => {
-                if let Some(place) = self.rows.get_mut(&disk) {
-                    *place = placed;
-                }
-            }
-            None => {
-                self.rows.remove(&disk);
-            }
-        }
+        self.slots.replace(disk, row);
     }
 }
 
@@ -208,7 +200,7 @@ pub fn opening(
     requires region { IsRegion grid.now region }
     ensures { IfOk result (λ view. IsViewOf grid.now region (slice_get placed.now) view) }
 {
-    let mut view = View::new(alloc);
+    let mut view = View::with_capacity(alloc, placed.len())?;
     for (i, row) in placed.iter().enumerate() {
         if grid.in_reach(region, row.cell) {
             view.replace(i as u32, Some(*row))?;

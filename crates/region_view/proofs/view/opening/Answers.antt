@@ -7,7 +7,7 @@ use Rattle.region_view.proofs.view.opening.Goals.{then-in_reach+in_ok-replace, e
 pub loop-i-init : goal.loop-i-init
 loop-i-init c =
     subst (IsViewBelow c.args.grid.now c.args.region (slice_get c.args.placed.now) 0)
-    (sym c.new-view.ensures)
+    (sym c.in_ok-view.ensures)
     (none_yet c.args.grid.now c.args.region (slice_get c.args.placed.now))
 
 pub in_reach-requires-clause-second : goal.in_reach-requires-clause-second
