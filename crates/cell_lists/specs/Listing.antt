@@ -4,7 +4,7 @@ use Rattle.std.specs.Coded.{Coded, code_by, coded×, coded_ℕ}
 use Rattle.std.specs.Ordering.{nat_cmp}
 use Rattle.std.specs.FinMap as map
 use Rattle.cell_grid.specs.contracts.grid.Grid as grid_type
-use Rattle.cell_grid.specs.Grid.{GridData, IsAdjacent}
+use Rattle.cell_grid.specs.Grid.{GridData, IsCell, IsAdjacent}
 use Rattle.cell_lists.specs.Firsts.{IsFirstOf}
 
 -- what lists are seen as: their grid, and the cell of each listed disk
@@ -24,6 +24,10 @@ lists_code =
 -- the disk is listed in the cell
 abbrev pub IsListed : ListsData → ℕ → ℕ → Type 0
 IsListed lists cell disk = map.get lists.cells disk ≡ Some cell
+
+-- each listed disk is in a cell of the grid
+abbrev pub AreInGrid : ListsData → Type 0
+AreInGrid lists = (disk cell : ℕ) → IsListed lists cell disk → IsCell lists.grid cell
 
 -- the disk isn't listed
 abbrev pub IsFree : ListsData → ℕ → Type 0

@@ -31,7 +31,7 @@ impl Model for Lists {
 ghost use Rattle.std.specs.Prelude.{◌≡◌, ◌+◌, OnOk, OnErr, IfOk, IfSome};
 ghost use Rattle.std.specs.FinMap as map;
 ghost use Rattle.cell_grid.specs.Grid.{IsCell};
-ghost use Rattle.cell_lists.specs.Listing.{lists_of, IsListed, IsFree, IsFirstIn, with_disk, without_disk};
+ghost use Rattle.cell_lists.specs.Listing.{lists_of, IsListed, IsFree, IsFirstIn, AreInGrid, with_disk, without_disk};
 
 impl Lists {
     /// No disk listed in any cell of the grid.
@@ -75,6 +75,7 @@ impl Lists {
     pub fn cell_of(&self, disk: u32) -> Option<u32>
         ensures value { result ≡ map.get self.now.cells disk }
         ensures cell { IfSome result (IsCell self.now.grid) }
+        ensures kept { AreInGrid self.now }
     {
         self.chains.cell_of(disk)
     }

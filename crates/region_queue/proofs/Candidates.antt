@@ -178,6 +178,17 @@ ListedBelow lists cell from i = IsListed lists cell i × (i < from)
 pub walk_begins : (finder : Finder) (view : ViewData) (disk cell : ℕ) → IsLeastOf (IsNativeWith finder view disk (ListedBelow finder.lists cell 0)) None
 walk_begins finder view disk cell = with_none finder view disk (ListedBelow finder.lists cell 0) (λ i h. let lt = h.1 in absurd (omega arith))
 
+-- up to the first disk from a number on, a disk is below the number or that one
+pub below_or_last : (lists : ListsData) (cell from other i : ℕ) → IsFirstIn lists cell from (Some other) → ListedBelow lists cell (other + 1) i →
+    ListedBelow lists cell from i ⊎ (i ≡ other)
+below_or_last lists cell from other i first h = elim (cases_lt i from) [
+  | inl below ↦ inl (h.0, below)
+  | inr past ↦ inr (last i h.1 (λ lt. first.2 i past lt h.0))
+]
+  where
+    last : (i : ℕ) → i < other + 1 → ¬ (i < other) → i ≡ other
+    last i lt not = grind arith
+
 pub walk_more : (finder : Finder) (view : ViewData) (disk cell from other : ℕ) (a b : Option Stamp) →
     IsFirstIn finder.lists cell from (Some other) → IsLeastOf (IsNativeWith finder view disk (ListedBelow finder.lists cell from)) a →
     IsLeastOf (IsNativePair finder view disk other) b →
@@ -187,17 +198,11 @@ walk_more finder view disk cell from other a b first ha hb =
     (ListedBelow finder.lists cell (other + 1)) a b
     (λ i h. let lt = h.1 in let low : from ≤ other = first.0 in (h.0, omega arith))
     (λ i h. let e : i ≡ other = h.0 in (h.1, omega arith))
-    (λ i h. elim (cases_lt i from) [
-      | inl below ↦ inl (h.0, below)
-      | inr past ↦ inr (last i h.1 (λ lt. first.2 i past lt h.0), h.0)
-    ])
+    (λ i h. elim (below_or_last finder.lists cell from other i first h) [ inl below ↦ inl below | inr same ↦ inr (same, h.0) ])
     ha
     (least_same (IsNativePair finder view disk other) (IsNativeWith finder view disk (λ i. (i ≡ other) × IsListed finder.lists cell i)) b
     (λ s x. (other, (refl, first.1), x))
     (λ s x. subst (λ (i : ℕ). IsNativePair finder view disk i s) x.1.0 x.2) hb)
-  where
-    last : (i : ℕ) → i < other + 1 → ¬ (i < other) → i ≡ other
-    last i lt not = grind arith
 
 pub walk_ends : (finder : Finder) (view : ViewData) (disk cell from : ℕ) (a : Option Stamp) → IsFirstIn finder.lists cell from None →
     IsLeastOf (IsNativeWith finder view disk (ListedBelow finder.lists cell from)) a →

@@ -1,4 +1,5 @@
 mod Again
+mod Beside
 mod Candidates
 mod Covered
 mod Standing

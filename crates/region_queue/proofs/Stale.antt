@@ -1,13 +1,15 @@
 -- Which disks have stale keys.
-use Rattle.std.proofs.Common.{◌≡◌, ◌⊎◌, inl, inr, ℕ, ◌+◌, ◌<◌, List, [], ◌∷◌, ◌++◌, length, get_or, arith, sym, subst, ◌∙◌}
+use Rattle.std.proofs.Common.{◌≡◌, ◌⊎◌, ◌↔◌, inl, inr, ℕ, ◌+◌, ◌<◌, List, [], ◌∷◌, ◌++◌, arith, sym, subst, ◌∙◌}
 use Rattle.std.specs.Prelude.{Some, None, Result, Ok, Err, OnOk}
 use Rattle.std.specs.List.{Contains}
 use Rattle.std.proofs.lemmas.Bool.{cases_lt}
-use Rattle.std.proofs.lemmas.List.{get_or_default}
 use Rattle.std.proofs.lemmas.List.Elements.{Contains-push, Contains-push_cases, Contains-append_left}
 use Rattle.event_tree.specs.Keys.{Key, key_at}
-use Rattle.cell_lists.specs.Firsts.{IsListOf}
-use Rattle.cell_lists.specs.Listing.{ListsData, IsListed, IsNear}
+use Rattle.cell_grid.specs.Grid.{GridData, IsCell, IsAdjacent}
+use Rattle.cell_lists.specs.declared.near.Block.{Block}
+use Rattle.cell_lists.specs.Listing.{ListsData, IsListed, IsNear, AreInGrid}
+use Rattle.cell_lists.specs.Nearby.{IsWithin, IsListedWithin}
+use Rattle.cell_lists.proofs.Blocks.{near_in_block}
 use Rattle.region_view.specs.declared.action.Placed.{Placed}
 use Rattle.region_view.specs.Views.{ViewData, rows_in, IsNextRow}
 use Rattle.region_queue.specs.Naming.{KeyNamesAny}
@@ -17,26 +19,31 @@ pub on_ok : {T E : Type 0} (r : Result T E) (P Q : Type 0) → (P → Q) → OnO
 on_ok (Ok x) P Q f p = f p
 on_ok (Err e) P Q f p = tt
 
--- one more disk, which was added if its key is stale
-pub stale_more : (keys : List Key) (done ids old new : List ℕ) (disk : ℕ) → ((i : ℕ) → Contains old i → Contains new i) →
-    (KeyNamesAny (key_at keys disk) ids → Contains ids disk ⊎ Contains new disk) → IsStaleOf keys done ids old →
-    IsStaleOf keys (done ++ disk ∷ []) ids new
-stale_more keys done ids old new disk kept here before i among names = elim (Contains-push_cases done disk i among) [
+-- of disks of two kinds, where those of the second came last
+pub stale_more : (keys : List Key) (P Q R : ℕ → Type 0) (ids old new : List ℕ) → ((i : ℕ) → Contains old i → Contains new i) →
+    ((i : ℕ) → R i → P i ⊎ Q i) → IsStaleOf keys P ids old → IsStaleOf keys Q ids new → IsStaleOf keys R ids new
+stale_more keys P Q R ids old new kept split before last i is names = elim (split i is) [
   | inl earlier ↦ elim (before i earlier names) [ inl a ↦ inl a | inr b ↦ inr (kept i b) ]
-  | inr same ↦ subst (λ (n : ℕ). Contains ids n ⊎ Contains new n) same
-      (here (subst (λ (n : ℕ). KeyNamesAny (key_at keys n) ids) (sym same) names))
+  | inr here ↦ last i here names
 ]
 
-pub stale_near : (lists : ListsData) (keys : List Key) (id cell : ℕ) (ids near stale : List ℕ) → IsListed lists cell id →
-    IsListOf (IsNear lists cell) near → IsStaleOf keys near ids stale → IsStaleAt lists keys id ids stale
-stale_near lists keys id cell ids near stale listed list is other i there beside names =
-    is i (among (list.all i (subst (λ (n : ℕ). IsNear lists n i) same beside))) names
-  where
-    same : other ≡ cell
-    same = let e : Some other ≡ Some cell = sym there ∙ listed in cc
+pub stale_one : (keys : List Key) (disk : ℕ) (ids stale : List ℕ) →
+    (KeyNamesAny (key_at keys disk) ids → Contains ids disk ⊎ Contains stale disk) → IsStaleOf keys (λ i. i ≡ disk) ids stale
+stale_one keys disk ids stale here i same names =
+    subst (λ (n : ℕ). Contains ids n ⊎ Contains stale n) (sym same) (here (subst (λ (n : ℕ). KeyNamesAny (key_at keys n) ids) same names))
 
-    among : (k : ℕ) × (k < length near) × (get_or near k 0 ≡ i) → Contains near i
-    among a = (a.0, a.1, get_or_default near a.0 i 0 a.1 ∙ a.2)
+pub stale_near : (grid : GridData) (lists : ListsData) (keys : List Key) (id cell : ℕ) (block : Block) (ids stale : List ℕ) →
+    lists.grid ≡ grid → AreInGrid lists → IsListed lists cell id →
+    ((other : ℕ) → IsCell grid other → (IsAdjacent grid cell other ↔ IsWithin grid block other)) →
+    IsStaleOf keys (IsListedWithin lists block) ids stale → IsStaleAt lists keys id ids stale
+stale_near grid lists keys id cell block ids stale same cells listed around is other i there beside names =
+    is i ((near_in_block lists block cell cells here i).1 (subst (λ (n : ℕ). IsNear lists n i) one beside)) names
+  where
+    one : other ≡ cell
+    one = let e : Some other ≡ Some cell = sym there ∙ listed in cc
+
+    here : (c : ℕ) → IsCell lists.grid c → (IsAdjacent lists.grid cell c ↔ IsWithin lists.grid block c)
+    here = subst (λ (g : GridData). (c : ℕ) → IsCell g c → (IsAdjacent g cell c ↔ IsWithin g block c)) (sym same) around
 
 pub stale_all : (lists : ListsData) (keys : List Key) (done ids old new : List ℕ) (id : ℕ) →
     ((other : ℕ) → Contains done other → IsStaleAt lists keys other ids old) → ((i : ℕ) → Contains old i → Contains new i) →

@@ -1,5 +1,5 @@
 -- What is found and kept of one disk.
-use Rattle.std.specs.Prelude.{◌≡◌, ◌≢◌, ◌⊎◌, ℕ, List, Option, option_map}
+use Rattle.std.specs.Prelude.{◌≡◌, ◌≢◌, ◌⊎◌, ◌↔◌, ℕ, Bool, IsTrue, List, Option, Some, option_map}
 use Rattle.std.specs.Ordering.{nat_cmp}
 use Rattle.std.specs.FinMap as map
 use Rattle.std.specs.List.{Contains}
@@ -8,8 +8,10 @@ use Rattle.event_stamps.specs.declared.Stamp.{Stamp}
 use Rattle.event_stamps.specs.declared.Kind.TheVariants.{Pair}
 use Rattle.event_stamps.specs.Least.{IsLeastOf}
 use Rattle.event_tree.specs.Keys.{Key, key_at}
-use Rattle.cell_grid.specs.Grid.{IsGridOf, IsRegion, Owns}
+use Rattle.cell_grid.specs.Grid.{GridData, IsGridOf, IsRegion, IsCell, IsAdjacent, Owns}
+use Rattle.cell_lists.specs.declared.near.Block.{Block}
 use Rattle.cell_lists.specs.Listing.{ListsData, IsListed, IsFree, IsNear}
+use Rattle.cell_lists.specs.Nearby.{IsWithin}
 use Rattle.region_view.specs.declared.action.Placed.{Placed}
 use Rattle.region_view.specs.Events.{IsAlone}
 use Rattle.region_view.specs.Placing.{IsNative, IsValidPlacing}
@@ -71,6 +73,16 @@ IsNativeOf finder view low high s =
 abbrev pub IsNativePair : Finder → ViewData → ℕ → ℕ → Stamp → Type 0
 IsNativePair finder view i j s = IsNativeOf finder view i j s ⊎ IsNativeOf finder view j i s
 
+-- what is known of the other disk while the block around a cell is walked: it is in an adjacent cell, and whether the
+-- region owns that cell
+abbrev pub IsPlacedBeside : Finder → ViewData → ℕ → ℕ → Bool → Type 0
+IsPlacedBeside finder view cell other home = (q : Placed) → rows_in view other ≡ Some q →
+    IsAdjacent finder.grid cell q.cell × (IsTrue home ↔ Owns finder.grid finder.region q.cell)
+
+-- the cells of the block are adjacent to a cell
+abbrev pub IsBlockBeside : GridData → ℕ → Block → Type 0
+IsBlockBeside grid cell block = (other : ℕ) → IsCell grid other → IsWithin grid block other → IsAdjacent grid cell other
+
 -- a native event of a disk with one of some others
 abbrev pub IsNativeWith : Finder → ViewData → ℕ → (ℕ → Type 0) → Stamp → Type 0
 IsNativeWith finder view disk With s = (other : ℕ) × With other × IsNativePair finder view disk other s
@@ -85,9 +97,9 @@ AreRetaken finder view disks old new = (i : ℕ) →
     IsBest finder view i (key_at new i) ⊎ ((key_at new i ≡ key_at old i) × ¬ Contains disks i)
 
 -- ---- which keys have to be taken again
--- of the disks near, those whose keys name one of the ids are among the ids or stale
-abbrev pub IsStaleOf : List Key → List ℕ → List ℕ → List ℕ → Type 0
-IsStaleOf keys near ids stale = (i : ℕ) → Contains near i → KeyNamesAny (key_at keys i) ids →
+-- of such disks, those whose keys name one of the ids are among the ids or stale
+abbrev pub IsStaleOf : List Key → (ℕ → Type 0) → List ℕ → List ℕ → Type 0
+IsStaleOf keys Such ids stale = (i : ℕ) → Such i → KeyNamesAny (key_at keys i) ids →
     Contains ids i ⊎ Contains stale i
 
 -- the same of the disks near where one is listed

@@ -90,7 +90,7 @@ impl Queue {
         ensures stands { OnOk result ((before : ViewData) → StandsFor self.old before →
             IsSameBut ids.now before view.now → StandsFor self.new view.now) }
     {
-        let stale = stale_disks(alloc, &self.finder.lists, &self.keys, ids)?;
+        let stale = stale_disks(alloc, &self.finder, &self.keys, ids)?;
         list_again(alloc, &mut self.finder.lists, view, ids)?;
         take_keys(alloc, &self.finder, &mut self.keys, view, ids)?;
         take_keys(alloc, &self.finder, &mut self.keys, view, &stale)

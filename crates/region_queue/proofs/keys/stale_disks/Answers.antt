@@ -15,12 +15,12 @@ loop-id-preserved c =
     let ids = c.args.ids.now in
     let new = c.add_stale_at.new.stale.items in
     let lt : c.loop-id.id-index < length c.args.ids.now = omega arith in
-    subst (λ (done : List ℕ). (id : ℕ) → Contains done id → IsStaleAt c.args.lists.now c.args.keys.now id ids new)
+    subst (λ (done : List ℕ). (id : ℕ) → Contains done id → IsStaleAt c.args.finder.now.lists c.args.keys.now id ids new)
     (sym (take_more ids c.loop-id.id-index 0 lt))
-    (stale_all c.args.lists.now c.args.keys.now (take c.loop-id.id-index ids) ids c.loop-id.stale.items new
+    (stale_all c.args.finder.now.lists c.args.keys.now (take c.loop-id.id-index ids) ids c.loop-id.stale.items new
     (get_or ids c.loop-id.id-index 0) c.loop-id.invariant c.in_ok-add_stale_at.ensures.kept c.in_ok-add_stale_at.ensures.added)
 
 pub returns : goal.returns
 returns c =
-    subst (λ (done : List ℕ). (id : ℕ) → Contains done id → IsStaleAt c.args.lists.now c.args.keys.now id c.args.ids.now c.loop-id.stale.items)
+    subst (λ (done : List ℕ). (id : ℕ) → Contains done id → IsStaleAt c.args.finder.now.lists c.args.keys.now id c.args.ids.now c.loop-id.stale.items)
     (take_whole c.args.ids.now c.loop-id.id-index (omega arith)) c.loop-id.invariant

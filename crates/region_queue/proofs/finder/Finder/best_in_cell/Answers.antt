@@ -8,10 +8,11 @@ use Rattle.cell_lists.specs.Firsts.{ascent}
 use Rattle.cell_lists.proofs.Firsts.{falls}
 use Rattle.region_queue.specs.Finding.{IsNativeWith}
 use Rattle.region_queue.proofs.Candidates.{ListedBelow, walk_begins, walk_more, walk_ends}
+use Rattle.region_queue.proofs.Beside.{placed_beside}
 use Rattle.region_queue.proofs.finder.Finder.best_in_cell.Goals as goal
 
 pub loop-next-init : goal.loop-next-init
-loop-next-init c = (0, c.first_in-next.ensures, walk_begins c.args.self.now c.args.view.now c.args.disk c.args.cell)
+loop-next-init c = (0, c.in_ok-first.ensures, λ listed. walk_begins c.args.self.now c.args.view.now c.args.disk c.args.cell)
 
 pub next_in-next-requires : goal.next_in-next-requires
 next_in-next-requires c =
@@ -30,15 +31,17 @@ loop-next-preserved c =
     let finder = c.args.self.now in (
       c.in-Some.other + 1,
       c.next_in-next.ensures,
-      subst (λ (o : Option Stamp). IsLeastOf (IsNativeWith finder c.args.view.now c.args.disk (ListedBelow finder.lists c.args.cell (c.in-Some.other + 1))) o)
+      λ listed. subst (λ (o : Option Stamp). IsLeastOf (IsNativeWith finder c.args.view.now c.args.disk (ListedBelow finder.lists c.args.cell (c.in-Some.other + 1))) o)
           (sym c.earlier-best.ensures)
           (walk_more finder c.args.view.now c.args.disk c.args.cell kept.0 c.in-Some.other c.loop-next.best c.pair.result
-          (subst (λ (o : Option ℕ). IsFirstIn finder.lists c.args.cell kept.0 o) c.in-Some.is kept.1) kept.2 c.pair.ensures),
+          (subst (λ (o : Option ℕ). IsFirstIn finder.lists c.args.cell kept.0 o) c.in-Some.is kept.1) (kept.2 listed)
+          (c.pair.ensures (placed_beside finder c.args.view.now c.args.placed.now.cell c.args.cell c.in-Some.other c.owns-home.result listed
+          (subst (λ (o : Option ℕ). IsFirstIn finder.lists c.args.cell kept.0 o) c.in-Some.is kept.1).1 c.requires.beside c.owns-home.ensures))),
     )
 
 pub returns : goal.returns
-returns c =
+returns c = λ listed.
     let kept = c.loop-next.invariant in
     let finder = c.args.self.now in
     walk_ends finder c.args.view.now c.args.disk c.args.cell kept.0 c.loop-next.best
-    (subst (λ (o : Option ℕ). IsFirstIn finder.lists c.args.cell kept.0 o) c.in_default.is kept.1) kept.2
+    (subst (λ (o : Option ℕ). IsFirstIn finder.lists c.args.cell kept.0 o) c.in_default.is kept.1) (kept.2 listed)

@@ -8,16 +8,27 @@ use Rattle.cell_lists.specs.Listing.{IsListed}
 use Rattle.cell_lists.specs.Nearby.{IsListedWithin, columns_to}
 use Rattle.region_queue.specs.Finding.{IsNativeWith}
 use Rattle.region_queue.proofs.Candidates.{with_none, no_column, column_more}
+use Rattle.region_queue.proofs.Beside.{cell_within}
 use Rattle.region_queue.proofs.finder.Finder.best_in_row.Goals as goal
 
 pub loop-column-init : goal.loop-column-init
-loop-column-init c =
+loop-column-init c = λ listed.
     let lists = c.args.self.now.lists in
     with_none c.args.self.now c.args.view.now c.args.disk
     (IsListedWithin lists (columns_to c.args.block c.args.row c.args.block.left)) (no_column lists c.args.block c.args.row)
 
+pub best_in_cell-requires-clause-cell : goal.best_in_cell-requires-clause-cell
+best_in_cell-requires-clause-cell c = rw c.columns.ensures.value
+    (cell_within c.args.self.now.grid c.args.block c.args.placed.now.cell c.args.row c.loop-column.column c.requires.block
+    c.requires.beside c.requires.low c.requires.high c.loop-column.auto.column c.loop-column-test.true).0
+
+pub best_in_cell-requires-clause-beside : goal.best_in_cell-requires-clause-beside
+best_in_cell-requires-clause-beside c = rw c.columns.ensures.value
+    (cell_within c.args.self.now.grid c.args.block c.args.placed.now.cell c.args.row c.loop-column.column c.requires.block
+    c.requires.beside c.requires.low c.requires.high c.loop-column.auto.column c.loop-column-test.true).1
+
 pub loop-column-preserved : goal.loop-column-preserved
-loop-column-preserved c =
+loop-column-preserved c = λ listed.
     let finder = c.args.self.now in
     let Found = IsNativeWith finder c.args.view.now c.args.disk in
     let column = c.loop-column.column in
@@ -27,14 +38,14 @@ loop-column-preserved c =
     subst (λ (o : Option Stamp). IsLeastOf (Found (IsListedWithin finder.lists (columns_to c.args.block c.args.row (column + 1)))) o)
     (sym c.earlier-best.ensures)
     (column_more finder c.args.view.now c.args.disk c.args.block c.args.row column c.loop-column.best c.best_in_cell.result
-    c.loop-column.auto.column (omega arith) c.loop-column.invariant
+    c.loop-column.auto.column (omega arith) (c.loop-column.invariant listed)
     (subst (λ (n : ℕ). IsLeastOf (Found (IsListed finder.lists (c.args.row * n + column))) c.best_in_cell.result)
-    (c.columns.ensures.value ∙ sym same) c.best_in_cell.ensures))
+    (c.columns.ensures.value ∙ sym same) (c.best_in_cell.ensures listed)))
 
 pub returns : goal.returns
-returns c =
+returns c = λ listed.
     let finder = c.args.self.now in
     let whole : c.loop-column.column ≡ c.args.block.right =
     (let most = c.loop-column.auto.column-end c.requires.block.columns in omega arith) in
     subst (λ (n : ℕ). IsLeastOf (IsNativeWith finder c.args.view.now c.args.disk
-    (IsListedWithin finder.lists (columns_to c.args.block c.args.row n))) c.loop-column.best) whole c.loop-column.invariant
+    (IsListedWithin finder.lists (columns_to c.args.block c.args.row n))) c.loop-column.best) whole (c.loop-column.invariant listed)

@@ -1,9 +1,9 @@
 -- The least event with a disk in the rows so far.
 use Rattle.event_stamps.specs.Least.{IsLeastOf}
 use Rattle.cell_lists.specs.Nearby.{IsListedWithin, rows_to}
-use Rattle.region_queue.specs.Finding.{IsNativeWith}
+use Rattle.region_queue.specs.Finding.{IsNativeWith, AreListed}
 use Rattle.region_queue.proofs.finder.Finder.best_within.Given as goal
 
 abbrev pub invariant-loop-row : goal.invariant-loop-row
 invariant-loop-row l =
-    IsLeastOf (IsNativeWith l.self l.view l.disk (IsListedWithin l.self.lists (rows_to l.block l.row))) l.best
+    AreListed l.view l.self.lists.cells → IsLeastOf (IsNativeWith l.self l.view l.disk (IsListedWithin l.self.lists (rows_to l.block l.row))) l.best

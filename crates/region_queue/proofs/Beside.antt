@@ -1,0 +1,84 @@
+-- The pairs of a disk with those in cells beside its own.
+use Rattle.std.proofs.Common.{◌≡◌, ◌↔◌, ℕ, ◌+◌, ◌*◌, ◌<◌, ◌≤◌, Bool, arith, sym, subst, ◌∙◌}
+use Rattle.std.specs.Prelude.{Option, Some, None, IsTrue, MatchOption}
+use Rattle.std.proofs.Math.Nat.{mul-le-mul_right}
+use Rattle.std.proofs.lemmas.Nat.{div-mul-add, mod-mul-add}
+use Rattle.fixed_motion.specs.declared.rules.Rules.{Rules}
+use Rattle.event_stamps.specs.declared.Stamp.{Stamp}
+use Rattle.event_stamps.specs.Least.{IsLeastOf, HasNone, IsOnly}
+use Rattle.event_rules.specs.Events.{IsPairEvent}
+use Rattle.cell_grid.specs.Grid.{GridData, IsCell, IsAdjacent, Owns, column_of, row_of}
+use Rattle.cell_lists.specs.declared.near.Block.{Block}
+use Rattle.cell_lists.specs.Listing.{IsListed}
+use Rattle.cell_lists.specs.Nearby.{IsBlock, IsWithin}
+use Rattle.region_view.specs.declared.action.Placed.{Placed}
+use Rattle.region_view.specs.Events.{IsNear}
+use Rattle.region_view.specs.Views.{ViewData, rows_in}
+use Rattle.region_queue.specs.declared.finder.Finder.{Finder}
+use Rattle.region_queue.specs.Finding.{IsNativePair, IsPlacedBeside, IsBlockBeside, AreListed}
+use Rattle.region_queue.proofs.Candidates.{native_is, pair_low, pair_high, adjacent_back, listed_at}
+
+-- ---- cells
+-- a cell of the block, by its row and column
+pub cell_within : (grid : GridData) (block : Block) (at row column : ℕ) → IsBlock grid block → IsBlockBeside grid at block → block.low ≤ row →
+    row < block.high → block.left ≤ column → column < block.right →
+    IsCell grid (row * grid.columns + column) × IsAdjacent grid at (row * grid.columns + column)
+cell_within grid block at row column is beside low high left right = (cell, beside (row * grid.columns + column) cell within)
+  where
+    inside : column < grid.columns
+    inside = let most = is.most_columns in omega arith
+
+    cell : IsCell grid (row * grid.columns + column)
+    cell =
+        let most : block.high ≤ grid.rows = is.most_rows in
+        let next : row + 1 ≤ grid.rows = omega arith in
+        let rows : (row + 1) * grid.columns ≤ grid.rows * grid.columns = mul-le-mul_right grid.columns next in
+        let within = inside in
+        grind arith
+
+    in_column : column_of grid (row * grid.columns + column) ≡ column
+    in_column = mod-mul-add row grid.columns column inside
+
+    in_row : row_of grid (row * grid.columns + column) ≡ row
+    in_row = div-mul-add row grid.columns column inside
+
+    within : IsWithin grid block (row * grid.columns + column)
+    within = rw (in_column, in_row) ((left, right), (low, high))
+
+-- a disk that is listed in a cell stands in it
+pub placed_beside : (finder : Finder) (view : ViewData) (at cell other : ℕ) (home : Bool) → AreListed view finder.lists.cells →
+    IsListed finder.lists cell other → IsAdjacent finder.grid at cell → (IsTrue home ↔ Owns finder.grid finder.region cell) →
+    IsPlacedBeside finder view at other home
+placed_beside finder view at cell other home listed here beside owned q row =
+    subst (λ (n : ℕ). IsAdjacent finder.grid at n × (IsTrue home ↔ Owns finder.grid finder.region n)) same (beside, owned)
+  where
+    same : cell ≡ q.cell
+    same = let e : Some cell ≡ Some q.cell = sym here ∙ listed_at view finder.lists other q listed row in cc
+
+-- ---- pairs
+-- of disks in adjacent cells
+near_only : (rules : Rules) (grid : GridData) (i j : ℕ) (p q : Placed) (o : Option Stamp) → IsAdjacent grid p.cell q.cell →
+    MatchOption o ((s : Stamp) → IsPairEvent rules i p.disk j q.disk s → ⊥) (IsOnly (IsPairEvent rules i p.disk j q.disk)) →
+    MatchOption o (HasNone (IsNear rules grid i p j q)) (IsOnly (IsNear rules grid i p j q))
+near_only rules grid i j p q None beside h = λ s n. h s n.1
+near_only rules grid i j p q (Some s) beside h = ((beside, h.0), λ t n. h.1 t n.1)
+
+-- where the disk is the lower one
+pub pair_as_lower : (finder : Finder) (view : ViewData) (disk other : ℕ) (p q : Placed) (home : Bool) (o : Option Stamp) → disk < other →
+    rows_in view disk ≡ Some p → rows_in view other ≡ Some q → Owns finder.grid finder.region p.cell →
+    IsPlacedBeside finder view p.cell other home →
+    MatchOption o ((s : Stamp) → IsPairEvent finder.rules disk p.disk other q.disk s → ⊥)
+    (IsOnly (IsPairEvent finder.rules disk p.disk other q.disk)) → IsLeastOf (IsNativePair finder view disk other) o
+pair_as_lower finder view disk other p q home o lt here there owns beside h =
+    pair_low finder view disk other o lt (native_is finder view disk other p q o lt here there owns
+    (near_only finder.rules finder.grid disk other p q o (beside q there).0 h))
+
+-- where the other disk is
+pub pair_as_higher : (finder : Finder) (view : ViewData) (disk other : ℕ) (p q : Placed) (home : Bool) (o : Option Stamp) → other < disk →
+    rows_in view disk ≡ Some p → rows_in view other ≡ Some q → IsTrue home →
+    IsPlacedBeside finder view p.cell other home →
+    MatchOption o ((s : Stamp) → IsPairEvent finder.rules other q.disk disk p.disk s → ⊥)
+    (IsOnly (IsPairEvent finder.rules other q.disk disk p.disk)) → IsLeastOf (IsNativePair finder view disk other) o
+pair_as_higher finder view disk other p q home o lt here there is_home beside h =
+    pair_high finder view disk other o lt (native_is finder view other disk q p o lt there here ((beside q there).1.0 is_home)
+    (near_only finder.rules finder.grid other disk q p o (adjacent_back finder.grid p.cell q.cell (beside q there).0) h))
