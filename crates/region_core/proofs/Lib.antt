@@ -32,3 +32,4 @@ pub mod Sending
 pub mod Raised
 pub mod LetGo
 pub mod Stands
+pub mod Running

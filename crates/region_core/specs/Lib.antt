@@ -15,3 +15,4 @@ pub mod Steps
 pub mod Raising
 pub mod Standing
 pub mod Bursts
+pub mod Running

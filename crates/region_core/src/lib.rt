@@ -9,6 +9,7 @@ pub mod answers;
 mod appending;
 pub mod burst;
 pub mod entry;
+pub mod gate;
 mod hearing;
 pub mod home;
 mod inbox;
@@ -22,6 +23,7 @@ mod rollback;
 pub use answers::{Differs, Hearing, Step};
 pub use burst::Burst;
 pub use entry::{Entry, MAX_ENTRIES};
+pub use gate::{Gate, OpenGate};
 pub use home::Home;
 pub use laws::{
     entries_were_due, hearings_have_one_answer, hearings_keep_right, logs_go_one_way,

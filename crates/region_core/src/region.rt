@@ -2,6 +2,7 @@
 
 mod hearing;
 mod raising;
+mod running;
 mod standing;
 
 use crate::Home;
