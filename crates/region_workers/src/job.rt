@@ -1,0 +1,101 @@
+//! What one worker does in a burst.
+
+ghost use Rattle.std.specs.Prelude.{◌≡◌, ◌<◌};
+
+use crate::meeting::{Attendance, Meeting};
+use cell_grid::Grid;
+use region_core::Gate;
+use region_locks::Locks;
+use std::alloc::{AllocError, Global};
+use std::sync::Wait;
+
+// How many steps a region runs at most before it hears the others. What is run on old news is undone later, so
+// few steps save work; but each slice costs two meetings.
+const SLICE: u32 = 4;
+
+/// The work of one worker: on each region whose number is the worker's own modulo the number of workers.
+#[derive(Drop)]
+pub(crate) struct Job<'a, G: Gate> {
+    pub alloc: Global,
+    pub locks: &'a Locks,
+    pub grid: &'a Grid,
+    pub gate: &'a G,
+    pub meeting: &'a Meeting,
+    pub worker: u32,
+    pub jobs: u32,
+    pub steps: u32,
+    ghost each: { locks.now ≡ grid.now.regions },
+    ghost some_jobs: { 0 < jobs },
+    ghost some_steps: { 0 < steps },
+}
+
+impl<'a, G: Gate> Job<'a, G> {
+    /// Makes so many turns.
+    ///
+    /// # Errors
+    /// Out of memory.
+    pub(crate) fn run<R: Wait>(&self, rt: &R, turns: u32) -> Result<(), AllocError> {
+        let mut attendance = self.meeting.attend();
+        for turn in 0..turns {
+            self.gate.turn(self.worker, turn);
+            self.make_turn(rt, &mut attendance)?;
+        }
+        Ok(())
+    }
+
+    // In slices, after each of which all workers meet, have their regions hear the others, and meet again: while
+    // they hear, no region runs, so nobody waits long for a lock.
+    fn make_turn<R: Wait>(
+        &self,
+        rt: &R,
+        attendance: &mut Attendance<'_>,
+    ) -> Result<(), AllocError> {
+        let mut left = self.steps;
+        while left > 0 {
+            let steps = left.min(SLICE);
+            self.run_each(rt, steps)?;
+            attendance.arrive();
+            self.hear_each(rt)?;
+            attendance.arrive();
+            left -= steps;
+        }
+        Ok(())
+    }
+
+    // Each of the worker's regions runs so many steps.
+    fn run_each<R: Wait>(&self, rt: &R, steps: u32) -> Result<(), AllocError>
+        requires { 0 < steps }
+    {
+        for region in 0..self.locks.count() {
+            if self.is_own(region) {
+                self.locks.turn(rt, self.alloc, region, steps)?;
+            }
+        }
+        Ok(())
+    }
+
+    // Each of the worker's regions hears those that it is linked with.
+    fn hear_each<R: Wait>(&self, rt: &R) -> Result<(), AllocError> {
+        for region in 0..self.locks.count() {
+            if self.is_own(region) {
+                self.hear_all(rt, region)?;
+            }
+        }
+        Ok(())
+    }
+
+    fn hear_all<R: Wait>(&self, rt: &R, region: u32) -> Result<(), AllocError>
+        requires { region < self.now.locks.now }
+    {
+        for other in 0..self.locks.count() {
+            if self.grid.linked(region, other) {
+                self.locks.meet(rt, self.alloc, region, other)?;
+            }
+        }
+        Ok(())
+    }
+
+    fn is_own(&self, region: u32) -> bool {
+        region % self.jobs == self.worker
+    }
+}

@@ -1,0 +1,13 @@
+//! Workers: threads that run the regions side by side between two commits.
+#![tactic(auto)]
+
+pub mod by_call;
+mod job;
+mod meeting;
+pub mod workers;
+
+pub use by_call::ByCall;
+pub use workers::{MAX_WORKERS, Workers};
+
+#[cfg(test)]
+mod tests;
