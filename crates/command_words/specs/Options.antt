@@ -1,0 +1,72 @@
+-- The options that the words may name, as clap's command of them.
+use Rattle.std.specs.Prelude.{◌≡◌, ℕ, true, List, [], ◌∷◌, Some, codes, map}
+use Rattle.std.specs.Borrow.{Bor}
+use Rattle.clap.specs.Simple.{App, new_app, new_rule}
+use Rattle.clap.specs.Walk.{Rule, Text}
+use Rattle.clap.specs.declared.builder.value_parser.ValueParser.TheVariants as value_parser
+
+-- names behind references
+abbrev pub Names : Type 0
+Names = Bor (List (Bor Text))
+
+abbrev pub texts_of : Names → List Text
+texts_of names = map (λ name. name.now) names.now
+
+-- the names of these texts, behind references that point nowhere
+abbrev pub names_of : List Text → Names
+names_of texts = record {
+  ref_ptr = (0, 0);
+  now = map (λ text. record { ref_ptr = (0, 0); now = text }) texts;
+}
+
+-- `--name VALUE`
+abbrev pub named_option : Text → Text → Rule
+named_option name default = record (new_rule name) { long = Some name; defaults = default ∷ [] }
+
+-- where the value is one of some names
+abbrev pub choice_option : Text → Names → Text → Rule
+choice_option name names default =
+    record (named_option name default) { parser = Some (value_parser.Names names) }
+
+-- where the value is a whole number from `least` to `most`
+abbrev pub number_option : Text → ℕ → ℕ → Text → Rule
+number_option name least most default =
+    record (named_option name default) { parser = Some (value_parser.Unsigned least most) }
+
+abbrev pub mode_names : List Text
+mode_names = codes "run" ∷ codes "plain" ∷ codes "check" ∷ codes "load" ∷ []
+
+abbrev pub format_names : List Text
+format_names = codes "lines" ∷ codes "summary" ∷ []
+
+abbrev pub options_of : Names → Names → List Rule
+options_of modes formats =
+    choice_option (codes "mode") modes (codes "run")
+    ∷ choice_option (codes "format") formats (codes "lines")
+    ∷ number_option (codes "regions") 1 64 (codes "4")
+    ∷ number_option (codes "workers") 1 64 (codes "2")
+    ∷ number_option (codes "turns") 1 65536 (codes "16")
+    ∷ number_option (codes "steps") 1 4096 (codes "64")
+    ∷ number_option (codes "number") 0 18446744073709551615 (codes "1")
+    ∷ number_option (codes "disks") 0 65536 (codes "100")
+    ∷ []
+
+-- the command has these options alone: neither `--help` nor `--version`, and no word before them
+abbrev pub command_of : Names → Names → App
+command_of modes formats = record {
+  top = record (new_app (codes "hard_disks")).top {
+    rules = options_of modes formats;
+    no_binary_name = true;
+    disable_help_flag = true;
+    disable_version_flag = true;
+  };
+  subs = [];
+}
+
+abbrev pub command : App
+command = command_of (names_of mode_names) (names_of format_names)
+
+-- the command has these options and names, wherever its references point
+abbrev pub IsCommand : App → Type 0
+IsCommand made = (modes : Names) × (formats : Names) × (made ≡ command_of modes formats)
+    × (texts_of modes ≡ mode_names) × (texts_of formats ≡ format_names)

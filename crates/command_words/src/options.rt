@@ -1,0 +1,79 @@
+//! The options that the words may name.
+
+ghost use Rattle.std.specs.Prelude.{◌≡◌, IfOk, false};
+ghost use Rattle.clap.specs.Words.{app_of, rule_of};
+ghost use Rattle.command_words.specs.Options.{IsCommand, choice_option, format_names, mode_names};
+ghost use Rattle.command_words.specs.Options.{named_option, number_option, texts_of};
+
+use clap::builder::ValueParser;
+use clap::{Arg, Command};
+use std::alloc::{AllocError, Global};
+
+static MODES: [&str; 4] = ["run", "plain", "check", "load"];
+
+static FORMATS: [&str; 2] = ["lines", "summary"];
+
+fn mode_names<'a>() -> &'a [&'a str]
+    ensures { texts_of result ≡ mode_names }
+{
+    MODES.as_slice()
+}
+
+fn format_names<'a>() -> &'a [&'a str]
+    ensures { texts_of result ≡ format_names }
+{
+    FORMATS.as_slice()
+}
+
+/// An option with the value that stands where the words don't name it.
+fn named_option<'a>(alloc: Global, name: &'static str, default: &'static str) -> Arg<'a>
+    ensures rule { rule_of result ≡ named_option name.entry.now default.entry.now }
+    ensures own { result.global ≡ false }
+{
+    Arg::new(alloc, name).long(name).default_value(default)
+}
+
+/// An option whose value is one of `names`.
+fn choice_option<'a>(
+    alloc: Global,
+    name: &'static str,
+    names: &'a [&'a str],
+    default: &'static str,
+) -> Arg<'a>
+    ensures rule { rule_of result ≡ choice_option name.entry.now names.entry default.entry.now }
+    ensures own { result.global ≡ false }
+{
+    named_option(alloc, name, default).value_parser(ValueParser::Names(names))
+}
+
+/// An option whose value is a whole number from `least` to `most`.
+fn number_option<'a>(
+    alloc: Global,
+    name: &'static str,
+    least: u64,
+    most: u64,
+    default: &'static str,
+) -> Arg<'a>
+    ensures rule { rule_of result ≡ number_option name.entry.now least most default.entry.now }
+    ensures own { result.global ≡ false }
+{
+    named_option(alloc, name, default).value_parser(ValueParser::Unsigned(least, most))
+}
+
+/// The command of the options.
+pub(crate) fn command<'a>(alloc: Global) -> Result<Command<'a>, AllocError>
+    ensures { IfOk result (λ made. IsCommand (app_of made)) }
+{
+    Command::new(alloc, "hard_disks")
+        .no_binary_name(true)
+        .disable_help_flag(true)
+        .disable_version_flag(true)
+        .arg(choice_option(alloc, "mode", mode_names(), "run"))?
+        .arg(choice_option(alloc, "format", format_names(), "lines"))?
+        .arg(number_option(alloc, "regions", 1, 64, "4"))?
+        .arg(number_option(alloc, "workers", 1, 64, "2"))?
+        .arg(number_option(alloc, "turns", 1, 65_536, "16"))?
+        .arg(number_option(alloc, "steps", 1, 4_096, "64"))?
+        .arg(number_option(alloc, "number", 0, u64::MAX, "1"))?
+        .arg(number_option(alloc, "disks", 0, 65_536, "100"))
+}

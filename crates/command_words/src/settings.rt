@@ -1,0 +1,53 @@
+//! What the words ask for.
+
+/// What the program does.
+#[derive(Clone, Copy, Debug, PartialEq, Eq)]
+pub enum Mode {
+    /// Runs the scene over regions, and writes the report.
+    Run,
+    /// Runs the scene by the reference engine, and writes the report.
+    Plain,
+    /// Writes the canonical text of the scene.
+    Check,
+    /// Makes a scene in place of reading one, runs it over regions, and writes the report.
+    Load,
+}
+
+/// The form of what is written.
+#[derive(Clone, Copy, Debug, PartialEq, Eq)]
+pub enum OutputFormat {
+    /// A line for each collision, and then the end of the report with all disks.
+    Lines,
+    /// The end of the report without the disks.
+    Summary,
+}
+
+/// What the words ask for; what they don't name has its default.
+#[derive(Clone, Copy, Debug, PartialEq, Eq)]
+pub struct Settings {
+    /// What is done, `--mode`; [`Mode::Run`] by default.
+    pub mode: Mode,
+    /// The form of what is written, `--format`; [`OutputFormat::Lines`] by default.
+    pub format: OutputFormat,
+    /// How many regions are asked for, `--regions`, 1 to 64; 4 by default.
+    pub regions: u32,
+    /// How many workers there are, `--workers`, 1 to 64; 2 by default.
+    pub workers: u32,
+    /// How many turns a worker makes between two commits, `--turns`, 1 to 65,536; 16 by default.
+    pub turns: u32,
+    /// How many steps a region runs in a turn, `--steps`, 1 to 4,096; 64 by default.
+    pub steps: u32,
+    /// The number of the scene that is made, `--number`; 1 by default.
+    pub number: u64,
+    /// How many disks it has, `--disks`, 0 to 65,536; 100 by default.
+    pub disks: u32,
+}
+
+/// Why there are no settings.
+#[derive(Clone, Copy, Debug, PartialEq, Eq)]
+pub enum WordsFault {
+    /// The words have no settings.
+    BadWords,
+    /// Out of memory.
+    NoMemory,
+}
