@@ -1,6 +1,13 @@
-//! The canonical text of a scene.
+//! Scenes as text, and scenes that are made from a number.
 #![tactic(auto)]
 
+pub mod lattice;
+pub mod laws;
 pub mod text;
 
+pub use lattice::make;
+pub use laws::one_scene;
 pub use text::{Text, scene_text};
+
+#[cfg(test)]
+mod tests;
