@@ -1,0 +1,3 @@
+-- The lemmas of the tests.
+mod Views
+mod Raisable

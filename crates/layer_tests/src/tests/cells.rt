@@ -1,0 +1,323 @@
+//! Grids, lists of the disks in cells, and when disks leave their cells: tables worked out by hand, and a
+//! body that tries each tick.
+
+ghost use Rattle.cell_grid.specs.Grid.{IsCell};
+
+use super::helpers::{Numbers, expect_none};
+use cell_grid::Grid;
+use cell_lists::Lists;
+use event_stamps::Stamp;
+use fixed_motion::{Disk, Rules};
+use std::test::Fail;
+
+// A box of 20 columns of 20 units, and of one row.
+const LONG: Rules = Rules {
+    width: 400,
+    height: 20,
+    diameter: 4,
+    speed_limit: 8,
+    round_limit: 8,
+    end: 20,
+};
+
+// A box of 3 columns of 21 units and 2 rows of 22, with 2 and 1 units left over.
+const BLOCK: Rules = Rules {
+    width: 65,
+    height: 45,
+    diameter: 4,
+    speed_limit: 8,
+    round_limit: 8,
+    end: 40,
+};
+
+// A place, a velocity, a base tick and a mark.
+type Record = (i64, i64, i64, i64, u64, u32);
+
+fn disk_of((x, y, vx, vy, base, mark): Record) -> Disk {
+    Disk {
+        x,
+        y,
+        vx,
+        vy,
+        size: 4,
+        base,
+        mark,
+    }
+}
+
+// The stamp at which the disk 7 leaves a cell; an error where the rules, the disk or the cell are not valid.
+fn crossing_of(rules: &Rules, a: &Disk, cell: u32) -> Result<Option<Stamp>, ()> {
+    match rules.check() {
+        Ok(()) => {
+            let grid = Grid::new(rules, 4);
+            if !a.is_valid(rules) || cell >= grid.rows() * grid.columns() {
+                return Err(());
+            }
+            Ok(grid.crossing(rules, 7, a, cell))
+        }
+        Err(_) => Err(()),
+    }
+}
+
+// Rules, a record, a cell, and the tick and round of the crossing.
+type CrossingRow = (Rules, Record, u32, Option<(u64, u32)>);
+
+const CROSSINGS: &[CrossingRow] = &[
+    // x = 100 is in the next column, and the disk is there at tick 4
+    (LONG, (96, 10, 1, 0, 0, 0), 4, Some((4, 0))),
+    (LONG, (100, 10, 1, 0, 4, 0), 5, None),
+    // the same backwards: 99 is in column 4
+    (LONG, (104, 10, -1, 0, 0, 0), 5, Some((5, 0))),
+    // up and down in one row
+    (LONG, (190, 10, 0, 8, 0, 0), 9, None),
+    // due at the end, and one tick before it
+    (Rules { end: 4, ..LONG }, (96, 10, 1, 0, 0, 0), 4, None),
+    (
+        Rules { end: 5, ..LONG },
+        (96, 10, 1, 0, 0, 0),
+        4,
+        Some((4, 0)),
+    ),
+    // at rest, in the cell and in another one, of which it has left the recorded cell at once
+    (LONG, (100, 10, 0, 0, 3, 2), 5, None),
+    (LONG, (100, 10, 0, 0, 3, 2), 4, Some((3, 2))),
+    // into the recorded cell at tick 4, and out of it at tick 24
+    (
+        Rules { end: 40, ..LONG },
+        (96, 10, 1, 0, 0, 0),
+        5,
+        Some((24, 0)),
+    ),
+    // away from the recorded cell, and past it
+    (LONG, (96, 10, -1, 0, 2, 1), 5, Some((2, 1))),
+    // through the recorded cell, and out of it where it is out of the box too
+    (BLOCK, (18, 14, 1, 8, 1, 1), 4, None),
+    // past the row of the recorded cell before it comes to its column
+    (BLOCK, (12, 14, 1, 8, 1, 1), 4, Some((1, 1))),
+    // column and row at one tick
+    (BLOCK, (18, 18, 2, 2, 0, 0), 0, Some((2, 0))),
+    // the last column has what is left over, and ends at the wall: no crossing
+    (BLOCK, (41, 10, 1, 0, 0, 0), 2, None),
+    (BLOCK, (59, 10, -1, 0, 0, 0), 2, Some((18, 0))),
+    // the top row likewise
+    (BLOCK, (10, 21, 0, 1, 0, 0), 3, None),
+];
+
+// Generated disks, in boxes of a few cells; each leaves its box, and so its cell, within so many ticks, or stands still.
+const DISKS: u32 = 2_000;
+
+const LEAST_CROSSINGS: u32 = 1_000;
+
+const TICKS: u64 = 80;
+
+#[test]
+fn finds_what_trying_each_tick_finds(rt: HostRuntime) {
+    let mut numbers = Numbers { state: 1 };
+    let mut crossings: u32 = 0;
+    for number in 0..DISKS {
+        let rules = Rules {
+            width: numbers.next(8, 70),
+            height: numbers.next(8, 70),
+            end: numbers.next(0, 60).unsigned_abs(),
+            ..BLOCK
+        };
+        let place = (numbers.next(2, 70), numbers.next(2, 70));
+        let velocity = (numbers.next(-8, 17), numbers.next(-8, 17));
+        let base = numbers.next(0, 5).unsigned_abs();
+        let disk = disk_of((place.0, place.1, velocity.0, velocity.1, base, 0));
+        for cell in 0..9 {
+            if let Ok(found) = crossing_of(&rules, &disk, cell) {
+                let expected = crossing_by_trying(&rules, &disk, cell);
+                assert!(rt; tick_of(found) == expected, "at disk {number}, cell {cell}");
+                if found.is_some() {
+                    crossings = crossings.wrapping_add(1);
+                }
+            }
+        }
+    }
+    assert!(rt; crossings >= LEAST_CROSSINGS, "only {crossings} crossings");
+}
+
+fn tick_of(found: Option<Stamp>) -> Option<u64> {
+    match found {
+        Some(stamp) => Some(stamp.tick),
+        None => None,
+    }
+}
+
+// The numbers are small, so nothing wraps, and nothing has to be proved of it.
+fn crossing_by_trying(rules: &Rules, disk: &Disk, cell: u32) -> Option<u64> {
+    let mut left = 0;
+    for ticks in 0..TICKS {
+        if cell_after(rules, disk, ticks) == Some(i64::from(cell)) {
+            left = ticks.wrapping_add(1);
+        }
+    }
+    let tick = disk.base.wrapping_add(left);
+    if tick < rules.end && cell_after(rules, disk, left).is_some() && left < TICKS {
+        Some(tick)
+    } else {
+        None
+    }
+}
+
+// The cell of the disk, in boxes whose cells are at least 20 units wide and high; none outside.
+fn cell_after(rules: &Rules, disk: &Disk, ticks: u64) -> Option<i64> {
+    let x = disk
+        .x
+        .wrapping_add(disk.vx.wrapping_mul(ticks.cast_signed()));
+    let y = disk
+        .y
+        .wrapping_add(disk.vy.wrapping_mul(ticks.cast_signed()));
+    if x < 2 || y < 2 || x.wrapping_add(2) > rules.width || y.wrapping_add(2) > rules.height {
+        return None;
+    }
+    let columns = cells_along(rules.width);
+    let column = index_of(x, rules.width, columns);
+    let row = index_of(y, rules.height, cells_along(rules.height));
+    Some(row.wrapping_mul(columns).wrapping_add(column))
+}
+
+fn cells_along(length: i64) -> i64 {
+    if length < 40 {
+        1
+    } else if length < 60 {
+        2
+    } else if length < 80 {
+        3
+    } else {
+        4
+    }
+}
+
+// By adding sides up, where `crossing` divides.
+fn index_of(n: i64, length: i64, count: i64) -> i64 {
+    let mut side: i64 = 0;
+    for tried in 1..=length {
+        if tried.wrapping_mul(count) <= length {
+            side = tried;
+        }
+    }
+    let mut index = 0;
+    for next in 1..count {
+        if next.wrapping_mul(side) <= n {
+            index = next;
+        }
+    }
+    index
+}
+
+#[test]
+fn disks_leave_their_cells(rt: HostRuntime) {
+    expect_none(&rt, CROSSINGS.iter().position(|row| !is_crossing(row)));
+}
+
+fn is_crossing(&(rules, record, cell, expected): &CrossingRow) -> bool {
+    match crossing_of(&rules, &disk_of(record), cell) {
+        Ok(Some(stamp)) => expected == Some((stamp.tick, stamp.round)),
+        Ok(None) => expected.is_none(),
+        Err(()) => false,
+    }
+}
+
+// The cells of a row of 20 columns, the region of 4 that owns each, and those that reach it.
+type StripRow = (u32, u32, &'static [u32]);
+
+const STRIPS: &[StripRow] = &[
+    (0, 0, &[0]),
+    (3, 0, &[0]),
+    (4, 0, &[0, 1]),
+    (5, 1, &[0, 1]),
+    (6, 1, &[1]),
+    (9, 1, &[1, 2]),
+    (10, 2, &[1, 2]),
+    (14, 2, &[2, 3]),
+    (15, 3, &[2, 3]),
+    (19, 3, &[3]),
+];
+
+// Regions by 4, 20 and 64 that are asked for, two of them, and whether these are linked.
+type LinkRow = (u32, u32, u32, bool);
+
+const LINKS: &[LinkRow] = &[
+    (4, 0, 1, true),
+    (4, 1, 0, true),
+    (4, 2, 3, true),
+    (4, 0, 2, false),
+    (4, 3, 1, false),
+    (4, 1, 1, false),
+    // of one column each: 0 reaches the columns 0 and 1, and 2 the columns 1 to 3
+    (20, 0, 2, true),
+    (20, 0, 3, false),
+    (64, 19, 17, true),
+    (64, 19, 16, false),
+];
+
+#[test]
+fn strips_own_and_reach_cells(rt: HostRuntime) {
+    expect_none(&rt, STRIPS.iter().position(|row| !is_strip(row)));
+}
+
+fn is_strip(&(cell, owner, reached): &StripRow) -> bool {
+    match LONG.check() {
+        Ok(()) => {
+            let grid = Grid::new(&LONG, 4);
+            cell < grid.columns() * grid.rows()
+                && grid.owner(cell) == owner
+                && reach_alike(&grid, cell, reached)
+        }
+        Err(_) => false,
+    }
+}
+
+// Whether these regions, and no others, reach the cell.
+fn reach_alike(grid: &Grid, cell: u32, reached: &[u32]) -> bool
+    requires { IsCell grid.now cell }
+{
+    for region in 0..grid.regions() {
+        if grid.in_reach(region, cell) != reached.contains(&region) {
+            return false;
+        }
+    }
+    true
+}
+
+#[test]
+fn links_regions_that_reach_a_cell_in_common(rt: HostRuntime) {
+    expect_none(&rt, LINKS.iter().position(|row| !is_link(row)));
+}
+
+fn is_link(&(asked, a, b, expected): &LinkRow) -> bool {
+    match LONG.check() {
+        Ok(()) => {
+            if asked < 1 || asked > 64 {
+                return false;
+            }
+            let grid = Grid::new(&LONG, asked);
+            a < grid.regions() && b < grid.regions() && grid.linked(a, b) == expected
+        }
+        Err(_) => false,
+    }
+}
+
+#[test]
+fn a_disk_is_listed_and_taken_off(rt: HostRuntime) -> Result<(), Fail> {
+    let rules = Rules {
+        width: 100,
+        height: 50,
+        diameter: 4,
+        speed_limit: 3,
+        round_limit: 8,
+        end: 10,
+    };
+    let grid = Grid::new(&rules, 1);
+    let cell = grid.cell_of(15, 5);
+    let mut lists = Lists::new(rt.alloc(), &grid)?;
+    lists.put(rt.alloc(), 7, cell)?;
+    assert_eq!(rt; lists.first_in(cell), Some(7));
+    let near = lists.near(rt.alloc(), cell)?;
+    assert_eq!(rt; near.as_slice(), [7].as_slice());
+    lists.take(7, cell);
+    assert_eq!(rt; lists.first_in(cell), None);
+    Ok(())
+}
