@@ -1,5 +1,6 @@
 -- What the parts of the program do makes what the program answers.
-use Rattle.std.proofs.Common.{◌≡◌, ◌≢◌, ◌⊎◌, inl, inr, ℕ, List, Option, Some, None, Err, sym, subst, refl, ◌∙◌}
+use Rattle.std.proofs.Common.{◌≡◌, ◌≢◌, ◌⊎◌, inl, inr, ℕ, List, Option, Some, None, Ok, Err, sym, subst, refl, ◌∙◌}
+use Rattle.std.specs.Prelude.{IfSome}
 use Rattle.std.specs.Io.KnownBytes.{Keeps}
 use Rattle.report_ports.specs.Ports.{Rose}
 use Rattle.scene_reader.specs.declared.fault.SceneFault.{SceneFault}
@@ -10,16 +11,17 @@ use Rattle.scene_reader.specs.Laws.{IsSceneOrRefusal}
 use Rattle.scene_reader.proofs.Least.{scene_or_refusal}
 use Rattle.hard_disks.specs.declared.status.Status.{Status}
 use Rattle.hard_disks.specs.declared.status.Status.TheVariants.{Done, BadWords, SceneRefused, SpeedLimit, RoundLimit, ReadFault, WriteFault, NoMemory}
-use Rattle.collision_report.specs.declared.format.Format.{Format}
-use Rattle.hard_disks.specs.declared.words.Mode.{Mode}
-use Rattle.hard_disks.specs.declared.words.Mode.TheVariants.{Run, Plain, Check}
-use Rattle.hard_disks.specs.declared.words.Settings.{Settings}
+use Rattle.fixed_motion.specs.Scene.{SceneData}
+use Rattle.command_words.specs.declared.settings.Mode.{Mode}
+use Rattle.command_words.specs.declared.settings.Mode.TheVariants.{Run, Plain, Check, Load}
+use Rattle.command_words.specs.declared.settings.Settings.{Settings}
+use Rattle.command_words.specs.Ranges.{AreInRange}
 use Rattle.hard_disks.specs.Refusals.{bad_words_line, refusal_line}
-use Rattle.hard_disks.specs.Output.{Reading, IsOutput, OfMode}
-use Rattle.hard_disks.specs.Answers.{Answers, IsReadingOf, Decides, CountsReads, CountsWrites}
+use Rattle.hard_disks.specs.Output.{Reading, IsOutput, OfMode, OfMade, IsReport, Shows, format_of}
+use Rattle.hard_disks.specs.Answers.{Answers, IsReadingOf, Decides, Wrote, CountsReads, CountsWrites}
 use Rattle.hard_disks.specs.Shows.{WritesText}
-use Rattle.hard_disks.proofs.OneOutput.{one_output}
-use Rattle.hard_disks.proofs.Wrote.{wrote_text, wrote_nothing}
+use Rattle.hard_disks.proofs.OneOutput.{one_of_settings}
+use Rattle.hard_disks.proofs.Wrote.{as_wrote, wrote_text, wrote_nothing}
 
 -- a source's bytes say a scene or a refusal
 some_reading : (left : Option (List ℕ)) → (said : Reading) × IsReadingOf left said
@@ -54,34 +56,37 @@ fault_cases (TooFast i) = inr (inr ((λ e. cc), (λ e. cc)))
 fault_cases (Overlap i j) = inr (inr ((λ e. cc), (λ e. cc)))
 
 -- nothing was written, since memory is wanting
-pub out_of_memory : (settings : Option Settings) (left taken taken' : Option (List ℕ)) → Keeps taken taken' → Answers settings left taken taken' NoMemory
-out_of_memory settings left taken taken' h =
+pub out_of_memory : (settings : Option Settings) → IfSome settings AreInRange → (left taken taken' : Option (List ℕ)) → Keeps taken taken' →
+    Answers settings left taken taken' NoMemory
+out_of_memory settings ranges left taken taken' h =
     let said = some_reading left in
-    let one = one_output settings said.0 (reading_sound left said.0 said.1) in
+    let one = one_of_settings settings ranges said.0 (reading_sound left said.0 said.1) in
     (said.0, said.1, wrote_nothing (IsOutput settings said.0) one.0 one.1 taken taken' one.2 h)
 
--- in each mode a refusal's output is its line
-refusal : (mode : Mode) (format : Format) (f : SceneFault) → OfMode mode format (Err f) (refusal_line f) SceneRefused
-refusal Run format f = (refl, refl)
-refusal Plain format f = (refl, refl)
-refusal Check format f = (refl, refl)
+-- in each mode that reads a scene a refusal's output is its line
+refusal : (mode : Mode) → mode ≢ Load → (settings : Settings) (f : SceneFault) → OfMode mode settings (Err f) (refusal_line f) SceneRefused
+refusal Run reads settings f = (refl, refl)
+refusal Plain reads settings f = (refl, refl)
+refusal Check reads settings f = (refl, refl)
+refusal Load reads settings f = absurd (reads refl)
 
 -- a scene was refused, the source failed, or memory is wanting
-pub fault_answered : (settings : Settings) (left left' taken taken' : Option (List ℕ)) (f : SceneFault) (status : Status) → Reads left left' (Err f) →
+pub fault_answered : (settings : Settings) → AreInRange settings → settings.mode ≢ Load →
+    (left left' taken taken' : Option (List ℕ)) (f : SceneFault) (status : Status) → Reads left left' (Err f) →
     (f ≡ SourceFailed → (status ≡ ReadFault) × Keeps taken taken') → (f ≡ ReadNoMemory → (status ≡ NoMemory) × Keeps taken taken') →
     (f ≢ SourceFailed → f ≢ ReadNoMemory → WritesText (refusal_line f) SceneRefused taken taken' status) → Answers (Some settings) left taken taken' status
-fault_answered settings left left' taken taken' f status reads failed wanting line = elim (fault_cases f) [
+fault_answered settings ranges mode left left' taken taken' f status reads failed wanting line = elim (fault_cases f) [
   | inl source ↦
       let said = some_reading left in
       subst (Answers (Some settings) left taken taken') (sym (failed source).0) (said.0, said.1, (failed source).1)
   | inr other ↦ elim other [
     | inl memory ↦ subst (Answers (Some settings) left taken taken') (sym (wanting memory).0)
-        (out_of_memory (Some settings) left taken taken' (wanting memory).1)
+        (out_of_memory (Some settings) ranges left taken taken' (wanting memory).1)
     | inr neither ↦ (
       Err f,
       read_fault_of left left' f neither.0 neither.1 reads,
       wrote_text (IsOutput (Some settings) (Err f)) (refusal_line f) SceneRefused taken taken' status tt
-          (refusal settings.mode settings.format f) (line neither.0 neither.1),
+          (refusal settings.mode mode settings f) (line neither.0 neither.1),
     )
   ]
 ]
@@ -92,25 +97,59 @@ bad_words_answered left taken taken' status h =
     let said = some_reading left in
     (said.0, said.1, wrote_text (IsOutput None said.0) bad_words_line BadWords taken taken' status tt (refl, refl) h)
 
+-- in each mode that reads a scene its output is what the mode shows of it
+of_scene : (mode : Mode) → mode ≢ Load → (settings : Settings) (scene : SceneData) (text : List ℕ) (status : Status) →
+    Shows mode (format_of settings.format) scene text status → OfMode mode settings (Ok scene) text status
+of_scene Run reads settings scene text status h = h
+of_scene Plain reads settings scene text status h = h
+of_scene Check reads settings scene text status h = h
+of_scene Load reads settings scene text status h = absurd (reads refl)
+
+-- the scene was read, and what the mode shows of it was written
+pub scene_answered : (settings : Settings) → settings.mode ≢ Load → (left taken taken' : Option (List ℕ)) (scene : SceneData) (status : Status) →
+    IsReadingOf left (Ok scene) → Wrote (Shows settings.mode (format_of settings.format) scene) taken taken' status →
+    Answers (Some settings) left taken taken' status
+scene_answered settings mode left taken taken' scene status said wrote =
+    (Ok scene, said, as_wrote _ (IsOutput (Some settings) (Ok scene)) (of_scene settings.mode mode settings scene) taken taken' status wrote)
+
+-- a scene was made, and what is shown of it was written
+pub made_answered : (settings : Settings) → settings.mode ≡ Load → (left taken taken' : Option (List ℕ)) (status : Status) →
+    Wrote (OfMade settings.number settings.disks (IsReport (format_of settings.format))) taken taken' status → Answers (Some settings) left taken taken' status
+made_answered settings mode left taken taken' status wrote =
+    let said = some_reading left in
+    (said.0, said.1, subst (λ (m : Mode). Wrote (OfMode m settings said.0) taken taken' status) (sym mode) wrote)
+
+same_reading : (settings : Settings) (left : Option (List ℕ)) (said other : Reading) → IsReadingOf left other → Decides (Some settings) left said →
+    settings.mode ≢ Load → said ≡ other
+same_reading settings None said other is decides reads = absurd (decides reads)
+same_reading settings (Some bytes) said other is decides reads = decides reads ∙ sym is
+
+-- an output for one reading is that for another, where that is the same or none is read
+of_other : (mode : Mode) (settings : Settings) (said other : Reading) → (mode ≢ Load → said ≡ other) → (text : List ℕ) (own : Status) →
+    OfMode mode settings said text own → OfMode mode settings other text own
+of_other Run settings said other same text own h = subst (λ (v : Reading). OfMode Run settings v text own) (same (λ e. cc)) h
+of_other Plain settings said other same text own h = subst (λ (v : Reading). OfMode Plain settings v text own) (same (λ e. cc)) h
+of_other Check settings said other same text own h = subst (λ (v : Reading). OfMode Check settings v text own) (same (λ e. cc)) h
+of_other Load settings said other same text own h = h
+
 -- the outputs of two readings that are decided are one
-own_status : (settings : Option Settings) (left : Option (List ℕ)) (said other : Reading) (text line : List ℕ) (own status : Status) →
+own_status : (settings : Option Settings) → IfSome settings AreInRange → (left : Option (List ℕ)) (said other : Reading) (text line : List ℕ) (own status : Status) →
     IsReadingOf left other → Decides settings left said → IsOutput settings said text own → IsOutput settings other line status → status ≡ own
-own_status None left said other text line own status is decides h k = k.1 ∙ sym h.1
-own_status (Some settings) None said other text line own status is decides h k = absurd decides
-own_status (Some settings) (Some bytes) said other text line own status is decides h k =
-    let one = one_output (Some settings) (says bytes) (scene_or_refusal bytes) in
-    (one.3 line status (subst (λ (v : Reading). IsOutput (Some settings) v line status) is k)).1
-    ∙ sym (one.3 text own (subst (λ (v : Reading). IsOutput (Some settings) v text own) decides h)).1
+own_status None ranges left said other text line own status is decides h k = k.1 ∙ sym h.1
+own_status (Some settings) ranges left said other text line own status is decides h k =
+    let one = one_of_settings (Some settings) ranges other (reading_sound left other is) in
+    let here = of_other settings.mode settings said other (same_reading settings left said other is decides) text own h in
+    (one.3 line status k).1 ∙ sym (one.3 text own here).1
 
 -- where neither count rose, the status is the output's own, or memory is wanting
-pub completed : (settings : Option Settings) (left taken taken' : Option (List ℕ)) (reads reads' writes writes' : ℕ) (status : Status) →
+pub completed : (settings : Option Settings) → IfSome settings AreInRange → (left taken taken' : Option (List ℕ)) (reads reads' writes writes' : ℕ) (status : Status) →
     Answers settings left taken taken' status → CountsReads reads reads' status → CountsWrites writes writes' status →
     (said : Reading) (text : List ℕ) (own : Status) → Decides settings left said → IsOutput settings said text own → ¬ Rose reads reads' → ¬ Rose writes writes' →
     (status ≡ own) ⊎ (status ≡ NoMemory)
-completed settings left taken taken' reads reads' writes writes' status h r w said text own decides of kept still = by_status status h r w
+completed settings ranges left taken taken' reads reads' writes writes' status h r w said text own decides of kept still = by_status status h r w
   where
     as_own : (s : Status) (h : Answers settings left taken taken' s) (line : List ℕ) → IsOutput settings h.0 line s → (s ≡ own) ⊎ (s ≡ NoMemory)
-    as_own s h line k = inl (own_status settings left said h.0 text line own s h.1 decides of k)
+    as_own s h line k = inl (own_status settings ranges left said h.0 text line own s h.1 decides of k)
 
     by_status : (s : Status) → Answers settings left taken taken' s → CountsReads reads reads' s → CountsWrites writes writes' s → (s ≡ own) ⊎ (s ≡ NoMemory)
     by_status Done h r w = as_own Done h h.2.0 h.2.1

@@ -1,4 +1,3 @@
-pub mod Words
 pub mod Refusals
 pub mod Output
 pub mod Answers

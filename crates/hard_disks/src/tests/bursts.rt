@@ -6,21 +6,15 @@ use super::helpers::{
     AMPLE_ROOM, FOUR_IN_A_ROW, LONG, Numbers, PLAIN, SUMMARY, USUAL, generated, output, scene,
     scene_of,
 };
-use super::regions::{
-    BOUNCING, Call, LIMIT_BY_MISTAKE, LONG_END, MISLED, ROLLBACK, ROLLED_BACK, act,
-};
 use crate::engines::Regions;
 use crate::show::write_report;
 use cell_sequence::CellState;
 use collision_report::Format;
-use event_rules::{Change, Deaf, Listener, RunFault};
-use fixed_motion::Scene;
-use region_core::{Burst, Region, Step};
+use region_core::{Burst, Region};
 use report_ports::MemorySink;
-use run_core::{CoreStep, Scripted, simulate};
+use run_core::{CoreStep, Scripted, play};
 use std::alloc::{AllocError, Global};
 use std::sync::Wait;
-use std::sync::atomic::{AtomicU64, Ordering};
 use std::test::Fail;
 use std::thread::Threads;
 
@@ -79,8 +73,8 @@ impl Burst for Reversing {
     }
 }
 
-/// The same region, spent.
-pub fn spent(region: &Region) -> Region {
+// The same region, spent.
+fn spent(region: &Region) -> Region {
     Region::spent(
         region.number(),
         region.rules(),
@@ -181,10 +175,11 @@ impl Hostile {
             }
             2 => self.replace(alloc, regions.get_mut(number))?,
             3..=15 => {
-                act(alloc, regions, number, Some(from))?;
+                let (hearer, from) = (number_of(number), number_of(from));
+                play(alloc, regions, &[CoreStep::Hear { hearer, from }])?;
             }
             _ => {
-                act(alloc, regions, number, None)?;
+                play(alloc, regions, &[CoreStep::Turn(number_of(number))])?;
             }
         }
         Ok(())
@@ -206,6 +201,11 @@ impl Hostile {
         }
         Ok(())
     }
+}
+
+// The number of a place; all places of tests are small.
+fn number_of(place: usize) -> u32 {
+    u32::try_from(place).unwrap_or(u32::MAX)
 }
 
 // How many calls a burst makes.
@@ -293,6 +293,11 @@ fn regions_that_rest_write_the_report(rt: HostRuntime) -> Result<(), Fail> {
     Ok(())
 }
 
+// One disk, which goes up and down every other tick.
+const BOUNCING: &str = "[10, 10, 0, 8]";
+
+const LONG_END: u32 = 10_000;
+
 #[test]
 fn a_long_run_of_one_region_is_summed_up(rt: HostRuntime) -> Result<(), Fail> {
     let text = scene(rt.alloc(), USUAL, 8, LONG_END, BOUNCING)?;
@@ -301,29 +306,45 @@ fn a_long_run_of_one_region_is_summed_up(rt: HostRuntime) -> Result<(), Fail> {
     Ok(())
 }
 
-// The number of a place; all places of scripts are small.
-fn number_of(place: usize) -> u32 {
-    u32::try_from(place).unwrap_or(u32::MAX)
-}
+// The calls of a script: how often each one is made, one after the other.
+type Calls = (u32, CoreStep);
 
-// The calls of a script, as a burst.
-fn script(alloc: Global, calls: &[Call]) -> Result<Scripted, AllocError> {
+fn script(alloc: Global, calls: &[Calls]) -> Result<Scripted, AllocError> {
     let mut steps = Vec::new(alloc);
-    for &(number, from, _) in calls {
-        let hearer = number_of(number);
-        steps.push(match from {
-            None => CoreStep::Turn(hearer),
-            Some(from) => CoreStep::Hear {
-                hearer,
-                from: number_of(from),
-            },
-        })?;
+    for &(times, call) in calls {
+        for _ in 0..times {
+            steps.push(call)?;
+        }
     }
     Scripted::new(alloc, &steps)
 }
 
+// Disk 1 goes up and down in region 1, at the border of region 2, and disk 0 comes from region 0.
+const ROLLED_BACK: &str = "[96, 10, 1, 0], [190, 10, 0, 8]";
+
+// Regions 1 and 2 run to the end before region 0 sends disk 0, and then take back what they did.
+const ROLLBACK: &[Calls] = &[
+    (10, CoreStep::Turn(1)),
+    (1, CoreStep::Hear { hearer: 2, from: 1 }),
+    (10, CoreStep::Turn(2)),
+    (1, CoreStep::Turn(0)),
+    (1, CoreStep::Hear { hearer: 1, from: 0 }),
+    (1, CoreStep::Hear { hearer: 2, from: 1 }),
+];
+
+// Disks 1 and 2 hit each other in region 0, and disk 0 comes towards them from region 1.
+const MISLED: &str = "[120, 6, -8, 1], [84, 9, 8, 1], [90, 9, 0, 1]";
+
+// Region 1 passes the speed limit only until it is told of disk 1.
+const LIMIT_BY_MISTAKE: &[Calls] = &[
+    (2, CoreStep::Turn(1)),
+    (1, CoreStep::Turn(0)),
+    (1, CoreStep::Hear { hearer: 1, from: 0 }),
+    (3, CoreStep::Turn(1)),
+];
+
 // Disks, the end, and what four regions do in the first burst.
-const SCRIPTS: &[(&str, u32, &[Call])] = &[
+const SCRIPTS: &[(&str, u32, &[Calls])] = &[
     (ROLLED_BACK, 20, ROLLBACK),
     (MISLED, 3, LIMIT_BY_MISTAKE),
 ];
@@ -391,154 +412,5 @@ fn hostile_bursts_write_the_report(rt: HostRuntime) -> Result<(), Fail> {
         }
     }
     assert_eq!(rt; found, GENERATED);
-    Ok(())
-}
-
-// Lets the only region step until nothing is due, and counts how often it was called.
-#[derive(Drop)]
-struct Counting {
-    calls: u32,
-}
-
-impl Burst for Counting {
-    ghost ready = { λ _. Unit {0} };
-
-    fn burst<R: Threads + Wait + Sync>(
-        &mut self,
-        _rt: &R,
-        alloc: Global,
-        mut regions: Vec<Region>,
-    ) -> Result<Vec<Region>, AllocError> {
-        self.calls = self.calls.wrapping_add(1);
-        if let Some(region) = regions.first_mut() {
-            for _ in 0..4_096 {
-                if region.step(alloc)? == Step::Idle {
-                    break;
-                }
-            }
-        }
-        Ok(regions)
-    }
-}
-
-// The scene of some disks in a row of 20 columns.
-fn long_scene(alloc: Global, end: u32, disks: &str) -> Result<Option<Scene>, AllocError> {
-    let text = scene(alloc, LONG, 8, end, disks)?;
-    scene_of(alloc, text.as_str())
-}
-
-// Counts in a word that others read how often it was told, and refuses one of the tellings.
-#[derive(Drop)]
-struct Ear<'a> {
-    told: &'a AtomicU64,
-    refuses: Option<u64>,
-    faults: u64,
-}
-
-impl<'a> Ear<'a> {
-    fn new(told: &'a AtomicU64, refuses: Option<u64>) -> Ear<'a> {
-        Ear {
-            told,
-            refuses,
-            faults: 0,
-        }
-    }
-}
-
-impl<'a> Listener for Ear<'a> {
-    ghost use Rattle.std.specs.Prelude.{None};
-
-    ghost Meaning = { Unit {0} };
-
-    ghost after = { λ m _. m };
-
-    ghost torn = { λ _ _ _. Unit {0} };
-
-    ghost meaning = { λ _. None };
-
-    ghost faults = { λ ear. ear.faults };
-
-    fn faults(&self) -> u64 {
-        self.faults
-    }
-
-    fn event(&mut self, _change: &Change) -> Result<(), Deaf> {
-        let before = self.told.fetch_add(1, Ordering::SeqCst);
-        if self.refuses == Some(before) {
-            self.faults = self.faults.saturating_add(1);
-            return Err(Deaf);
-        }
-        Ok(())
-    }
-}
-
-// Reads that word, and counts how often it was called.
-#[derive(Drop)]
-struct Reading<'a> {
-    told: &'a AtomicU64,
-    last: u64,
-    calls: u32,
-}
-
-impl<'a> Burst for Reading<'a> {
-    ghost ready = { λ _. Unit {0} };
-
-    fn burst<R: Threads + Wait + Sync>(
-        &mut self,
-        _rt: &R,
-        _alloc: Global,
-        regions: Vec<Region>,
-    ) -> Result<Vec<Region>, AllocError> {
-        self.last = self.told.load(Ordering::SeqCst);
-        self.calls = self.calls.wrapping_add(1);
-        Ok(regions)
-    }
-}
-
-// What a run comes to where the ear refuses a telling: whether it was cut short, how often the burst was
-// called, and how much had been told at the last call.
-fn listened(
-    rt: &(impl Threads + Wait + Sync),
-    alloc: Global,
-    scene: &Scene,
-    refuses: Option<u64>,
-) -> (bool, u32, u64) {
-    let told = AtomicU64::new(0);
-    let mut ear = Ear::new(&told, refuses);
-    let mut burst = Reading {
-        told: &told,
-        last: 0,
-        calls: 0,
-    };
-    let answer = simulate(rt, alloc, scene, 4, &mut burst, &mut ear);
-    let cut_short = matches!(&answer, Err(RunFault::Listener));
-    (cut_short, burst.calls, burst.last)
-}
-
-#[test]
-fn each_batch_is_told_before_the_next_burst(rt: HostRuntime) -> Result<(), Fail> {
-    let read = long_scene(rt.alloc(), 20, ROLLED_BACK)?;
-    assert!(rt; read.is_some());
-    if let Some(scene) = read {
-        let (cut_short, calls, last) = listened(&rt, rt.alloc(), &scene, None);
-        assert!(rt; !cut_short && last > 0);
-        let (cut_short, fewer, _) = listened(&rt, rt.alloc(), &scene, Some(1));
-        assert!(rt; cut_short && fewer < calls);
-    }
-    Ok(())
-}
-
-#[test]
-fn what_a_burst_did_is_taken_over(rt: HostRuntime) -> Result<(), Fail> {
-    let read = long_scene(rt.alloc(), 40, FOUR_IN_A_ROW)?;
-    assert!(rt; read.is_some());
-    if let Some(scene) = read {
-        let told = AtomicU64::new(0);
-        let mut ear = Ear::new(&told, None);
-        let mut burst = Counting { calls: 0 };
-        let done = simulate(&rt, rt.alloc(), &scene, 1, &mut burst, &mut ear).is_ok();
-        assert!(rt; done && burst.calls <= 2);
-        assert_eq!(rt; told.load(Ordering::SeqCst), 4);
-    }
     Ok(())
 }

@@ -108,8 +108,8 @@ type UntoldRow = (
 );
 
 const UNTOLD: &[UntoldRow] = &[
-    (&[], MEETING, &[], &[0], Status::WriteFault),
-    (&[], MEETING, &[0], &[0], Status::WriteFault),
+    (&["extra"], MEETING, &[], &[0], Status::WriteFault),
+    (&["extra"], MEETING, &[0], &[0], Status::WriteFault),
     (PLAIN, "diameter = 5", &[], &[0], Status::WriteFault),
     (PLAIN, "diameter = 5", &[0], &[0], Status::ReadFault),
     (PLAIN, MEETING, &[0], &[], Status::ReadFault),

@@ -1,19 +1,14 @@
 //! Words, scenes and calls that several tests share.
 
-ghost use Rattle.std.specs.Prelude.{◌<◌, IfOk};
-ghost use Rattle.cell_grid.specs.Grid.{IsRegion};
-ghost use Rattle.region_view.specs.Placing.{IsValidPlacing};
-ghost use Rattle.region_view.specs.Views.{rows_in};
+ghost use Rattle.std.specs.Prelude.{◌<◌};
 
 use crate::status::Status;
 use crate::top::top;
-use cell_sequence::CellState;
 use fixed_motion::Scene;
-use region_view::{View, opening};
+use region_core::{Gate, OpenGate};
 use report_ports::{MemorySink, MemorySource};
 use scene_reader::read_scene;
 use std::alloc::{AllocError, Global};
-use std::process::Abort;
 use std::sync::Wait;
 use std::thread::Threads;
 
@@ -62,14 +57,20 @@ pub const CRADLE: &str = "[10, 10, 2, 0], [15, 10, 0, 0], [20, 10, 0, 0]";
 
 pub const FOUR_IN_A_ROW: &str = "[80, 10, 8, 0], [120, 10, 0, 0], [240, 10, 0, 0], [340, 10, 0, 0]";
 
-/// A box of 20 columns, with the disks that go up and down and to the right.
-pub const SLOW_CROSSING: &str = "width = 400\n\
-    height = 20\n\
-    diameter = 4\n\
-    speed_limit = 8\n\
-    round_limit = 8\n\
-    end = 20\n\
-    disks = [[96, 10, 1, 0], [190, 10, 0, 8]]\n";
+/// What they do in a long box up to tick 40.
+pub const FOUR_IN_A_ROW_REPORT: &str = "4 0 pair 0 1 0 0 8 0\n\
+    18 0 pair 1 2 0 0 8 0\n\
+    30 0 pair 2 3 0 0 8 0\n\
+    37 0 wall 3 1 -8 0\n\
+    done 40\n\
+    walls 1\n\
+    pairs 3\n\
+    momentum -8 0\n\
+    energy 64 64\n\
+    disk 0 112 10 0 0\n\
+    disk 1 232 10 0 0\n\
+    disk 2 336 10 0 0\n\
+    disk 3 372 10 -8 0\n";
 
 /// More bytes than each report of a test has.
 pub const AMPLE_ROOM: usize = 65_536;
@@ -96,14 +97,6 @@ pub fn scene_of(alloc: Global, text: &str) -> Result<Option<Scene>, AllocError> 
     }
 }
 
-/// What a region sees of a state.
-pub fn view_of(alloc: Global, state: &CellState, region: u32) -> Result<View, AllocError>
-    requires { IsRegion state.now.grid region }
-    ensures { IfOk result (λ view. IsValidPlacing state.now.rules state.now.grid (rows_in view)) }
-{
-    opening(alloc, state.placed(), state.grid(), region)
-}
-
 /// What the top call writes to memory, where no call fails, and its status.
 pub fn output(
     rt: &(impl Threads + Wait + Sync),
@@ -121,10 +114,22 @@ pub fn output_between(
     rt: &(impl Threads + Wait + Sync),
     alloc: Global,
     words: &[&str],
+    source: MemorySource,
+    sink: MemorySink,
+) -> (MemorySink, Status) {
+    output_through(rt, alloc, words, source, sink, &OpenGate)
+}
+
+/// The same through a gate.
+pub fn output_through<G: Gate>(
+    rt: &(impl Threads + Wait + Sync),
+    alloc: Global,
+    words: &[&str],
     mut source: MemorySource,
     mut sink: MemorySink,
+    gate: &G,
 ) -> (MemorySink, Status) {
-    let status = top(rt, alloc, words, &mut source, &mut sink);
+    let status = top(rt, alloc, words, &mut source, &mut sink, gate);
     (sink, status)
 }
 
@@ -153,11 +158,6 @@ pub fn answers(
 ) -> Result<bool, AllocError> {
     let (sink, found) = output(rt, alloc, words, text.as_bytes())?;
     Ok(found == status && sink.bytes() == want.as_bytes())
-}
-
-/// Stops a test at the first row of its table that is wrong, if there is one.
-pub fn expect_none(rt: &impl Abort, wrong_row: Option<usize>) {
-    assert_eq!(rt; wrong_row, None);
 }
 
 /// A linear congruential generator, of which the high bits are good enough for test data.

@@ -3,6 +3,7 @@
 use super::helpers::{AMPLE_ROOM, COUNT, PLAIN, SUMMARY, answers, scene};
 use crate::status::Status;
 use crate::top::top;
+use region_core::OpenGate;
 use report_ports::{MemorySink, Source, Taken};
 use std::alloc::{AllocError, Global};
 use std::test::Fail;
@@ -31,7 +32,14 @@ impl Source for EndlessComment {
 #[test]
 fn a_text_without_an_end_is_too_long(rt: HostRuntime) -> Result<(), Fail> {
     let mut sink = MemorySink::new(rt.alloc(), &[], AMPLE_ROOM)?;
-    let status = top(&rt, rt.alloc(), PLAIN, &mut EndlessComment, &mut sink);
+    let status = top(
+        &rt,
+        rt.alloc(),
+        PLAIN,
+        &mut EndlessComment,
+        &mut sink,
+        &OpenGate,
+    );
     assert_eq!(rt; status, Status::SceneRefused);
     assert_eq!(rt; sink.bytes(), "refused 1 too long\n".as_bytes());
     Ok(())

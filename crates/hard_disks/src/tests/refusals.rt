@@ -214,14 +214,19 @@ fn empty_rows(alloc: Global, count: u32) -> Result<String, AllocError> {
     Ok(rows)
 }
 
+// An unknown option, a stray word, no value, values that the table of options doesn't have, an option twice.
 const NO_SETTINGS: &[&[&str]] = &[
-    &[],
+    &["--help"],
+    &["--speed", "3"],
+    &["extra"],
+    &["--mode", "plain", "extra"],
     &["--mode"],
     &["--mode", "fast"],
-    &["--format", "lines"],
-    &["plain", "--mode"],
-    &["--mode", "plain", "--format", "rows"],
-    &["--mode", "plain", "extra"],
+    &["--format", "rows"],
+    &["--regions", "0"],
+    &["--regions", "65"],
+    &["--workers", "65"],
+    &["--mode", "plain", "--mode", "plain"],
 ];
 
 #[test]
@@ -237,6 +242,30 @@ fn refuses_words_without_settings(rt: HostRuntime) -> Result<(), Fail> {
                 "bad words\n"
             )?
         );
+    }
+    Ok(())
+}
+
+// Orders and forms of the same words.
+const SAME_WORDS: &[&[&str]] = &[
+    &["--mode", "check", "--format", "summary"],
+    &["--format", "summary", "--mode", "check"],
+    &["--mode=check", "--format=summary"],
+    &[
+        "--regions",
+        "9",
+        "--mode=check",
+        "--disks",
+        "0",
+        "--format",
+        "summary",
+    ],
+];
+
+#[test]
+fn words_stand_in_any_order(rt: HostRuntime) -> Result<(), Fail> {
+    for words in SAME_WORDS {
+        assert!(rt; answers(&rt, rt.alloc(), words, MEETING, Status::Done, "scene 2\n")?);
     }
     Ok(())
 }

@@ -1,8 +1,8 @@
 //! Runs with their reports.
 
 use super::helpers::{
-    CRADLE, FOUR_IN_A_ROW, LONG, MEETING_REPORT, PAIR, PLAIN, RUN, RUN_SUMMARY, SUMMARY, USUAL,
-    answers, scene,
+    CRADLE, FOUR_IN_A_ROW, FOUR_IN_A_ROW_REPORT, LONG, MEETING_REPORT, PAIR, PLAIN, RUN,
+    RUN_SUMMARY, SUMMARY, USUAL, answers, scene,
 };
 use crate::status::Status;
 use std::alloc::{AllocError, Global};
@@ -176,19 +176,7 @@ const REPORTS: &[ReportRow] = &[
         40,
         FOUR_IN_A_ROW,
         Status::Done,
-        "4 0 pair 0 1 0 0 8 0\n\
-        18 0 pair 1 2 0 0 8 0\n\
-        30 0 pair 2 3 0 0 8 0\n\
-        37 0 wall 3 1 -8 0\n\
-        done 40\n\
-        walls 1\n\
-        pairs 3\n\
-        momentum -8 0\n\
-        energy 64 64\n\
-        disk 0 112 10 0 0\n\
-        disk 1 232 10 0 0\n\
-        disk 2 336 10 0 0\n\
-        disk 3 372 10 -8 0\n",
+        FOUR_IN_A_ROW_REPORT,
     ),
     (
         NARROW,

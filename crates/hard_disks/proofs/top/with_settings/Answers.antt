@@ -1,7 +1,7 @@
-use Rattle.hard_disks.proofs.Answered.{fault_answered}
+use Rattle.hard_disks.proofs.Answered.{made_answered}
 use Rattle.hard_disks.proofs.top.with_settings.Goals as goal
 
-pub returns-in-Err-clause-answers : goal.returns-in-Err-clause-answers
-returns-in-Err-clause-answers g c = let K = g.K.Sink in let S = g.S.Source in
-    fault_answered c.args.settings (S.left c.args.source.now) (S.left c.read_scene.new.source) (K.taken c.args.sink.now) (K.taken c.refuse.new.sink)
-    c.in-Err.fault c.refuse.result c.in-Err.ensures.reads c.refuse.ensures.read_fault c.refuse.ensures.no_memory c.refuse.ensures.line
+pub returns-in-Load-clause-answers : goal.returns-in-Load-clause-answers
+returns-in-Load-clause-answers g c = let K = g.K.Sink in let S = g.S.Source in
+    made_answered c.args.settings.now c.in-Load.is (S.left c.args.source.now) (K.taken c.args.sink.now) (K.taken c.show_made.new.sink)
+    c.show_made.result c.show_made.ensures.wrote
