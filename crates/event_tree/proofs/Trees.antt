@@ -1,5 +1,5 @@
 -- The root of a tree has the least key of its leaves.
-use Rattle.std.proofs.Common.{◌≡◌, ◌≢◌, ◌⊎◌, ℕ, zero, suc, ◌+◌, ◌-◌, ◌*◌, ◌/◌, ◌^◌, ◌<◌, ◌≤◌, List, length, drop, set, arith, refl, sym, subst, ◌∙◌, inl, inr}
+use Rattle.std.proofs.Common.{◌≡◌, ◌≢◌, ◌⊎◌, ℕ, zero, suc, ◌+◌, ◌-◌, ◌*◌, ◌/◌, ◌^◌, ◌<◌, ◌≤◌, List, length, drop, set, arith, refl, sym, ap, subst, ◌∙◌, inl, inr}
 use Rattle.std.specs.Prelude.{Some, None, if◌then◌else◌}
 use Rattle.std.specs.Ordering.{is_lt}
 use Rattle.std.specs.declared.cmp.Ordering.{Ordering}
@@ -131,6 +131,38 @@ root_is_least count nodes some tree = record {
         IsNotAfter (key_at nodes 1) (key_at nodes (count + i))
     least i (inl lt) = root_first count nodes (count + count) (count + i) tree (omega arith) (omega arith) lt
     least i (inr ge) = let n = tree.len in rw (get_or_past nodes (count + i) None (omega arith)) tt
+
+-- ---- two children, in either order
+same_key : (a b : Key) → IsNotAfter a b → IsNotAfter b a → a ≡ b
+same_key None None h k = refl
+same_key None (Some t) h k = absurd h
+same_key (Some s) None h k = absurd k
+same_key (Some s) (Some t) h k = ap (λ (v : Stamp). Some v) (same_stamp s t k h)
+
+earlier_either : (a b : Key) → earlier_of a b ≡ earlier_of b a
+earlier_either a b = same_key (earlier_of a b) (earlier_of b a) (not_after_one a b (lesser b a).one)
+    (not_after_one b a (lesser a b).one)
+  where
+    not_after_one : {key : Key} → (x y : Key) → (key ≡ y) ⊎ (key ≡ x) → IsNotAfter (earlier_of x y) key
+    not_after_one x y (inl e) = subst (λ (k : Key). IsNotAfter (earlier_of x y) k) (sym e) (lesser x y).second
+    not_after_one x y (inr e) = subst (λ (k : Key). IsNotAfter (earlier_of x y) k) (sym e) (lesser x y).first
+
+-- the keys of a child and of the other child of the same node
+pub earlier_of_siblings : (nodes : List Key) (child sibling : ℕ) (key other : Key) → key ≡ key_at nodes child →
+    other ≡ key_at nodes sibling → child + sibling ≡ 4 * (child / 2) + 1 →
+    earlier_of key other ≡ earlier_of (key_at nodes (2 * (child / 2))) (key_at nodes (2 * (child / 2) + 1))
+earlier_of_siblings nodes child sibling key other e f sum = elim (parent child) [
+  | inl first ↦ same key other (e ∙ at child (2 * (child / 2)) first)
+      (f ∙ at sibling (2 * (child / 2) + 1) (omega arith))
+  | inr second ↦ earlier_either key other
+      ∙ same other key (f ∙ at sibling (2 * (child / 2)) (omega arith)) (e ∙ at child (2 * (child / 2) + 1) second)
+]
+  where
+    at : (k n : ℕ) → k ≡ n → key_at nodes k ≡ key_at nodes n
+    at k n e = ap (λ (i : ℕ). key_at nodes i) e
+
+    same : {c d : Key} → (a b : Key) → a ≡ c → b ≡ d → earlier_of a b ≡ earlier_of c d
+    same a b e f = cc
 
 -- ---- playing again
 same_or_not : (k n : ℕ) → (k ≡ n) ⊎ (k ≢ n)

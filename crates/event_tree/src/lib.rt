@@ -1,11 +1,14 @@
 //! The least of many keys, one for each disk, kept while single keys change.
 //!
-//! The keys are the leaves of a tournament tree (Knuth, The Art of Computer Programming 3, 5.4.1): each inner
-//! node has the lesser of its two children's keys, and after a change of one key only the nodes above it are
-//! played again.
+//! The keys are the leaves of a tournament tree (Knuth, The Art of Computer Programming 3, 5.4.1):
+//! each inner node has the lesser of its two children's keys, and after a change of one key only the
+//! nodes above it are played again.
 #![tactic(auto)]
 
-use event_stamps::{Stamp, earlier};
+pub mod packed;
+
+use event_stamps::Stamp;
+pub use packed::Packed;
 use std::alloc::{AllocError, Global};
 use std::marker::Model;
 
@@ -14,11 +17,13 @@ const MOST_ROOM: usize = 1 << 32;
 
 /// One key for each disk: a stamp, or none.
 ///
-/// Memory is taken for as many disks as the greatest number that ever had a key, or for up to twice as many.
+/// Memory is taken for as many disks as the greatest number that ever had a key, or for up to twice
+/// as many: 32 bytes a disk, for two nodes of 16 bytes.
 #[derive(Drop)]
 pub struct EventTree {
-    // The key of disk i is at count + i, and at each k below count, but 0, the lesser of those at 2 k and 2 k + 1.
-    nodes: Vec<Option<Stamp>>,
+    // The key of disk i is at count + i, and at each k below count, but 0, the lesser of those at
+    // 2 k and 2 k + 1.
+    nodes: Vec<Packed>,
     // For how many disks there is room.
     count: usize,
 }
@@ -34,8 +39,10 @@ impl Model for EventTree {
     ghost invariant = { λ a. IsTree a.count a.nodes.items };
 }
 
-ghost use Rattle.std.specs.Prelude.{◌≡◌, ◌+◌, ◌<◌, ◌≤◌, ◌^◌, ℕ, [], length, slice_set, drop, IfOk, OnOk, OnErr};
+ghost use Rattle.std.specs.Prelude.{◌≡◌, ◌+◌, ◌*◌, ◌/◌, ◌<◌, ◌≤◌, ◌^◌, ℕ, [], length};
+ghost use Rattle.std.specs.Prelude.{slice_set, drop, IfSome, IfOk, OnOk, OnErr};
 ghost use Rattle.event_tree.specs.Keys.{IsLeastKey, IsTree, IsTreeBut, IsWider, IsSetAt, key_at};
+ghost use Rattle.event_tree.specs.Packing.{HasRoom};
 
 impl EventTree {
     /// No key of any disk. No memory is taken.
@@ -50,9 +57,14 @@ impl EventTree {
 
     /// The least of the keys; none where there is no key.
     pub fn least(&self) -> Option<Stamp>
-        ensures { IsLeastKey self.now result }
+        ensures least { IsLeastKey self.now result }
+        ensures room { IfSome result HasRoom }
     {
-        if self.count == 0 { None } else { self.nodes[1] }
+        if self.count == 0 {
+            None
+        } else {
+            self.nodes[1].key()
+        }
     }
 
     /// The key of a disk; none where none was set.
@@ -61,7 +73,7 @@ impl EventTree {
     {
         let disk = disk as usize;
         if disk < self.count {
-            self.nodes[self.count + disk]
+            self.nodes[self.count + disk].key()
         } else {
             None
         }
@@ -70,15 +82,15 @@ impl EventTree {
     /// Sets the key of a disk.
     ///
     /// # Errors
-    /// Out of memory: the number is greater than all that ever had a key, and there is no room for it. The keys
-    /// stay as they are.
-    pub fn set(&mut self, alloc: Global, disk: u32, key: Option<Stamp>) -> Result<(), AllocError>
+    /// Out of memory: the number is greater than all that ever had a key, and there is no room for
+    /// it. The keys stay as they are.
+    pub fn set(&mut self, alloc: Global, disk: u32, key: Packed) -> Result<(), AllocError>
         ensures set { OnOk result (IsSetAt disk key self.old self.new) }
         ensures unchanged { OnErr result (self.new ≡ self.old) }
     {
         let disk = disk as usize;
         if disk >= self.count {
-            if key.is_none() {
+            if key.key().is_none() {
                 return Ok(());
             }
             let twice = (2 * self.count).min(MOST_ROOM);
@@ -95,7 +107,7 @@ impl EventTree {
         ensures { IfOk result (λ wider. IsWider self.now room wider) }
     {
         let mut wider = EventTree {
-            nodes: vec![in alloc; None; 2 * room]?,
+            nodes: vec![in alloc; Packed::new(None); 2 * room]?,
             count: room,
         };
         for disk in 0..self.count {
@@ -105,7 +117,7 @@ impl EventTree {
     }
 
     // Sets the key of a disk for which there is room.
-    fn put(&mut self, disk: usize, key: Option<Stamp>)
+    fn put(&mut self, disk: usize, key: Packed)
         requires { disk < length self.old }
         ensures { self.new ≡ slice_set self.old disk key }
     {
@@ -116,7 +128,7 @@ impl EventTree {
 }
 
 // Plays the nodes above a leaf again, up to the first that keeps its key.
-fn replay(nodes: &mut Vec<Option<Stamp>>, count: usize, leaf: usize)
+fn replay(nodes: &mut Vec<Packed>, count: usize, leaf: usize)
     requires most { count ≤ 2 ^ 32 }
     requires leaf { count ≤ leaf }
     requires within { leaf < count + count }
@@ -126,13 +138,21 @@ fn replay(nodes: &mut Vec<Option<Stamp>>, count: usize, leaf: usize)
     ensures leaves { drop count nodes.new.items ≡ drop count nodes.old.items }
 {
     let mut child = leaf;
+    let mut key = nodes[leaf];
     while child > 1 {
+        key = key.earlier(nodes[sibling(child)]);
         let parent = child / 2;
-        let key = earlier(nodes[2 * parent], nodes[2 * parent + 1]);
-        if key == nodes[parent] {
+        if key.is(nodes[parent]) {
             return;
         }
         nodes[parent] = key;
         child = parent;
     }
+}
+
+// The other child of the same node.
+fn sibling(child: usize) -> usize
+    ensures { child + result ≡ 4 * (child / 2) + 1 }
+{
+    child ^ 1
 }

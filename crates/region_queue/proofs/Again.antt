@@ -1,6 +1,6 @@
 -- Loops that take what is kept of each disk again.
 use Rattle.std.proofs.Common.{◌≡◌, ◌≢◌, ◌⊎◌, inl, inr, ℕ, ◌<◌, List, [], ◌∷◌, ◌++◌, length, take, ◌≤◌, arith, refl, sym, subst, ap, ◌∙◌, true, false, cond}
-use Rattle.std.specs.Prelude.{Some, None, option_map}
+use Rattle.std.specs.Prelude.{Some, None, option_map, Result, Ok, Err, OnOk}
 use Rattle.std.specs.List.{Contains}
 use Rattle.std.specs.Ordering.{nat_cmp, eq_by_cmp}
 use Rattle.std.specs.Cmp.{nat_cmp_total}
@@ -13,7 +13,7 @@ use Rattle.cell_lists.specs.Listing.{ListsData, with_disk, without_disk}
 use Rattle.region_view.specs.declared.action.Placed.{Placed}
 use Rattle.region_view.specs.Views.{ViewData, rows_in}
 use Rattle.region_queue.specs.declared.finder.Finder.{Finder}
-use Rattle.region_queue.specs.Finding.{Cells, cell_in, IsTakenOff, IsRelisted, AreRelisted, IsBest, AreRetaken}
+use Rattle.region_queue.specs.Finding.{Cells, cell_in, IsTakenOff, IsRelisted, AreRelisted, IsBest, AreRetaken, AreRetakenOf}
 
 pub none_among : (i : ℕ) → ¬ Contains {X = ℕ} [] i
 none_among i h = let lt = h.1 in absurd (omega arith)
@@ -66,6 +66,17 @@ pub retaken_more : (finder : Finder) (view : ViewData) (done : List ℕ) (disk :
 retaken_more finder view done disk key old mid new before is best =
     again_more (IsBest finder view) done disk (key_at old) (key_at mid) (key_at new) before
     (subst (IsBest finder view disk) (sym is.set) best) is.others
+
+pub retaken_one : (finder : Finder) (view : ViewData) (Such : ℕ → Type 0) (disk : ℕ) (key : Key) (old new : List Key) →
+    IsSetAt disk key old new → IsBest finder view disk key → ((i : ℕ) → Such i → i ≡ disk) → AreRetakenOf finder view Such old new
+retaken_one finder view Such disk key old new is best only i = elim (cases_eq i disk) [
+  | inl same ↦ inl (subst (λ (n : ℕ). IsBest finder view n (key_at new n)) (sym same) (subst (IsBest finder view disk) (sym is.set) best))
+  | inr ne ↦ inr (is.others i ne, λ such. ne (only i such))
+]
+
+pub on_ok : {T E : Type 0} (r : Result T E) (P Q : Type 0) → (P → Q) → OnOk r P → OnOk r Q
+on_ok (Ok x) P Q f p = f p
+on_ok (Err e) P Q f p = tt
 
 -- ---- one disk
 tied : (q : ℕ) → eq_by_cmp nat_cmp q q ≡ true

@@ -15,7 +15,7 @@ use Rattle.region_view.specs.declared.action.Placed.{Placed}
 use Rattle.region_view.specs.Events.{IsNear}
 use Rattle.region_view.specs.Views.{ViewData, rows_in}
 use Rattle.region_queue.specs.declared.finder.Finder.{Finder}
-use Rattle.region_queue.specs.Finding.{IsNativePair, IsPlacedBeside, IsBlockBeside, AreListed}
+use Rattle.region_queue.specs.Finding.{IsReady, IsNativePair, IsPlacedBeside, IsBlockBeside, IsOfStrip, AreListed}
 use Rattle.region_queue.proofs.Candidates.{native_is, pair_low, pair_high, adjacent_back, listed_at}
 
 -- ---- cells
@@ -54,6 +54,24 @@ placed_beside finder view at cell other home listed here beside owned q row =
   where
     same : cell ≡ q.cell
     same = let e : Some cell ≡ Some q.cell = sym here ∙ listed_at view finder.lists other q listed row in cc
+
+-- the region owns the cells of its columns
+pub column_owned : (finder : Finder) (view : ViewData) (cell column : ℕ) (home : Bool) → IsReady finder view →
+    column ≡ column_of finder.grid cell → (IsTrue home ↔ IsOfStrip finder.strip column) →
+    (IsTrue home ↔ Owns finder.grid finder.region cell)
+column_owned finder view cell column home ready at owns = (
+  λ yes.
+      let is = owns.0 yes in
+      let first = ready.strip.first in
+      let end = ready.strip.end in
+      (omega arith, omega arith),
+  λ is.
+      let least = is.0 in
+      let most = is.1 in
+      let first = ready.strip.first in
+      let end = ready.strip.end in
+      owns.1 (omega arith, omega arith),
+)
 
 -- ---- pairs
 -- of disks in adjacent cells

@@ -1,6 +1,6 @@
 -- The native candidates that name a disk: by itself, and with those near it.
-use Rattle.std.proofs.Common.{◌≡◌, ◌⊎◌, ◌↔◌, inl, inr, ℕ, ◌+◌, ◌*◌, ◌<◌, ◌≤◌, arith, refl, sym, subst, ap, ◌∙◌}
-use Rattle.std.specs.Prelude.{Option, Some, None, MatchOption, option_map}
+use Rattle.std.proofs.Common.{◌≡◌, ◌⊎◌, ◌↔◌, inl, inr, ℕ, ◌+◌, ◌*◌, ◌<◌, ◌≤◌, Bool, arith, refl, sym, subst, ap, ◌∙◌}
+use Rattle.std.specs.Prelude.{Option, Some, None, MatchOption, option_map, IsTrue}
 use Rattle.std.proofs.lemmas.Bool.{cases_lt}
 use Rattle.fixed_motion.specs.declared.rules.Rules.{Rules}
 use Rattle.event_stamps.specs.declared.Stamp.{Stamp}
@@ -42,7 +42,7 @@ near_pair rules grid region view s native pair = from native.0
 pub pair_kind : (rules : Rules) (grid : GridData) (view : ViewData) (s : Stamp) → IsNearPair rules grid (rows_in view) s → s.kind ≡ Pair
 pair_kind rules grid view s near = ap (λ (v : Stamp). v.kind) near.1.2.3.2
 
-by_itself : (s : Stamp) (disk : ℕ) → ¬ (s.kind ≡ Pair) → Names s disk → s.first ≡ disk
+pub by_itself : (s : Stamp) (disk : ℕ) → ¬ (s.kind ≡ Pair) → Names s disk → s.first ≡ disk
 by_itself s disk alone (inl first) = first
 by_itself s disk alone (inr pair) = absurd (alone pair.0)
 
@@ -104,13 +104,11 @@ native_order finder view i j s h =
     let second : s.second ≡ j = h.1.1.1 in
     omega arith
 
-pub native_is : (finder : Finder) (view : ViewData) (low high : ℕ) (p q : Placed) (o : Option Stamp) → low < high →
+pub native_only : (finder : Finder) (view : ViewData) (low high : ℕ) (p q : Placed) (o : Option Stamp) → low < high →
     rows_in view low ≡ Some p → rows_in view high ≡ Some q → Owns finder.grid finder.region p.cell →
     MatchOption o (HasNone (IsNear finder.rules finder.grid low p high q)) (IsOnly (IsNear finder.rules finder.grid low p high q)) →
-    IsLeastOf (IsNativeOf finder view low high) o
-native_is finder view low high p q o lt at_low at_high owns h =
-    least_same (IsNear finder.rules finder.grid low p high q) (IsNativeOf finder view low high) o to from
-    (only_least (IsNear finder.rules finder.grid low p high q) o h)
+    MatchOption o (HasNone (IsNativeOf finder view low high)) (IsOnly (IsNativeOf finder view low high))
+native_only finder view low high p q o lt at_low at_high owns h = same o h
   where
     to : (s : Stamp) → IsNear finder.rules finder.grid low p high q s → IsNativeOf finder view low high s
     to s n =
@@ -137,6 +135,35 @@ native_is finder view low high p q o lt at_low at_high owns h =
           subst (λ (m : ℕ). IsPairEvent finder.rules low near.1.0.disk m near.1.2.0.disk s) second
               (subst (λ (m : ℕ). IsPairEvent finder.rules m near.1.0.disk s.second near.1.2.0.disk s) first near.1.2.3),
         ))
+
+    same : (o : Option Stamp) →
+        MatchOption o (HasNone (IsNear finder.rules finder.grid low p high q)) (IsOnly (IsNear finder.rules finder.grid low p high q)) →
+        MatchOption o (HasNone (IsNativeOf finder view low high)) (IsOnly (IsNativeOf finder view low high))
+    same None none = λ s n. none s (from s n)
+    same (Some t) only = (to t only.0, λ s n. only.1 s (from s n))
+
+pub native_is : (finder : Finder) (view : ViewData) (low high : ℕ) (p q : Placed) (o : Option Stamp) → low < high →
+    rows_in view low ≡ Some p → rows_in view high ≡ Some q → Owns finder.grid finder.region p.cell →
+    MatchOption o (HasNone (IsNear finder.rules finder.grid low p high q)) (IsOnly (IsNear finder.rules finder.grid low p high q)) →
+    IsLeastOf (IsNativeOf finder view low high) o
+native_is finder view low high p q o lt at_low at_high owns h =
+    only_least (IsNativeOf finder view low high) o (native_only finder view low high p q o lt at_low at_high owns h)
+
+-- the event of two disks is a native candidate exactly where it is the one that was found
+pub event_found : (finder : Finder) (view : ViewData) (s : Stamp) (o : Option Stamp) (same : Bool) → s.kind ≡ Pair →
+    MatchOption o (HasNone (IsNativeOf finder view s.first s.second)) (IsOnly (IsNativeOf finder view s.first s.second)) →
+    (IsTrue same ↔ (o ≡ Some s)) → (IsTrue same ↔ IsFound finder view s)
+event_found finder view s None same pair none is = (
+  λ yes. absurd (let e = is.0 yes in cc),
+  λ found. absurd (none s (found, (pair, (refl, refl)))),
+)
+event_found finder view s (Some t) same pair only is = (
+  λ yes.
+      let e : Some t ≡ Some s = is.0 yes in
+      let at : t ≡ s = cc in
+      (subst (IsNativeOf finder view s.first s.second) at only.0).0,
+  λ found. is.1 (ap Some (sym (only.1 s (found, (pair, (refl, refl)))))),
+)
 
 pub pair_low : (finder : Finder) (view : ViewData) (i j : ℕ) (o : Option Stamp) → i < j → IsLeastOf (IsNativeOf finder view i j) o →
     IsLeastOf (IsNativePair finder view i j) o

@@ -2,5 +2,7 @@ mod Again
 mod Beside
 mod Candidates
 mod Covered
+mod InRange
+mod Numbered
+mod Settled
 mod Standing
-mod Stale

@@ -1,6 +1,6 @@
 -- The queue stands for a view again after changes.
-use Rattle.std.proofs.Common.{◌≡◌, ◌⊎◌, inl, inr, ℕ, List, [], sym, subst, ap, ◌∙◌}
-use Rattle.std.specs.Prelude.{Some, None, option_map}
+use Rattle.std.proofs.Common.{◌≡◌, ◌⊎◌, inl, inr, ℕ, List, [], refl, sym, ap, ◌∙◌}
+use Rattle.std.specs.Prelude.{Some, None, option_map, ⊤, Result, Ok, Err, OnOk}
 use Rattle.std.specs.List.{Contains}
 use Rattle.std.specs.Ordering.{nat_cmp}
 use Rattle.std.specs.FinMap as map
@@ -8,19 +8,19 @@ use Rattle.fixed_motion.specs.declared.rules.Rules.{Rules}
 use Rattle.event_stamps.specs.declared.Stamp.{Stamp}
 use Rattle.event_stamps.specs.declared.Kind.TheVariants.{Pair}
 use Rattle.event_stamps.specs.Least.{IsLeastOf}
-use Rattle.event_tree.specs.Keys.{Key, IsLeastKey, key_at}
-use Rattle.cell_grid.specs.Grid.{GridData, IsAdjacent}
-use Rattle.cell_lists.specs.Listing.{ListsData, IsListed}
+use Rattle.event_tree.specs.Keys.{Key, IsLeastKey}
+use Rattle.cell_grid.specs.Grid.{GridData}
 use Rattle.region_view.specs.declared.action.Placed.{Placed}
 use Rattle.region_view.specs.Placing.{IsCellCandidate, IsNearPair, IsNative}
 use Rattle.region_view.specs.Views.{ViewData, rows_in}
 use Rattle.region_queue.specs.declared.finder.Finder.{Finder}
-use Rattle.region_queue.specs.Naming.{Names, NamesAny, KeyNamesAny, IsSameBut, NativesStay}
-use Rattle.region_queue.specs.Finding.{Cells, cell_in, AreListed, AreRelisted, AreRetaken, IsStaleAt, IsFound, IsBest}
+use Rattle.region_queue.specs.Naming.{IsSameBut, NativesStay}
+use Rattle.region_queue.specs.Finding.{Cells, cell_in, AreListed, AreRelisted, AreRetaken, IsFound}
 use Rattle.region_queue.specs.Queue.{QueueData, queue_of, StandsFor}
-use Rattle.region_queue.specs.Covering.{Covers}
-use Rattle.region_queue.proofs.Candidates.{near_pair, pair_kind, listed_at, adjacent_back}
-use Rattle.region_queue.proofs.Covered.{IsKept, covers_again, least_of}
+use Rattle.region_queue.specs.Covering.{Covers, IsSettled}
+use Rattle.region_queue.proofs.Candidates.{pair_kind}
+use Rattle.region_queue.proofs.Covered.{covers_again}
+use Rattle.region_queue.proofs.Settled.{settled_least}
 
 -- ---- what names no changed disk
 moved_pair : (rules : Rules) (grid : GridData) (x y : ViewData) (s : Stamp) → rows_in y s.first ≡ rows_in x s.first →
@@ -52,67 +52,35 @@ lists_again before after ids old new listed same again i = from (again i)
     from (inl now) = now
     from (inr k) = k.0 ∙ listed i ∙ sym (ap (option_map (λ (p : Placed). p.cell)) (same i k.1))
 
--- ---- keys
--- a disk whose key names a touched one is touched too, or is near where that was listed
-pub reached : (rules : Rules) (grid : GridData) (region : ℕ) (before : ViewData) (lists : ListsData) (ids stale : List ℕ) (old : List Key) →
-    lists.grid ≡ grid → AreListed before lists.cells → Covers (IsNative rules grid region (rows_in before)) old →
-    ((id : ℕ) → Contains ids id → IsStaleAt lists old id ids stale) →
-    (i : ℕ) → KeyNamesAny (key_at old i) ids → Contains ids i ⊎ Contains stale i
-reached rules grid region before lists ids stale old same listed covers has i key = from (covers.candidates i key.0 key.1).1 key.2
-  where
-    near : key.0.kind ≡ Pair → IsNearPair rules grid (rows_in before) key.0
-    near pair = near_pair rules grid region before key.0 (covers.candidates i key.0 key.1).0 pair
-
-    beside : (a b : ℕ) → IsAdjacent grid a b → IsAdjacent lists.grid a b
-    beside a b h = subst (λ (g : GridData). IsAdjacent g a b) (sym same) h
-
-    from : Names key.0 i → NamesAny key.0 ids → Contains ids i ⊎ Contains stale i
-    from (inl first) (inl among) = inl (subst (λ (n : ℕ). Contains ids n) first among)
-    from (inl first) (inr pair) =
-        let n = near pair.0 in
-        has key.0.second pair.1 n.1.2.0.cell i (listed_at before lists key.0.second n.1.2.0 listed n.1.2.1) (
-          n.1.0.cell,
-          subst (λ (d : ℕ). IsListed lists n.1.0.cell d) first (listed_at before lists key.0.first n.1.0 listed n.1.1),
-          beside n.1.2.0.cell n.1.0.cell (adjacent_back grid n.1.0.cell n.1.2.0.cell n.1.2.2),
-        ) key
-    from (inr second) (inl among) =
-        let n = near second.0 in
-        has key.0.first among n.1.0.cell i (listed_at before lists key.0.first n.1.0 listed n.1.1) (
-          n.1.2.0.cell,
-          subst (λ (d : ℕ). IsListed lists n.1.2.0.cell d) second.1 (listed_at before lists key.0.second n.1.2.0 listed n.1.2.1),
-          beside n.1.0.cell n.1.2.0.cell n.1.2.2,
-        ) key
-    from (inr second) (inr pair) = inl (subst (λ (n : ℕ). Contains ids n) second.1 pair.1)
-
--- after the keys of the touched disks and of those near were taken again, each key is its disk's best or was kept
-keys_kept : (finder : Finder) (view : ViewData) (ids stale : List ℕ) (old mid new : List Key) → AreRetaken finder view ids old mid →
-    AreRetaken finder view stale mid new → ((i : ℕ) → KeyNamesAny (key_at old i) ids → Contains ids i ⊎ Contains stale i) →
-    (i : ℕ) → IsKept (IsFound finder view) ids old new i
-keys_kept finder view ids stale old mid new first second reach i = from (first i) (second i)
-  where
-    from : IsBest finder view i (key_at mid i) ⊎ ((key_at mid i ≡ key_at old i) × ¬ Contains ids i) →
-        IsBest finder view i (key_at new i) ⊎ ((key_at new i ≡ key_at mid i) × ¬ Contains stale i) → IsKept (IsFound finder view) ids old new i
-    from f (inl best) = inl best
-    from (inl best) (inr k) = inl (subst (IsBest finder view i) (sym k.0) best)
-    from (inr j) (inr k) = inr (k.0 ∙ j.0, (j.1, λ names. elim (reach i names) [ inl among ↦ j.1 among | inr among ↦ k.1 among ]))
-
 -- ---- the queue
-pub stands_again : (finder : Finder) (before after : ViewData) (was : ListsData) (ids stale : List ℕ) (old mid new : List Key) →
-    was.grid ≡ finder.grid → ((id : ℕ) → Contains ids id → IsStaleAt was old id ids stale) →
-    AreRelisted after ids was.cells finder.lists.cells →
-    (AreListed after finder.lists.cells → AreRetaken finder after ids old mid) →
-    (AreListed after finder.lists.cells → AreRetaken finder after stale mid new) → IsSameBut ids before after →
-    StandsFor (queue_of finder.rules finder.grid finder.region was.cells old) before →
+pub stands_again : (finder : Finder) (before after : ViewData) (was : Cells) (ids : List ℕ) (old mid new : List Key) →
+    AreRelisted after ids was finder.lists.cells → (AreListed after finder.lists.cells → AreRetaken finder after ids old mid) →
+    (AreListed after finder.lists.cells → Covers (IsFound finder after) mid → Covers (IsFound finder after) new) →
+    (AreListed after finder.lists.cells → Covers (IsFound finder after) mid → IsSettled (IsFound finder after) new) →
+    IsSameBut ids before after → StandsFor (queue_of finder.rules finder.grid finder.region was old) before →
     StandsFor (queue_of finder.rules finder.grid finder.region finder.lists.cells new) after
 unfolding StandsFor
-stands_again finder before after was ids stale old mid new grid has relisted first second same stands =
-    let listed = lists_again before after ids was.cells finder.lists.cells stands.0 same relisted in (
-      listed,
-      covers_again (IsNative finder.rules finder.grid finder.region (rows_in before)) (IsFound finder after) ids old new stands.1
-          (λ s none. natives_stay finder.rules finder.grid finder.region before after ids s same none)
-          (keys_kept finder after ids stale old mid new (first listed) (second listed)
-          (reached finder.rules finder.grid finder.region before was ids stale old grid stands.0 stands.1 has)),
-    )
+stands_again finder before after was ids old mid new relisted retaken covers settled same stands = (
+  listed,
+  (covers listed again, settled listed again),
+)
+  where
+    listed : AreListed after finder.lists.cells
+    listed = lists_again before after ids was finder.lists.cells stands.0 same relisted
+
+    again : Covers (IsFound finder after) mid
+    again = covers_again (IsNative finder.rules finder.grid finder.region (rows_in before)) (IsFound finder after) ids old mid stands.1.0
+        (λ s none. natives_stay finder.rules finder.grid finder.region before after ids s same none) (retaken listed)
+
+pub stands_on_ok : {E : Type 0} (done : Result ⊤ E) (finder : Finder) (after : ViewData) (was : Cells) (ids : List ℕ) (old mid new : List Key) →
+    AreRelisted after ids was finder.lists.cells → (AreListed after finder.lists.cells → AreRetaken finder after ids old mid) →
+    OnOk done (AreListed after finder.lists.cells → Covers (IsFound finder after) mid → Covers (IsFound finder after) new) →
+    OnOk done (AreListed after finder.lists.cells → Covers (IsFound finder after) mid → IsSettled (IsFound finder after) new) →
+    OnOk done ((before : ViewData) → StandsFor (queue_of finder.rules finder.grid finder.region was old) before → IsSameBut ids before after →
+    StandsFor (queue_of finder.rules finder.grid finder.region finder.lists.cells new) after)
+stands_on_ok (Ok done) finder after was ids old mid new relisted retaken covers settled = λ before stands same.
+    stands_again finder before after was ids old mid new relisted retaken covers settled same stands
+stands_on_ok (Err e) finder after was ids old mid new relisted retaken covers settled = tt
 
 pub none_in_empty : (i : ℕ) → rows_in map.empty i ≡ None
 none_in_empty i = map.get-empty nat_cmp i
@@ -121,13 +89,25 @@ pub empty_stands : (rules : Rules) (grid : GridData) (region : ℕ) → StandsFo
 unfolding StandsFor
 empty_stands rules grid region = (
   λ disk. map.get-empty nat_cmp disk ∙ sym (ap (option_map (λ (p : Placed). p.cell)) (none_in_empty disk)),
-  record { candidates = λ disk s e. absurd cc; covered = λ s native. absurd (none s native.1.0 native.1.1) },
+  (covers, λ key is. settled key is),
 )
   where
     none : (s : Stamp) (p : Placed) → rows_in map.empty s.first ≡ Some p → ⊥
     none s p e = let never : None ≡ Some p = sym (none_in_empty s.first) ∙ e in cc
 
+    covers : Covers (IsNative rules grid region (rows_in map.empty)) []
+    covers = record {
+      named = λ disk s e. absurd cc;
+      alone = λ disk s e not. absurd cc;
+      covered = λ s native. absurd (none s native.1.0 native.1.1);
+    }
+
+    settled : IsSettled (IsNative rules grid region (rows_in map.empty)) []
+    settled None is = tt
+    settled (Some s) is = let at = is.one s refl in absurd (let never = at.1 in cc)
+
 pub stands_least : (queue : QueueData) (view : ViewData) (key : Key) → StandsFor queue view → IsLeastKey queue.keys key →
     IsLeastOf (IsNative queue.rules queue.grid queue.region (rows_in view)) key
 unfolding StandsFor
-stands_least queue view key stands least = least_of (IsNative queue.rules queue.grid queue.region (rows_in view)) queue.keys key stands.1 least
+stands_least queue view key stands least =
+    settled_least (IsNative queue.rules queue.grid queue.region (rows_in view)) queue.keys key stands.1.0 stands.1.1 least

@@ -1,5 +1,5 @@
 -- What is found and kept of one disk.
-use Rattle.std.specs.Prelude.{◌≡◌, ◌≢◌, ◌⊎◌, ◌↔◌, ℕ, Bool, IsTrue, List, Option, Some, option_map}
+use Rattle.std.specs.Prelude.{◌≡◌, ◌≢◌, ◌⊎◌, ◌↔◌, ℕ, ◌<◌, ◌≤◌, Bool, IsTrue, List, Option, Some, option_map}
 use Rattle.std.specs.Ordering.{nat_cmp}
 use Rattle.std.specs.FinMap as map
 use Rattle.std.specs.List.{Contains}
@@ -8,16 +8,17 @@ use Rattle.event_stamps.specs.declared.Stamp.{Stamp}
 use Rattle.event_stamps.specs.declared.Kind.TheVariants.{Pair}
 use Rattle.event_stamps.specs.Least.{IsLeastOf}
 use Rattle.event_tree.specs.Keys.{Key, key_at}
-use Rattle.cell_grid.specs.Grid.{GridData, IsGridOf, IsRegion, IsCell, IsAdjacent, Owns}
+use Rattle.cell_grid.specs.declared.grid.Strip.{Strip}
+use Rattle.cell_grid.specs.Grid.{GridData, IsGridOf, IsRegion, IsCell, IsAdjacent, IsStripOf, Owns}
 use Rattle.cell_lists.specs.declared.near.Block.{Block}
-use Rattle.cell_lists.specs.Listing.{ListsData, IsListed, IsFree, IsNear}
+use Rattle.cell_lists.specs.Listing.{ListsData, IsFree}
 use Rattle.cell_lists.specs.Nearby.{IsWithin}
 use Rattle.region_view.specs.declared.action.Placed.{Placed}
 use Rattle.region_view.specs.Events.{IsAlone}
 use Rattle.region_view.specs.Placing.{IsNative, IsValidPlacing}
 use Rattle.region_view.specs.Views.{ViewData, rows_in}
 use Rattle.region_queue.specs.declared.finder.Finder.{Finder}
-use Rattle.region_queue.specs.Naming.{Names, KeyNamesAny}
+use Rattle.region_queue.specs.Naming.{Names}
 
 -- ---- where disks are listed
 abbrev pub Cells : Type 0
@@ -48,11 +49,16 @@ AreRelisted view disks old new = (i : ℕ) →
     (map.get new i ≡ cell_in view i) ⊎ ((map.get new i ≡ map.get old i) × ¬ Contains disks i)
 
 -- ---- which candidates a disk has
--- a region of a grid of checked rules, lists of this grid, and a valid view
+-- the columns of a strip
+abbrev pub IsOfStrip : Strip → ℕ → Type 0
+IsOfStrip strip column = (strip.first ≤ column) × (column < strip.end)
+
+-- a region of a grid of checked rules, its columns, lists of this grid, and a valid view
 pub record IsReady (finder : Finder) (view : ViewData) : Type 0 where
   pub checked : IsChecked finder.rules
   pub grid : IsGridOf finder.rules finder.grid
   pub region : IsRegion finder.grid finder.region
+  pub strip : IsStripOf finder.grid finder.region finder.strip
   pub lists : finder.lists.grid ≡ finder.grid
   pub valid : IsValidPlacing finder.rules finder.grid (rows_in view)
 
@@ -91,18 +97,18 @@ IsNativeWith finder view disk With s = (other : ℕ) × With other × IsNativePa
 abbrev pub IsBest : Finder → ViewData → ℕ → Key → Type 0
 IsBest finder view disk key = IsLeastOf (λ s. IsFound finder view s × Names s disk) key
 
--- the keys of these disks are their best, and those of others too or are as they were
+-- the keys of such disks are their best, and those of others too or are as they were
+abbrev pub AreRetakenOf : Finder → ViewData → (ℕ → Type 0) → List Key → List Key → Type 0
+AreRetakenOf finder view Such old new = (i : ℕ) →
+    IsBest finder view i (key_at new i) ⊎ ((key_at new i ≡ key_at old i) × ¬ Such i)
+
 abbrev pub AreRetaken : Finder → ViewData → List ℕ → List Key → List Key → Type 0
-AreRetaken finder view disks old new = (i : ℕ) →
-    IsBest finder view i (key_at new i) ⊎ ((key_at new i ≡ key_at old i) × ¬ Contains disks i)
+AreRetaken finder view disks old new = AreRetakenOf finder view (λ i. Contains disks i) old new
 
--- ---- which keys have to be taken again
--- of such disks, those whose keys name one of the ids are among the ids or stale
-abbrev pub IsStaleOf : List Key → (ℕ → Type 0) → List ℕ → List ℕ → Type 0
-IsStaleOf keys Such ids stale = (i : ℕ) → Such i → KeyNamesAny (key_at keys i) ids →
-    Contains ids i ⊎ Contains stale i
+-- it is this disk, and its key is this one
+abbrev pub HasKey : List Key → ℕ → Stamp → ℕ → Type 0
+HasKey keys disk s i = (i ≡ disk) × (key_at keys i ≡ Some s)
 
--- the same of the disks near where one is listed
-abbrev pub IsStaleAt : ListsData → List Key → ℕ → List ℕ → List ℕ → Type 0
-IsStaleAt lists keys id ids stale = (cell i : ℕ) → IsListed lists cell id → IsNear lists cell i →
-    KeyNamesAny (key_at keys i) ids → Contains ids i ⊎ Contains stale i
+-- the disk has this key, which names it
+abbrev pub IsHolder : List Key → Stamp → ℕ → Type 0
+IsHolder keys s i = Names s i × (key_at keys i ≡ Some s)

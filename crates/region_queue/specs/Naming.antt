@@ -1,10 +1,9 @@
 -- Which disks an event has, and what a change of some disks leaves as it was.
-use Rattle.std.specs.Prelude.{◌≡◌, ◌⊎◌, ◌↔◌, ℕ, List, Some}
+use Rattle.std.specs.Prelude.{◌≡◌, ◌⊎◌, ◌↔◌, ℕ, List}
 use Rattle.std.specs.List.{Contains}
 use Rattle.fixed_motion.specs.declared.rules.Rules.{Rules}
 use Rattle.event_stamps.specs.declared.Stamp.{Stamp}
 use Rattle.event_stamps.specs.declared.Kind.TheVariants.{Pair}
-use Rattle.event_tree.specs.Keys.{Key}
 use Rattle.cell_grid.specs.Grid.{GridData}
 use Rattle.region_view.specs.Placing.{IsNative}
 use Rattle.region_view.specs.Views.{ViewData, rows_in}
@@ -16,9 +15,6 @@ Names s disk = (s.first ≡ disk) ⊎ ((s.kind ≡ Pair) × (s.second ≡ disk))
 -- one of the event's disks is among these
 abbrev pub NamesAny : Stamp → List ℕ → Type 0
 NamesAny s ids = Contains ids s.first ⊎ ((s.kind ≡ Pair) × Contains ids s.second)
-
-abbrev pub KeyNamesAny : Key → List ℕ → Type 0
-KeyNamesAny key ids = (s : Stamp) × (key ≡ Some s) × NamesAny s ids
 
 -- at numbers other than these the same stands before and after
 abbrev pub IsSameBut : List ℕ → ViewData → ViewData → Type 0

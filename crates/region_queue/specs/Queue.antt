@@ -8,11 +8,12 @@ use Rattle.fixed_motion.specs.Rules.{IsChecked}
 use Rattle.event_tree.specs.contracts.EventTree as tree_type
 use Rattle.event_tree.specs.Keys.{Key}
 use Rattle.cell_grid.specs.contracts.grid.Grid as grid_type
-use Rattle.cell_grid.specs.Grid.{GridData, IsGridOf, IsRegion}
+use Rattle.cell_grid.specs.declared.grid.Strip.{Strip}
+use Rattle.cell_grid.specs.Grid.{GridData, IsGridOf, IsRegion, IsStripOf}
 use Rattle.region_view.specs.Placing.{IsNative}
 use Rattle.region_view.specs.Views.{ViewData, rows_in}
 use Rattle.region_queue.specs.Finding.{Cells, AreListed}
-use Rattle.region_queue.specs.Covering.{Covers}
+use Rattle.region_queue.specs.Covering.{Covers, IsSettled}
 
 -- what a queue is seen as: its region, the cell in which each disk is listed, and the key of each disk
 pub record QueueData : Type 0 where
@@ -35,11 +36,12 @@ queue_code =
     (λ q. (q.rules, (q.grid, (q.region, (q.cells, q.keys)))))
     (λ p. queue_of p.0 p.1.0 p.1.1.0 p.1.1.1.0 p.1.1.1.1) (λ _. refl)
 
--- what each queue keeps: a region of a grid of checked rules, and lists of this grid
-pub record IsSound (r : Rules) (g : GridData) (k : ℕ) (listed : GridData) : Type 0 where
+-- what each queue keeps: a region of a grid of checked rules, its columns, and lists of this grid
+pub record IsSound (r : Rules) (g : GridData) (k : ℕ) (columns : Strip) (listed : GridData) : Type 0 where
   pub checked : IsChecked r
   pub grid : IsGridOf r g
   pub region : IsRegion g k
+  pub strip : IsStripOf g k columns
   pub lists : listed ≡ g
 
 -- the queue is of these rules, this grid, and the region of this number
@@ -48,7 +50,8 @@ pub record IsOf (queue : QueueData) (r : Rules) (g : GridData) (k : ℕ) : Type 
   pub grid : queue.grid ≡ g
   pub region : queue.region ≡ k
 
--- disks are listed where the view has them, and the keys cover the native candidates
+-- disks are listed where the view has them, the keys cover the native candidates, and the least key is one
 unfoldable pub StandsFor : QueueData → ViewData → Type 0
 StandsFor queue view = AreListed view queue.cells
-    × Covers (IsNative queue.rules queue.grid queue.region (rows_in view)) queue.keys
+    × (Covers (IsNative queue.rules queue.grid queue.region (rows_in view)) queue.keys
+    × IsSettled (IsNative queue.rules queue.grid queue.region (rows_in view)) queue.keys)

@@ -1,20 +1,22 @@
 //! The native candidates of a region that name a disk.
 
-ghost use Rattle.std.specs.Prelude.{◌≡◌, ◌↔◌, ◌⊎◌, ◌+◌, ◌<◌, ◌≤◌, Some, IsTrue};
+ghost use Rattle.std.specs.Prelude.{◌≡◌, ◌↔◌, ◌⊎◌, ◌+◌, ◌<◌, ◌≤◌, Some, IsTrue, MatchOption, false};
 ghost use Rattle.std.specs.FinMap as map;
-ghost use Rattle.event_stamps.specs.Least.{IsLeastOf};
-ghost use Rattle.cell_grid.specs.Grid.{IsCell, IsAdjacent, IsRegion, Owns};
+ghost use Rattle.event_stamps.specs.declared.Kind.TheVariants.{Pair};
+ghost use Rattle.event_stamps.specs.Least.{IsLeastOf, HasNone, IsOnly};
+ghost use Rattle.cell_grid.specs.Grid.{IsCell, IsAdjacent, IsStripOf, Owns, column_of};
 ghost use Rattle.cell_lists.specs.Listing.{IsListed};
 ghost use Rattle.cell_lists.specs.Nearby.{IsBlock, IsListedWithin, columns_to};
 ghost use Rattle.region_view.specs.declared.action.Placed.{Placed};
-ghost use Rattle.region_queue.specs.Finding.{IsReady, IsAloneAt, IsNativePair, IsNativeWith, IsBest, IsBlockBeside, IsPlacedBeside, AreListed};
+ghost use Rattle.region_queue.specs.Finding.{IsReady, IsFound, IsAloneAt, IsNativeOf, IsNativePair, IsNativeWith, IsBest, IsBlockBeside, IsPlacedBeside, IsOfStrip, AreListed};
 
-use cell_grid::Grid;
+use cell_grid::{Grid, Strip};
 use cell_lists::{Block, Lists, block_around};
 use event_rules::pair_event;
-use event_stamps::{Stamp, earlier};
+use event_stamps::{Kind, Stamp};
+use event_tree::Packed;
 use fixed_motion::Rules;
-use region_view::{Placed, View, first_alone};
+use region_view::{Placed, View, first_alone, near_event};
 
 // A region, and the disks of its view by cell.
 #[derive(Drop)]
@@ -22,44 +24,86 @@ pub(crate) struct Finder {
     pub rules: Rules,
     pub grid: Grid,
     pub region: u32,
+    // The columns that the region owns.
+    pub strip: Strip,
     pub lists: Lists,
 }
 
 impl Finder {
     // The least native candidate that names a disk.
-    pub fn best(&self, view: &View, disk: u32) -> Option<Stamp>
+    pub fn best(&self, view: &View, disk: u32) -> Packed
         requires { IsReady self.now view.now }
         ensures { AreListed view.now self.now.lists.cells → IsBest self.now view.now disk result }
     {
-        let placed = view.get(disk)?;
+        let Some(placed) = view.get(disk) else {
+            return Packed::new(None);
+        };
         let own = self.owns(placed.cell);
         let block = block_around(&self.grid, placed.cell);
-        earlier(
-            self.best_alone(view, disk, placed, own),
-            self.best_within(view, disk, placed, own, block),
-        )
+        self.best_alone(view, disk, placed, own)
+            .earlier(self.best_within(view, disk, placed, own, block))
+    }
+
+    // Whether a stamp, where it is that of a pair, is that of a native candidate.
+    pub fn is_fresh(&self, view: &View, stamp: &Stamp) -> bool
+        requires { IsReady self.now view.now }
+        ensures fresh { IsTrue result → stamp.now.kind ≡ Pair → IsFound self.now view.now stamp.now }
+        ensures stale { result ≡ false → ¬ IsFound self.now view.now stamp.now }
+    {
+        stamp.kind != Kind::Pair || self.has_pair(view, stamp)
+    }
+
+    // Whether a stamp of a pair is that of a native candidate.
+    fn has_pair(&self, view: &View, stamp: &Stamp) -> bool
+        requires ready { IsReady self.now view.now }
+        requires pair { stamp.now.kind ≡ Pair }
+        ensures { IsTrue result ↔ IsFound self.now view.now stamp.now }
+    {
+        has_stamp(self.event_of(view, stamp.first, stamp.second), stamp)
+    }
+
+    // The native event of a lower and a higher disk.
+    fn event_of(&self, view: &View, low: u32, high: u32) -> Option<Stamp>
+        requires { IsReady self.now view.now }
+        ensures { MatchOption result (HasNone (IsNativeOf self.now view.now low high))
+            (IsOnly (IsNativeOf self.now view.now low high)) }
+    {
+        let first = view.get(low)?;
+        let second = view.get(high)?;
+        if low < high && self.owns(first.cell) {
+            near_event(&self.rules, &self.grid, low, first, high, second)
+        } else {
+            None
+        }
     }
 
     // Whether the region owns a cell.
     fn owns(&self, cell: u32) -> bool
-        requires region { IsRegion self.now.grid self.now.region }
+        requires strip { IsStripOf self.now.grid self.now.region self.now.strip }
         requires cell { IsCell self.now.grid cell }
         ensures { IsTrue result ↔ Owns self.now.grid self.now.region cell }
     {
-        self.grid.owner(cell) == self.region
+        self.owns_column(self.grid.column(cell))
+    }
+
+    // Whether the region owns a column.
+    fn owns_column(&self, column: u32) -> bool
+        ensures { IsTrue result ↔ IsOfStrip self.now.strip column }
+    {
+        self.strip.first <= column && column < self.strip.end
     }
 
     // The least event of a disk by itself, if that is native. `own` tells whether the region owns its cell.
-    fn best_alone(&self, view: &View, disk: u32, placed: &Placed, own: bool) -> Option<Stamp>
+    fn best_alone(&self, view: &View, disk: u32, placed: &Placed, own: bool) -> Packed
         requires ready { IsReady self.now view.now }
         requires placed { map.get view.now disk ≡ Some placed.now }
         requires own { IsTrue own ↔ Owns self.now.grid self.now.region placed.now.cell }
         ensures { IsLeastOf (IsAloneAt self.now disk placed.now) result }
     {
         if own {
-            first_alone(&self.rules, &self.grid, disk, placed)
+            Packed::new(first_alone(&self.rules, &self.grid, disk, placed))
         } else {
-            None
+            Packed::new(None)
         }
     }
 
@@ -71,7 +115,7 @@ impl Finder {
         placed: &Placed,
         own: bool,
         block: Block,
-    ) -> Option<Stamp>
+    ) -> Packed
         requires ready { IsReady self.now view.now }
         requires placed { map.get view.now disk ≡ Some placed.now }
         requires own { IsTrue own ↔ Owns self.now.grid self.now.region placed.now.cell }
@@ -80,9 +124,9 @@ impl Finder {
         ensures { AreListed view.now self.now.lists.cells → IsLeastOf (IsNativeWith self.now view.now disk
             (IsListedWithin self.now.lists block)) result }
     {
-        let mut best = None;
+        let mut best = Packed::new(None);
         for row in block.low..block.high {
-            best = earlier(best, self.best_in_row(view, disk, placed, own, block, row));
+            best = best.earlier(self.best_in_row(view, disk, placed, own, block, row));
         }
         best
     }
@@ -96,7 +140,7 @@ impl Finder {
         own: bool,
         block: Block,
         row: u32,
-    ) -> Option<Stamp>
+    ) -> Packed
         requires ready { IsReady self.now view.now }
         requires placed { map.get view.now disk ≡ Some placed.now }
         requires own { IsTrue own ↔ Owns self.now.grid self.now.region placed.now.cell }
@@ -108,39 +152,37 @@ impl Finder {
             (IsListedWithin self.now.lists (columns_to block row block.right))) result }
     {
         let start = row * self.grid.columns();
-        let mut best = None;
+        let mut best = Packed::new(None);
         for column in block.left..block.right {
-            best = earlier(
-                best,
-                self.best_in_cell(view, disk, placed, own, start + column),
-            );
+            best = best.earlier(self.best_in_cell(view, disk, placed, own, column, start + column));
         }
         best
     }
 
-    // The same of one cell beside the disk's own.
+    // The same of one cell beside the disk's own, in this column.
     fn best_in_cell(
         &self,
         view: &View,
         disk: u32,
         placed: &Placed,
         own: bool,
+        column: u32,
         cell: u32,
-    ) -> Option<Stamp>
+    ) -> Packed
         requires ready { IsReady self.now view.now }
         requires placed { map.get view.now disk ≡ Some placed.now }
         requires own { IsTrue own ↔ Owns self.now.grid self.now.region placed.now.cell }
         requires cell { IsCell self.now.grid cell }
+        requires column { column ≡ column_of self.now.grid cell }
         requires beside { IsAdjacent self.now.grid placed.now.cell cell }
         ensures { AreListed view.now self.now.lists.cells → IsLeastOf (IsNativeWith self.now view.now disk
             (IsListed self.now.lists cell)) result }
     {
-        let first = self.lists.first_in(cell)?;
-        let home = self.owns(cell);
-        let mut best = None;
-        let mut next = Some(first);
+        let home = self.owns_column(column);
+        let mut best = Packed::new(None);
+        let mut next = self.lists.first_in(cell);
         while let Some(other) = next {
-            best = earlier(best, self.pair(view, disk, placed, own, other, home));
+            best = best.earlier(self.pair(view, disk, placed, own, other, home));
             next = self.lists.next_in(other, cell);
         }
         best
@@ -155,7 +197,7 @@ impl Finder {
         own: bool,
         other: u32,
         home: bool,
-    ) -> Option<Stamp>
+    ) -> Packed
         requires ready { IsReady self.now view.now }
         requires placed { map.get view.now disk ≡ Some placed.now }
         requires own { IsTrue own ↔ Owns self.now.grid self.now.region placed.now.cell }
@@ -163,13 +205,15 @@ impl Finder {
             IsLeastOf (IsNativePair self.now view.now disk other) result }
     {
         if !owns_lower(disk, own, other, home) {
-            return None;
+            return Packed::new(None);
         }
-        let near = view.get(other)?;
+        let Some(near) = view.get(other) else {
+            return Packed::new(None);
+        };
         if disk < other {
-            pair_event(&self.rules, disk, &placed.disk, other, &near.disk)
+            Packed::new(pair_event(&self.rules, disk, &placed.disk, other, &near.disk))
         } else {
-            pair_event(&self.rules, other, &near.disk, disk, &placed.disk)
+            Packed::new(pair_event(&self.rules, other, &near.disk, disk, &placed.disk))
         }
     }
 }
@@ -182,5 +226,15 @@ fn owns_lower(disk: u32, own: bool, other: u32, home: bool) -> bool
         own
     } else {
         other < disk && home
+    }
+}
+
+// Whether a key is this stamp.
+pub(crate) fn has_stamp(key: Option<Stamp>, stamp: &Stamp) -> bool
+    ensures { IsTrue result ↔ (key ≡ Some stamp.now) }
+{
+    match key {
+        Some(own) => own == *stamp,
+        None => false,
     }
 }

@@ -2,7 +2,9 @@
 //! the literature on parallel simulation calls it.
 //!
 //! Each disk has one key, the least native candidate that names it, as of when the key was last taken. A
-//! candidate may be missing from the key of one of its two disks, never from both.
+//! candidate may be missing from the key of one of its two disks, never from both. The key of a disk whose
+//! partner has changed since isn't a candidate any more; it is left until it is the least of all, which is
+//! early enough, since the disk has no candidate before it.
 #![tactic(auto)]
 
 mod finder;

@@ -1,7 +1,7 @@
 //! The queue of a region.
 
 use crate::finder::Finder;
-use crate::keys::{stale_disks, take_keys};
+use crate::keys::{settle, take_keys};
 use crate::listing::list_again;
 use cell_grid::Grid;
 use cell_lists::Lists;
@@ -31,7 +31,7 @@ impl Model for Queue {
 
     ghost view = { λ a. queue_of a.finder.rules a.finder.grid a.finder.region a.finder.lists.cells a.keys };
 
-    ghost invariant = { λ a. IsSound a.finder.rules a.finder.grid a.finder.region a.finder.lists.grid };
+    ghost invariant = { λ a. IsSound a.finder.rules a.finder.grid a.finder.region a.finder.strip a.finder.lists.grid };
 }
 
 ghost use Rattle.std.specs.Prelude.{◌≡◌, ℕ, ◌<◌, None, Some, IfOk, OnOk};
@@ -90,10 +90,9 @@ impl Queue {
         ensures stands { OnOk result ((before : ViewData) → StandsFor self.old before →
             IsSameBut ids.now before view.now → StandsFor self.new view.now) }
     {
-        let stale = stale_disks(alloc, &self.finder, &self.keys, ids)?;
         list_again(alloc, &mut self.finder.lists, view, ids)?;
         take_keys(alloc, &self.finder, &mut self.keys, view, ids)?;
-        take_keys(alloc, &self.finder, &mut self.keys, view, &stale)
+        settle(alloc, &self.finder, &mut self.keys, view)
     }
 
     // The queue of a region that sees no disk.
@@ -109,6 +108,7 @@ impl Queue {
                 rules: *rules,
                 grid: *grid,
                 region,
+                strip: grid.strip(region),
                 lists: Lists::new(alloc, grid)?,
             },
             keys: EventTree::new(alloc),

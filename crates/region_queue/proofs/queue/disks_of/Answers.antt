@@ -1,6 +1,6 @@
 -- The next disk is the first that isn't listed yet.
 use Rattle.std.proofs.Common.{◌<◌, arith}
-use Rattle.region_queue.proofs.Stale.{numbered_more, numbered_all}
+use Rattle.region_queue.proofs.Numbered.{numbered_more, numbered_all}
 use Rattle.region_queue.proofs.queue.disks_of.Goals as goal
 
 pub loop-disk-preserved : goal.loop-disk-preserved

@@ -12,6 +12,6 @@ best_within-requires-clause-beside c = λ other cell within. (c.block_around-blo
 pub returns : goal.returns
 returns c = λ listed.
     subst (λ (o : Option Stamp). IsBest c.args.self.now c.args.view.now c.args.disk o) (sym c.earlier.ensures)
-    (best_is c.args.self.now c.args.view.now c.args.disk c.in_ok-placed.placed.now c.block_around-block.result c.best_alone.result
-    c.best_within.result c.requires (sym c.in_ok-placed.ensures) c.block_around-block.ensures.around c.best_alone.ensures
+    (best_is c.args.self.now c.args.view.now c.args.disk c.in-Some.placed.now c.block_around-block.result c.best_alone.result
+    c.best_within.result c.requires (sym c.in-Some.ensures) c.block_around-block.ensures.around c.best_alone.ensures
     (c.best_within.ensures listed) listed)

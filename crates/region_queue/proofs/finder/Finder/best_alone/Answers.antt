@@ -1,10 +1,23 @@
 -- The region owns the cell of the disk.
+use Rattle.std.proofs.Common.{sym, subst}
+use Rattle.std.specs.Prelude.{Option}
+use Rattle.event_stamps.specs.declared.Stamp.{Stamp}
+use Rattle.event_stamps.specs.Least.{IsLeastOf}
+use Rattle.region_queue.specs.Finding.{IsAloneAt}
 use Rattle.region_queue.proofs.Candidates.{alone_owned}
+use Rattle.region_queue.proofs.InRange.{alone_in_range}
 use Rattle.region_queue.proofs.finder.Finder.best_alone.Goals as goal
 
 pub first_alone-requires-clause-valid : goal.first_alone-requires-clause-valid
 first_alone-requires-clause-valid c = c.requires.ready.valid.disk c.args.disk c.args.placed.now c.requires.placed
 
+pub new-requires : goal.new-requires
+new-requires c =
+    alone_in_range c.args.self.now.rules c.args.self.now.grid c.args.disk c.args.placed.now c.first_alone.result c.requires.ready.checked
+    (c.requires.ready.valid.disk c.args.disk c.args.placed.now c.requires.placed)
+    (c.requires.ready.valid.number c.args.disk c.args.placed.now c.requires.placed) c.first_alone.ensures
+
 pub returns-then-own : goal.returns-then-own
 returns-then-own c =
-    alone_owned c.args.self.now c.args.disk c.args.placed.now c.first_alone.result (c.requires.own.0 c.if-own.true) c.first_alone.ensures
+    subst (λ (o : Option Stamp). IsLeastOf (IsAloneAt c.args.self.now c.args.disk c.args.placed.now) o) (sym c.new.ensures)
+    (alone_owned c.args.self.now c.args.disk c.args.placed.now c.first_alone.result (c.requires.own.0 c.if-own.true) c.first_alone.ensures)

@@ -8,11 +8,18 @@ use Rattle.cell_lists.specs.Firsts.{ascent}
 use Rattle.cell_lists.proofs.Firsts.{falls}
 use Rattle.region_queue.specs.Finding.{IsNativeWith}
 use Rattle.region_queue.proofs.Candidates.{ListedBelow, walk_begins, walk_more, walk_ends}
-use Rattle.region_queue.proofs.Beside.{placed_beside}
+use Rattle.region_queue.proofs.Beside.{placed_beside, column_owned}
 use Rattle.region_queue.proofs.finder.Finder.best_in_cell.Goals as goal
 
 pub loop-next-init : goal.loop-next-init
-loop-next-init c = (0, c.in_ok-first.ensures, λ listed. walk_begins c.args.self.now c.args.view.now c.args.disk c.args.cell)
+loop-next-init c = (
+  0,
+  c.first_in-next.ensures,
+  λ listed.
+      subst (λ (o : Option Stamp). IsLeastOf (IsNativeWith c.args.self.now c.args.view.now c.args.disk
+      (ListedBelow c.args.self.now.lists c.args.cell 0)) o) (sym c.new-best.ensures)
+      (walk_begins c.args.self.now c.args.view.now c.args.disk c.args.cell),
+)
 
 pub next_in-next-requires : goal.next_in-next-requires
 next_in-next-requires c =
@@ -35,8 +42,10 @@ loop-next-preserved c =
           (sym c.earlier-best.ensures)
           (walk_more finder c.args.view.now c.args.disk c.args.cell kept.0 c.in-Some.other c.loop-next.best c.pair.result
           (subst (λ (o : Option ℕ). IsFirstIn finder.lists c.args.cell kept.0 o) c.in-Some.is kept.1) (kept.2 listed)
-          (c.pair.ensures (placed_beside finder c.args.view.now c.args.placed.now.cell c.args.cell c.in-Some.other c.owns-home.result listed
-          (subst (λ (o : Option ℕ). IsFirstIn finder.lists c.args.cell kept.0 o) c.in-Some.is kept.1).1 c.requires.beside c.owns-home.ensures))),
+          (c.pair.ensures (placed_beside finder c.args.view.now c.args.placed.now.cell c.args.cell c.in-Some.other c.owns_column-home.result listed
+          (subst (λ (o : Option ℕ). IsFirstIn finder.lists c.args.cell kept.0 o) c.in-Some.is kept.1).1 c.requires.beside
+          (column_owned finder c.args.view.now c.args.cell c.args.column c.owns_column-home.result c.requires.ready c.requires.column
+          c.owns_column-home.ensures)))),
     )
 
 pub returns : goal.returns

@@ -1,6 +1,7 @@
 -- One more cell of the row.
 use Rattle.std.proofs.Common.{◌≡◌, ℕ, ◌+◌, ◌*◌, ◌≤◌, arith, sym, subst, ap, ◌∙◌}
 use Rattle.std.specs.Prelude.{Option}
+use Rattle.std.proofs.lemmas.Nat.{mod-mul-add}
 use Rattle.event_stamps.specs.declared.Stamp.{Stamp}
 use Rattle.event_stamps.specs.Least.{IsLeastOf}
 use Rattle.cell_grid.specs.Grid.{GridData}
@@ -14,8 +15,9 @@ use Rattle.region_queue.proofs.finder.Finder.best_in_row.Goals as goal
 pub loop-column-init : goal.loop-column-init
 loop-column-init c = λ listed.
     let lists = c.args.self.now.lists in
-    with_none c.args.self.now c.args.view.now c.args.disk
-    (IsListedWithin lists (columns_to c.args.block c.args.row c.args.block.left)) (no_column lists c.args.block c.args.row)
+    let Within = IsListedWithin lists (columns_to c.args.block c.args.row c.args.block.left) in
+    subst (λ (o : Option Stamp). IsLeastOf (IsNativeWith c.args.self.now c.args.view.now c.args.disk Within) o) (sym c.new-best.ensures)
+    (with_none c.args.self.now c.args.view.now c.args.disk Within (no_column lists c.args.block c.args.row))
 
 pub best_in_cell-requires-clause-cell : goal.best_in_cell-requires-clause-cell
 best_in_cell-requires-clause-cell c = rw c.columns.ensures.value
@@ -41,6 +43,11 @@ loop-column-preserved c = λ listed.
     c.loop-column.auto.column (omega arith) (c.loop-column.invariant listed)
     (subst (λ (n : ℕ). IsLeastOf (Found (IsListed finder.lists (c.args.row * n + column))) c.best_in_cell.result)
     (c.columns.ensures.value ∙ sym same) (c.best_in_cell.ensures listed)))
+
+pub best_in_cell-requires-clause-column : goal.best_in_cell-requires-clause-column
+best_in_cell-requires-clause-column c = rw c.columns.ensures.value
+    (sym (mod-mul-add c.args.row c.args.self.now.grid.columns c.loop-column.column
+    (let most = c.requires.block.most_columns in let lt = c.loop-column-test.true in omega arith)))
 
 pub returns : goal.returns
 returns c = λ listed.

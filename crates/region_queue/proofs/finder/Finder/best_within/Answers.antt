@@ -11,8 +11,9 @@ use Rattle.region_queue.proofs.finder.Finder.best_within.Goals as goal
 pub loop-row-init : goal.loop-row-init
 loop-row-init c = λ listed.
     let lists = c.args.self.now.lists in
-    with_none c.args.self.now c.args.view.now c.args.disk (IsListedWithin lists (rows_to c.args.block c.args.block.low))
-    (no_row lists c.args.block)
+    let Within = IsListedWithin lists (rows_to c.args.block c.args.block.low) in
+    subst (λ (o : Option Stamp). IsLeastOf (IsNativeWith c.args.self.now c.args.view.now c.args.disk Within) o) (sym c.new-best.ensures)
+    (with_none c.args.self.now c.args.view.now c.args.disk Within (no_row lists c.args.block))
 
 pub loop-row-preserved : goal.loop-row-preserved
 loop-row-preserved c = λ listed.

@@ -8,4 +8,4 @@ use Rattle.region_queue.proofs.queue.Queue.least.Goals as goal
 pub returns : goal.returns
 returns c = λ view stands.
     stands_least c.args.self.now view c.least.result stands
-    (subst (λ (keys : List Key). IsLeastKey keys c.least.result) (ap (λ (q : QueueData). q.keys) c.self.view_is) c.least.ensures)
+    (subst (λ (keys : List Key). IsLeastKey keys c.least.result) (ap (λ (q : QueueData). q.keys) c.self.view_is) c.least.ensures.least)

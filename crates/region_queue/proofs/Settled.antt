@@ -1,0 +1,98 @@
+-- Keys are taken again until the least is a candidate.
+use Rattle.std.proofs.Common.{◌≡◌, ◌⊎◌, inl, inr, ℕ, ◌-◌, ◌^◌, ◌<◌, List, arith, refl, sym, subst, ◌∙◌}
+use Rattle.std.specs.Prelude.{Some, None, IfSome}
+use Rattle.event_stamps.specs.declared.Stamp.{Stamp}
+use Rattle.event_stamps.specs.declared.Kind.TheVariants.{Pair}
+use Rattle.event_stamps.specs.Order.{Before, rank, kind_number}
+use Rattle.event_stamps.specs.Least.{IsLeastOf}
+use Rattle.event_stamps.proofs.StampOrder.{before_decides, same_stamp}
+use Rattle.event_stamps.proofs.Ranks.{kind_below, rank_less}
+use Rattle.event_tree.specs.Keys.{Key, IsNotAfter, IsLeastKey, key_at}
+use Rattle.event_tree.specs.Packing.{HasRoom}
+use Rattle.region_queue.specs.Covering.{Covers, IsSettled}
+use Rattle.region_queue.specs.Finding.{HasKey, IsHolder}
+use Rattle.region_queue.proofs.Covered.{IsBestOf, IsRetaken, covered_from}
+
+-- ---- the least key rises
+after_other : (s t : Stamp) → ¬ Before t s → ¬ (s ≡ t) → Before s t
+after_other s t not ne = elim (before_decides s t) [ inl before ↦ before | inr back ↦ absurd (ne (same_stamp s t back not)) ]
+
+-- where the disks that had the least key, which is no candidate, have their best ones
+pub rises : (C : Stamp → Type 0) (old new : List Key) (last : Stamp) (key : Key) → Covers C old → ¬ C last → IsLeastKey old (Some last) →
+    ((i : ℕ) → IsRetaken C (IsHolder old last) old new i) → IsLeastKey new key → IfSome key (Before last)
+rises C old new last None covers none least kept is = tt
+rises C old new last (Some s) covers none least kept is = from (is.one s refl).0 (is.one s refl).1 (kept (is.one s refl).0)
+  where
+    from : (i : ℕ) → key_at new i ≡ Some s → IsRetaken C (IsHolder old last) old new i → Before last s
+    from i at (inl best) =
+        let c = (subst (IsBestOf C i) at best).0.0 in
+        after_other last s (covered_from C old (Some last) s covers least c) (λ same. none (subst C (sym same) c))
+    from i at (inr k) =
+        let was : key_at old i ≡ Some s = sym k.0 ∙ at in
+        after_other last s (subst (IsNotAfter (Some last)) was (least.least i))
+        (λ same. let here = subst (λ (t : Stamp). key_at old i ≡ Some t) (sym same) was in k.1 (covers.named i last here, here))
+
+-- ---- and is a candidate in the end
+pub none_left : (C : Stamp → Type 0) (keys : List Key) → IsLeastKey keys None → IsSettled C keys
+none_left C keys none None is = tt
+none_left C keys none (Some s) is =
+    let at = is.one s refl in absurd (subst (IsNotAfter None) at.1 (none.least at.0))
+
+least_same : (keys : List Key) (s t : Stamp) → IsLeastKey keys (Some s) → IsLeastKey keys (Some t) → s ≡ t
+least_same keys s t first second =
+    let a = first.one s refl in
+    let b = second.one t refl in
+    same_stamp s t (subst (IsNotAfter (Some t)) a.1 (second.least a.0)) (subst (IsNotAfter (Some s)) b.1 (first.least b.0))
+
+pub fresh_settled : (C : Stamp → Type 0) (keys : List Key) (s : Stamp) → Covers C keys → IsLeastKey keys (Some s) →
+    (s.kind ≡ Pair → C s) → ((s.kind ≡ Pair) ⊎ ¬ (s.kind ≡ Pair)) → IsSettled C keys
+fresh_settled C keys s covers least fresh kind None is = tt
+fresh_settled C keys s covers least fresh kind (Some t) is = subst C (least_same keys s t least is) (found kind)
+  where
+    found : (s.kind ≡ Pair) ⊎ ¬ (s.kind ≡ Pair) → C s
+    found (inl pair) = fresh pair
+    found (inr alone) = let at = least.one s refl in covers.alone at.0 s at.1 alone
+
+pub settled_least : (C : Stamp → Type 0) (keys : List Key) (key : Key) → Covers C keys → IsSettled C keys → IsLeastKey keys key → IsLeastOf C key
+settled_least C keys None covers settled least = λ s c. covered_from C keys None s covers least c
+settled_least C keys (Some s) covers settled least =
+    (settled (Some s) least, λ t c. covered_from C keys (Some s) t covers least c)
+
+-- ---- in finitely many turns
+-- how far a key is below the greatest one of all
+abbrev pub below_all : Key → ℕ
+below_all None = 0
+below_all (Some s) = 2 ^ 128 - rank s
+
+rank_fits : (s : Stamp) → HasRoom s → rank s < 2 ^ 128
+rank_fits s kept =
+    let tick : s.tick < 2 ^ 64 = kept.tick in
+    let round : s.round < 65537 = kept.in_range.0 in
+    let first : s.first < 65536 = kept.in_range.1 in
+    let second : s.second < 65536 = kept.in_range.2 in
+    let kind : kind_number s.kind < 3 = kind_below s.kind in
+    omega arith
+
+pub comes_nearer : (last : Stamp) (key : Key) → HasRoom last → IfSome key HasRoom → IfSome key (Before last) → below_all key < below_all (Some last)
+comes_nearer last None kept next before = let fits : rank last < 2 ^ 128 = rank_fits last kept in omega arith
+comes_nearer last (Some s) kept next before =
+    let less : rank last < rank s = rank_less last s kept.in_range next.in_range before in
+    let fits : rank s < 2 ^ 128 = rank_fits s next in
+    omega arith
+
+-- ---- disks that have a key
+pub held : (C : Stamp → Type 0) (old mid new : List Key) (s : Stamp) →
+    ((i : ℕ) → IsRetaken C (HasKey old s.first s) old mid i) → ((i : ℕ) → IsRetaken C (HasKey mid s.second s) mid new i) →
+    (i : ℕ) → IsRetaken C (IsHolder old s) old new i
+held C old mid new s first second i = from (first i) (second i)
+  where
+    from : IsRetaken C (HasKey old s.first s) old mid i → IsRetaken C (HasKey mid s.second s) mid new i → IsRetaken C (IsHolder old s) old new i
+    from a (inl best) = inl best
+    from (inl best) (inr k) = inl (subst (IsBestOf C i) (sym k.0) best)
+    from (inr j) (inr k) = inr (
+      k.0 ∙ j.0,
+      λ h. elim h.0 [
+        | inl is_first ↦ j.1 (sym is_first, h.1)
+        | inr is_second ↦ k.1 (sym is_second.1, j.0 ∙ h.1)
+      ],
+    )
