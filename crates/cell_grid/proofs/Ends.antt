@@ -1,26 +1,21 @@
 -- Where something holds for the last time, and when a disk leaves its cell.
 use Rattle.std.proofs.Common.{◌≡◌, ◌↔◌, ◌⊎◌, inl, inr, ℕ, zero, suc, ◌+◌, ◌-◌, ◌*◌, ◌/◌, ◌%◌, ◌<◌, ◌≤◌, refl, sym, ap, ◌∙◌, subst, arith}
-use Rattle.std.specs.Prelude.{Option, Some, None, IsNone, IfSome, unwrap_or}
+use Rattle.std.specs.Prelude.{Option, Some, None, IsNone, IfSome, unwrap_or, ℤ}
 use Rattle.std.proofs.lemmas.Bool.{cases_lt}
 use Rattle.fixed_motion.specs.declared.rules.Rules.{Rules}
 use Rattle.fixed_motion.specs.declared.disk.Disk.{Disk}
-use Rattle.plane_vectors.specs.Vectors.{after}
-use Rattle.fixed_motion.specs.Motion.{IsInside, centre_of, velocity_of, place_of}
+use Rattle.plane_vectors.specs.declared.Vector.{Vector}
+use Rattle.fixed_motion.specs.Motion.{IsInside, IsValidDisk, centre_of, velocity_of, place_of}
+use Rattle.fixed_motion.specs.Rules.{IsChecked}
+use Rattle.fixed_motion.proofs.Sizes.{inside_in_box, in_box_size, slow_size}
 use Rattle.event_stamps.specs.declared.Stamp.{Stamp}
 use Rattle.event_stamps.specs.Least.{HasNone, IsOnly}
 use Rattle.cell_grid.specs.Grid.{GridData, HasSizes, cell_number, column_of, row_of}
-use Rattle.cell_grid.specs.Crossing.{IsLeavingTick, IsCrossEvent, cross_stamp}
-use Rattle.cell_grid.specs.Leaving.{IsFrom, EndsAt, IsAcross, IsUpwards, IsInAfter}
+use Rattle.cell_grid.specs.Crossing.{IsIn, IsLeavingTick, IsCrossEvent, cross_stamp}
+use Rattle.cell_grid.specs.declared.room.Room.{Room}
+use Rattle.cell_grid.specs.Leaving.{IsFrom, EndsAt, IsWithin, IsAcross, IsUpwards, IsInRoomAfter, IsRoomOf, IsSlowDisk}
 use Rattle.cell_grid.proofs.Cells.{column_at, row_at}
 use Rattle.cell_grid.proofs.Leaving.{one_leaving_tick, one_crossing}
-
--- what is the same ends at the same number
-pub ends_same : (P Q : ℕ → Type 0) (o : Option ℕ) → ((n : ℕ) → P n ↔ Q n) → EndsAt P o → EndsAt Q o
-ends_same P Q o same h = record {
-  never = λ n from q. h.never n from ((same n).1 q);
-  until = λ m n le not q. (same n).0 (h.until m n le not ((same m).1 q));
-  always = λ none m n q. (same n).0 (h.always none m n ((same m).1 q));
-}
 
 -- two facts together end where the first of them does
 pub both_end : (P Q : ℕ → Type 0) (o p r : Option ℕ) → (IsNone r ↔ (IsNone o × IsNone p)) →
@@ -56,51 +51,69 @@ nowhere P (Some (suc m)) h not n here = elim (cases_lt m n) [
 ]
 
 -- a disk that is in its cell at no tick has left it at its base tick
-pub leaves_at_base : (rules : Rules) (grid : GridData) (a : Disk) (cell : ℕ) (o : Option ℕ) →
-    EndsAt (IsInAfter rules grid a cell) o →
-    ¬ IsInAfter rules grid a cell (last_of o) → IsLeavingTick rules grid a cell a.base
-leaves_at_base rules grid a cell o h not = record {
+pub leaves_at_base : (rules : Rules) (grid : GridData) (a : Disk) (cell : ℕ) (room : Room) (o : Option ℕ) →
+    IsRoomOf rules grid a cell room → EndsAt (IsInRoomAfter room a) o → ¬ IsInRoomAfter room a (last_of o) →
+    IsLeavingTick rules grid a cell a.base
+leaves_at_base rules grid a cell room o of h not = record {
   base = omega arith;
-  left = λ t le. nowhere (IsInAfter rules grid a cell) o h not (t - a.base);
+  left = λ t le here. nowhere (IsInRoomAfter room a) o h not (t - a.base) ((of (place_of a t)).1 here);
   first = λ t from lt left. absurd (omega arith);
 }
 
 -- a disk that stays in its cell never leaves it
-pub never_leaves : (rules : Rules) (grid : GridData) (a : Disk) (cell : ℕ) → EndsAt (IsInAfter rules grid a cell) None →
-    IsInAfter rules grid a cell 0 → (tick : ℕ) → ¬ IsLeavingTick rules grid a cell tick
-never_leaves rules grid a cell h here tick leaving = leaving.left tick (omega arith) (h.always refl 0 (tick - a.base) here)
+pub never_leaves : (rules : Rules) (grid : GridData) (a : Disk) (cell : ℕ) (room : Room) →
+    IsRoomOf rules grid a cell room → EndsAt (IsInRoomAfter room a) None → IsInRoomAfter room a 0 → (tick : ℕ) →
+    ¬ IsLeavingTick rules grid a cell tick
+never_leaves rules grid a cell room of h here tick leaving =
+    leaving.left tick (omega arith) ((of (place_of a tick)).0 (h.always refl 0 (tick - a.base) here))
 
 -- a disk that is in its cell at the last tick before the end leaves it at the end
-pub leaves_at_end : (rules : Rules) (grid : GridData) (a : Disk) (cell n : ℕ) →
-    EndsAt (IsInAfter rules grid a cell) (Some n) →
-    IsInAfter rules grid a cell (n - 1) → IsLeavingTick rules grid a cell (a.base + n)
-leaves_at_end rules grid a cell zero h here = absurd (h.never 0 (omega arith) here)
-leaves_at_end rules grid a cell (suc m) h here = record {
+pub leaves_at_end : (rules : Rules) (grid : GridData) (a : Disk) (cell : ℕ) (room : Room) (n : ℕ) →
+    IsRoomOf rules grid a cell room → EndsAt (IsInRoomAfter room a) (Some n) → IsInRoomAfter room a (n - 1) →
+    IsLeavingTick rules grid a cell (a.base + n)
+leaves_at_end rules grid a cell room zero of h here = absurd (h.never 0 (omega arith) here)
+leaves_at_end rules grid a cell room (suc m) of h here = record {
   base = omega arith;
-  left = λ t le. h.never (t - a.base) (omega arith);
+  left = λ t le here. h.never (t - a.base) (omega arith) ((of (place_of a t)).1 here);
   first = λ t from lt left.
       let e : suc m - 1 ≡ (a.base + m) - a.base = omega arith in
-      left (a.base + m) (omega arith) (subst (IsInAfter rules grid a cell) e here);
+      left (a.base + m) (omega arith) ((of (place_of a (a.base + m))).0 (subst (IsInRoomAfter room a) e here));
+}
+
+-- a valid disk is slow
+pub slow_disk : (rules : Rules) (a : Disk) → IsChecked rules → IsValidDisk rules a → IsSlowDisk a
+slow_disk rules a checked valid = record {
+  centre = in_box_size (centre_of a) (inside_in_box rules a (centre_of a) checked valid.size valid.centre);
+  velocity = slow_size rules (velocity_of a) checked valid.velocity;
 }
 
 -- ---- the two axes
 -- a disk is in a cell where it is in its column and in its row
-pub in_by_axes : (rules : Rules) (grid : GridData) (a : Disk) (cell : ℕ) → HasSizes grid → (n : ℕ) →
-    (IsAcross rules grid a cell n × IsUpwards rules grid a cell n) ↔ IsInAfter rules grid a cell n
-in_by_axes rules grid a cell sizes n =
-    let p = after (centre_of a) (velocity_of a) n in (
-      λ h. (
-        record { left = h.0.0.0; right = h.0.0.1; bottom = h.1.0.0; top = h.1.0.1 },
-        (λ i. cell_number grid (h.0.1 i) (h.1.1 i)) ∙ again cell grid.columns,
-      ),
-      λ h.
-          let column = sym (column_at grid p sizes) ∙ ap (column_of grid) h.1 in
-          let row = sym (row_at grid p sizes) ∙ ap (row_of grid) h.1 in
-          (((h.0.left, h.0.right), column), ((h.0.bottom, h.0.top), row)),
-    )
+in_by_axes : (rules : Rules) (grid : GridData) (a : Disk) (cell : ℕ) → HasSizes grid → (place : Vector) →
+    (IsAcross rules grid a cell place.x × IsUpwards rules grid a cell place.y) ↔ IsIn rules grid a cell place
+in_by_axes rules grid a cell sizes place = (
+  λ h. (
+    record { left = h.0.0.0; right = h.0.0.1; bottom = h.1.0.0; top = h.1.0.1 },
+    (λ i. cell_number grid (h.0.1 i) (h.1.1 i)) ∙ again cell grid.columns,
+  ),
+  λ h.
+      let column = sym (column_at grid place sizes) ∙ ap (column_of grid) h.1 in
+      let row = sym (row_at grid place sizes) ∙ ap (row_of grid) h.1 in
+      (((h.0.left, h.0.right), column), ((h.0.bottom, h.0.top), row)),
+)
   where
     again : (n m : ℕ) → (n / m) * m + n % m ≡ n
     again n m = grind arith
+
+-- so the places within the bounds of both axes are those in the cell
+pub room_of : (rules : Rules) (grid : GridData) (a : Disk) (cell : ℕ) (room : Room) → HasSizes grid →
+    ((n : ℤ) → IsWithin room.across n ↔ IsAcross rules grid a cell n) →
+    ((n : ℤ) → IsWithin room.upwards n ↔ IsUpwards rules grid a cell n) → IsRoomOf rules grid a cell room
+room_of rules grid a cell room sizes across upwards place =
+    let both = in_by_axes rules grid a cell sizes place in (
+      λ h. both.0 ((across place.x).0 h.0, (upwards place.y).0 h.1),
+      λ h. let parts = both.1 h in ((across place.x).1 parts.0, (upwards place.y).1 parts.1),
+    )
 
 -- ---- the answer
 -- the event at the leaving tick is the only one

@@ -2,6 +2,7 @@
 use Rattle.std.specs.Prelude.{◌≡◌, ℕ, ◌+◌, ◌-◌, ◌*◌, ◌/◌, ◌%◌, ◌<◌, ◌≤◌, max, min, ℤ, nat_abs}
 use Rattle.plane_vectors.specs.declared.Vector.{Vector}
 use Rattle.fixed_motion.specs.declared.rules.Rules.{Rules}
+use Rattle.cell_grid.specs.declared.grid.Strip.{Strip}
 use Rattle.cell_grid.specs.declared.grid.TheConstants.{MAX_CELLS_ALONG, MAX_REGIONS}
 
 -- what a grid is seen as; the sides are those of one cell
@@ -90,6 +91,11 @@ IsRegion grid region = region < grid.regions
 -- the first column of a region, or for one past the last region one past the last column
 abbrev pub strip_start : GridData → ℕ → ℕ
 strip_start grid region = region * grid.columns / grid.regions
+
+-- the strip has the region's own columns
+pub record IsStripOf (grid : GridData) (region : ℕ) (strip : Strip) : Type 0 where
+  pub first : strip.first ≡ strip_start grid region
+  pub end : strip.end ≡ strip_start grid (region + 1)
 
 -- the cell is in one of the region's own columns
 abbrev pub Owns : GridData → ℕ → ℕ → Type 0

@@ -4,10 +4,13 @@ use Rattle.fixed_motion.specs.declared.rules.Rules.{Rules}
 use Rattle.fixed_motion.specs.declared.rules.TheConstants.{MAX_SIDE}
 use Rattle.fixed_motion.specs.declared.disk.Disk.{Disk}
 use Rattle.fixed_motion.specs.Motion.{radius_of, centre_of, velocity_of}
+use Rattle.plane_vectors.specs.declared.Vector.{Vector}
 use Rattle.plane_vectors.specs.Vectors.{after}
+use Rattle.plane_vectors.specs.Vectors as vectors
 use Rattle.contact_predictor.specs.Contact.{coordinate_after, IsBetween}
 use Rattle.cell_grid.specs.declared.bounds.Bounds.{Bounds}
 use Rattle.cell_grid.specs.declared.bounds.Course.{Course}
+use Rattle.cell_grid.specs.declared.room.Room.{Room}
 use Rattle.cell_grid.specs.Grid.{GridData, along, column_of, row_of}
 use Rattle.cell_grid.specs.Crossing.{IsIn}
 
@@ -53,18 +56,31 @@ abbrev pub AreOfColumn : ℕ → ℕ → ℕ → Bounds → Type 0
 AreOfColumn side count index bounds =
     (n : ℤ) → IsBetween (pos 0) MAX_SIDE n → (IsWithin bounds n ↔ (along side count n ≡ index))
 
--- ---- a disk
--- after so many ticks it is between the left and the right side of the box, and in the column of the cell
-abbrev pub IsAcross : Rules → GridData → Disk → ℕ → ℕ → Type 0
-IsAcross rules grid a cell ticks =
-    IsBetween (radius_of a) (rules.width -ℤ radius_of a) (coordinate_after a.x a.vx ticks)
-    × (along grid.side_x grid.columns (coordinate_after a.x a.vx ticks) ≡ column_of grid cell)
+-- ---- a disk in a cell
+-- at this coordinate a disk is between the left and the right side of the box, and in the column of the cell
+abbrev pub IsAcross : Rules → GridData → Disk → ℕ → ℤ → Type 0
+IsAcross rules grid a cell n =
+    IsBetween (radius_of a) (rules.width -ℤ radius_of a) n × (along grid.side_x grid.columns n ≡ column_of grid cell)
 
--- it is between the bottom and the top, and in the row of the cell
-abbrev pub IsUpwards : Rules → GridData → Disk → ℕ → ℕ → Type 0
-IsUpwards rules grid a cell ticks =
-    IsBetween (radius_of a) (rules.height -ℤ radius_of a) (coordinate_after a.y a.vy ticks)
-    × (along grid.side_y grid.rows (coordinate_after a.y a.vy ticks) ≡ row_of grid cell)
+-- between the bottom and the top, and in the row of the cell
+abbrev pub IsUpwards : Rules → GridData → Disk → ℕ → ℤ → Type 0
+IsUpwards rules grid a cell n =
+    IsBetween (radius_of a) (rules.height -ℤ radius_of a) n × (along grid.side_y grid.rows n ≡ row_of grid cell)
 
-abbrev pub IsInAfter : Rules → GridData → Disk → ℕ → ℕ → Type 0
-IsInAfter rules grid a cell ticks = IsIn rules grid a cell (after (centre_of a) (velocity_of a) ticks)
+abbrev pub IsInRoom : Room → Vector → Type 0
+IsInRoom room place = IsWithin room.across place.x × IsWithin room.upwards place.y
+
+abbrev pub IsInRoomAfter : Room → Disk → ℕ → Type 0
+IsInRoomAfter room a ticks = IsInRoom room (after (centre_of a) (velocity_of a) ticks)
+
+-- at the places in the room, and no others, the disk is inside the box and in the cell
+abbrev pub IsRoomOf : Rules → GridData → Disk → ℕ → Room → Type 0
+IsRoomOf rules grid a cell room = (place : Vector) → (IsInRoom room place ↔ IsIn rules grid a cell place)
+
+pub record IsSmallRoom (room : Room) : Type 0 where
+  pub across : AreSmall room.across
+  pub upwards : AreSmall room.upwards
+
+pub record IsSlowDisk (a : Disk) : Type 0 where
+  pub centre : vectors.IsWithin (2 ^ 30) (centre_of a)
+  pub velocity : vectors.IsWithin (2 ^ 20) (velocity_of a)

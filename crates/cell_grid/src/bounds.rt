@@ -98,6 +98,12 @@ impl Bounds {
         }
     }
 
+    pub(crate) fn holds(self, coordinate: i64) -> bool
+        ensures { IsTrue result ↔ IsWithin self coordinate }
+    {
+        self.least <= coordinate && coordinate <= self.greatest
+    }
+
     // After how many ticks the coordinate is past the bound that it goes towards; none where it stands
     // still.
     pub(crate) fn ticks_until_past(self, course: Course) -> Option<u64>

@@ -1,15 +1,13 @@
 //! When a disk leaves its recorded cell.
 
-ghost use Rattle.std.specs.Prelude.{◌≡◌, ◌↔◌, ℕ, ◌+◌, ◌*◌, ◌^◌, ◌<◌, ◌≤◌, ℤ, IsTrue, MatchOption, IfSome};
+ghost use Rattle.std.specs.Prelude.{ℕ, MatchOption};
 ghost use Rattle.fixed_motion.specs.Rules.{IsChecked};
 ghost use Rattle.fixed_motion.specs.Motion.{IsValidDisk};
 ghost use Rattle.event_stamps.specs.Least.{HasNone, IsOnly};
 ghost use Rattle.cell_grid.specs.Grid.{IsGridOf, IsCell};
 ghost use Rattle.cell_grid.specs.Crossing.{IsLeavingTick, IsCrossEvent};
-ghost use Rattle.cell_grid.specs.Leaving.{EndsAt, IsAcross, IsUpwards, IsInAfter};
 
 use crate::Grid;
-use crate::bounds::{Bounds, Course, lesser};
 use event_stamps::{Kind, Stamp};
 use fixed_motion::{Disk, Rules};
 
@@ -51,75 +49,13 @@ impl Grid {
         ensures { MatchOption result ((tick : ℕ) → IsLeavingTick rules.now self.now a.now cell tick → ⊥)
             (IsLeavingTick rules.now self.now a.now cell) }
     {
-        let ticks = self.ticks_until_past(rules, a, cell);
+        let room = self.room(rules, a, cell);
+        let ticks = room.ticks_until_past(a);
         // A disk that is ever in the cell is in it at the last tick before it is past an end of it.
         let last = ticks.unwrap_or(0).saturating_sub(1);
-        if !self.is_in_after(rules, a, cell, last) {
+        if !room.holds_after(a, last) {
             return Some(a.base);
         }
         Some(a.base + ticks?)
-    }
-
-    // At most 2^33 ticks after its base tick.
-    fn is_in_after(&self, rules: &Rules, a: &Disk, cell: u32, ticks: u64) -> bool
-        requires checked { IsChecked rules.now }
-        requires valid { IsValidDisk rules.now a.now }
-        requires ticks { ticks ≤ 2 ^ 33 }
-        ensures { IsTrue result ↔ IsInAfter rules.now self.now a.now cell ticks }
-    {
-        let place = a.centre().after(a.velocity(), ticks);
-        a.is_inside(rules, place) && self.cell_of(place.x, place.y) == cell
-    }
-
-    // After how many ticks the disk is past the end of the cell that it goes towards, on either axis;
-    // none where it stands still.
-    fn ticks_until_past(&self, rules: &Rules, a: &Disk, cell: u32) -> Option<u64>
-        requires checked { IsChecked rules.now }
-        requires grid { IsGridOf rules.now self.now }
-        requires valid { IsValidDisk rules.now a.now }
-        requires cell { IsCell self.now cell }
-        ensures ends { EndsAt (IsInAfter rules.now self.now a.now cell) result }
-        ensures near { IfSome result (λ ticks. ticks ≤ 2 ^ 33) }
-    {
-        lesser(
-            self.ticks_across(rules, a, cell),
-            self.ticks_upwards(rules, a, cell),
-        )
-    }
-
-    fn ticks_across(&self, rules: &Rules, a: &Disk, cell: u32) -> Option<u64>
-        requires checked { IsChecked rules.now }
-        requires grid { IsGridOf rules.now self.now }
-        requires valid { IsValidDisk rules.now a.now }
-        requires cell { IsCell self.now cell }
-        ensures ends { EndsAt (IsAcross rules.now self.now a.now cell) result }
-        ensures near { IfSome result (λ ticks. ticks ≤ 2 ^ 33) }
-    {
-        let course = Course {
-            start: a.x,
-            velocity: a.vx,
-        };
-        let column = self.width_cut().bounds(self.column(cell));
-        Bounds::across_box(rules, a)
-            .shared(column)
-            .ticks_until_past(course)
-    }
-
-    fn ticks_upwards(&self, rules: &Rules, a: &Disk, cell: u32) -> Option<u64>
-        requires checked { IsChecked rules.now }
-        requires grid { IsGridOf rules.now self.now }
-        requires valid { IsValidDisk rules.now a.now }
-        requires cell { IsCell self.now cell }
-        ensures ends { EndsAt (IsUpwards rules.now self.now a.now cell) result }
-        ensures near { IfSome result (λ ticks. ticks ≤ 2 ^ 33) }
-    {
-        let course = Course {
-            start: a.y,
-            velocity: a.vy,
-        };
-        let row = self.height_cut().bounds(self.row(cell));
-        Bounds::upwards_in_box(rules, a)
-            .shared(row)
-            .ticks_until_past(course)
     }
 }

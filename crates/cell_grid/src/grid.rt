@@ -21,6 +21,15 @@ pub struct Grid {
     regions: u32,
 }
 
+/// The columns that a region owns: those from `first` on, below `end`.
+#[derive(Clone, Copy, Debug, PartialEq, Eq)]
+pub struct Strip {
+    /// The first column.
+    pub first: u32,
+    /// One past the last column.
+    pub end: u32,
+}
+
 impl Model for Grid {
     ghost use Rattle.cell_grid.specs.Grid.{GridData, HasSizes};
 
@@ -51,11 +60,11 @@ impl Model for Grid {
     } };
 }
 
-ghost use Rattle.std.specs.Prelude.{◌≡◌, ◌↔◌, ℕ, ◌^◌, ◌≤◌, ◌<◌, IsTrue};
+ghost use Rattle.std.specs.Prelude.{◌≡◌, ◌↔◌, ℕ, ◌+◌, ◌^◌, ◌≤◌, ◌<◌, IsTrue};
 ghost use Rattle.plane_vectors.specs.Vectors.{vector};
 ghost use Rattle.fixed_motion.specs.Rules.{IsChecked};
 ghost use Rattle.fixed_motion.specs.Motion.{IsInBox};
-ghost use Rattle.cell_grid.specs.Grid.{grid_of, cells_along, IsAsked, IsGridOf, HasSizes, IsCell, IsRegion, IsAdjacent, IsBeside, Owns, Reaches, AreLinked, cell_at, column_of, row_of, strip_start};
+ghost use Rattle.cell_grid.specs.Grid.{grid_of, cells_along, IsAsked, IsGridOf, HasSizes, IsCell, IsRegion, IsAdjacent, IsBeside, IsStripOf, Owns, Reaches, AreLinked, cell_at, column_of, row_of, strip_start};
 
 use crate::bounds::Cut;
 use fixed_motion::Rules;
@@ -179,6 +188,18 @@ impl Grid {
         ((cell % self.columns + 1) * self.regions - 1) / self.columns
     }
 
+    /// The columns of a region.
+    pub fn strip(&self, region: u32) -> Strip
+        requires { IsRegion self.now region }
+        ensures strip { IsStripOf self.now region result }
+        ensures kept { HasSizes self.now }
+    {
+        Strip {
+            first: self.strip_start(region),
+            end: self.strip_start(region + 1),
+        }
+    }
+
     /// Whether a cell is in one of a region's columns or beside them.
     pub fn in_reach(&self, region: u32, cell: u32) -> bool
         requires first { IsRegion self.now region }
@@ -186,7 +207,8 @@ impl Grid {
         ensures { IsTrue result ↔ Reaches self.now region cell }
     {
         let column = cell % self.columns;
-        self.strip_start(region) <= column + 1 && column <= self.strip_start(region + 1)
+        let strip = self.strip(region);
+        strip.first <= column + 1 && column <= strip.end
     }
 
     /// Whether two regions are different and reach a cell in common.

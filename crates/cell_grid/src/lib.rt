@@ -7,8 +7,9 @@ mod bounds;
 mod crossing;
 mod grid;
 mod laws;
+mod room;
 
-pub use grid::{Grid, MAX_CELLS_ALONG, MAX_REGIONS};
+pub use grid::{Grid, MAX_CELLS_ALONG, MAX_REGIONS, Strip};
 pub use laws::{
     crosses_later, each_cell_has_one_owner, far_unless_adjacent, grids_have_sizes,
     leaves_after_last, links_are_mutual, meet_in_adjacent, moves_to_adjacent,
