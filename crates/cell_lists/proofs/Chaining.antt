@@ -2,8 +2,8 @@
 use Rattle.std.proofs.Common.{ap, ◌≡◌, ◌≢◌, ◌⊎◌, ◌↔◌, ℕ, ◌+◌, ◌%◌, ◌^◌, ◌<◌, ◌≤◌, List, length, get_or, set, arith, refl, sym, subst, ◌∙◌, inl, inr}
 use Rattle.std.specs.Option.{option_eq}
 use Rattle.std.proofs.lemmas.Bool.{cases_lt, true≢false, false≢true, eqb-true, eq-eqb}
-use Rattle.std.specs.Prelude.{true, false, eqb, Option, Some, None}
-use Rattle.std.proofs.lemmas.List.{get_or-set_same, get_or-set_other, get_or_past, get_or_default, length-set}
+use Rattle.std.specs.Prelude.{true, false, eqb, replicate, Option, Some, None}
+use Rattle.std.proofs.lemmas.List.{get_or-set_same, get_or-set_other, get_or_past, get_or_default, get_or-replicate, length-set, length-replicate}
 use Rattle.cell_lists.specs.Chain.{ChainsData, chains_of, at, IsLinked, IsUnlinked, IsIn, InBucket, IsFirst, IsLast, IsChained}
 use Rattle.cell_lists.specs.Firsts.{after_of, ascent}
 use Rattle.cell_lists.proofs.Firsts.{falls, first_kept, first_before, first_is, first_later, first_earlier}
@@ -308,11 +308,37 @@ chained_take heads nexts cells heads' nexts' b d cell (Some p) chained listed is
         spelled (set cells d None) (length heads) c (i + 1) (at nexts i) (at (set nexts p (at nexts d)) i) (get_or-set_other nexts p i (at nexts d) None other)
         (after_rest cells (set cells d None) (length heads) b d (Some p) (at nexts i) changed last i c ne other was (chained.after i c was))
 
+-- with no disk listed
+abbrev none_at : ℕ → List (Option ℕ)
+none_at n = replicate n None
+
+pub chained_none : (count room : ℕ) → 0 < count → room < 2 ^ 32 → IsChained (none_at count) (none_at room) (none_at room)
+chained_none count room some few = record {
+  some = rw (size count) some;
+  few = rw (size room) few;
+  len = refl;
+  first = λ b lt. subst (λ (o : Option ℕ). IsFirst (none_at room) (length (none_at count)) b 0 o) (sym (none count b))
+      (λ j le here. never (length (none_at count)) b j here);
+  after = λ i b here. absurd (never (length (none_at count)) b i here);
+}
+  where
+    size : (n : ℕ) → length (none_at n) ≡ n
+    size n = length-replicate {A = Option ℕ} n None
+
+    none : (n i : ℕ) → at (none_at n) i ≡ None
+    none n i = elim (cases_lt i n) [
+      | inl lt ↦ get_or-replicate n i None None lt
+      | inr past ↦ get_or_past (none_at n) i None (rw (size n) past)
+    ]
+
+    never : (m b i : ℕ) → ¬ InBucket (none_at room) m b i
+    never m b i = in_none (none_at room) m b i (none room i)
+
 -- ---- what the chains are seen as
 pub record IsSeen (heads nexts : List (Option ℕ)) (chains : ChainsData) : Type 0 where
   pub some : 0 < chains.buckets
   pub count : length heads ≡ chains.buckets
-  pub few : length chains.cells ≤ 2 ^ 32
+  pub few : length chains.cells < 2 ^ 32
   pub len : length nexts ≡ length chains.cells
   pub first : (b : ℕ) → b < chains.buckets → IsFirst chains.cells chains.buckets b 0 (at heads b)
   pub after : (i b : ℕ) → InBucket chains.cells chains.buckets b i → IsFirst chains.cells chains.buckets b (i + 1) (at nexts i)
@@ -329,15 +355,11 @@ seen heads nexts cells chains e chained = subst (IsSeen heads nexts) e (record {
 })
 
 -- a head that was read is the first of its bucket
-pub head_is_first : (heads nexts : List (Option ℕ)) (chains : ChainsData) (cell n : ℕ) (read : Option ℕ) → IsSeen heads nexts chains → n ≡ length heads →
-    read ≡ get_or heads (cell % n) read → IsFirst chains.cells chains.buckets (cell % chains.buckets) 0 read
-head_is_first heads nexts chains cell n read is e r =
-    let some = is.some in
-    let inside : cell % chains.buckets < chains.buckets = omega arith in
-    let within : cell % chains.buckets < length heads = subst (λ (m : ℕ). cell % chains.buckets < m) (sym is.count) inside in
-    let at_bucket : read ≡ get_or heads (cell % chains.buckets) read = subst (λ (m : ℕ). read ≡ get_or heads (cell % m) read) (e ∙ is.count) r in
-    spelled chains.cells chains.buckets (cell % chains.buckets) 0 (at heads (cell % chains.buckets)) read
-    (at_bucket ∙ get_or_default heads (cell % chains.buckets) read None within) (is.first (cell % chains.buckets) inside)
+pub head_is_first : (heads nexts : List (Option ℕ)) (chains : ChainsData) (b : ℕ) (read : Option ℕ) → IsSeen heads nexts chains → b < chains.buckets →
+    read ≡ get_or heads b read → IsFirst chains.cells chains.buckets b 0 read
+head_is_first heads nexts chains b read is inside r =
+    let within : b < length heads = subst (λ (m : ℕ). b < m) (sym is.count) inside in
+    spelled chains.cells chains.buckets b 0 (at heads b) read (r ∙ get_or_default heads b read None within) (is.first b inside)
 
 -- a next one that was read is the first of the bucket after its disk
 pub next_is_first : (heads nexts : List (Option ℕ)) (chains : ChainsData) (b i : ℕ) (read : Option ℕ) → IsSeen heads nexts chains →

@@ -3,4 +3,3 @@ pub mod Blocks
 mod Chaining
 pub mod Firsts
 mod Listed
-mod Walks

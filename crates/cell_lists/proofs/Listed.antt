@@ -82,8 +82,6 @@ listed_take xs disk lt = same_cells (set xs disk None) (map.remove (cells_in xs)
 pub listed_same : (xs ys : List (Option ℕ)) → ((i : ℕ) → at ys i ≡ at xs i) → cells_in ys ≡ cells_in xs
 listed_same xs ys same = same_cells ys (cells_in xs) (λ i. same i ∙ sym (cell_of xs i))
 
--- none is listed
--- ---- cells of the grid
 -- ---- what the lists are seen as
 listed_within : (xs : List (Option ℕ)) (disk cell : ℕ) → at xs disk ≡ Some cell → disk < length xs
 listed_within xs disk cell here = elim (cases_lt disk (length xs)) [

@@ -1,5 +1,5 @@
 -- The chains of disks that are listed in cells of one bucket.
-use Rattle.std.specs.Prelude.{◌≡◌, ℕ, ◌+◌, ◌%◌, ◌^◌, ◌<◌, ◌≤◌, List, [], ◌∷◌, length, slice_index_or, slice_set, Option, Some, None}
+use Rattle.std.specs.Prelude.{◌≡◌, ℕ, ◌+◌, ◌*◌, ◌%◌, ◌^◌, ◌<◌, max, min, List, [], ◌∷◌, length, slice_index_or, slice_set, Option, Some, None}
 use Rattle.std.specs.Ordering.{nat_cmp}
 use Rattle.std.specs.FinMap as map
 use Rattle.cell_grid.specs.Grid.{GridData, IsCell}
@@ -12,6 +12,10 @@ pub record ChainsData : Type 0 where
 
 abbrev pub chains_of : ℕ → List (Option ℕ) → ChainsData
 chains_of buckets cells = record { buckets = buckets; cells = cells }
+
+-- how many buckets there are, with so many cells and room for so many disks
+abbrev pub bucket_count : ℕ → ℕ → ℕ
+bucket_count cells room = max room (min cells (4 * room))
 
 -- with another cell, or none, for a disk
 abbrev pub with_cell : ChainsData → ℕ → Option ℕ → ChainsData
@@ -37,7 +41,7 @@ IsLast cells count bucket below o = IsLastOf (InBucket cells count bucket) below
 -- each head is the first disk of its bucket, and each disk's next the first one after it
 pub record IsChained (heads nexts cells : List (Option ℕ)) : Type 0 where
   pub some : 0 < length heads
-  pub few : length cells ≤ 2 ^ 32
+  pub few : length cells < 2 ^ 32
   pub len : length nexts ≡ length cells
   pub first : (b : ℕ) → b < length heads → IsFirst cells (length heads) b 0 (at heads b)
   pub after : (i b : ℕ) → InBucket cells (length heads) b i → IsFirst cells (length heads) b (i + 1) (at nexts i)

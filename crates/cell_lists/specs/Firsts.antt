@@ -1,5 +1,5 @@
--- The first number that has a property, and all that have it, in order.
-use Rattle.std.specs.Prelude.{◌≡◌, ℕ, ◌+◌, ◌-◌, ◌^◌, ◌<◌, ◌≤◌, List, length, slice_index, Option, Some, None, MatchOption}
+-- The first number that has a property, and the last.
+use Rattle.std.specs.Prelude.{ℕ, ◌+◌, ◌-◌, ◌^◌, ◌<◌, ◌≤◌, Option, Some, None, MatchOption}
 
 -- the first from a number on of which P holds; none where there is none
 abbrev pub IsFirstOf : (ℕ → Type 0) → ℕ → Option ℕ → Type 0
@@ -20,9 +20,3 @@ after_of (Some i) = i + 1
 abbrev pub ascent : Option ℕ → ℕ
 ascent None = 0
 ascent (Some i) = 2 ^ 32 - i
-
--- exactly the numbers of which P holds, each greater than those before it
-pub record IsListOf (P : ℕ → Type 0) (ids : List ℕ) : Type 0 where
-  pub members : (k : ℕ) → k < length ids → P (slice_index ids k)
-  pub all : (i : ℕ) → P i → (k : ℕ) × (k < length ids) × (slice_index ids k ≡ i)
-  pub rising : (j k : ℕ) → j < k → k < length ids → slice_index ids j < slice_index ids k

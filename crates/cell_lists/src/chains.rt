@@ -1,23 +1,33 @@
 //! Which disks are listed in which cells, as chains through dense arrays.
 //!
 //! These are the cell lists of molecular dynamics (Hockney and Eastwood, Computer Simulation Using
-//! Particles, 8.4), with a head for each bucket of cells, and for each disk the next one of its bucket. The
-//! chains ascend. There are as many buckets as there is room for disks, so an empty cell takes no memory.
+//! Particles, 8.4), with a head for each bucket of cells, and for each disk the next one of its
+//! bucket. The chains ascend. Where the grid has at most four times as many cells as there is room
+//! for disks, each cell has a bucket of its own; else cells share buckets, so that the empty cells of
+//! a great grid take no memory.
 
+use crate::slot::Slot;
 use std::alloc::{AllocError, Global};
 use std::marker::Model;
 
-// The most disks that there is room for: more than any number of 32 bits.
-const MOST_ROOM: usize = 1 << 32;
+// The most disks that there is room for: one for each number of 32 bits but the greatest, which no
+// slot holds.
+const MOST_ROOM: usize = (1 << 32) - 1;
+
+// The most buckets for each disk that there is room for, where there are so many cells.
+const MOST_BUCKETS_A_DISK: usize = 4;
 
 // The cell in which each disk is listed, or none.
 #[derive(Drop)]
 pub struct Chains {
-    // The least disk of each bucket. The bucket of a cell is its remainder after division by their number.
-    heads: Vec<Option<u32>>,
+    // The least disk of each bucket. The bucket of a cell is its remainder after division by their
+    // number.
+    heads: Vec<Slot>,
     // Of each listed disk, the next one of its bucket.
-    nexts: Vec<Option<u32>>,
-    cells: Vec<Option<u32>>,
+    nexts: Vec<Slot>,
+    cells: Vec<Slot>,
+    // How many cells the grid has.
+    cell_count: u32,
 }
 
 impl Model for Chains {
@@ -33,19 +43,22 @@ impl Model for Chains {
 
 ghost use Rattle.std.specs.Prelude.{◌≡◌, ◌+◌, ◌%◌, ◌<◌, ◌≤◌, ◌^◌, ℕ, length, None, Some, replicate, IfOk, OnOk, IfSome};
 ghost use Rattle.cell_lists.specs.Firsts.{IsFirstOf};
-ghost use Rattle.cell_lists.specs.Chain.{chains_of, with_cell, at, IsIn, IsFirst, IsLast, IsLinked, IsUnlinked, HasRoom};
+ghost use Rattle.cell_lists.specs.Chain.{chains_of, bucket_count, with_cell, at, IsIn, IsFirst, IsLast, IsLinked, IsUnlinked, HasRoom};
 
 impl Chains {
-    // No disk listed, with room for so many.
-    pub fn new(alloc: Global, room: usize) -> Result<Chains, AllocError>
+    // No disk listed, with room for so many, in a grid of so many cells.
+    pub fn new(alloc: Global, cell_count: u32, room: usize) -> Result<Chains, AllocError>
         requires some { 0 < room }
-        requires most { room ≤ 2 ^ 32 }
-        ensures { IfOk result (λ chains. chains ≡ chains_of room (replicate room None)) }
+        requires most { room < 2 ^ 32 }
+        ensures { IfOk result (λ chains. chains ≡ chains_of (bucket_count cell_count room) (replicate room None)) }
     {
+        let most = MOST_BUCKETS_A_DISK * room;
+        let buckets = (cell_count as usize).min(most).max(room);
         Ok(Chains {
-            heads: vec![in alloc; None; room]?,
-            nexts: vec![in alloc; None; room]?,
-            cells: vec![in alloc; None; room]?,
+            heads: vec![in alloc; Slot::none(); buckets]?,
+            nexts: vec![in alloc; Slot::none(); room]?,
+            cells: vec![in alloc; Slot::none(); room]?,
+            cell_count,
         })
     }
 
@@ -56,6 +69,9 @@ impl Chains {
     {
         let least = disk as usize + 1;
         if least > self.cells.len() {
+            if least > MOST_ROOM {
+                return Err(AllocError);
+            }
             let twice = (2 * self.cells.len()).min(MOST_ROOM);
             *self = self.with_room(alloc, least.max(twice))?;
         }
@@ -65,16 +81,16 @@ impl Chains {
     // The same disks listed, with room for so many.
     fn with_room(&self, alloc: Global, room: usize) -> Result<Chains, AllocError>
         requires some { 0 < room }
-        requires most { room ≤ 2 ^ 32 }
+        requires most { room < 2 ^ 32 }
         requires more { length self.now.cells ≤ room }
         ensures { IfOk result (λ chains. HasRoom self.now.cells room chains.cells) }
     {
-        let mut wider = Chains::new(alloc, room)?;
+        let mut wider = Chains::new(alloc, self.cell_count, room)?;
         let mut disk = self.cells.len();
         // From the greatest on, so that each comes to the head of its chain.
         while disk > 0 {
             disk -= 1;
-            if let Some(cell) = self.cells[disk] {
+            if let Some(cell) = self.cells[disk].get() {
                 wider.put(disk as u32, cell);
             }
         }
@@ -85,12 +101,13 @@ impl Chains {
     pub fn put(&mut self, disk: u32, cell: u32)
         requires within { disk < length self.old.cells }
         requires free { at self.old.cells disk ≡ None }
+        requires cell { cell + 1 < 2 ^ 32 }
         ensures { self.new ≡ with_cell self.old disk (Some cell) }
     {
-        let before = self.last_below(cell, disk);
-        let bucket = cell as usize % self.heads.len();
+        let bucket = self.bucket(cell);
+        let before = self.last_below(bucket, disk);
         link(&mut self.heads, &mut self.nexts, bucket, disk, before);
-        self.cells[disk as usize] = Some(cell);
+        self.cells[disk as usize] = Slot::of(cell);
     }
 
     // Takes a disk off the cell in which it is listed.
@@ -98,25 +115,24 @@ impl Chains {
         requires { at self.old.cells disk ≡ Some cell }
         ensures { self.new ≡ with_cell self.old disk None }
     {
-        let before = self.last_below(cell, disk);
-        let bucket = cell as usize % self.heads.len();
+        let bucket = self.bucket(cell);
+        let before = self.last_below(bucket, disk);
         unlink(&mut self.heads, &mut self.nexts, bucket, disk, before);
-        self.cells[disk as usize] = None;
+        self.cells[disk as usize] = Slot::none();
     }
 
     // The cell in which a disk is listed.
     pub fn cell_of(&self, disk: u32) -> Option<u32>
         ensures { result ≡ at self.now.cells disk }
     {
-        *self.cells.get(disk as usize)?
+        self.cells.get(disk as usize)?.get()
     }
 
     // The least disk listed in a cell.
     pub fn first_in(&self, cell: u32) -> Option<u32>
         ensures { IsFirstOf (IsIn self.now.cells cell) 0 result }
     {
-        let bucket = cell as usize % self.heads.len();
-        self.skip(cell, 0, self.heads[bucket])
+        self.skip(cell, 0, self.heads[self.bucket(cell)].get())
     }
 
     // The next disk after one in its cell.
@@ -124,7 +140,7 @@ impl Chains {
         requires { at self.now.cells disk ≡ Some cell }
         ensures { IsFirstOf (IsIn self.now.cells cell) (disk + 1) result }
     {
-        self.skip(cell, disk as u64 + 1, self.nexts[disk as usize])
+        self.skip(cell, disk as u64 + 1, self.nexts[disk as usize].get())
     }
 
     // The first disk of a cell, where `start` is the first of its bucket from a number on.
@@ -134,60 +150,70 @@ impl Chains {
     {
         let mut next = start;
         while let Some(disk) = next {
-            if self.cells[disk as usize] == Some(cell) {
+            if self.cells[disk as usize].get() == Some(cell) {
                 break;
             }
-            next = self.nexts[disk as usize];
+            next = self.nexts[disk as usize].get();
         }
         next
     }
 
-    // The greatest disk of a cell's bucket that is less than this one.
-    fn last_below(&self, cell: u32, disk: u32) -> Option<u32>
-        ensures { IsLast self.now.cells self.now.buckets (cell % self.now.buckets) disk result }
+    // The bucket of a cell.
+    fn bucket(&self, cell: u32) -> usize
+        ensures value { result ≡ cell % self.now.buckets }
+        ensures in_range { result < self.now.buckets }
+    {
+        let count = self.heads.len();
+        // Most cells have a number that small, and a division takes far longer than this question.
+        if (cell as usize) < count {
+            cell as usize
+        } else {
+            (cell % count as u32) as usize
+        }
+    }
+
+    // The greatest disk of a bucket that is less than this one.
+    fn last_below(&self, bucket: usize, disk: u32) -> Option<u32>
+        requires { bucket < self.now.buckets }
+        ensures { IsLast self.now.cells self.now.buckets bucket disk result }
     {
         let mut last = None;
-        let mut next = self.heads[cell as usize % self.heads.len()];
+        let mut next = self.heads[bucket].get();
         while let Some(i) = next {
             if i >= disk {
                 break;
             }
             last = next;
-            next = self.nexts[i as usize];
+            next = self.nexts[i as usize].get();
         }
         last
     }
 }
 
 // Sets a disk into its bucket's chain, after the one that comes before it.
-fn link(
-    heads: &mut Vec<Option<u32>>,
-    nexts: &mut Vec<Option<u32>>,
-    bucket: usize,
-    disk: u32,
-    before: Option<u32>,
-)
+fn link(heads: &mut Vec<Slot>, nexts: &mut Vec<Slot>, bucket: usize, disk: u32, before: Option<u32>)
     requires bucket { bucket < length heads.old.items }
     requires disk { disk < length nexts.old.items }
+    requires few { length nexts.old.items < 2 ^ 32 }
     requires before { IfSome before (λ p. p < length nexts.old.items) }
     ensures { IsLinked heads.old.items nexts.old.items bucket disk before heads.new.items nexts.new.items }
 {
     match before {
         None => {
             nexts[disk as usize] = heads[bucket];
-            heads[bucket] = Some(disk);
+            heads[bucket] = Slot::of(disk);
         }
         Some(p) => {
             nexts[disk as usize] = nexts[p as usize];
-            nexts[p as usize] = Some(disk);
+            nexts[p as usize] = Slot::of(disk);
         }
     }
 }
 
 // Takes a disk out of its bucket's chain.
 fn unlink(
-    heads: &mut Vec<Option<u32>>,
-    nexts: &mut Vec<Option<u32>>,
+    heads: &mut Vec<Slot>,
+    nexts: &mut Vec<Slot>,
     bucket: usize,
     disk: u32,
     before: Option<u32>,

@@ -1,9 +1,10 @@
-//! Which disks are listed in which cells, and which disks are near a cell.
+//! Which disks are listed in which cells, and which cells are around one.
 #![tactic(auto)]
 
 mod chains;
 mod lists;
 mod near;
+mod slot;
 
 pub use lists::Lists;
-pub use near::{Block, Ids, block_around};
+pub use near::{Block, block_around};

@@ -7,11 +7,12 @@ use std::marker::Model;
 
 /// Which disks are listed in which cells of a grid.
 ///
-/// A disk is listed in one cell at most. Memory is taken for as many disks as the greatest number that
-/// was ever listed, or for up to twice as many, and none for the cells.
+/// A disk is listed in one cell at most. Memory is taken for as many disks as the greatest number
+/// that was ever listed, or for up to twice as many: 8 bytes for each of these disks, and 4 for each
+/// cell of the grid, but for no more cells than four times these disks, and no fewer than these.
 #[derive(Drop)]
 pub struct Lists {
-    pub(crate) grid: Grid,
+    grid: Grid,
     chains: Chains,
 }
 
@@ -43,7 +44,7 @@ impl Lists {
     {
         Ok(Lists {
             grid: *grid,
-            chains: Chains::new(alloc, 1)?,
+            chains: Chains::new(alloc, grid.columns() * grid.rows(), 1)?,
         })
     }
 
@@ -51,7 +52,7 @@ impl Lists {
     ///
     /// # Errors
     /// Out of memory: the number is greater than all that were listed before, and there is no room for
-    /// it. The lists stay as they are.
+    /// it, as there never is for 2^32 - 1. The lists stay as they are.
     pub fn put(&mut self, alloc: Global, disk: u32, cell: u32) -> Result<(), AllocError>
         requires free { IsFree self.old disk }
         requires cell { IsCell self.old.grid cell }

@@ -5,7 +5,7 @@ ghost use Rattle.cell_grid.specs.Grid.{IsCell};
 
 use super::helpers::{Numbers, expect_none};
 use cell_grid::Grid;
-use cell_lists::Lists;
+use cell_lists::{Lists, block_around};
 use event_stamps::Stamp;
 use fixed_motion::{Disk, Rules};
 use std::test::Fail;
@@ -312,11 +312,15 @@ fn a_disk_is_listed_and_taken_off(rt: HostRuntime) -> Result<(), Fail> {
     };
     let grid = Grid::new(&rules, 1);
     let cell = grid.cell_of(15, 5);
+    let block = block_around(&grid, cell);
+    assert_eq!(rt;
+        (block.left, block.right, block.low, block.high),
+        (0, 3, 0, 2)
+    );
     let mut lists = Lists::new(rt.alloc(), &grid)?;
     lists.put(rt.alloc(), 7, cell)?;
     assert_eq!(rt; lists.first_in(cell), Some(7));
-    let near = lists.near(rt.alloc(), cell)?;
-    assert_eq!(rt; near.as_slice(), [7].as_slice());
+    assert_eq!(rt; lists.next_in(7, cell), None);
     lists.take(7, cell);
     assert_eq!(rt; lists.first_in(cell), None);
     Ok(())

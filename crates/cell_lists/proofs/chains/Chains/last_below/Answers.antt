@@ -1,5 +1,5 @@
 -- The chain ascends.
-use Rattle.std.proofs.Common.{rules, ◌≡◌, ◌%◌, ◌<◌, length, arith, sym, subst}
+use Rattle.std.proofs.Common.{◌<◌, arith, sym, subst}
 use Rattle.std.specs.Prelude.{ℕ, Option}
 use Rattle.cell_lists.specs.Firsts.{after_of, ascent}
 use Rattle.cell_lists.specs.Chain.{InBucket, IsFirst}
@@ -11,10 +11,9 @@ pub loop-next-init : goal.loop-next-init
 loop-next-init c =
     let heads = c.self.inside.heads.items in
     let nexts = c.self.inside.nexts.items in
-    let count : c.len.result ≡ length c.self.inside.heads.items = search rules in
     record {
-      next = head_is_first heads nexts c.args.self.now c.args.cell c.len.result c.index-next.result.now
-          (seen heads nexts c.self.inside.cells.items c.args.self.now c.self.view_is c.self.invariant) count c.index-next.ensures;
+      next = rw c.get-next.ensures.value (head_is_first heads nexts c.args.self.now c.args.bucket c.index.result.now
+          (seen heads nexts c.self.inside.cells.items c.args.self.now c.self.view_is c.self.invariant) c.requires c.index.ensures);
       last = tt;
     }
 
@@ -24,30 +23,30 @@ loop-next-smaller c =
     let nexts = c.self.inside.nexts.items in
     let chains = c.args.self.now in
     let is = seen heads nexts c.self.inside.cells.items c.args.self.now c.self.view_is c.self.invariant in
-    let here = subst (λ (o : Option ℕ). IsFirst c.args.self.now.cells c.args.self.now.buckets (c.args.cell % c.args.self.now.buckets) (after_of c.loop-next.last) o) c.in-Some.is c.loop-next.invariant.next in
-    subst (λ (o : Option ℕ). ascent c.index-next-in-Some.result.now < ascent o) (sym c.in-Some.is)
-    (next_falls heads nexts chains (c.args.cell % c.args.self.now.buckets) c.in-Some.i c.index-next-in-Some.result.now is here.1
-    (next_is_first heads nexts chains (c.args.cell % c.args.self.now.buckets) c.in-Some.i c.index-next-in-Some.result.now is here.1 c.index-next-in-Some.ensures))
+    let here = subst (λ (o : Option ℕ). IsFirst c.args.self.now.cells c.args.self.now.buckets c.args.bucket (after_of c.loop-next.last) o) c.in-Some.is c.loop-next.invariant.next in
+    subst (λ (o : Option ℕ). ascent c.get-next-in-Some.result < ascent o) (sym c.in-Some.is) (rw c.get-next-in-Some.ensures.value
+    (next_falls heads nexts chains c.args.bucket c.in-Some.i c.index-in-Some.result.now is here.1
+    (next_is_first heads nexts chains c.args.bucket c.in-Some.i c.index-in-Some.result.now is here.1 c.index-in-Some.ensures)))
 
 pub loop-next-preserved : goal.loop-next-preserved
 loop-next-preserved c =
     let heads = c.self.inside.heads.items in
     let nexts = c.self.inside.nexts.items in
     let is = seen heads nexts c.self.inside.cells.items c.args.self.now c.self.view_is c.self.invariant in
-    let here = subst (λ (o : Option ℕ). IsFirst c.args.self.now.cells c.args.self.now.buckets (c.args.cell % c.args.self.now.buckets) (after_of c.loop-next.last) o) c.in-Some.is c.loop-next.invariant.next in
+    let here = subst (λ (o : Option ℕ). IsFirst c.args.self.now.cells c.args.self.now.buckets c.args.bucket (after_of c.loop-next.last) o) c.in-Some.is c.loop-next.invariant.next in
     record {
-      next = next_is_first heads nexts c.args.self.now (c.args.cell % c.args.self.now.buckets) c.in-Some.i c.index-next-in-Some.result.now is here.1 c.index-next-in-Some.ensures;
+      next = rw c.get-next-in-Some.ensures.value (next_is_first heads nexts c.args.self.now c.args.bucket c.in-Some.i c.index-in-Some.result.now is here.1 c.index-in-Some.ensures);
       last = (let less = c.if-i-disk.false in omega arith, here.1);
     }
 
 pub returns-then-i-disk : goal.returns-then-i-disk
 returns-then-i-disk c =
-    last_past (InBucket c.args.self.now.cells c.args.self.now.buckets (c.args.cell % c.args.self.now.buckets)) c.loop-next.last c.in-Some.i c.args.disk
-    (subst (λ (o : Option ℕ). IsFirst c.args.self.now.cells c.args.self.now.buckets (c.args.cell % c.args.self.now.buckets) (after_of c.loop-next.last) o) c.in-Some.is c.loop-next.invariant.next)
+    last_past (InBucket c.args.self.now.cells c.args.self.now.buckets c.args.bucket) c.loop-next.last c.in-Some.i c.args.disk
+    (subst (λ (o : Option ℕ). IsFirst c.args.self.now.cells c.args.self.now.buckets c.args.bucket (after_of c.loop-next.last) o) c.in-Some.is c.loop-next.invariant.next)
     c.if-i-disk.true c.loop-next.invariant.last
 
 pub returns-in_default : goal.returns-in_default
 returns-in_default c =
-    last_end (InBucket c.args.self.now.cells c.args.self.now.buckets (c.args.cell % c.args.self.now.buckets)) c.loop-next.last c.args.disk
-    (subst (λ (o : Option ℕ). IsFirst c.args.self.now.cells c.args.self.now.buckets (c.args.cell % c.args.self.now.buckets) (after_of c.loop-next.last) o) c.in_default.is c.loop-next.invariant.next)
+    last_end (InBucket c.args.self.now.cells c.args.self.now.buckets c.args.bucket) c.loop-next.last c.args.disk
+    (subst (λ (o : Option ℕ). IsFirst c.args.self.now.cells c.args.self.now.buckets c.args.bucket (after_of c.loop-next.last) o) c.in_default.is c.loop-next.invariant.next)
     c.loop-next.invariant.last

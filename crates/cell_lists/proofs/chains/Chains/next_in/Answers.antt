@@ -7,5 +7,5 @@ pub skip-requires : goal.skip-requires
 skip-requires c =
     let heads = c.self.inside.heads.items in
     let nexts = c.self.inside.nexts.items in
-    next_is_first heads nexts c.args.self.now (c.args.cell % c.args.self.now.buckets) c.args.disk c.index.result.now
-    (seen heads nexts c.self.inside.cells.items c.args.self.now c.self.view_is c.self.invariant) (c.args.cell, c.requires, refl) c.index.ensures
+    rw c.get.ensures.value (next_is_first heads nexts c.args.self.now (c.args.cell % c.args.self.now.buckets) c.args.disk c.index.result.now
+    (seen heads nexts c.self.inside.cells.items c.args.self.now c.self.view_is c.self.invariant) (c.args.cell, c.requires, refl) c.index.ensures)

@@ -12,9 +12,9 @@ loop-next-smaller c =
     let nexts = c.self.inside.nexts.items in
     let is = seen heads nexts c.self.inside.cells.items c.args.self.now c.self.view_is c.self.invariant in
     let here = subst (λ (o : Option ℕ). IsFirst c.args.self.now.cells c.args.self.now.buckets (c.args.cell % c.args.self.now.buckets) c.loop-next.invariant.0 o) c.in-Some.is c.loop-next.invariant.3 in
-    subst (λ (o : Option ℕ). ascent c.index-next.result.now < ascent o) (sym c.in-Some.is)
-    (next_falls heads nexts c.args.self.now (c.args.cell % c.args.self.now.buckets) c.in-Some.disk c.index-next.result.now is here.1
-    (next_is_first heads nexts c.args.self.now (c.args.cell % c.args.self.now.buckets) c.in-Some.disk c.index-next.result.now is here.1 c.index-next.ensures))
+    subst (λ (o : Option ℕ). ascent c.get-next.result < ascent o) (sym c.in-Some.is) (rw c.get-next.ensures.value
+    (next_falls heads nexts c.args.self.now (c.args.cell % c.args.self.now.buckets) c.in-Some.disk c.index-in-Some.result.now is here.1
+    (next_is_first heads nexts c.args.self.now (c.args.cell % c.args.self.now.buckets) c.in-Some.disk c.index-in-Some.result.now is here.1 c.index-in-Some.ensures)))
 
 pub loop-next-preserved : goal.loop-next-preserved
 loop-next-preserved c =
@@ -31,8 +31,8 @@ loop-next-preserved c =
       omega arith,
       passed_one c.args.self.now.cells c.args.cell c.args.from c.in-Some.disk
           (passed_more c.args.self.now.cells c.args.self.now.buckets c.args.cell c.args.from kept.0 c.in-Some.disk here kept.2)
-          (λ is. is_other c.index.result.now c.args.cell c.if-eq.ensures (sym read ∙ is)),
-      next_is_first heads nexts c.args.self.now (c.args.cell % c.args.self.now.buckets) c.in-Some.disk c.index-next.result.now is here.1 c.index-next.ensures,
+          (λ is. is_other c.get.result c.args.cell c.if-eq.ensures (c.get.ensures.value ∙ sym read ∙ is)),
+      rw c.get-next.ensures.value (next_is_first heads nexts c.args.self.now (c.args.cell % c.args.self.now.buckets) c.in-Some.disk c.index-in-Some.result.now is here.1 c.index-in-Some.ensures),
     )
 
 pub returns-then-eq : goal.returns-then-eq
@@ -43,7 +43,7 @@ returns-then-eq c =
     let low : kept.0 ≤ c.in-Some.disk = here.0 in
     let room = within c.args.self.now.cells c.args.self.now.buckets (c.args.cell % c.args.self.now.buckets) c.in-Some.disk here.1 in
     let read = cell_is_read c.self.inside.cells.items (length c.self.inside.heads.items) c.args.self.now c.in-Some.disk c.index.result.now c.self.view_is room c.index.ensures in
-    (omega arith, read ∙ is_that c.index.result.now c.args.cell c.if-eq.ensures, passed_more c.args.self.now.cells c.args.self.now.buckets c.args.cell c.args.from kept.0 c.in-Some.disk here kept.2)
+    (omega arith, read ∙ sym c.get.ensures.value ∙ is_that c.get.result c.args.cell c.if-eq.ensures, passed_more c.args.self.now.cells c.args.self.now.buckets c.args.cell c.args.from kept.0 c.in-Some.disk here kept.2)
 
 pub returns-in_default : goal.returns-in_default
 returns-in_default c =
