@@ -8,33 +8,13 @@ use Rattle.fixed_motion.specs.declared.disk.Disk.{Disk}
 use Rattle.event_stamps.specs.declared.Stamp.{Stamp}
 use Rattle.event_stamps.specs.Least.{IsOnly, IsLeastOf, earlier_of}
 use Rattle.event_stamps.proofs.Least.{only_least, least_of_either, least_same}
-use Rattle.event_rules.specs.Events.{IsWallEvent, IsPairEvent}
+use Rattle.event_rules.specs.Events.{IsWallEvent, IsWallBelow, IsPairEvent}
 use Rattle.event_rules.specs.Run.{IsCandidate}
 use Rattle.event_rules.proofs.Ranges.{side_range}
-use Rattle.all_pairs.specs.Search.{IsWallBelow, IsPairBelow, IsBelow}
+use Rattle.all_pairs.specs.Search.{IsPairBelow, IsBelow}
 
 below_one_more : (k n : ℕ) → k < n + 1 → (k < n) ⊎ (k ≡ n)
 below_one_more k n lt = grind arith
-
-pub no_wall : (rules : Rules) (i : ℕ) (a : Disk) → IsLeastOf (IsWallBelow rules i a 0) None
-no_wall rules i a = λ s h. let lt = h.1 in omega arith
-
--- one more side
-pub one_more_wall : (rules : Rules) (i : ℕ) (a : Disk) (n : ℕ) (first own : Option Stamp) →
-    IsLeastOf (IsWallBelow rules i a n) first →
-    MatchOption own ((s : Stamp) → IsWallEvent rules i a n s → ⊥)
-    (IsOnly (IsWallEvent rules i a n)) →
-    IsLeastOf (IsWallBelow rules i a (n + 1)) (earlier_of first own)
-one_more_wall rules i a n first own h k =
-    least_of_either (IsWallBelow rules i a n) (IsWallEvent rules i a n)
-    (IsWallBelow rules i a (n + 1)) first own
-    (λ t p. (p.0, (let lt = p.1 in omega arith), p.2))
-    (λ t q. (n, omega arith, q))
-    (λ t r. elim (below_one_more r.0 n r.1) [
-      | inl below ↦ inl (r.0, below, r.2)
-      | inr same ↦ inr (subst (λ (v : ℕ). IsWallEvent rules i a v t) same r.2)
-    ])
-    h (only_least (IsWallEvent rules i a n) own k)
 
 pub no_pair : (rules : Rules) (disks : List Disk) (i : ℕ) (a : Disk) →
     IsLeastOf (IsPairBelow rules disks i a (i + 1)) None

@@ -3,11 +3,7 @@ use Rattle.std.specs.Prelude.{◌≡◌, ℕ, ◌<◌, List, slice_get, Some}
 use Rattle.fixed_motion.specs.declared.rules.Rules.{Rules}
 use Rattle.fixed_motion.specs.declared.disk.Disk.{Disk}
 use Rattle.event_stamps.specs.declared.Stamp.{Stamp}
-use Rattle.event_rules.specs.Events.{IsWallEvent, IsPairEvent}
-
--- an event of disk i at one of the sides below n
-abbrev pub IsWallBelow : Rules → ℕ → Disk → ℕ → Stamp → Type 0
-IsWallBelow rules i a n s = (side : ℕ) × (side < n) × IsWallEvent rules i a side s
+use Rattle.event_rules.specs.Events.{IsPairEvent}
 
 -- an event of disk i with a higher disk below n
 abbrev pub IsPairBelow : Rules → List Disk → ℕ → Disk → ℕ → Stamp → Type 0

@@ -5,29 +5,11 @@ ghost use Rattle.fixed_motion.specs.Rules.{IsChecked};
 ghost use Rattle.fixed_motion.specs.declared.disk.Disk.{Disk};
 ghost use Rattle.event_rules.specs.Run.{IsCandidate, IsValidState};
 ghost use Rattle.event_stamps.specs.Least.{IsLeastOf};
-ghost use Rattle.all_pairs.specs.Search.{IsWallBelow, IsPairBelow};
+ghost use Rattle.all_pairs.specs.Search.{IsPairBelow};
 
-use event_rules::{pair_event, wall_event};
+use event_rules::{first_wall, pair_event};
 use event_stamps::{Stamp, earlier};
 use fixed_motion::{Disk, Rules};
-
-// The sides of the box.
-const SIDES: u32 = 4;
-
-// The first event of disk `i` at any side.
-fn first_wall(rules: &Rules, disks: &[Disk], i: usize) -> Option<Stamp>
-    requires checked { IsChecked rules.now }
-    requires valid { IsValidState rules.now disks.now }
-    requires within { i < length disks.now }
-    ensures { (a : Disk) → slice_get disks.now i ≡ Some a →
-        IsLeastOf (IsWallBelow rules.now i a 4) result }
-{
-    let mut first = None;
-    for side in 0..SIDES {
-        first = earlier(first, wall_event(rules, i as u32, &disks[i], side));
-    }
-    first
-}
 
 // The first event of disk `i` with any higher disk.
 fn first_pair(rules: &Rules, disks: &[Disk], i: usize) -> Option<Stamp>
@@ -55,7 +37,8 @@ pub fn next(rules: &Rules, disks: &[Disk]) -> Option<Stamp>
 {
     let mut first = None;
     for i in 0..disks.len() {
-        let own = earlier(first_wall(rules, disks, i), first_pair(rules, disks, i));
+        let wall = first_wall(rules, i as u32, &disks[i]);
+        let own = earlier(wall, first_pair(rules, disks, i));
         first = earlier(first, own);
     }
     first

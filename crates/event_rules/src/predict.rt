@@ -4,15 +4,18 @@ ghost use Rattle.std.specs.Prelude.{◌≡◌, ◌↔◌, ℕ, ◌+◌, ◌^◌,
 ghost use Rattle.fixed_motion.specs.Rules.{IsChecked};
 ghost use Rattle.fixed_motion.specs.Motion.{IsValidDisk};
 ghost use Rattle.event_stamps.specs.declared.Stamp.{Stamp};
-ghost use Rattle.event_stamps.specs.Least.{IsOnly};
-ghost use Rattle.event_rules.specs.Events.{IsWallEvent, IsPairEvent, IsContactTick, IsPast, IsLastInside};
-ghost use Rattle.event_rules.specs.Predict.{IsUpTo, IsLastTogether, IsOnlyContactTick, IsMeeting, IsSeparation, PathsCross, PathsMeetAfter};
+ghost use Rattle.event_stamps.specs.Least.{IsOnly, IsLeastOf};
+ghost use Rattle.event_rules.specs.Events.{IsWallEvent, IsWallBelow, IsPairEvent, IsContactTick, IsPast, IsLastInside, wall_stamp};
+ghost use Rattle.event_rules.specs.Predict.{IsUpTo, IsFirstPast, IsLastTogether, IsOnlyContactTick, IsMeeting, IsSeparation, PathsCross, PathsMeetAfter};
 
 use contact_predictor::{contact_between, may_meet, quick_contact, stay};
 use event_stamps::{Kind, Stamp};
 use fixed_motion::{Disk, Rules};
 use plane_vectors::Vector;
 use std::cmp::{max, min};
+
+// The sides of the box.
+const SIDES: u32 = 4;
 
 /// The stamp at which a disk next hits a side of the box if it keeps its course, before the last tick of
 /// the run.
@@ -28,15 +31,39 @@ pub fn wall_event(rules: &Rules, disk: u32, a: &Disk, side: u32) -> Option<Stamp
 {
     let tick = last_inside(rules, a)?;
     if tick < rules.end && is_past(rules, a, side, a.centre_at(rules, tick + 1)) {
-        Some(Stamp {
-            tick,
-            round: a.mark_at(tick),
-            kind: Kind::Wall,
-            first: disk,
-            second: side,
-        })
+        Some(wall_at(disk, a, side, tick))
     } else {
         None
+    }
+}
+
+/// The stamp at which a disk first hits a side of the box if it keeps its course, before the last
+/// tick of the run.
+///
+/// `disk` is the number of the disk. None where it hits none. Of two sides hit in one tick, the one
+/// with the lower number.
+pub fn first_wall(rules: &Rules, disk: u32, a: &Disk) -> Option<Stamp>
+    requires checked { IsChecked rules.now }
+    requires valid { IsValidDisk rules.now a.now }
+    ensures { IsLeastOf (IsWallBelow rules.now disk a.now 4) result }
+{
+    let tick = last_inside(rules, a)?;
+    if tick >= rules.end {
+        return None;
+    }
+    let side = first_past(rules, a, a.centre_at(rules, tick + 1))?;
+    Some(wall_at(disk, a, side, tick))
+}
+
+fn wall_at(disk: u32, a: &Disk, side: u32, tick: u64) -> Stamp
+    ensures { result ≡ wall_stamp disk a.now side tick }
+{
+    Stamp {
+        tick,
+        round: a.mark_at(tick),
+        kind: Kind::Wall,
+        first: disk,
+        second: side,
     }
 }
 
@@ -218,6 +245,20 @@ fn is_past(rules: &Rules, a: &Disk, side: u32, place: Vector) -> bool
         2 => place.y < radius,
         _ => place.y > rules.height - radius,
     }
+}
+
+fn first_past(rules: &Rules, a: &Disk, place: Vector) -> Option<u32>
+    requires checked { IsChecked rules.now }
+    requires valid { IsValidDisk rules.now a.now }
+    ensures { MatchOption result ((side : ℕ) → IsPast rules.now a.now side place → ⊥)
+        (IsFirstPast rules.now a.now place) }
+{
+    for side in 0..SIDES {
+        if is_past(rules, a, side, place) {
+            return Some(side);
+        }
+    }
+    None
 }
 
 // None also where both stand still, since then they don't meet.

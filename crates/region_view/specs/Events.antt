@@ -1,5 +1,5 @@
 -- Which events disks that are placed have, by themselves and with each other.
-use Rattle.std.specs.Prelude.{◌⊎◌, ℕ, ◌<◌, Option}
+use Rattle.std.specs.Prelude.{◌⊎◌, ℕ, Option}
 use Rattle.fixed_motion.specs.declared.rules.Rules.{Rules}
 use Rattle.fixed_motion.specs.declared.disk.Disk.{Disk}
 use Rattle.event_stamps.specs.declared.Stamp.{Stamp}
@@ -9,10 +9,6 @@ use Rattle.event_rules.specs.Events.{IsWallEvent, IsPairEvent, IsEventOf}
 use Rattle.cell_grid.specs.Grid.{GridData, IsAdjacent}
 use Rattle.cell_grid.specs.Crossing.{IsCrossEvent}
 use Rattle.region_view.specs.declared.action.Placed.{Placed}
-
--- disk i hits one of the sides below n
-abbrev pub IsWallBelow : Rules → ℕ → Disk → ℕ → Stamp → Type 0
-IsWallBelow rules i a n s = (side : ℕ) × (side < n) × IsWallEvent rules i a side s
 
 -- disk i leaves its recorded cell, or hits a side
 abbrev pub IsAlone : Rules → GridData → ℕ → Placed → Stamp → Type 0

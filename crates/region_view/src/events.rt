@@ -7,7 +7,7 @@ ghost use Rattle.fixed_motion.specs.Rules.{IsChecked};
 ghost use Rattle.fixed_motion.specs.Motion.{IsValidDisk, IsInside, place_of};
 ghost use Rattle.event_stamps.specs.Least.{HasNone, IsOnly, IsLeastOf};
 ghost use Rattle.cell_grid.specs.Grid.{IsGridOf, IsCell, IsRegion};
-ghost use Rattle.region_view.specs.Events.{IsWallBelow, IsAlone, IsNear, IsEventBy};
+ghost use Rattle.region_view.specs.Events.{IsAlone, IsNear, IsEventBy};
 ghost use Rattle.region_view.specs.Acting.{action_of, crossed};
 ghost use Rattle.region_view.specs.Placing.{IsHome};
 ghost use Rattle.region_view.specs.Views.{rows_in};
@@ -15,12 +15,9 @@ ghost use Rattle.region_view.specs.Laws.{HasCells};
 
 use crate::{Action, Placed, View};
 use cell_grid::Grid;
-use event_rules::{Limit, apply, pair_event, wall_event};
+use event_rules::{Limit, apply, first_wall, pair_event};
 use event_stamps::{Kind, Stamp, earlier};
 use fixed_motion::{Disk, Rules};
-
-// The sides of the box.
-const SIDES: u32 = 4;
 
 /// The stamp of the first event of a placed disk by itself: it leaves its recorded cell, or hits a side of
 /// the box. `number` is the number of the disk. None where it has no such event.
@@ -35,19 +32,6 @@ pub fn first_alone(rules: &Rules, grid: &Grid, number: u32, row: &Placed) -> Opt
         grid.crossing(rules, number, &row.disk, row.cell),
         first_wall(rules, number, &row.disk),
     )
-}
-
-// The first event of a disk at any side.
-fn first_wall(rules: &Rules, number: u32, a: &Disk) -> Option<Stamp>
-    requires checked { IsChecked rules.now }
-    requires valid { IsValidDisk rules.now a.now }
-    ensures { IsLeastOf (IsWallBelow rules.now number a.now 4) result }
-{
-    let mut first = None;
-    for side in 0..SIDES {
-        first = earlier(first, wall_event(rules, number, a, side));
-    }
-    first
 }
 
 /// The stamp of the next event of two placed disks with each other, where their recorded cells are adjacent.

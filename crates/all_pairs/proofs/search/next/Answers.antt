@@ -11,6 +11,10 @@ use Rattle.all_pairs.proofs.search.next.Goals as goal
 pub loop-i-init : goal.loop-i-init
 loop-i-init c = no_disk_before c.args.rules.now c.args.disks.now
 
+pub first_wall-wall-requires-clause-valid : goal.first_wall-wall-requires-clause-valid
+first_wall-wall-requires-clause-valid c =
+    c.requires.valid.valid c.loop-i.i _ (disk_at c.args.disks.now c.loop-i.i c.loop-i-test.true)
+
 pub loop-i-preserved : goal.loop-i-preserved
 loop-i-preserved c =
     let rules = c.args.rules.now in
@@ -20,8 +24,8 @@ loop-i-preserved c =
     let a : Disk = get_or disks i no_disk in
     let own = subst (IsLeastOf (λ (t : Stamp). IsCandidate rules disks t × (t.first ≡ i)))
     (sym c.earlier-own.ensures)
-    (own_events rules disks i a c.first_wall.result c.first_pair.result at
-    (c.first_wall.ensures a at) (c.first_pair.ensures a at)) in
+    (own_events rules disks i a c.first_wall-wall.result c.first_pair.result at
+    c.first_wall-wall.ensures (c.first_pair.ensures a at)) in
     subst (IsLeastOf (IsBelow (IsCandidate rules disks) (i + 1))) (sym c.earlier-first.ensures)
     (one_more_disk rules disks i c.loop-i.first c.earlier-own.result c.loop-i.invariant own)
 
