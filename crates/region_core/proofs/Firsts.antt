@@ -22,7 +22,7 @@ one_first : (inbox : InboxData) (n : ℕ) (m : Message) → next_from inbox n �
 one_first inbox n m is q x same next =
     sym (same_Some _ x (sym is ∙ ap (next_from inbox) (sym same) ∙ next))
 
-pub nearer_is : (inbox : InboxData) (n : ℕ) (least : Option (ℕ × Message)) (next : Option Message) →
+pub nearer_is : (inbox : InboxData) (n : ℕ) (least : Option (ℕ × Stamp)) (next : Option Message) →
     IsLeastBelow inbox n least → next_from inbox n ≡ next →
     IsLeastBelow inbox (n + 1) (nearer_of least n next)
 nearer_is inbox n None None below is = λ q lt. elim (below_or_last q n lt) [
@@ -37,32 +37,34 @@ nearer_is inbox n (Some head) None below is = (
   ],
 )
 nearer_is inbox n None (Some m) below is = (
-  is,
+  (m, is, refl),
   λ q x lt next. elim (below_or_last q n lt) [
     | inl less ↦ absurd (none-some x (sym (below q less) ∙ next))
     | inr same ↦ subst (λ (v : Message). ¬ Before v.stamp m.stamp) (sym (one_first inbox n m is q x same next))
         (not_before_itself m.stamp)
   ],
 )
-nearer_is inbox n (Some head) (Some m) below is = by_test (before_decides m.stamp head.1.stamp)
+nearer_is inbox n (Some head) (Some m) below is = by_test (before_decides m.stamp head.1)
   where
-    by_test : Before m.stamp head.1.stamp ⊎ ¬ Before m.stamp head.1.stamp →
-        IsLeastBelow inbox (n + 1) (if is_before m.stamp head.1.stamp then Some (n, m) else Some head)
-    by_test (inl lt) = subst (λ (b : Bool). IsLeastBelow inbox (n + 1) (if b then Some (n, m) else Some head))
-        (sym (is_before_true m.stamp head.1.stamp lt)) (
-          is,
+    by_test : Before m.stamp head.1 ⊎ ¬ Before m.stamp head.1 →
+        IsLeastBelow inbox (n + 1) (if is_before m.stamp head.1 then Some (n, m.stamp) else Some head)
+    by_test (inl lt) = subst (λ (b : Bool).
+        IsLeastBelow inbox (n + 1) (if b then Some (n, m.stamp) else Some head))
+        (sym (is_before_true m.stamp head.1 lt)) (
+          (m, is, refl),
           λ q x near next. elim (below_or_last q n near) [
-            | inl less ↦ λ before. below.1 q x less next (before_trans x.stamp m.stamp head.1.stamp before lt)
+            | inl less ↦ λ before. below.1 q x less next (before_trans x.stamp m.stamp head.1 before lt)
             | inr same ↦ subst (λ (v : Message). ¬ Before v.stamp m.stamp)
                 (sym (one_first inbox n m is q x same next)) (not_before_itself m.stamp)
           ],
         )
-    by_test (inr not) = subst (λ (b : Bool). IsLeastBelow inbox (n + 1) (if b then Some (n, m) else Some head))
-        (sym (is_before_false m.stamp head.1.stamp not)) (
+    by_test (inr not) = subst (λ (b : Bool).
+        IsLeastBelow inbox (n + 1) (if b then Some (n, m.stamp) else Some head))
+        (sym (is_before_false m.stamp head.1 not)) (
           below.0,
           λ q x near next. elim (below_or_last q n near) [
             | inl less ↦ below.1 q x less next
-            | inr same ↦ subst (λ (v : Message). ¬ Before v.stamp head.1.stamp)
+            | inr same ↦ subst (λ (v : Message). ¬ Before v.stamp head.1)
                 (sym (one_first inbox n m is q x same next)) not
           ],
         )
@@ -88,7 +90,7 @@ none_past inbox q le =
 below_or_past : (q n : ℕ) → (q < n) ⊎ (n ≤ q)
 below_or_past q n = grind arith
 
-pub least_of_all : (inbox : InboxData) (n : ℕ) (least : Option (ℕ × Message)) → length inbox.heard ≡ n →
+pub least_of_all : (inbox : InboxData) (n : ℕ) (least : Option (ℕ × Stamp)) → length inbox.heard ≡ n →
     IsLeastBelow inbox n least → IsLeastHead inbox least
 least_of_all inbox n None len below = λ q. elim (below_or_past q n) [
   | inl lt ↦ below q lt

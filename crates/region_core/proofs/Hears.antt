@@ -115,7 +115,7 @@ abbrev pub hearing : Stamp → Trails → Local → Local
 hearing d v r = record { floor = r.floor; base = r.base; heard = v; log = entries_below d r.log }
 
 pub right_heard : (h : Home) (r : Local) (k : ℕ) (sent : List Message) (d : Stamp) (v : Trails) →
-    IsRight h r → AgreesUpTo (trail_of r.heard k) sent d → IsHearable h r.floor k sent →
+    IsRight h r → AgreeBelow d (trail_of r.heard k) sent → IsHearable h r.floor k sent →
     trail_of v k ≡ sent → ((q : ℕ) → q ≢ k → trail_of v q ≡ trail_of r.heard q) →
     IsRight h (hearing d v r)
 right_heard h r k sent d v right agree hearable at_k others = record {
@@ -141,7 +141,7 @@ right_heard h r k sent d v right agree hearable at_k others = record {
     same : SameBelow d r.heard v
     same q = elim (same_or_other q k) [
       | inl here ↦ subst (λ (x : ℕ). AgreeBelow d (trail_of r.heard x) (trail_of v x)) (sym here)
-          (agree.below d (not_before_itself d) ∙ ap (below d) (sym at_k))
+          (agree ∙ ap (below d) (sym at_k))
       | inr other ↦ ap (below d) (sym (others q other))
     ]
 
@@ -149,7 +149,8 @@ pub right_has_heard : (h : Home) (r new : Local) (k : ℕ) (sent : List Message)
     IsRight h r → AgreesUpTo (trail_of r.heard k) sent d → IsHearable h r.floor k sent →
     HasHeard k sent r d new → IsRight h new
 right_has_heard h r new k sent d right agree hearable has = subst (IsRight h) (sym same)
-    (right_heard h r k sent d new.heard right agree hearable has.trail has.others)
+    (right_heard h r k sent d new.heard right (agree.below d (not_before_itself d)) hearable
+    has.trail has.others)
   where
     same : new ≡ hearing d new.heard r
     same = λ i. record {

@@ -1,5 +1,5 @@
 -- A body that hears another trail of messages.
-use Rattle.std.proofs.Common.{◌≡◌, ◌≢◌, inl, inr, ℕ, zero, suc, ◌+◌, ◌<◌, Bool, List, [], ◌∷◌, ◌++◌, length, get_or, slice_set, Some, None, Result, Ok, Err, OnOk, sym, ap, subst, ◌∙◌, arith, refl}
+use Rattle.std.proofs.Common.{◌≡◌, ◌≢◌, inl, inr, ℕ, zero, suc, ◌+◌, ◌<◌, Bool, List, [], ◌∷◌, length, get_or, slice_set, Some, None, Result, Ok, Err, IfOk, OnOk, sym, ap, subst, ◌∙◌, arith, refl}
 use Rattle.std.specs.Prelude.{◌↔◌, IsTrue}
 use Rattle.std.proofs.lemmas.List.{length-set, get_or-set_same, get_or-set_other}
 use Rattle.std.proofs.lemmas.Option.{none-some, same_Some}
@@ -8,19 +8,21 @@ use Rattle.event_stamps.specs.Order.{Before}
 use Rattle.region_view.specs.declared.rows.Message.{Message}
 use Rattle.region_view.specs.Views.{ViewData}
 use Rattle.region_view.specs.Setting.{set_rows, after_action}
-use Rattle.region_messages.specs.Trails.{AgreesUpTo, below, from}
-use Rattle.region_messages.proofs.Parts.{agreed_part}
+use Rattle.region_messages.specs.Trails.{IsAmong, AgreeBelow, AgreesUpTo}
+use Rattle.region_messages.proofs.Parts.{agreed_part, rises_below, rises_replaced, among_replaced}
 use Rattle.region_queue.specs.Queue.{QueueData, IsOf, StandsFor}
 use Rattle.saved_states.specs.Positions.{SavedData}
 use Rattle.region_core.specs.declared.home.Home.{Home}
 use Rattle.region_core.specs.declared.entry.Entry.{Entry}
 use Rattle.region_core.specs.declared.entry.Entry.TheVariants.{Native, Heard}
+use Rattle.region_core.specs.declared.answers.Hearing.{Hearing}
+use Rattle.region_core.specs.declared.answers.Hearing.TheVariants.{Same, Rewound, Later, Apart}
 use Rattle.region_core.specs.declared.live.Live.{Live}
 use Rattle.region_core.specs.LocalRun.{Local, Trails, trail_of, start_of, now_of, after_log, without_first, entry_stamp, RiseFrom, IsHearable, IsRight, entries_below}
-use Rattle.region_core.specs.Answers.{clock_of, HasHeard}
+use Rattle.region_core.specs.Answers.{clock_of, HasHeard, HearsFrom}
 use Rattle.region_core.specs.Keeping.{last_stamp}
 use Rattle.region_core.specs.Live.{run_in, saved_along, IsInbox, IsOutbox, IsLive}
-use Rattle.region_core.specs.Replaced.{IsReplaced}
+use Rattle.region_core.specs.Replaced.{mixed, HearsOn, IsReplaced}
 use Rattle.region_core.proofs.Logs.{below_kept, kept_below, all_below, below_whole}
 use Rattle.region_core.proofs.Hears.{hearing, right_heard}
 
@@ -89,7 +91,7 @@ has_heard floor at k sent old mid new base heard log lt is = record {
 
 pub news_live : (home : Home) (floor at : Stamp) (k : ℕ) (sent : List Message) (mid new : Live) →
     IsLive home floor mid → entries_below at mid.log.items ≡ mid.log.items →
-    AgreesUpTo (trail_of mid.inbox.heard k) sent at → IsHearable home floor k sent →
+    AgreeBelow at (trail_of mid.inbox.heard k) sent → IsHearable home floor k sent →
     k < length mid.inbox.heard → IsReplaced k sent mid new → IsLive home floor new
 news_live home floor at k sent mid new live all agree hearable lt is = record {
   right = subst (IsRight home) run (right_heard home (run_in floor mid) k sent at heard live.right agree hearable
@@ -128,7 +130,59 @@ news_live home floor at k sent mid new live all agree hearable lt is = record {
       log = (all ∙ sym is.log) i;
     }
 
+-- ---- a trail that is mixed
+of_both : (P : Message → Type 0) (at : Stamp) (heard sent : List Message) →
+    ((m : Message) → IsAmong m heard → P m) → ((m : Message) → IsAmong m sent → P m) →
+    (m : Message) → IsAmong m (mixed at heard sent) → P m
+of_both P at heard sent first second m among = elim (among_replaced at heard sent m among) [
+  | inl was ↦ first m was
+  | inr is ↦ second m is
+]
+
+pub mixed_hearable : (home : Home) (floor at : Stamp) (k : ℕ) (heard sent : List Message) →
+    IsHearable home floor k heard → IsHearable home floor k sent →
+    IsHearable home floor k (mixed at heard sent)
+mixed_hearable home floor at k heard sent was is = record {
+  rises = rises_replaced at heard sent (rises_below at heard was.rises) is.rises;
+  from_floor = of_both _ at heard sent was.from_floor is.from_floor;
+  before_end = of_both _ at heard sent was.before_end is.before_end;
+  rows = of_both _ at heard sent was.rows is.rows;
+  linked = of_both _ at heard sent was.linked is.linked;
+}
+
+-- from where what is sent differs on, it is what is sent
+pub hears_all : (at : Stamp) (k : ℕ) (sent : List Message) (r new : Local) (answer : Hearing) →
+    AgreesUpTo (trail_of r.heard k) sent at →
+    HearsOn at k (mixed at (trail_of r.heard k) sent) r answer new → HearsFrom k sent r answer new
+hears_all at k sent r new answer agree on = by_answer answer
+    (subst (λ (v : List Message). HearsOn at k v r answer new)
+    (agreed_part (trail_of r.heard k) sent at agree) on)
+  where
+    by_answer : (answer : Hearing) → HearsOn at k sent r answer new → HearsFrom k sent r answer new
+    by_answer Same none = absurd none
+    by_answer Apart none = absurd none
+    by_answer (Later d) (is, keeps, has) =
+        subst (λ (v : Stamp). HearsFrom k sent r (Later v) new) (sym is) (agree, keeps, has)
+    by_answer (Rewound d) (is, drops, has) =
+        subst (λ (v : Stamp). HearsFrom k sent r (Rewound v) new) (sym is) (agree, drops, has)
+
+-- ---- what is sent is marked
+pub marked_live : (home : Home) (floor : Stamp) (old new : Live) → new.sent.items ≡ old.sent.items →
+    new ≡ record old { sent = new.sent } → IsLive home floor old → IsLive home floor new
+marked_live home floor old new sent rest live = subst (IsLive home floor) (sym rest) (record {
+  right = live.right;
+  inbox = live.inbox;
+  sent = subst (IsOutbox home old.base old.log.items) (sym sent) live.sent;
+  saved = live.saved;
+  queue = live.queue;
+  stands = live.stands;
+})
+
 -- ---- the steps of the code
+pub if_ok : {A E : Type 0} (r : Result A E) (P Q : A → Type 0) → ((a : A) → P a → Q a) → IfOk r P → IfOk r Q
+if_ok (Ok x) P Q f h = f x h
+if_ok (Err e) P Q f h = h
+
 pub on_ok : {A E : Type 0} (r : Result A E) (P Q : Type 0) → (P → Q) → OnOk r P → OnOk r Q
 on_ok (Ok x) P Q f h = f h
 on_ok (Err e) P Q f h = h
@@ -138,13 +192,12 @@ any_default [] k d e lt = absurd (omega arith)
 any_default (t ∷ ts) zero d e lt = refl
 any_default (t ∷ ts) (suc k) d e lt = any_default ts k d e (omega arith)
 
--- the trail from the first news on becomes what is sent
+-- the trail from the stamp on becomes what is sent
 pub replaced_by : (ts all : Trails) (k : ℕ) (at : Stamp) (was sent now : List Message) →
-    ts ≡ all → was ≡ get_or ts k was → k < length all → AgreesUpTo (trail_of all k) sent at →
-    now ≡ below at was ++ from at sent → slice_set ts k now ≡ slice_set all k sent
-replaced_by ts all k at was sent now same here lt agree is =
+    ts ≡ all → was ≡ get_or ts k was → k < length all → now ≡ mixed at was sent →
+    slice_set ts k now ≡ slice_set all k (mixed at (trail_of all k) sent)
+replaced_by ts all k at was sent now same here lt is =
     let there : was ≡ trail_of all k =
     here ∙ ap (λ (v : Trails). get_or v k was) same ∙ any_default all k was [] lt in
     ap (λ (v : Trails). slice_set v k now) same
-    ∙ ap (slice_set all k) (is ∙ ap (λ (v : List Message). below at v ++ from at sent) there
-    ∙ agreed_part (trail_of all k) sent at agree)
+    ∙ ap (slice_set all k) (is ∙ ap (λ (v : List Message). mixed at v sent) there)

@@ -1,7 +1,7 @@
 -- Which move comes next, by what a region keeps.
 use Rattle.std.proofs.Common.{◌≡◌, ◌≢◌, ◌⊎◌, inl, inr, ℕ, ◌<◌, ◌≤◌, suc, List, [], ◌∷◌, drop, sym, ap, ◌∙◌, subst, refl, arith, Option, Some, None, Ok}
 use Rattle.std.specs.Prelude.{◌↔◌, slice_get}
-use Rattle.std.proofs.lemmas.Option.{none-some}
+use Rattle.std.proofs.lemmas.Option.{none-some, same_Some}
 use Rattle.event_stamps.specs.declared.Stamp.{Stamp}
 use Rattle.event_stamps.specs.Order.{Before}
 use Rattle.event_stamps.specs.Least.{IsLeast, IsLeastOf}
@@ -17,9 +17,9 @@ use Rattle.region_core.specs.declared.entry.Entry.{Entry}
 use Rattle.region_core.specs.declared.live.Live.{Live}
 use Rattle.region_core.specs.declared.moves.Move.TheVariants.{Answer, Run, TakeIn}
 use Rattle.region_core.specs.declared.answers.Step.TheVariants.{Tied}
-use Rattle.region_core.specs.LocalRun.{At, Local, trail_of, now_of, entry_stamp, IsInPlace, IsOwn, IsWaiting, IsDue, ComesTo}
-use Rattle.region_core.specs.Answers.{clock_of, HasDue, IsInTurn}
-use Rattle.region_core.specs.Inbox.{next_from, head_stamp, IsLeastHead, IsSharedHead}
+use Rattle.region_core.specs.LocalRun.{At, Local, trail_of, entry_stamp, IsInPlace, IsOwn, IsWaiting, IsDue, ComesTo}
+use Rattle.region_core.specs.Answers.{clock_of, HasDue, IsInTurn, IsShared}
+use Rattle.region_core.specs.Inbox.{InboxData, next_from, head_stamp, IsFirstOf, IsLeastHead, IsSharedHead}
 use Rattle.region_core.specs.Taken.{taken_of}
 use Rattle.region_core.specs.Live.{run_in, start_in, now_in, IsInbox, IsLive}
 use Rattle.region_core.specs.Keeping.{last_stamp}
@@ -85,16 +85,18 @@ next_of_waits home live inbox q m rest waits = by_next (next_from live.inbox q) 
         is ∙ ap (λ (v : Message). Some v) (same_first (sym first.1 ∙ waits))
 
 -- the least of the first messages is the least that waits
-pub least_waiting : (home : Home) (floor : Stamp) (live : Live) (head : Option (ℕ × Message)) →
+pub least_waiting : (home : Home) (floor : Stamp) (live : Live) (head : Option (ℕ × Stamp)) →
     IsLive home floor live → IsLeastHead live.inbox head →
     IsLeastOf (IsWaiting (now_in live).waiting) (head_stamp head)
 least_waiting home floor live None is none =
     none_waits (now_in live).waiting (λ q. none_next home live is.inbox q (none q))
-least_waiting home floor live (Some head) is least =
-    let first = waits_next home live is.inbox head.0 head.1 least.0 in
-    due_of_heads (now_in live).waiting head.0 head.1 first.0
+least_waiting home floor live (Some head) is ((m, next, same), least) =
+    let first = waits_next home live is.inbox head.0 m next in
+    subst (IsLeast (IsWaiting (now_in live).waiting)) same
+    (due_of_heads (now_in live).waiting head.0 m first.0
     (waiting_rise home (run_in floor live) is.right) first.1
-    (λ q n rest waits. least.1 q n (next_of_waits home live is.inbox q n rest waits))
+    (λ q n rest waits. subst (λ (s : Stamp). ¬ Before n.stamp s) (sym same)
+    (least q n (next_of_waits home live is.inbox q n rest waits))))
 
 -- ---- the due stamp
 -- what the queue finds
@@ -148,25 +150,30 @@ turn_by r s = by_log r.log
     by_log (e ∷ es) = (λ after. (after.0, inr after.1), λ turn. (turn.0, last e es turn.1))
 
 -- ---- messages
-pub tied_by_own : (h : Home) (r : Local) (q : ℕ) (m : Message) (rest : List Message) →
-    HasDue h r m.stamp → IsInTurn r m.stamp → trail_of (now_of r).waiting q ≡ m ∷ rest →
-    IsOwn h (now_of r).view m.stamp → Fits h r (Answer (Tied m.stamp))
-tied_by_own h r q m rest due turn first own =
-    (due, turn, inl (own, waits_first (now_of r).waiting q m rest first), refl)
-
-pub tied_by_other : (h : Home) (floor : Stamp) (live : Live) (q : ℕ) (m : Message) → IsLive h floor live →
-    HasDue h (run_in floor live) m.stamp → IsInTurn (run_in floor live) m.stamp →
-    next_from live.inbox q ≡ Some m → IsSharedHead live.inbox q m.stamp →
-    Fits h (run_in floor live) (Answer (Tied m.stamp))
-tied_by_other h floor live q m is due turn next (k, n, other, there, same) =
+pub tied_by_own : (h : Home) (floor : Stamp) (live : Live) (q : ℕ) (due : Stamp) → IsLive h floor live →
+    HasDue h (run_in floor live) due → IsInTurn (run_in floor live) due → IsFirstOf live.inbox q due →
+    IsOwn h (now_in live).view due → Fits h (run_in floor live) (Answer (Tied due))
+tied_by_own h floor live q due is here turn (m, next, same) own =
     let first = waits_next h live is.inbox q m next in
-    let second = waits_next h live is.inbox k n there in (
-      due,
-      turn,
-      heads_are_shared h (now_in live) q k m n first.0 second.0 (λ e. other (sym e))
-          first.1 second.1 (sym same),
-      refl,
-    )
+    let waits = subst (IsWaiting (now_in live).waiting) same
+    (waits_first (now_in live).waiting q m first.0 first.1) in
+    (here, turn, inl (own, waits), refl)
+
+pub tied_by_other : (h : Home) (floor : Stamp) (live : Live) (q : ℕ) (due : Stamp) → IsLive h floor live →
+    HasDue h (run_in floor live) due → IsInTurn (run_in floor live) due → IsFirstOf live.inbox q due →
+    IsSharedHead live.inbox q due → Fits h (run_in floor live) (Answer (Tied due))
+tied_by_other h floor live q due is here turn (m, next, same) (k, n, other, there, also) =
+    let first = waits_next h live is.inbox q m next in
+    let second = waits_next h live is.inbox k n there in
+    let shared = heads_are_shared h (now_in live) q k m n first.0 second.0 (λ e. other (sym e))
+    first.1 second.1 (same ∙ sym also) in
+    (here, turn, subst (IsShared h (now_in live)) same shared, refl)
+
+-- a region has one first message
+pub first_has : (inbox : InboxData) (q : ℕ) (s : Stamp) (m : Message) → IsFirstOf inbox q s →
+    next_from inbox q ≡ Some m → m.stamp ≡ s
+first_has inbox q s m (n, next, same) here =
+    ap (λ (v : Message). v.stamp) (same_Some m n (sym here ∙ next)) ∙ same
 
 pub take_fits : (h : Home) (floor : Stamp) (live : Live) (q : ℕ) (m : Message) → IsLive h floor live →
     HasDue h (run_in floor live) m.stamp → IsInTurn (run_in floor live) m.stamp →

@@ -20,7 +20,7 @@ use Rattle.region_core.specs.LocalRun.{IsOwn, ComesTo}
 use Rattle.region_core.proofs.Valid.{own_candidate}
 
 -- ---- reads
-pub found_row : (o : Option (Bor Placed)) (p : Placed) → option_copied o ≡ Some p → IsSome o
+pub found_row : {T : Type 0} (o : Option (Bor T)) (p : T) → option_copied o ≡ Some p → IsSome o
 found_row None p is = absurd (none-some p is)
 found_row (Some r) p is = refl
 

@@ -3,7 +3,7 @@ use Rattle.std.proofs.Common.{◌≡◌, ◌≢◌, ◌⊎◌, inl, inr, ℕ, �
 use Rattle.std.specs.Prelude.{◌↔◌, IsTrue, slice_get, option_map, not}
 use Rattle.std.specs.FinMap as map
 use Rattle.std.proofs.lemmas.Option.{none-some, same_Some, slice_get_within}
-use Rattle.std.proofs.lemmas.Bool.{false≢true}
+use Rattle.std.proofs.lemmas.Bool.{false≢true, iff_false, not-true, not_from_false, false_from_ne_true}
 use Rattle.event_stamps.specs.declared.Stamp.{Stamp}
 use Rattle.cell_grid.specs.Grid.{GridData, Reaches}
 use Rattle.region_view.specs.declared.action.Placed.{Placed}
@@ -36,22 +36,35 @@ sees_found grid k p row = (
   λ h. subst (λ (v : Placed). SeesRow grid k (Some row) (Some v)) (sym h.1) (sees_here grid k row h.0),
 )
 
--- what the code finds
-pub found_in_reach : (grid : GridData) (k : ℕ) (p row : Placed) (found : Option Placed) (same : Bool) →
-    found ≡ Some p → Reaches grid k row.cell → Decides same (p ≡ row) →
-    IsTrue same ↔ SeesRow grid k (Some row) found
-found_in_reach grid k p row found same is reach decides =
-    subst (λ (o : Option Placed). IsTrue same ↔ SeesRow grid k (Some row) o) (sym is) (
-      λ h. (sees_found grid k p row).1 (reach, decides.0 h),
-      λ sees. decides.1 ((sees_found grid k p row).0 sees).1,
+-- what the code finds: this row, another, or none
+pub found_same : (grid : GridData) (k : ℕ) (p row : Placed) (found : Option Placed) (reached : Bool) →
+    found ≡ Some p → p ≡ row → IsTrue reached ↔ Reaches grid k row.cell →
+    IsTrue reached ↔ SeesRow grid k (Some row) found
+found_same grid k p row found reached is same reach =
+    subst (λ (o : Option Placed). IsTrue reached ↔ SeesRow grid k (Some row) o) (sym is) (
+      λ h. (sees_found grid k p row).1 (reach.0 h, same),
+      λ sees. reach.1 ((sees_found grid k p row).0 sees).0,
     )
 
-pub found_out_of_reach : (grid : GridData) (k : ℕ) (p row : Placed) (found : Option Placed)
-    (reached : Bool) → found ≡ Some p → IsTrue reached ↔ Reaches grid k row.cell → reached ≡ false →
-    IsTrue reached ↔ SeesRow grid k (Some row) found
-found_out_of_reach grid k p row found reached is reach out = (
-  λ h. absurd (false≢true (sym out ∙ h)),
-  λ sees. reach.1 ((sees_found grid k p row).0 (subst (SeesRow grid k (Some row)) is sees)).0,
+pub found_other : (grid : GridData) (k : ℕ) (p row : Placed) (found : Option Placed) (same : Bool) →
+    found ≡ Some p → Decides same (p ≡ row) → same ≡ false →
+    IsTrue same ↔ SeesRow grid k (Some row) found
+found_other grid k p row found same is decides differs = (
+  λ h. absurd (false≢true (sym differs ∙ h)),
+  λ sees. decides.1 ((sees_found grid k p row).0 (subst (SeesRow grid k (Some row)) is sees)).1,
+)
+
+pub found_none : (grid : GridData) (k : ℕ) (row : Placed) (found : Option Placed) (reached : Bool) →
+    found ≡ None → IsTrue reached ↔ Reaches grid k row.cell →
+    IsTrue (not reached) ↔ SeesRow grid k (Some row) found
+found_none grid k row found reached is reach = (
+  λ out p. (
+    λ e. absurd (none-some p (sym is ∙ e)),
+    λ h. absurd (iff_false reach (not-true reached out)
+        (subst (λ (r : Placed). Reaches grid k r.cell) (sym (same_Some row p h.0)) h.1)),
+  ),
+  λ sees. not_from_false reached (false_from_ne_true reached
+      (λ within. none-some row (sym is ∙ (sees row).1 (refl, reach.0 within)))),
 )
 
 -- the same at a number of placed disks and a view

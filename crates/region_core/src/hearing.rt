@@ -1,13 +1,12 @@
 //! Hearing: taking over what another region sends, in place of what was heard from it before.
 
-ghost use Rattle.std.specs.Prelude.{◌≡◌, ◌↔◌, ◌<◌, length, IfOk, IsTrue};
+ghost use Rattle.std.specs.Prelude.{◌≡◌, ◌↔◌, ◌<◌, length, IfOk, OnOk, IsTrue};
 ghost use Rattle.event_stamps.specs.declared.Stamp.{Stamp};
 ghost use Rattle.cell_grid.specs.Grid.{IsRegion};
-ghost use Rattle.region_messages.specs.Trails.{AgreesUpTo};
 ghost use Rattle.region_core.specs.LocalRun.{RiseFrom, IsInPlace, IsHearable, trail_of, entries_below};
 ghost use Rattle.region_core.specs.Answers.{HearsFrom};
 ghost use Rattle.region_core.specs.Live.{run_in, IsLive, HasRun};
-ghost use Rattle.region_core.specs.Replaced.{IsReplaced};
+ghost use Rattle.region_core.specs.Replaced.{mixed, HearsOn, IsReplaced};
 
 use crate::live::Live;
 use crate::moves::is_before;
@@ -19,55 +18,100 @@ use std::alloc::{AllocError, Global};
 
 impl Live {
     /// Hears what a region sends, by its number. What was done since the first news is taken back.
+    ///
+    /// # Errors
+    /// Out of memory: what is left is to be dropped.
     pub(crate) fn hear(
-        self,
+        &mut self,
         alloc: Global,
         home: &Home,
         from: u32,
         sent: &Trail,
-    ) -> Result<(Live, Hearing), AllocError>
+    ) -> Result<Hearing, AllocError>
         requires place { IsInPlace home.now }
-        requires live { HasRun home.now self }
+        requires live { HasRun home.now self.old }
         requires region { IsRegion home.now.grid from }
-        ensures hears { IfOk result (λ heard. (floor : Stamp) →
-            HearsFrom from sent.now (run_in floor self) heard.1 (run_in floor heard.0)) }
-        ensures live { IfOk result (λ heard. (floor : Stamp) → IsLive home.now floor self →
-            IsHearable home.now floor from sent.now → IsLive home.now floor heard.0) }
+        ensures hears { IfOk result (λ answer. (floor : Stamp) →
+            HearsFrom from sent.now (run_in floor self.old) answer (run_in floor self.new)) }
+        ensures live { OnOk result ((floor : Stamp) → IsLive home.now floor self.old →
+            IsHearable home.now floor from sent.now → IsLive home.now floor self.new) }
     {
         let Some(at) = self.inbox.first_new(from, sent) else {
-            return Ok((self, Hearing::Same));
+            return Ok(Hearing::Same);
         };
+        self.hear_from(alloc, home, from, at, sent)
+    }
+
+    /// Hears what is new since the other's last mark: all that stood then is taken to be heard.
+    /// What was done since the first news is taken back.
+    ///
+    /// # Errors
+    /// Out of memory: what is left is to be dropped.
+    pub(crate) fn catch_up(
+        &mut self,
+        alloc: Global,
+        home: &Home,
+        from: u32,
+        sent: &Trail,
+    ) -> Result<(), AllocError>
+        requires place { IsInPlace home.now }
+        requires live { HasRun home.now self.old }
+        requires region { IsRegion home.now.grid from }
+        ensures { OnOk result ((floor : Stamp) → IsLive home.now floor self.old →
+            IsHearable home.now floor from sent.now → IsLive home.now floor self.new) }
+    {
+        let Some(at) = self.inbox.first_news(from, sent) else {
+            return Ok(());
+        };
+        self.hear_from(alloc, home, from, at, sent)?;
+        Ok(())
+    }
+
+    // Hears what a region sends from a stamp on; what was heard from it before the stamp stays.
+    fn hear_from(
+        &mut self,
+        alloc: Global,
+        home: &Home,
+        from: u32,
+        at: Stamp,
+        sent: &Trail,
+    ) -> Result<Hearing, AllocError>
+        requires place { IsInPlace home.now }
+        requires live { HasRun home.now self.old }
+        requires region { IsRegion home.now.grid from }
+        ensures hears { IfOk result (λ answer. (floor : Stamp) →
+            HearsOn at from (mixed at (trail_of self.old.inbox.heard from) sent.now)
+            (run_in floor self.old) answer (run_in floor self.new)) }
+        ensures live { OnOk result ((floor : Stamp) → IsLive home.now floor self.old →
+            IsHearable home.now floor from sent.now → IsLive home.now floor self.new) }
+    {
         if ends_before(&self.log, at) {
-            Ok((self.replace(from, at, sent)?, Hearing::Later(at)))
+            self.replace(from, at, sent)?;
+            Ok(Hearing::Later(at))
         } else {
-            let live = self.rewind(alloc, home, at)?;
-            Ok((live.replace(from, at, sent)?, Hearing::Rewound(at)))
+            self.rewind(alloc, home, at)?;
+            self.replace(from, at, sent)?;
+            Ok(Hearing::Rewound(at))
         }
     }
 
-    // Hears what a region sends, where all entries are before the first news.
-    fn replace(self, from: u32, at: Stamp, sent: &Trail) -> Result<Live, AllocError>
-        requires region { from < length self.inbox.heard }
-        requires agree { AgreesUpTo (trail_of self.inbox.heard from) sent.now at }
-        ensures { IfOk result (λ live. IsReplaced from sent.now self live) }
+    // Hears what a region sends from a stamp on, where all entries are before it.
+    fn replace(&mut self, from: u32, at: Stamp, sent: &Trail) -> Result<(), AllocError>
+        requires { from < length self.old.inbox.heard }
+        ensures { OnOk result (IsReplaced from
+            (mixed at (trail_of self.old.inbox.heard from) sent.now) self.old self.new) }
     {
-        let Live {
-            base,
-            saved,
-            queue,
-            mut inbox,
-            sent: own,
-            log,
-        } = self;
-        inbox.replace(from, at, sent)?;
-        Ok(Live {
-            base,
-            saved,
-            queue,
-            inbox,
-            sent: own,
-            log,
-        })
+        self.inbox.replace(from, at, sent)
+    }
+
+    /// Marks what stands of what goes to a region (see [`Trail::mark`]).
+    pub(crate) fn mark_sent(&mut self, to: u32)
+        ensures sent { self.new.sent.items ≡ self.old.sent.items }
+        ensures rest { self.new ≡ record self.old { sent = self.new.sent } }
+    {
+        if let Some(trail) = self.sent.get_mut(to as usize) {
+            trail.mark();
+        }
     }
 }
 

@@ -63,9 +63,9 @@ impl Inbox {
         self.heard.get(from as usize)?.get(*taken)
     }
 
-    /// The least of the first messages of all regions, with its region; of those with one stamp, that of
-    /// the least region.
-    pub(crate) fn least(&self) -> Option<(u32, Message)>
+    /// The least stamp of the first messages of all regions, with the region; of those with one stamp, the
+    /// least region.
+    pub(crate) fn least(&self) -> Option<(u32, Stamp)>
         ensures { IsLeastHead self.now result }
     {
         let mut least = None;
@@ -108,19 +108,15 @@ pub(crate) fn empty_trails(alloc: Global, count: u32) -> Result<Vec<Trail>, Allo
     Ok(trails)
 }
 
-fn nearer(
-    least: Option<(u32, Message)>,
-    from: u32,
-    next: Option<&Message>,
-) -> Option<(u32, Message)>
+fn nearer(least: Option<(u32, Stamp)>, from: u32, next: Option<&Message>) -> Option<(u32, Stamp)>
     ensures { result ≡ nearer_of least from (option_copied next.entry) }
 {
     match (least, next) {
         (least, None) => least,
-        (None, Some(message)) => Some((from, *message)),
+        (None, Some(message)) => Some((from, message.stamp)),
         (Some(head), Some(message)) => {
-            if message.stamp < head.1.stamp {
-                Some((from, *message))
+            if message.stamp < head.1 {
+                Some((from, message.stamp))
             } else {
                 Some(head)
             }

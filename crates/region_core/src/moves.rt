@@ -1,13 +1,13 @@
 //! What a region does next.
 
-ghost use Rattle.std.specs.Prelude.{◌≡◌, ◌↔◌, Some, IsTrue, IfOk, MatchOption};
+ghost use Rattle.std.specs.Prelude.{◌≡◌, ◌↔◌, IsTrue, IfOk, OnOk, MatchOption};
 ghost use Rattle.event_stamps.specs.Order.{Before};
 ghost use Rattle.event_stamps.specs.Least.{IsLeastOf};
 ghost use Rattle.region_view.specs.Placing.{IsValidPlacing};
 ghost use Rattle.region_view.specs.Views.{rows_in};
 ghost use Rattle.region_core.specs.LocalRun.{IsInPlace, IsOwn, IsOffered, IsDue, IsDueOrEnd, IsWaiting, ComesTo};
 ghost use Rattle.region_core.specs.Answers.{clock_of, HasDue, IsInTurn, StepsTo};
-ghost use Rattle.region_core.specs.Inbox.{head_stamp, next_from};
+ghost use Rattle.region_core.specs.Inbox.{head_stamp, IsLeastHead, IsFirstOf};
 ghost use Rattle.region_core.specs.Live.{run_in, now_in, IsLive, HasRun, AreSavedAlong};
 ghost use Rattle.region_core.specs.Moves.{Fits, ComesAfter};
 
@@ -59,7 +59,16 @@ impl Live {
         requires { HasRun home.now self.now }
         ensures { IsLeastOf (IsOffered home.now (now_in self.now)) result }
     {
-        earlier(self.least_own(home), stamp_of(self.inbox.least()))
+        self.due_beside(home, self.inbox.least())
+    }
+
+    // The same, where the least of the first messages is known.
+    fn due_beside(&self, home: &Home, head: Option<(u32, Stamp)>) -> Option<Stamp>
+        requires live { HasRun home.now self.now }
+        requires head { IsLeastHead self.now.inbox head }
+        ensures { IsLeastOf (IsOffered home.now (now_in self.now)) result }
+    {
+        earlier(self.least_own(home), stamp_of(head))
     }
 
     /// The stamp that is due, or the end stamp where nothing is.
@@ -82,46 +91,47 @@ impl Live {
         if self.log.len() >= MAX_ENTRIES {
             return Move::Answer(Step::Held);
         }
-        let Some(due) = self.due(home) else {
+        let head = self.inbox.least();
+        let Some(due) = self.due_beside(home, head) else {
             return Move::Answer(Step::Idle);
         };
         if !is_in_turn(&floor, last_stamp(&self.log), &due) {
             let clock = clock(floor, &self.log);
             return Move::Answer(Step::Past { due, clock });
         }
-        match self.message_at(home, &due) {
-            Some((from, message)) => self.message_move(home, floor, from, message),
+        match self.sender_at(home, head, &due) {
+            Some(from) => self.message_move(home, floor, from, due),
             None => self.event_move(home, floor, due),
         }
     }
 
-    /// One step: what it answers, and what is left.
+    /// One step: what it answers.
     ///
     /// # Errors
-    /// Out of memory.
+    /// Out of memory: what is left is to be dropped.
     pub(crate) fn step(
-        self,
+        &mut self,
         alloc: Global,
         home: &Home,
         floor: Stamp,
-    ) -> Result<(Step, Live), AllocError>
+    ) -> Result<Step, AllocError>
         requires place { IsInPlace home.now }
-        requires live { IsLive home.now floor self }
-        ensures live { IfOk result (λ left. IsLive home.now floor left.1) }
+        requires live { IsLive home.now floor self.old }
+        ensures live { OnOk result (IsLive home.now floor self.new) }
         ensures steps { IfOk result
-            (λ left. StepsTo home.now (run_in floor self) left.0 (run_in floor left.1)) }
+            (λ step. StepsTo home.now (run_in floor self.old) step (run_in floor self.new)) }
     {
         match self.next_move(home, floor) {
-            Move::Answer(step) => Ok((step, self)),
+            Move::Answer(step) => Ok(step),
             Move::Run(action) => {
                 let stamp = action.stamp();
-                let live = self.run(alloc, home, floor, action)?;
-                Ok((Step::Ran(stamp), live))
+                self.run(alloc, home, floor, action)?;
+                Ok(Step::Ran(stamp))
             }
             Move::TakeIn { from, message } => {
                 let stamp = message.stamp;
-                let live = self.take_in(alloc, home, floor, from, message)?;
-                Ok((Step::Heard(stamp), live))
+                self.take_in(alloc, home, floor, from, message)?;
+                Ok(Step::Heard(stamp))
             }
         }
     }
@@ -138,35 +148,40 @@ impl Live {
         }
     }
 
-    // The first message of a region that has the due stamp, with the region; none exactly where no
-    // message has it.
-    fn message_at(&self, home: &Home, due: &Stamp) -> Option<(u32, Message)>
+    // A region whose first message has the due stamp, where the least of the first messages is known; none
+    // exactly where no message has it.
+    fn sender_at(&self, home: &Home, head: Option<(u32, Stamp)>, due: &Stamp) -> Option<u32>
         requires live { HasRun home.now self.now }
+        requires head { IsLeastHead self.now.inbox head }
         requires due { IsDue home.now (now_in self.now) due.now }
         ensures { MatchOption result (¬ IsWaiting (now_in self.now).waiting due.now)
-            (λ head. (next_from self.now.inbox head.0 ≡ Some head.1) × (head.1.stamp ≡ due.now)) }
+            (λ from. IsFirstOf self.now.inbox from due.now) }
     {
         let _home = home;
-        let (from, message) = self.inbox.least()?;
-        if is_same(&message.stamp, due) {
-            Some((from, message))
-        } else {
-            None
+        match head {
+            Some((from, stamp)) => {
+                if is_same(&stamp, due) {
+                    Some(from)
+                } else {
+                    None
+                }
+            }
+            None => None,
         }
     }
 
-    // What comes next where the first message of a region has the due stamp, and is in turn.
-    fn message_move(&self, home: &Home, floor: Stamp, from: u32, message: Message) -> Move
+    // What comes next where the first message of a region has the due stamp, which is in turn.
+    fn message_move(&self, home: &Home, floor: Stamp, from: u32, due: Stamp) -> Move
         requires live { IsLive home.now floor self.now }
-        requires due { HasDue home.now (run_in floor self.now) message.stamp }
-        requires turn { IsInTurn (run_in floor self.now) message.stamp }
-        requires first { next_from self.now.inbox from ≡ Some message }
+        requires due { HasDue home.now (run_in floor self.now) due }
+        requires turn { IsInTurn (run_in floor self.now) due }
+        requires first { IsFirstOf self.now.inbox from due }
         ensures { Fits home.now (run_in floor self.now) result }
     {
-        let due = message.stamp;
         if self.is_own(home, &due) || self.inbox.is_shared(from, &due) {
             Move::Answer(Step::Tied(due))
         } else {
+            let message = *self.inbox.next(from).unwrap();
             Move::TakeIn { from, message }
         }
     }
@@ -222,11 +237,11 @@ fn is_in_turn(floor: &Stamp, clock: Option<Stamp>, stamp: &Stamp) -> bool
     }
 }
 
-fn stamp_of(head: Option<(u32, Message)>) -> Option<Stamp>
+fn stamp_of(head: Option<(u32, Stamp)>) -> Option<Stamp>
     ensures { result ≡ head_stamp head }
 {
     match head {
-        Some((_, message)) => Some(message.stamp),
+        Some((_, stamp)) => Some(stamp),
         None => None,
     }
 }

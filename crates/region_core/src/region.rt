@@ -108,12 +108,16 @@ impl Region {
         ensures step { IfOk result (λ answer. Steps self.old answer self.new) }
         ensures spent { OnErr result (self.new ≡ spent self.old) }
     {
-        let Some(live) = self.live.take() else {
+        let Some(live) = &mut self.live else {
             return Ok(Step::Spent);
         };
-        let (step, live) = live.step(alloc, &self.home, self.floor)?;
-        self.live = Some(live);
-        Ok(step)
+        match live.step(alloc, &self.home, self.floor) {
+            Ok(step) => Ok(step),
+            Err(error) => {
+                self.live = None;
+                Err(error)
+            }
+        }
     }
 
     /// The number of the region.

@@ -15,41 +15,29 @@ use region_view::{Action, Placed};
 use std::alloc::{AllocError, Global};
 
 impl Live {
-    /// The body without the entries from the stamp `at` on: what they took in waits again, and what they
-    /// sent is gone.
-    pub(crate) fn rewind(self, alloc: Global, home: &Home, at: Stamp) -> Result<Live, AllocError>
+    /// Takes away the entries from the stamp `at` on: what they took in waits again, and what they sent is
+    /// gone.
+    ///
+    /// # Errors
+    /// Out of memory: what is left is to be dropped.
+    pub(crate) fn rewind(&mut self, alloc: Global, home: &Home, at: Stamp) -> Result<(), AllocError>
         requires place { IsInPlace home.now }
-        requires live { HasRun home.now self }
-        ensures base { IfOk result (λ live. live.base ≡ self.base) }
-        ensures heard { IfOk result (λ live. live.inbox.heard ≡ self.inbox.heard) }
-        ensures log { IfOk result (λ live. live.log.items ≡ entries_below at self.log.items) }
-        ensures live { IfOk result (λ live. (floor : Stamp) → IsLive home.now floor self →
-            IsLive home.now floor live) }
+        requires live { HasRun home.now self.old }
+        ensures base { OnOk result (self.new.base ≡ self.old.base) }
+        ensures heard { OnOk result (self.new.inbox.heard ≡ self.old.inbox.heard) }
+        ensures log { OnOk result (self.new.log.items ≡ entries_below at self.old.log.items) }
+        ensures live { OnOk result ((floor : Stamp) → IsLive home.now floor self.old →
+            IsLive home.now floor self.new) }
     {
-        let Live {
-            base,
-            mut saved,
-            mut queue,
-            mut inbox,
-            mut sent,
-            mut log,
-        } = self;
-        let kept = count_before(&log, at);
-        let dropped = &log[kept..];
+        let kept = count_before(&self.log, at);
+        let dropped = &self.log[kept..];
         let disks = disks_of(alloc, dropped)?;
-        inbox.give_back(dropped);
-        log.truncate(kept);
-        cut_from(&mut sent, at);
-        saved.drop_after(kept as u64)?;
-        queue.touched(alloc, saved.newest(), &disks)?;
-        Ok(Live {
-            base,
-            saved,
-            queue,
-            inbox,
-            sent,
-            log,
-        })
+        self.inbox.give_back(dropped);
+        self.log.truncate(kept);
+        cut_from(&mut self.sent, at);
+        self.saved.drop_after(kept as u64)?;
+        self.queue.touched(alloc, self.saved.newest(), &disks)?;
+        Ok(())
     }
 }
 

@@ -71,8 +71,9 @@ impl Locks {
         Ok(())
     }
 
-    /// Under the locks of two regions, lets one hear the other. The lock of the lower number is taken first,
-    /// so that no two threads wait for each other.
+    /// Under the locks of two regions, lets one hear what is new of the other since it last did:
+    /// see [`Region::catch_up`]. The lock of the lower number is taken first, so that no two
+    /// threads wait for each other.
     ///
     /// # Errors
     /// Out of memory: the region that hears is spent.
@@ -89,12 +90,12 @@ impl Locks {
     {
         if hearer < from {
             let mut hears = self.regions[hearer as usize].lock(rt);
-            let tells = self.regions[from as usize].lock(rt);
-            hears.hear(alloc, &tells)?;
+            let mut tells = self.regions[from as usize].lock(rt);
+            hears.catch_up(alloc, &mut tells)?;
         } else {
-            let tells = self.regions[from as usize].lock(rt);
+            let mut tells = self.regions[from as usize].lock(rt);
             let mut hears = self.regions[hearer as usize].lock(rt);
-            hears.hear(alloc, &tells)?;
+            hears.catch_up(alloc, &mut tells)?;
         }
         Ok(())
     }

@@ -1,5 +1,5 @@
 -- The messages of a trail before a stamp, and those from it on.
-use Rattle.std.proofs.Common.{◌≡◌, inl, inr, Bool, true, false, List, [], ◌∷◌, ◌++◌, sym, ap, ◌∙◌, subst, refl}
+use Rattle.std.proofs.Common.{◌≡◌, ◌⊎◌, inl, inr, Bool, true, false, List, [], ◌∷◌, ◌++◌, sym, ap, ◌∙◌, subst, refl}
 use Rattle.std.specs.Prelude.{if◌then◌else◌}
 use Rattle.event_stamps.specs.declared.Stamp.{Stamp}
 use Rattle.event_stamps.specs.Order.{Before}
@@ -8,7 +8,7 @@ use Rattle.region_view.specs.declared.rows.Message.{Message}
 use Rattle.region_messages.specs.Trails.{is_before, IsAmong, RisesFrom, Rises, below, from}
 use Rattle.region_messages.specs.Laws.{BelowIsBefore, AgreedPartIsKept, PartsMakeTheWhole}
 use Rattle.region_messages.proofs.Order.{is_before_true, is_before_false, before_from_true, not_before_from_false, before_not_before}
-use Rattle.region_messages.proofs.Among.{rises_tail, among_rises, rises_join}
+use Rattle.region_messages.proofs.Among.{rises_tail, among_rises, among_either, rises_join}
 
 pub below_first : (t : Stamp) (m : Message) (ms : List Message) → Before m.stamp t →
     below t (m ∷ ms) ≡ m ∷ below t ms
@@ -127,6 +127,33 @@ pub rises_replaced : (t : Stamp) (a b : List Message) → Rises (below t a) → 
 rises_replaced t a b ra rb =
     rises_join (below t a) (from t b) ra (rises_part_from t b rb)
     (λ m n p q. before_not_before m.stamp n.stamp t (below_before t a m p) (from_after t b n rb q))
+
+none_below_from : (t : Stamp) (ms : List Message) → below t (from t ms) ≡ []
+none_below_from t [] = refl
+none_below_from t (m ∷ ms) = by_test (is_before m.stamp t) refl (none_below_from t ms)
+  where
+    by_test : (c : Bool) → is_before m.stamp t ≡ c → below t (from t ms) ≡ [] →
+        below t (if c then from t ms else m ∷ ms) ≡ []
+    by_test true is more = more
+    by_test false is more = below_none t m ms (not_before_from_false m.stamp t is)
+
+-- before the stamp the messages are those of the first trail
+pub below_replaced : (t : Stamp) (a b : List Message) → below t (below t a ++ from t b) ≡ below t a
+below_replaced t [] b = none_below_from t b
+below_replaced t (m ∷ ms) b = by_test (is_before m.stamp t) refl (below_replaced t ms b)
+  where
+    by_test : (c : Bool) → is_before m.stamp t ≡ c → below t (below t ms ++ from t b) ≡ below t ms →
+        below t ((if c then m ∷ below t ms else []) ++ from t b) ≡ (if c then m ∷ below t ms else [])
+    by_test true is more = below_first t m (below t ms ++ from t b) (before_from_true m.stamp t is)
+        ∙ ap (λ (v : List Message). m ∷ v) more
+    by_test false is more = none_below_from t b
+
+pub among_replaced : (t : Stamp) (a b : List Message) (m : Message) → IsAmong m (below t a ++ from t b) →
+    IsAmong m a ⊎ IsAmong m b
+among_replaced t a b m h = elim (among_either m (below t a) (from t b) h) [
+  | inl first ↦ inl (below_among t a m first)
+  | inr second ↦ inr (from_among t b m second)
+]
 
 pub agreed_part : AgreedPartIsKept
 agreed_part a b d agree =

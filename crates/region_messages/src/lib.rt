@@ -11,6 +11,8 @@ use std::marker::Model;
 #[derive(Drop)]
 pub struct Trail {
     messages: Vec<Message>,
+    // How many of the first ones have stood since the last mark.
+    kept: usize,
 }
 
 impl Model for Trail {
@@ -44,6 +46,7 @@ impl Trail {
     {
         Trail {
             messages: Vec::new(alloc),
+            kept: 0,
         }
     }
 
@@ -81,6 +84,7 @@ impl Trail {
     {
         let kept = count_below(&self.messages, at);
         self.messages.truncate(kept);
+        self.kept = self.kept.min(kept);
     }
 
     /// Takes away the messages before the stamp `at`. Takes no memory.
@@ -89,6 +93,7 @@ impl Trail {
     {
         let dropped = count_below(&self.messages, at);
         self.messages.drain(..dropped);
+        self.kept = self.kept.saturating_sub(dropped);
     }
 
     /// Takes the messages of `other` from the stamp `at` on, in place of its own from there on.
@@ -103,6 +108,14 @@ impl Trail {
         let start = count_below(&other.messages, at);
         self.messages.extend_from_slice(&other.messages[start..])
     }
+
+    /// Marks what stands now: a hearer that has heard all of it needs to look at the rest alone
+    /// (see [`first_news`]).
+    pub fn mark(&mut self)
+        ensures { self.new ≡ self.old }
+    {
+        self.kept = self.messages.len();
+    }
 }
 
 /// The first stamp at which the two differ: there only one of them has a message, or their messages have
@@ -113,6 +126,17 @@ pub fn first_disagreement(a: &Trail, b: &Trail) -> Option<Stamp>
 {
     let same = count_same(&a.messages, &b.messages);
     earlier(stamp_at(&a.messages, same), stamp_at(&b.messages, same))
+}
+
+/// From which stamp on what is told differs from what was heard, where both are taken to be the
+/// same in what has stood since `told` was marked. None where they are taken to be the same.
+/// Constant time where nothing is new.
+pub fn first_news(heard: &Trail, told: &Trail) -> Option<Stamp> {
+    let known = told.kept.min(heard.len()).min(told.len());
+    let old = &heard.messages[known..];
+    let new = &told.messages[known..];
+    let same = count_same(old, new);
+    earlier(stamp_at(old, same), stamp_at(new, same))
 }
 
 // How many messages two lists have in common, from the front on.

@@ -4,13 +4,14 @@ ghost use Rattle.std.specs.Prelude.{◌≡◌, ℕ, ◌+◌, ◌<◌, ◌≤◌,
 ghost use Rattle.region_messages.specs.Trails.{AgreesUpTo, from};
 ghost use Rattle.region_core.specs.LocalRun.{trail_of};
 ghost use Rattle.region_core.specs.Inbox.{taken_from};
+ghost use Rattle.region_core.specs.Replaced.{mixed};
 ghost use Rattle.region_core.specs.Taken.{taken_of};
 
 use crate::Entry;
 use crate::inbox::Inbox;
 use crate::raising::drop_before;
 use event_stamps::Stamp;
-use region_messages::{Trail, first_disagreement};
+use region_messages::{Trail, first_disagreement, first_news};
 use std::alloc::{AllocError, Global};
 
 impl Inbox {
@@ -45,14 +46,22 @@ impl Inbox {
         first_disagreement(&self.heard[from as usize], sent)
     }
 
-    /// Hears from a region what it sends, which from the stamp `at` on differs from what was heard.
+    /// From which stamp on it differs, where what stood of `sent` when it was last marked is taken
+    /// to be heard; none where it is taken to be the same.
+    pub(crate) fn first_news(&self, from: u32, sent: &Trail) -> Option<Stamp>
+        requires { from < length self.now.heard }
+    {
+        first_news(&self.heard[from as usize], sent)
+    }
+
+    /// Hears from a region what it sends from a stamp on, in place of what was heard from there on.
     ///
     /// # Errors
     /// Out of memory: what is heard of that region is only a part of it.
     pub(crate) fn replace(&mut self, from: u32, at: Stamp, sent: &Trail) -> Result<(), AllocError>
-        requires region { from < length self.old.heard }
-        requires agree { AgreesUpTo (trail_of self.old.heard from) sent.now at }
-        ensures heard { OnOk result (self.new.heard ≡ slice_set self.old.heard from sent.now) }
+        requires { from < length self.old.heard }
+        ensures heard { OnOk result (self.new.heard
+            ≡ slice_set self.old.heard from (mixed at (trail_of self.old.heard from) sent.now)) }
         ensures taken { OnOk result (self.new.taken ≡ self.old.taken) }
     {
         self.heard[from as usize].replace_from(at, sent)

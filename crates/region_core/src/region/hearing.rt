@@ -22,11 +22,16 @@ impl Region {
         ensures rewound { OnOk result (self.new ≡ rewound at self.old) }
         ensures spent { OnErr result (self.new ≡ spent self.old) }
     {
-        let Some(live) = self.live.take() else {
+        let Some(live) = &mut self.live else {
             return Ok(());
         };
-        self.live = Some(live.rewind(alloc, &self.home, at)?);
-        Ok(())
+        match live.rewind(alloc, &self.home, at) {
+            Ok(()) => Ok(()),
+            Err(error) => {
+                self.live = None;
+                Err(error)
+            }
+        }
     }
 
     /// Hears all that another region sends to it, in place of what it heard from it before. What it did
@@ -43,12 +48,58 @@ impl Region {
         let Some(sent) = self.sent_by(from) else {
             return Ok(Hearing::Apart);
         };
-        let Some(live) = self.live.take() else {
+        let Some(live) = &mut self.live else {
             return Ok(Hearing::Apart);
         };
-        let (live, answer) = live.hear(alloc, &self.home, from.home.number, sent)?;
-        self.live = Some(live);
-        Ok(answer)
+        match live.hear(alloc, &self.home, from.home.number, sent) {
+            Ok(answer) => Ok(answer),
+            Err(error) => {
+                self.live = None;
+                Err(error)
+            }
+        }
+    }
+
+    /// Hears what is new of what another region sends to it, and marks that it did. What it did
+    /// from the first news on, it takes back. It takes for granted that it heard what the other had
+    /// sent when that was last marked; if it hadn't, it has heard only a part, as a burst may, and
+    /// is a right local run all the same.
+    ///
+    /// # Errors
+    /// Out of memory: the region is spent.
+    pub fn catch_up(&mut self, alloc: Global, from: &mut Region) -> Result<(), AllocError>
+        ensures place { OnOk result ((self.new.home ≡ self.old.home)
+            × (self.new.floor ≡ self.old.floor)) }
+        ensures spent { OnErr result (self.new ≡ spent self.old) }
+        ensures teller { from.new ≡ from.old }
+    {
+        let number = from.home.number;
+        let Some(sent) = self.sent_by(from) else {
+            return Ok(());
+        };
+        let Some(live) = &mut self.live else {
+            return Ok(());
+        };
+        match live.catch_up(alloc, &self.home, number, sent) {
+            Ok(()) => {
+                from.mark_sent(self.home.number);
+                Ok(())
+            }
+            Err(error) => {
+                self.live = None;
+                Err(error)
+            }
+        }
+    }
+
+    // Marks what stands of what it sends to a region.
+    fn mark_sent(&mut self, to: u32)
+        ensures { self.new ≡ self.old }
+    {
+        let Some(live) = &mut self.live else {
+            return;
+        };
+        live.mark_sent(to);
     }
 
     // What another region sends to it; none exactly where the two are apart.

@@ -1,7 +1,7 @@
 //! Whether a region stands on a cell state.
 
-ghost use Rattle.std.specs.Prelude.{◌↔◌, ◌≤◌, length, slice_get, option_copied, Some, IsTrue, MatchOption};
-ghost use Rattle.cell_grid.specs.Grid.{IsRegion, IsCell};
+ghost use Rattle.std.specs.Prelude.{◌↔◌, ℕ, ◌≤◌, length, slice_get, option_copied, Some, IsTrue, MatchOption};
+ghost use Rattle.cell_grid.specs.Grid.{HasSizes, IsRegion, IsCell, IsStripOf, Reaches};
 ghost use Rattle.region_view.specs.Laws.{HasCells};
 ghost use Rattle.region_view.specs.Views.{IsViewOf};
 ghost use Rattle.region_core.specs.Keeping.{IsKept};
@@ -9,7 +9,7 @@ ghost use Rattle.region_core.specs.Standing.{TellsStanding, SeesRow, IsUnseenFir
 
 use crate::Differs;
 use crate::region::Region;
-use cell_grid::Grid;
+use cell_grid::{Grid, Strip};
 use cell_sequence::CellState;
 use region_view::{Placed, View};
 
@@ -62,9 +62,11 @@ fn first_apart(view: &View, placed: &[Placed], grid: &Grid, number: u32) -> Opti
     ensures { MatchOption result (IsViewOf grid.now number (slice_get placed.now) view.now)
         (IsUnseenFirst grid.now number (slice_get placed.now) view.now) }
 {
+    // Once for all rows, since a strip takes divisions and the rows are many.
+    let strip = grid.strip(number);
     for (i, row) in placed.iter().enumerate() {
         let disk = i as u32;
-        if !sees_row(view.get(disk), row, grid, number) {
+        if !sees_row(view.get(disk), row, grid, strip) {
             return Some(disk);
         }
     }
@@ -72,15 +74,25 @@ fn first_apart(view: &View, placed: &[Placed], grid: &Grid, number: u32) -> Opti
     Some(disk)
 }
 
-// Whether what a view has at a number is exactly what a region sees of the row there.
-fn sees_row(found: Option<&Placed>, row: &Placed, grid: &Grid, number: u32) -> bool
-    requires region { IsRegion grid.now number }
+// Whether what a view has at a number is exactly what the region of a strip sees of the row there.
+fn sees_row(found: Option<&Placed>, row: &Placed, grid: &Grid, strip: Strip) -> bool
+    requires sizes { HasSizes grid.now }
     requires cell { IsCell grid.now row.now.cell }
-    ensures { IsTrue result ↔ SeesRow grid.now number (Some row.now) (option_copied found.entry) }
+    ensures { (k : ℕ) → IsStripOf grid.now k strip →
+        (IsTrue result ↔ SeesRow grid.now k (Some row.now) (option_copied found.entry)) }
 {
-    let reached = grid.in_reach(number, row.cell);
     match found {
-        Some(placed) => reached && placed == row,
-        None => !reached,
+        Some(placed) => placed == row && reaches(strip, grid, row.cell),
+        None => !reaches(strip, grid, row.cell),
     }
+}
+
+// Whether a cell is in a column of a strip or in one beside it.
+fn reaches(strip: Strip, grid: &Grid, cell: u32) -> bool
+    requires sizes { HasSizes grid.now }
+    requires cell { IsCell grid.now cell }
+    ensures { (k : ℕ) → IsStripOf grid.now k strip → (IsTrue result ↔ Reaches grid.now k cell) }
+{
+    let column = grid.column(cell);
+    strip.first <= column + 1 && column <= strip.end
 }

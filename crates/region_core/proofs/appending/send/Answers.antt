@@ -1,10 +1,16 @@
-use Rattle.std.proofs.Common.{◌≡◌, ◌<◌, ◌++◌, [], List, Option, length, ap, ◌∙◌, arith}
+use Rattle.std.proofs.Common.{◌≡◌, ◌+◌, ◌<◌, ◌++◌, [], List, Option, length, ap, sym, ◌∙◌, arith}
+use Rattle.std.specs.Prelude.{min}
+use Rattle.std.proofs.lemmas.Bool.{false≢true}
 use Rattle.std.proofs.lemmas.List.{get_or_read}
 use Rattle.region_view.specs.Views.{rows_in}
 use Rattle.region_view.specs.declared.rows.Message.{Message}
 use Rattle.region_core.specs.LocalRun.{trail_of, told}
-use Rattle.region_core.proofs.Sending.{one_sent, comes_after_sent}
+use Rattle.region_core.proofs.Sending.{none_sent_yet, all_below_end, one_skipped, one_sent, comes_after_sent}
 use Rattle.region_core.proofs.appending.send.Goals as goal
+
+pub loop-to-init : goal.loop-to-init
+loop-to-init c = none_sent_yet c.args.home.now (rows_in c.args.before.now) c.args.action.now
+    c.saturating_sub-first.result c.args.sent.now.items c.regions-regions.ensures.kept c.saturating_sub-first.ensures
 
 pub send_one-requires : goal.send_one-requires
 send_one-requires c =
@@ -17,6 +23,11 @@ send_one-requires c =
     (get_or_read new to c.index_mut.result.now (omega arith) c.index_mut.ensures.value [])
     c.message_for-message.ensures
     (c.requires.after to (c.sends_to.ensures.0 c.if-not-sends_to.false))
+
+pub loop-to-preserved-then-not-sends_to : goal.loop-to-preserved-then-not-sends_to
+loop-to-preserved-then-not-sends_to c = one_skipped c.args.home.now (rows_in c.args.before.now) c.args.action.now
+    c.loop-to.to c.args.sent.now.items c.loop-to.sent.items
+    (λ sends. false≢true (sym c.if-not-sends_to.true ∙ c.sends_to.ensures.1 sends)) c.loop-to.invariant
 
 pub loop-to-preserved : goal.loop-to-preserved
 loop-to-preserved c =
@@ -32,3 +43,9 @@ loop-to-preserved c =
     (get_or_read new to c.index_mut.result.now within c.index_mut.ensures.value [])
     ∙ ap (λ (o : Option Message). trail_of new to ++ told o []) c.message_for-message.ensures)
     c.loop-to.invariant
+
+pub returns-clause-told : goal.returns-clause-told
+returns-clause-told c = λ to sends.
+    let below = all_below_end c.args.home.now to c.min-end.result c.regions-regions.ensures.kept
+    (c.min-end.ensures ∙ ap (min (c.args.home.now.number + 3)) c.regions-regions.ensures.value) sends in
+    c.loop-to.invariant.below to sends (omega arith)

@@ -1,12 +1,24 @@
-use Rattle.std.proofs.Common.{List, ℕ, ◌∙◌, sym, subst}
-use Rattle.region_queue.specs.Naming.{IsSameBut}
-use Rattle.region_core.proofs.Touched.{numbers_of, same_but}
+use Rattle.std.proofs.Common.{sym, subst}
+use Rattle.region_view.specs.Setting.{AreRows}
+use Rattle.region_core.proofs.News.{on_ok}
+use Rattle.region_core.proofs.Touched.{one_number, two_numbers, same_but_at}
 use Rattle.region_core.proofs.appending.touch.Goals as goal
 
-pub returns-clause-stands : goal.returns-clause-stands
-returns-clause-stands c = λ before stands is.
-    c.in_ok-touched.ensures.stands before stands
-    (subst (λ (ids : List ℕ). IsSameBut ids before c.args.view.now)
-    (sym (c.deref.ensures.value ∙ c.in_ok-disks.ensures))
-    (subst (IsSameBut (numbers_of c.args.rows.now) before) (sym is)
-    (same_but before c.args.rows.now)))
+pub returns-in-len1-clause-stands : goal.returns-in-len1-clause-stands
+returns-in-len1-clause-stands c =
+    let slice = c.as_slice.result.now in
+    on_ok c.touched-in-len1.result _ _
+    (λ stands. λ before here is. stands before here
+    (same_but_at before c.args.view.now c.args.rows.now slice _ c.as_slice.ensures.value
+    (one_number slice _ c.in-len1.len_at_least c.in-len1.len_below) is))
+    c.touched-in-len1.ensures.stands
+
+pub returns-in-len2-up-clause-stands : goal.returns-in-len2-up-clause-stands
+returns-in-len2-up-clause-stands c =
+    let slice = c.as_slice.result.now in
+    on_ok c.touched-in-len2-up.result _ _
+    (λ stands. λ before here is. stands before here
+    (same_but_at before c.args.view.now c.args.rows.now slice _ c.as_slice.ensures.value
+    (two_numbers slice _ (subst AreRows (sym c.as_slice.ensures.value) c.as_slice.ensures.rows)
+    c.in-len2-up.len_at_least) is))
+    c.touched-in-len2-up.ensures.stands

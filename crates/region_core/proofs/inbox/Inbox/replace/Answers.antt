@@ -7,5 +7,4 @@ pub returns-clause-heard : goal.returns-clause-heard
 returns-clause-heard c = on_ok c.replace_from.result _ _
     (λ is. replaced_by c.self.inside.heard.items c.args.self.now.heard c.args.from c.args.at
     c.index_mut.result.now c.args.sent.now c.replace_from.new.self
-    (ap (λ (v : InboxData). v.heard) c.self.view_is) c.index_mut.ensures.value c.requires.region
-    c.requires.agree is) c.replace_from.ensures.replaced
+    (ap (λ (v : InboxData). v.heard) c.self.view_is) c.index_mut.ensures.value c.requires is) c.replace_from.ensures.replaced

@@ -1,7 +1,7 @@
 use Rattle.std.proofs.Common.{Option, refl, ap, ◌∙◌, sym, subst, arith}
 use Rattle.std.proofs.lemmas.Bool.{false≢true}
 use Rattle.event_stamps.specs.declared.Stamp.{Stamp}
-use Rattle.region_core.specs.Answers.{HasDue, IsInTurn, clock_of}
+use Rattle.region_core.specs.Answers.{clock_of}
 use Rattle.region_core.specs.Live.{run_in}
 use Rattle.region_core.specs.Keeping.{last_stamp}
 use Rattle.region_core.specs.Moves.{ComesAfter}
@@ -20,17 +20,10 @@ returns-then-not-is_in_turn c =
       refl,
     )
 
-pub message_move-requires-clause-due : goal.message_move-requires-clause-due
-message_move-requires-clause-due c =
-    let r = run_in c.args.floor c.args.self.now in
-    subst (HasDue c.args.home.now r) (sym c.in-Some-message_at.ensures.1)
-    (omega (arith, c.if-len-ge-MAX_ENTRIES.false, c.len.ensures), c.in-Some.ensures)
-
 pub message_move-requires-clause-turn : goal.message_move-requires-clause-turn
 message_move-requires-clause-turn c =
     let r = run_in c.args.floor c.args.self.now in
     let clock = c.last_stamp.ensures ∙ ap last_stamp c.deref.ensures.value in
-    subst (IsInTurn r) (sym c.in-Some-message_at.ensures.1)
-    ((turn_by r c.in-Some.due).0
+    (turn_by r c.in-Some.due).0
     (subst (λ (o : Option Stamp). ComesAfter c.args.floor o c.in-Some.due) clock
-    (c.is_in_turn.ensures.0 c.if-not-is_in_turn.false)))
+    (c.is_in_turn.ensures.0 c.if-not-is_in_turn.false))

@@ -15,14 +15,14 @@ use Rattle.region_core.proofs.live.Live.run.Goals as goal
 
 pub rows_of-rows-requires : goal.rows_of-rows-requires
 rows_of-rows-requires c = record {
-  order = (native_action c.args.home.now c.args.floor c.args.self c.args.action
+  order = (native_action c.args.home.now c.args.floor c.args.self.now c.args.action
       c.requires.place c.requires.live c.requires.fits).order;
 }
 
 pub send-requires : goal.send-requires
 send-requires c =
     let home = c.args.home.now in
-    let live = c.args.self in
+    let live = c.args.self.now in
     let view = newest_is live c.newest-view.ensures.last.0 c.newest-view.result.now c.requires.live.saved
     c.newest-view.ensures.last.1 in
     let valid = native_action home c.args.floor live c.args.action c.requires.place c.requires.live
@@ -39,7 +39,7 @@ send-requires c =
 
 pub set-requires : goal.set-requires
 set-requires c =
-    let live = c.args.self in
+    let live = c.args.self.now in
     let view = newest_is live c.newest-view.ensures.last.0 c.newest-view.result.now c.requires.live.saved
     c.newest-view.ensures.last.1 in
     let rows : c.rows_of-rows.result ≡ rows_set (rows_in (now_in live).view) c.args.action =
@@ -57,7 +57,7 @@ set-requires c =
 pub returns-clause-live : goal.returns-clause-live
 returns-clause-live c =
     let home = c.args.home.now in
-    let live = c.args.self in
+    let live = c.args.self.now in
     let e = Native c.args.action in
     let queue = c.in_ok-set.ensures.queue in
     let view = newest_is live c.newest-view.ensures.last.0 c.newest-view.result.now c.requires.live.saved

@@ -4,12 +4,12 @@ use Rattle.region_core.specs.Answers.{HasDue, IsInTurn}
 use Rattle.region_core.specs.Live.{run_in}
 use Rattle.region_core.proofs.live.Live.step.Goals as goal
 
-pub returns-in_ok-live-in-Run-clause-steps : goal.returns-in_ok-live-in-Run-clause-steps
-returns-in_ok-live-in-Run-clause-steps c =
-    let r = run_in c.args.floor c.args.self in
+pub returns-in_ok-run-in-Run-clause-steps : goal.returns-in_ok-run-in-Run-clause-steps
+returns-in_ok-run-in-Run-clause-steps c =
+    let r = run_in c.args.floor c.args.self.now in
     let fits = c.in-Run.ensures in
     let same : stamp_of c.in-Run.action ≡ c.stamp-stamp.result = sym c.stamp-stamp.ensures in (
       subst (HasDue c.args.home.now r) same fits.0,
       subst (IsInTurn r) same fits.1,
-      (c.in-Run.action, same, fits.2, c.in_ok-live-in-Run.ensures.run),
+      (c.in-Run.action, same, fits.2, c.in_ok-run-in-Run.ensures.run),
     )

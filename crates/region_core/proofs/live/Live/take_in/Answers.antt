@@ -12,25 +12,25 @@ set-requires c = record {
   saved = c.requires.live.saved;
   room = c.requires.fits.0.0;
   stands = c.requires.live.stands;
-  valid = heard_valid c.args.home.now c.args.floor c.args.self c.args.from c.args.message
+  valid = heard_valid c.args.home.now c.args.floor c.args.self.now c.args.from c.args.message
       c.requires.place c.requires.live c.requires.fits;
 }
 
 pub take-requires : goal.take-requires
 take-requires c = record {
   waits = subst (λ (inbox : InboxData). IsSome (next_from inbox c.args.from)) (sym c.set.ensures.inbox)
-      (waits_in c.args.home.now c.args.floor c.args.self c.args.from c.args.message c.requires.live
+      (waits_in c.args.home.now c.args.floor c.args.self.now c.args.from c.args.message c.requires.live
       c.requires.fits);
   room = subst (λ (inbox : InboxData). taken_from inbox c.args.from < MAX_ENTRIES)
       (sym c.set.ensures.inbox)
-      (few_taken c.args.home.now c.args.floor c.args.self c.args.from c.args.message c.requires.live
+      (few_taken c.args.home.now c.args.floor c.args.self.now c.args.from c.args.message c.requires.live
       c.requires.fits);
 }
 
 pub returns-clause-live : goal.returns-clause-live
 returns-clause-live c =
     let home = c.args.home.now in
-    let live = c.args.self in
+    let live = c.args.self.now in
     let e = Heard c.args.from c.args.message in
     let inbox = c.take.ensures ∙ ap (λ (x : InboxData). with_taken x c.args.from) c.set.ensures.inbox in
     let queue = c.in_ok-set.ensures.queue in

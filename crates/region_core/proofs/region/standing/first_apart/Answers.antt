@@ -10,14 +10,16 @@ pub returns-then-not-sees_row : goal.returns-then-not-sees_row
 returns-then-not-sees_row c =
     let sees = seen_at c.args.grid.now c.args.number c.args.placed.now c.args.view.now c.loop-i.i
     (get_or c.args.placed.now c.loop-i.i no_row) (option_copied c.get.result) c.sees_row.result
-    (row_at c.args.placed.now c.loop-i.i c.loop-i-test.true) c.get.ensures c.sees_row.ensures in
+    (row_at c.args.placed.now c.loop-i.i c.loop-i-test.true) c.get.ensures
+    (c.sees_row.ensures c.args.number c.strip-strip.ensures.strip) in
     (λ seen. absurd (false≢true (sym c.if-not-sees_row.true ∙ sees.1 seen)), c.loop-i.invariant)
 
 pub loop-i-preserved : goal.loop-i-preserved
 loop-i-preserved c =
     let sees = seen_at c.args.grid.now c.args.number c.args.placed.now c.args.view.now c.loop-i.i
     (get_or c.args.placed.now c.loop-i.i no_row) (option_copied c.get.result) c.sees_row.result
-    (row_at c.args.placed.now c.loop-i.i c.loop-i-test.true) c.get.ensures c.sees_row.ensures in
+    (row_at c.args.placed.now c.loop-i.i c.loop-i-test.true) c.get.ensures
+    (c.sees_row.ensures c.args.number c.strip-strip.ensures.strip) in
     below_more _ _ c.loop-i.invariant (sees.0 c.if-not-sees_row.false)
 
 pub returns-in_err-disk : goal.returns-in_err-disk

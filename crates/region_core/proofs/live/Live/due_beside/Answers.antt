@@ -6,7 +6,7 @@ use Rattle.region_core.specs.Inbox.{head_stamp}
 use Rattle.region_core.specs.Live.{now_in}
 use Rattle.region_core.proofs.Heads.{due_of_both}
 use Rattle.region_core.proofs.NextMove.{least_waiting}
-use Rattle.region_core.proofs.live.Live.due.Goals as goal
+use Rattle.region_core.proofs.live.Live.due_beside.Goals as goal
 
 pub returns : goal.returns
 returns c =
@@ -16,6 +16,6 @@ returns c =
     (subst (λ (o : Option Stamp). IsLeastOf (IsOffered home (now_in live))
     (earlier_of c.least_own.result o))
     (sym c.stamp_of.ensures)
-    (due_of_both home (now_in live) c.least_own.result (head_stamp c.least.result)
+    (due_of_both home (now_in live) c.least_own.result (head_stamp c.args.head)
     c.least_own.ensures
-    (least_waiting home c.requires.0 live c.least.result c.requires.1 c.least.ensures)))
+    (least_waiting home c.requires.live.0 live c.args.head c.requires.live.1 c.requires.head)))
