@@ -1,11 +1,11 @@
 -- The actions of a log before a stamp, and its head, the first of them.
-use Rattle.std.proofs.Common.{◌≡◌, ◌⊎◌, inl, inr, ℕ, zero, suc, ◌+◌, ◌-◌, ◌<◌, ◌≤◌, Bool, true, false, List, [], ◌∷◌}
+use Rattle.std.proofs.Common.{◌≡◌, ◌⊎◌, inl, inr, ℕ, zero, suc, ◌+◌, ◌-◌, ◌<◌, ◌≤◌, Bool, true, false, List, [], ◌∷◌, ◌++◌}
 use Rattle.std.proofs.Common.{Option, Some, None, drop, set, get_or, length, sym, ap, ◌∙◌, subst, refl, arith}
 use Rattle.std.proofs.Common.{get_or-set_same, get_or-set_other}
 use Rattle.std.specs.Prelude.{slice_get, IfSome, if◌then◌else◌}
 use Rattle.std.specs.List.{sum_by}
 use Rattle.std.proofs.lemmas.Bool.{cases_lt}
-use Rattle.std.proofs.lemmas.List.{drop_more, drop_all, get_or_past}
+use Rattle.std.proofs.lemmas.List.{drop_more, drop_all, get_or_past, get_or_push, get_or_append_left, length_push}
 use Rattle.std.proofs.lemmas.List.Sums.{sum_by-set}
 use Rattle.std.proofs.lemmas.Option.{none-some, same_Some, slice_get_within, get_or_from_slice_get}
 use Rattle.event_stamps.specs.declared.Stamp.{Stamp}
@@ -19,12 +19,13 @@ use Rattle.region_core.specs.declared.entry.Entry.{Entry}
 use Rattle.region_core.specs.declared.entry.Entry.TheVariants.{Native, Heard}
 use Rattle.region_core.specs.declared.entry.TheConstants.{MAX_ENTRIES}
 use Rattle.region_core.specs.LocalRun.{RiseFrom}
-use Rattle.region_core.specs.Keeping.{native_in}
+use Rattle.region_core.specs.Opening.{RegionData}
+use Rattle.region_core.specs.Keeping.{entries_of, native_in}
 use Rattle.region_core.proofs.Among.{same_or_other}
 use Rattle.region_core.proofs.Logs.{rises_log_tail, among_after}
 use Rattle.commit_horizon.specs.declared.merging.Head.{Head}
 use Rattle.commit_horizon.specs.Horizon.{ActionsRise}
-use Rattle.commit_horizon.specs.Merging.{actions_below, IsHeadAfter, head_before, Heads, head_at, IsLeastHead, nearer_of}
+use Rattle.commit_horizon.specs.Merging.{actions_below, IsLeft, IsHeadAfter, head_before, Heads, head_at, AreHeads, IsLeastHead, nearer_of}
 
 -- ---- the actions before a stamp
 pub actions_in : (h : Stamp) (x : Action) (es : List Entry) → Before (stamp_of x) h →
@@ -102,23 +103,31 @@ native_entry None x is = absurd (none-some x is)
 native_entry (Some (Native y)) x is = ap (λ (v : Action). Some (Native v)) (same_Some y x is)
 native_entry (Some (Heard q m)) x is = absurd (none-some x is)
 
-pub head_found : (h : Stamp) (log : List Entry) (done k : ℕ) (x : Action) → done ≤ k → k < length log →
+native_within : (log : List Entry) (k : ℕ) (x : Action) → native_in (slice_get log k) ≡ Some x → k < length log
+native_within log k x is = slice_get_within log k (Native x) (native_entry (slice_get log k) x is)
+
+pub head_found : (h : Stamp) (log : List Entry) (done k : ℕ) (x : Action) → done ≤ k →
     native_in (slice_get log k) ≡ Some x → actions_below h (drop done log) ≡ actions_below h (drop k log) →
-    IsHeadAfter h log done (head_before h x (k + 1))
-head_found h log done k x le lt is so_far = by_test (is_before (stamp_of x) h) refl
+    IsHeadAfter h log done (head_before h (stamp_of x) k)
+head_found h log done k x le is so_far = by_test (is_before (stamp_of x) h) refl
   where
     rest : actions_below h (drop done log) ≡ actions_below h (Native x ∷ drop (k + 1) log)
     rest = so_far ∙ ap (actions_below h) (rest_at log k (Native x) (native_entry (slice_get log k) x is))
 
     by_test : (b : Bool) → is_before (stamp_of x) h ≡ b →
-        IsHeadAfter h log done (if b then Some (record { action = x; next = k + 1 }) else None)
+        IsHeadAfter h log done (if b then Some (record { stamp = stamp_of x; place = k }) else None)
     by_test true e = record {
-      actions = rest ∙ actions_in h x (drop (k + 1) log) (before_from_true (stamp_of x) h e);
-      next = (omega arith, omega arith);
+      actions = record {
+        action = x;
+        at = is;
+        stamp = refl;
+        rest = rest ∙ actions_in h x (drop (k + 1) log) (before_from_true (stamp_of x) h e);
+      };
+      place = le;
     }
     by_test false e = record {
       actions = rest ∙ actions_out h x (drop (k + 1) log) (not_before_from_false (stamp_of x) h e);
-      next = tt;
+      place = tt;
     }
 
 pub head_passed : (h : Stamp) (log : List Entry) (k : ℕ) → k < length log →
@@ -135,7 +144,7 @@ pub head_past : (h : Stamp) (log : List Entry) (done k : ℕ) → length log ≤
     actions_below h (drop done log) ≡ actions_below h (drop k log) → IsHeadAfter h log done None
 head_past h log done k le so_far = record {
   actions = so_far ∙ ap (actions_below h) (drop_all k log le);
-  next = tt;
+  place = tt;
 }
 
 -- ---- all heads
@@ -144,7 +153,7 @@ abbrev pub IsLeastOfFirst : Heads → ℕ → Option (ℕ × Head) → Type 0
 IsLeastOfFirst heads n None = (k : ℕ) → k < n → head_at heads k ≡ None
 IsLeastOfFirst heads n (Some least) = (least.0 < length heads) × (head_at heads least.0 ≡ Some least.1)
     × ((k : ℕ) (head : Head) → k < n → head_at heads k ≡ Some head →
-    ¬ Before (stamp_of head.action) (stamp_of least.1.action))
+    ¬ Before head.stamp least.1.stamp)
 
 pub nearer_is : (heads : Heads) (n : ℕ) (least : Option (ℕ × Head)) (head : Option Head) →
     n < length heads → head_at heads n ≡ head → IsLeastOfFirst heads n least →
@@ -160,8 +169,8 @@ nearer_is heads n None (Some head) lt at so_far = (
     | inl less ↦ absurd (none-some other (sym (so_far k less) ∙ at_k))
     | inr same ↦
         let is : head ≡ other = same_Some head other (sym at ∙ ap (head_at heads) (sym same) ∙ at_k) in
-        subst (λ (v : Head). ¬ Before (stamp_of v.action) (stamp_of head.action)) is
-        (not_before_itself (stamp_of head.action))
+        subst (λ (v : Head). ¬ Before v.stamp head.stamp) is
+        (not_before_itself head.stamp)
   ],
 )
 nearer_is heads n (Some least) None lt at so_far = (
@@ -174,22 +183,22 @@ nearer_is heads n (Some least) None lt at so_far = (
       ],
 )
 nearer_is heads n (Some least) (Some head) lt at so_far =
-    by_test (is_before (stamp_of head.action) (stamp_of least.1.action)) refl
+    by_test (is_before head.stamp least.1.stamp) refl
   where
     of_last : (k : ℕ) (other : Head) → k ≡ n → head_at heads k ≡ Some other → head ≡ other
     of_last k other same at_k = same_Some head other (sym at ∙ ap (head_at heads) (sym same) ∙ at_k)
 
-    by_test : (b : Bool) → is_before (stamp_of head.action) (stamp_of least.1.action) ≡ b →
+    by_test : (b : Bool) → is_before head.stamp least.1.stamp ≡ b →
         IsLeastOfFirst heads (n + 1) (if b then Some (n, head) else Some least)
     by_test true e = (
       lt,
       at,
       λ k other below at_k less. elim (below_or_last k n below) [
-        | inl first ↦ so_far.2 k other first at_k (before_trans (stamp_of other.action) (stamp_of head.action)
-            (stamp_of least.1.action) less
-            (before_from_true (stamp_of head.action) (stamp_of least.1.action) e))
-        | inr same ↦ not_before_itself (stamp_of head.action)
-            (subst (λ (v : Head). Before (stamp_of v.action) (stamp_of head.action))
+        | inl first ↦ so_far.2 k other first at_k (before_trans other.stamp head.stamp
+            least.1.stamp less
+            (before_from_true head.stamp least.1.stamp e))
+        | inr same ↦ not_before_itself head.stamp
+            (subst (λ (v : Head). Before v.stamp head.stamp)
             (sym (of_last k other same at_k)) less)
       ],
     )
@@ -198,9 +207,9 @@ nearer_is heads n (Some least) (Some head) lt at so_far =
       so_far.1,
       λ k other below at_k. elim (below_or_last k n below) [
         | inl first ↦ so_far.2 k other first at_k
-        | inr same ↦ subst (λ (v : Head). ¬ Before (stamp_of v.action) (stamp_of least.1.action))
+        | inr same ↦ subst (λ (v : Head). ¬ Before v.stamp least.1.stamp)
             (of_last k other same at_k)
-            (not_before_from_false (stamp_of head.action) (stamp_of least.1.action) e)
+            (not_before_from_false head.stamp least.1.stamp e)
       ],
     )
 
@@ -217,40 +226,57 @@ least_of_all heads n (Some least) le so_far = (
       so_far.2 k head (omega (arith, head_within heads k head at)) at,
 )
 
+pub one_more_head : (h : Stamp) (regions : List RegionData) (n : ℕ) (heads : Heads) (region : RegionData)
+    (head : Option Head) → slice_get regions n ≡ Some region → AreHeads h regions n heads →
+    IsHeadAfter h (entries_of region) 0 head → AreHeads h regions (n + 1) (heads ++ head ∷ [])
+one_more_head h regions n heads region head at so_far after = record {
+  count = length_push heads head ∙ ap (λ (m : ℕ). m + 1) so_far.count;
+  each = λ k other below there. elim (below_or_last k n below) [
+    | inl less ↦ subst (IsHeadAfter h (entries_of other) 0)
+        (sym (get_or_append_left heads (head ∷ []) None k
+        (subst (λ (m : ℕ). k < m) (sym so_far.count) less)))
+        (so_far.each k other less there)
+    | inr same ↦
+        let is : region ≡ other = same_Some region other (sym at ∙ ap (slice_get regions) (sym same) ∙ there) in
+        subst (IsHeadAfter h (entries_of other) 0)
+        (sym (get_or_push heads head None k (so_far.count ∙ sym same)))
+        (subst (λ (v : RegionData). IsHeadAfter h (entries_of v) 0 head) is after)
+  ];
+}
+
 -- ---- how much is left
--- more than there can be entries from a head on
+-- as many entries as there can be from a head on
 abbrev pub cost_of : Option Head → ℕ
 cost_of None = 0
-cost_of (Some head) = (MAX_ENTRIES + 1) - head.next
+cost_of (Some head) = MAX_ENTRIES - head.place
 
 abbrev pub FitLogs : Heads → Type 0
-FitLogs heads = (k : ℕ) (head : Head) → head_at heads k ≡ Some head → head.next ≤ MAX_ENTRIES
+FitLogs heads = (k : ℕ) (head : Head) → head_at heads k ≡ Some head → head.place < MAX_ENTRIES
 
-cost_falls : (head : Head) (new : Option Head) (h : Stamp) (log : List Entry) → head.next ≤ MAX_ENTRIES →
-    length log ≤ MAX_ENTRIES → IsHeadAfter h log head.next new → cost_of new < cost_of (Some head)
-cost_falls head None h log most few after = omega arith
-cost_falls head (Some new) h log most few after = omega (arith, after.next)
+cost_falls : (head : Head) (new : Option Head) → head.place < MAX_ENTRIES →
+    IfSome new (λ v. head.place + 1 ≤ v.place) → cost_of new < cost_of (Some head)
+cost_falls head None fit later = omega arith
+cost_falls head (Some new) fit later = omega (arith, later)
 
 pub costs_fall : (heads : Heads) (k : ℕ) (head : Head) (new : Option Head) (h : Stamp) (log : List Entry) →
-    k < length heads → head_at heads k ≡ Some head → FitLogs heads → length log ≤ MAX_ENTRIES →
-    IsHeadAfter h log head.next new → sum_by cost_of (set heads k new) < sum_by cost_of heads
-costs_fall heads k head new h log lt at fit few after =
-    let falls = cost_falls head new h log (fit k head at) few after in
+    k < length heads → head_at heads k ≡ Some head → FitLogs heads →
+    IsHeadAfter h log (head.place + 1) new → sum_by cost_of (set heads k new) < sum_by cost_of heads
+costs_fall heads k head new h log lt at fit after =
+    let falls = cost_falls head new (fit k head at) after.place in
     let was : cost_of (get_or heads k None) ≡ cost_of (Some head) = ap cost_of at in
     omega (arith, sum_by-set cost_of heads k new None lt)
 
-pub fits_log : (found : Option Head) (head : Head) (done : ℕ) (log : List Entry) → length log ≤ MAX_ENTRIES →
-    IfSome found (λ v. (done < v.next) × (v.next ≤ length log)) → found ≡ Some head → head.next ≤ MAX_ENTRIES
-fits_log None head done log few next is = absurd (none-some head is)
-fits_log (Some v) head done log few next is =
-    let same : v ≡ head = same_Some v head is in
-    subst (λ (x : Head). x.next ≤ MAX_ENTRIES) same (omega (arith, next.1))
+pub fits_log : (h : Stamp) (log : List Entry) (done : ℕ) (found : Option Head) (head : Head) →
+    length log ≤ MAX_ENTRIES → IsHeadAfter h log done found → found ≡ Some head → head.place < MAX_ENTRIES
+fits_log h log done found head few after is =
+    let begins = subst (IsLeft h log (actions_below h (drop done log))) is after.actions in
+    omega (arith, native_within log head.place begins.action begins.at)
 
 pub fit_more : (heads : Heads) (k : ℕ) (done : ℕ) (new : Option Head) (h : Stamp) (log : List Entry) →
     k < length heads → FitLogs heads → length log ≤ MAX_ENTRIES → IsHeadAfter h log done new →
     FitLogs (set heads k new)
 fit_more heads k done new h log lt fit few after q head at = elim (same_or_other q k) [
-  | inl same ↦ fits_log new head done log few after.next
+  | inl same ↦ fits_log h log done new head few after
       (sym (get_or-set_same heads k new None lt) ∙ ap (head_at (set heads k new)) (sym same) ∙ at)
   | inr other ↦ fit q head (sym (get_or-set_other heads k q new None other) ∙ at)
 ]

@@ -1,10 +1,12 @@
 -- Merging by heads: what is left of the regions, and what was merged of them.
-use Rattle.std.proofs.Common.{◌≡◌, ◌≢◌, ◌⊎◌, inl, inr, ℕ, ◌<◌, ◌≤◌, List, [], ◌∷◌, ◌++◌, length, set, get_or-set_same, get_or-set_other, drop, sym, ap, ◌∙◌, subst, refl}
+use Rattle.std.proofs.Common.{◌≡◌, ◌≢◌, ◌⊎◌, inl, inr, ℕ, ◌+◌, ◌<◌, ◌≤◌, List, [], ◌∷◌, ◌++◌, length, set, get_or-set_same, get_or-set_other, drop, sym, ap, ◌∙◌, subst, refl}
 use Rattle.std.proofs.Common.{Option, Some, None}
 use Rattle.std.specs.Prelude.{slice_get}
+use Rattle.std.specs.Option.{IsSome, is_some}
 use Rattle.std.specs.List.{sum_by}
 use Rattle.std.proofs.lemmas.List.{length-set}
 use Rattle.std.proofs.lemmas.List.Sums.{fold_push}
+use Rattle.std.proofs.lemmas.Option.{same_Some}
 use Rattle.event_stamps.specs.declared.Stamp.{Stamp}
 use Rattle.event_stamps.specs.Order.{Before}
 use Rattle.event_stamps.proofs.StampOrder.{before_trans, before_decides, same_stamp}
@@ -23,9 +25,9 @@ use Rattle.region_core.proofs.Among.{same_or_other}
 use Rattle.commit_horizon.specs.declared.merging.Head.{Head}
 use Rattle.region_core.specs.declared.entry.TheConstants.{MAX_ENTRIES}
 use Rattle.region_core.specs.Opening.{RegionData}
-use Rattle.region_core.specs.Keeping.{entries_of}
+use Rattle.region_core.specs.Keeping.{entries_of, native_in}
 use Rattle.commit_horizon.specs.Horizon.{Runs, runs_of, AllStand, AllKept, IsBound, ActionsRise, IsDone, IsMerged}
-use Rattle.commit_horizon.specs.Merging.{actions_below, left_of, IsHeadAfter, Heads, head_at, AreHeads, IsLeastHead, Merges}
+use Rattle.commit_horizon.specs.Merging.{actions_below, BeginsAt, IsLeft, IsHeadAfter, Heads, head_at, AreHeads, IsLeastHead, Merges}
 use Rattle.commit_horizon.proofs.GoesOn.{CellLaws, AllGoOn, past, IsLeastEntry, NoneBefore, HeadNotBefore}
 use Rattle.commit_horizon.proofs.Past.{head_is, past_cases, past_first, past_after, past_keeps}
 use Rattle.commit_horizon.proofs.Steps.{central_step, heads_late}
@@ -59,7 +61,7 @@ pub record IsMerging (old : CellStateData) (whole : Runs) (h : Stamp) (heads : H
   pub follows : now ≡ followed_by old done
   pub on : AllGoOn now h left
   pub actions : (k : ℕ) → IsRegion now.grid k →
-      actions_below h (left k).log ≡ left_of h (whole k).log (head_at heads k)
+      IsLeft h (whole k).log (actions_below h (left k).log) (head_at heads k)
   -- what is left was there, and comes after what was merged
   pub part : (k : ℕ) (x : Action) → IsRegion now.grid k → IsAmong (Native x) (left k).log →
       IsAmong (Native x) (whole k).log
@@ -108,28 +110,42 @@ merging_ends old whole h heads done now merging none = record {
     by_all x k within before (inr among) =
         let run = merging.on.each k within in
         let later = among_actions (merging.left k).floor h (merging.left k).log x run.rises among before in
-        let nothing : actions_below h (merging.left k).log ≡ []
-        = merging.actions k within ∙ ap (left_of h (whole k).log) (none k) in
+        let nothing = subst (IsLeft h (whole k).log (actions_below h (merging.left k).log)) (none k)
+        (merging.actions k within) in
         absurd (subst (IsAmong x) nothing later)
 
 -- ---- one more action
 module _ (old : CellStateData) (whole : Runs) (h : Stamp) (heads : Heads) (done : List Action)
     (now : CellStateData) (merging : IsMerging old whole h heads done now) (laws : CellLaws now)
-    (k : ℕ) (head : Head) (within : IsRegion now.grid k) (least : IsLeastHead heads (Some (k, head))) where
+    (k : ℕ) (head : Head) (within : IsRegion now.grid k) (least : IsLeastHead heads (Some (k, head)))
+    (b : Action) (read : native_in (slice_get (whole k).log head.place) ≡ Some b) where
   abbrev left : Runs
   left = merging.left
 
-  abbrev b : Action
-  b = head.action
+  begins : BeginsAt h (whole k).log (actions_below h (left k).log) head
+  begins = subst (IsLeft h (whole k).log (actions_below h (left k).log)) least.1 (merging.actions k within)
 
-  own : actions_below h (left k).log ≡ b ∷ actions_below h (drop head.next (whole k).log)
-  own = merging.actions k within ∙ ap (left_of h (whole k).log) least.1
+  is_action : begins.action ≡ b
+  is_action = same_Some begins.action b (sym begins.at ∙ read)
+
+  own : actions_below h (left k).log ≡ b ∷ actions_below h (drop (head.place + 1) (whole k).log)
+  own = subst (λ (v : Action). actions_below h (left k).log
+      ≡ v ∷ actions_below h (drop (head.place + 1) (whole k).log)) is_action begins.rest
+
+  own_stamp : stamp_of b ≡ head.stamp
+  own_stamp = subst (λ (v : Action). stamp_of v ≡ head.stamp) is_action begins.stamp
+
+  -- no action of a head comes before it
+  head_not_before : (q : ℕ) (other : Head) (y : Action) → head_at heads q ≡ Some other →
+      stamp_of y ≡ other.stamp → ¬ Before (stamp_of y) (stamp_of b)
+  head_not_before q other y is same less = least.2 q other is
+      (subst (λ (s : Stamp). Before s head.stamp) same (subst (Before (stamp_of y)) own_stamp less))
 
   own_among : IsAmong (Native b) (left k).log × Before (stamp_of b) h
   own_among = actions_among h (left k).log b (subst (IsAmong b) (sym own) (inl refl))
 
   none_before : NoneBefore now left (stamp_of b)
-  none_before q x within_q among less = by_head (head_at heads q) refl
+  none_before q x within_q among less = by_head (head_at heads q) refl (merging.actions q within_q)
     where
       member : IsAmong x (actions_below h (left q).log)
       member = among_actions (left q).floor h (left q).log x (merging.on.each q within_q).rises among
@@ -138,19 +154,19 @@ module _ (old : CellStateData) (whole : Runs) (h : Stamp) (heads : Heads) (done 
       rises : ActionsRise (actions_below h (left q).log)
       rises = actions_rise (left q).floor h (left q).log (merging.on.each q within_q).rises
 
-      by_place : (other : Head) → head_at heads q ≡ Some other →
-          ActionsRise (left_of h (whole q).log (Some other)) →
-          IsAmong x (left_of h (whole q).log (Some other)) → ⊥
-      by_place other is rise (inl same) =
-          least.2 q other is (subst (λ (v : Action). Before (stamp_of v) (stamp_of b)) same less)
-      by_place other is rise (inr more) = least.2 q other is
-          (before_trans (stamp_of other.action) (stamp_of x) (stamp_of b) (rise.0 x more) less)
+      by_place : (other : Head) (y : Action) (ys : List Action) → head_at heads q ≡ Some other →
+          stamp_of y ≡ other.stamp → ActionsRise (y ∷ ys) → IsAmong x (y ∷ ys) → ⊥
+      by_place other y ys is same rise (inl here) = head_not_before q other y is same
+          (subst (λ (v : Action). Before (stamp_of v) (stamp_of b)) here less)
+      by_place other y ys is same rise (inr more) = head_not_before q other y is same
+          (before_trans (stamp_of y) (stamp_of x) (stamp_of b) (rise.0 x more) less)
 
-      by_head : (found : Option Head) → head_at heads q ≡ found → ⊥
-      by_head None is = subst (IsAmong x) (merging.actions q within_q ∙ ap (left_of h (whole q).log) is) member
-      by_head (Some other) is =
-          let same = merging.actions q within_q ∙ ap (left_of h (whole q).log) is in
-          by_place other is (subst ActionsRise same rises) (subst (IsAmong x) same member)
+      by_head : (found : Option Head) → head_at heads q ≡ found →
+          IsLeft h (whole q).log (actions_below h (left q).log) found → ⊥
+      by_head None is none = subst (IsAmong x) none member
+      by_head (Some other) is begins = by_place other begins.action
+          (actions_below h (drop (other.place + 1) (whole q).log)) is begins.stamp
+          (subst ActionsRise begins.rest rises) (subst (IsAmong x) begins.rest member)
 
   entry : IsLeastEntry now left k b
   entry = record { within = within; among = own_among.0; least = none_before }
@@ -178,17 +194,18 @@ module _ (old : CellStateData) (whole : Runs) (h : Stamp) (heads : Heads) (done 
         laws.one_home (stamp_of b) q k step.0.0.0 (subst (λ (s : Stamp). IsHomeOf now s q) same also.1) step.1,
       )
 
-  left_here : (new : Option Head) → IsHeadAfter h (whole k).log head.next new →
-      actions_below h (past (stamp_of b) (left k)).log ≡ left_of h (whole k).log new
+  left_here : (new : Option Head) → IsHeadAfter h (whole k).log (head.place + 1) new →
+      IsLeft h (whole k).log (actions_below h (past (stamp_of b) (left k)).log) new
   left_here new after =
       let first = head_is (left k).floor b (left k).log (late k within) (merging.on.each k within).rises
       own_among.0 in
       let rest = ap (λ (v : Local). v.log)
       (past_first (stamp_of b) (left k) (Native b) first.0 first.1 refl) in
-      let whole_is : b ∷ actions_below h first.0 ≡ b ∷ actions_below h (drop head.next (whole k).log)
+      let whole_is : b ∷ actions_below h first.0 ≡ b ∷ actions_below h (drop (head.place + 1) (whole k).log)
       = sym (actions_in h b first.0 own_among.1) ∙ sym (ap (actions_below h) first.1) ∙ own in
-      let tails : actions_below h first.0 ≡ actions_below h (drop head.next (whole k).log) = cc in
-      ap (actions_below h) rest ∙ tails ∙ after.actions
+      let tails : actions_below h first.0 ≡ actions_below h (drop (head.place + 1) (whole k).log) = cc in
+      subst (λ (xs : List Action). IsLeft h (whole k).log xs new)
+      (sym (ap (actions_below h) rest ∙ tails)) after.actions
 
   left_there : (q : ℕ) → IsRegion now.grid q → q ≢ k →
       actions_below h (past (stamp_of b) (left q)).log ≡ actions_below h (left q).log
@@ -205,16 +222,19 @@ module _ (old : CellStateData) (whole : Runs) (h : Stamp) (heads : Heads) (done 
           absurd (other (only q x within_q (subst (IsAmong (Native x)) (sym is) (inl refl)) same).1)
       by_entry (Heard p m) es is same = sym (ap (actions_below h) is)
 
-  heads_left : (new : Option Head) → k < length heads → IsHeadAfter h (whole k).log head.next new → (q : ℕ) →
-      IsRegion now.grid q →
-      actions_below h (past (stamp_of b) (left q)).log
-      ≡ left_of h (whole q).log (head_at (set heads k new) q)
+  heads_left : (new : Option Head) → k < length heads →
+      IsHeadAfter h (whole k).log (head.place + 1) new → (q : ℕ) → IsRegion now.grid q →
+      IsLeft h (whole q).log (actions_below h (past (stamp_of b) (left q)).log)
+      (head_at (set heads k new) q)
   heads_left new lt after q within_q = elim (same_or_other q k) [
-    | inl is ↦ subst (λ (n : ℕ). actions_below h (past (stamp_of b) (left n)).log
-        ≡ left_of h (whole n).log (head_at (set heads k new) n)) (sym is)
-        (left_here new after ∙ ap (left_of h (whole k).log) (sym (get_or-set_same heads k new None lt)))
-    | inr other ↦ left_there q within_q other ∙ merging.actions q within_q
-        ∙ ap (left_of h (whole q).log) (sym (get_or-set_other heads k q new None other))
+    | inl is ↦ subst (λ (n : ℕ). IsLeft h (whole n).log (actions_below h (past (stamp_of b) (left n)).log)
+        (head_at (set heads k new) n)) (sym is)
+        (subst (IsLeft h (whole k).log (actions_below h (past (stamp_of b) (left k)).log))
+        (sym (get_or-set_same heads k new None lt)) (left_here new after))
+    | inr other ↦ subst (IsLeft h (whole q).log (actions_below h (past (stamp_of b) (left q)).log))
+        (sym (get_or-set_other heads k q new None other))
+        (subst (λ (xs : List Action). IsLeft h (whole q).log xs (head_at heads q))
+        (sym (left_there q within_q other)) (merging.actions q within_q))
   ]
 
   -- an entry that was left is the one that goes, or stays
@@ -240,7 +260,8 @@ module _ (old : CellStateData) (whole : Runs) (h : Stamp) (heads : Heads) (done 
     before = own_among.1;
   }
 
-  pub merging_goes_on : (new : Option Head) → k < length heads → IsHeadAfter h (whole k).log head.next new →
+  pub merging_goes_on : (new : Option Head) → k < length heads →
+      IsHeadAfter h (whole k).log (head.place + 1) new →
       IsMerging old whole h (set heads k new) (done ++ b ∷ []) (followed now b)
   merging_goes_on new lt after = record {
     left = λ q. past (stamp_of b) (left q);
@@ -298,7 +319,7 @@ keeps_begin old regions h heads is stand kept bound first = record {
   count = first.count;
   fit = λ k head at.
       let run = of_run k (subst (λ n. k < n) (first.count ∙ stand.count) (head_within heads k head at)) in
-      fits_log (head_at heads k) head 0 (runs_of regions k).log run.0 run.1.next at;
+      fits_log h (runs_of regions k).log 0 (head_at heads k) head run.0 run.1 at;
   merging = merging_begins old (runs_of regions) h heads is
       (all_go_on old (runs_of regions) h (are_standing old regions stand kept) bound) (λ k within. (of_run k within).1);
 }
@@ -313,38 +334,52 @@ keeps_begin old regions h heads is stand kept bound first = record {
 
 module _ (old : CellStateData) (regions : List RegionData) (h : Stamp) (heads : Heads) (done : List Action)
     (now : CellStateData) (keeps : KeepsMerging old regions h heads done now) (stand : AllStand old regions)
-    (kept : AllKept regions) (k : ℕ) (head : Head) (least : IsLeastHead heads (Some (k, head))) where
+    (kept : AllKept regions) (k : ℕ) (head : Head) (least : IsLeastHead heads (Some (k, head)))
+    (region : RegionData) (at : slice_get regions k ≡ Some region) where
   within_old : IsRegion old.grid k
   within_old = subst (λ n. k < n) (keeps.count ∙ stand.count) least.0
 
   within_now : IsRegion now.grid k
   within_now = subst (λ (g : GridData). IsRegion g k) (sym keeps.merging.grid) within_old
 
-  laws : CellLaws now
-  laws = cell_laws now keeps.merging.is
+  log_is : (runs_of regions k).log ≡ entries_of region
+  log_is = ap entries_of (region_is old regions k region stand at).1
 
-  pub next_of_heads : IsNextAction now head.action
-  next_of_heads = next_is old (runs_of regions) h heads done now keeps.merging laws k head within_now least
+  pub has_action : IsSome (native_in (slice_get (entries_of region) head.place))
+  has_action = subst (λ (log : List Entry). IsSome (native_in (slice_get log head.place))) log_is
+      (ap is_some begins.at)
+    where
+      left : List Action
+      left = actions_below h (keeps.merging.left k).log
 
-  few : length (runs_of regions k).log ≤ MAX_ENTRIES
-  few = few_entries old regions k stand kept within_old
+      begins : BeginsAt h (runs_of regions k).log left head
+      begins = subst (IsLeft h (runs_of regions k).log left) least.1 (keeps.merging.actions k within_now)
 
-  pub keeps_on : (region : RegionData) (new : Option Head) → slice_get regions k ≡ Some region →
-      IsHeadAfter h (entries_of region) head.next new →
-      KeepsMerging old regions h (set heads k new) (done ++ head.action ∷ []) (followed now head.action)
-  keeps_on region new at after =
-      let is = head_of_run old regions h k head.next region new stand at after in record {
-        count = length-set heads k new ∙ keeps.count;
-        fit = fit_more heads k head.next new h (runs_of regions k).log least.0 keeps.fit few is;
-        merging = merging_goes_on old (runs_of regions) h heads done now keeps.merging laws k head within_now least
-            new least.0 is;
-      }
-
-  pub costs_less : (region : RegionData) (new : Option Head) → slice_get regions k ≡ Some region →
-      IsHeadAfter h (entries_of region) head.next new →
+  pub costs_less : (new : Option Head) → IsHeadAfter h (entries_of region) (head.place + 1) new →
       sum_by cost_of (set heads k new) < sum_by cost_of heads
-  costs_less region new at after = costs_fall heads k head new h (runs_of regions k).log least.0 least.1 keeps.fit
-      few (head_of_run old regions h k head.next region new stand at after)
+  costs_less new after = costs_fall heads k head new h (entries_of region) least.0 least.1 keeps.fit after
+
+  module _ (x : Action) (found : native_in (slice_get (entries_of region) head.place) ≡ Some x) where
+    laws : CellLaws now
+    laws = cell_laws now keeps.merging.is
+
+    read : native_in (slice_get (runs_of regions k).log head.place) ≡ Some x
+    read = subst (λ (log : List Entry). native_in (slice_get log head.place) ≡ Some x) (sym log_is) found
+
+    pub next_of_heads : IsNextAction now x
+    next_of_heads = next_is old (runs_of regions) h heads done now keeps.merging laws k head within_now least
+        x read
+
+    pub keeps_on : (new : Option Head) → IsHeadAfter h (entries_of region) (head.place + 1) new →
+        KeepsMerging old regions h (set heads k new) (done ++ x ∷ []) (followed now x)
+    keeps_on new after =
+        let few = few_entries old regions k stand kept within_old in
+        let is = head_of_run old regions h k (head.place + 1) region new stand at after in record {
+          count = length-set heads k new ∙ keeps.count;
+          fit = fit_more heads k (head.place + 1) new h (runs_of regions k).log least.0 keeps.fit few is;
+          merging = merging_goes_on old (runs_of regions) h heads done now keeps.merging laws k head within_now
+              least x read new least.0 is;
+        }
 
 pub keeps_end : (old : CellStateData) (regions : List RegionData) (h : Stamp) (heads : Heads)
     (done : List Action) (now : CellStateData) → KeepsMerging old regions h heads done now → IsCellState old →

@@ -1,5 +1,5 @@
 -- The logs of regions as they are merged: what is left of each before a stamp, by its head.
-use Rattle.std.specs.Prelude.{◌≡◌, ℕ, ◌<◌, ◌≤◌, List, [], ◌∷◌, Option, Some, None, IfSome, length, drop, get_or, slice_get, if◌then◌else◌}
+use Rattle.std.specs.Prelude.{◌≡◌, ℕ, ◌+◌, ◌<◌, ◌≤◌, List, [], ◌∷◌, Option, Some, None, IfSome, length, drop, get_or, slice_get, if◌then◌else◌}
 use Rattle.event_stamps.specs.declared.Stamp.{Stamp}
 use Rattle.event_stamps.specs.Order.{Before}
 use Rattle.region_view.specs.declared.action.Action.{Action}
@@ -9,7 +9,7 @@ use Rattle.cell_sequence.specs.State.{CellStateData, followed_by}
 use Rattle.region_core.specs.declared.entry.Entry.{Entry}
 use Rattle.region_core.specs.declared.entry.Entry.TheVariants.{Native, Heard}
 use Rattle.region_core.specs.Opening.{RegionData}
-use Rattle.region_core.specs.Keeping.{entries_of}
+use Rattle.region_core.specs.Keeping.{entries_of, native_in}
 use Rattle.commit_horizon.specs.declared.merging.Head.{Head}
 use Rattle.commit_horizon.specs.Horizon.{runs_of, IsMerged}
 use Rattle.commit_horizon.specs.Laws.{IsNext}
@@ -21,20 +21,26 @@ actions_below h [] = []
 actions_below h (Native x ∷ es) = if is_before (stamp_of x) h then x ∷ actions_below h es else []
 actions_below h (Heard q m ∷ es) = actions_below h es
 
--- the actions from a head on
-abbrev pub left_of : Stamp → List Entry → Option Head → List Action
-left_of h log None = []
-left_of h log (Some head) = head.action ∷ actions_below h (drop head.next log)
+-- the actions begin with that of a head, and go on by those that the log has after it
+pub record BeginsAt (h : Stamp) (log : List Entry) (xs : List Action) (head : Head) : Type 0 where
+  pub action : Action
+  pub at : native_in (slice_get log head.place) ≡ Some action
+  pub stamp : stamp_of action ≡ head.stamp
+  pub rest : xs ≡ action ∷ actions_below h (drop (head.place + 1) log)
 
--- the head is the first action before the stamp after so many entries
+-- the actions are those of the log from a head on
+abbrev pub IsLeft : Stamp → List Entry → List Action → Option Head → Type 0
+IsLeft h log xs None = xs ≡ []
+IsLeft h log xs (Some head) = BeginsAt h log xs head
+
+-- the head is that of the first action before the stamp after so many entries
 pub record IsHeadAfter (h : Stamp) (log : List Entry) (done : ℕ) (head : Option Head) : Type 0 where
-  pub actions : actions_below h (drop done log) ≡ left_of h log head
-  pub next : IfSome head (λ head. (done < head.next) × (head.next ≤ length log))
+  pub actions : IsLeft h log (actions_below h (drop done log)) head
+  pub place : IfSome head (λ head. done ≤ head.place)
 
 -- the head of an action, where it is before the stamp
-abbrev pub head_before : Stamp → Action → ℕ → Option Head
-head_before h x next =
-    if is_before (stamp_of x) h then Some (record { action = x; next = next }) else None
+abbrev pub head_before : Stamp → Stamp → ℕ → Option Head
+head_before h s place = if is_before s h then Some (record { stamp = s; place = place }) else None
 
 -- ---- all logs
 abbrev pub Heads : Type 0
@@ -54,14 +60,14 @@ abbrev pub IsLeastHead : Heads → Option (ℕ × Head) → Type 0
 IsLeastHead heads None = (k : ℕ) → head_at heads k ≡ None
 IsLeastHead heads (Some least) = (least.0 < length heads) × (head_at heads least.0 ≡ Some least.1)
     × ((k : ℕ) (head : Head) → head_at heads k ≡ Some head →
-    ¬ Before (stamp_of head.action) (stamp_of least.1.action))
+    ¬ Before head.stamp least.1.stamp)
 
 -- the lesser of two heads; of one stamp, the one that was there
 abbrev pub nearer_of : Option (ℕ × Head) → ℕ → Option Head → Option (ℕ × Head)
 nearer_of least k None = least
 nearer_of None k (Some head) = Some (k, head)
 nearer_of (Some least) k (Some head) =
-    if is_before (stamp_of head.action) (stamp_of least.1.action) then Some (k, head) else Some least
+    if is_before head.stamp least.1.stamp then Some (k, head) else Some least
 
 -- the actions are merged, and what the cell run does next, and the state has followed them
 pub record Merges (old : CellStateData) (regions : List RegionData) (h : Stamp) (actions : List Action)

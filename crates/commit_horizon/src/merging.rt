@@ -1,7 +1,8 @@
 //! Merging what the regions did.
 
-ghost use Rattle.std.specs.Prelude.{◌≡◌, length, IfOk};
-ghost use Rattle.region_core.specs.Keeping.{entries_of};
+ghost use Rattle.std.specs.Prelude.{◌≡◌, length, Some, slice_get, IfOk};
+ghost use Rattle.std.specs.Option.{IsSome};
+ghost use Rattle.region_core.specs.Keeping.{entries_of, native_in};
 ghost use Rattle.commit_horizon.specs.Horizon.{runs_of, AllStand, AllKept, IsBound};
 ghost use Rattle.commit_horizon.specs.Merging.{IsHeadAfter, head_before, AreHeads, IsLeastHead, nearer_of, Merges};
 
@@ -11,13 +12,14 @@ use region_core::Region;
 use region_view::Action;
 use std::alloc::{AllocError, Global};
 
-/// The next action of a region that is to be merged.
+/// The next action of a region that is to be merged, by its stamp and its place. All heads are compared for
+/// each action that is merged, so they are small: an action isn't.
 #[derive(Clone, Copy)]
 pub(crate) struct Head {
-    /// The action.
-    pub(crate) action: Action,
-    /// The number of entries up to and including it.
-    pub(crate) next: usize,
+    /// The stamp of the action.
+    pub(crate) stamp: Stamp,
+    /// Its place in the region's log, from 0 on.
+    pub(crate) place: usize,
 }
 
 /// Goes on by what the regions ran before a horizon, in the order of stamps, and answers it.
@@ -39,11 +41,21 @@ pub(crate) fn merge(
     let mut heads = first_heads(alloc, regions, horizon)?;
     let mut actions = Vec::new(alloc);
     while let Some((k, head)) = least(&heads) {
-        state.follow(&head.action);
-        actions.push(head.action)?;
-        heads[k] = head_after(&regions[k], head.next, horizon);
+        let region = &regions[k];
+        let action = action_at(region, head.place);
+        state.follow(&action);
+        actions.push(action)?;
+        heads[k] = head_after(region, head.place + 1, horizon);
     }
     Ok(actions)
+}
+
+// The action at a place of a region's log, which has one there.
+fn action_at(region: &Region, place: usize) -> Action
+    requires { IsSome (native_in (slice_get (entries_of region.now) place)) }
+    ensures { native_in (slice_get (entries_of region.now) place) ≡ Some result }
+{
+    region.native(place).unwrap()
 }
 
 // The head of each region.
@@ -67,17 +79,17 @@ fn head_after(region: &Region, done: usize, horizon: Stamp) -> Option<Head>
 {
     for place in done..region.entries() {
         if let Some(action) = region.native(place) {
-            return head_before(horizon, action, place + 1);
+            return head_before(horizon, action.stamp(), place);
         }
     }
     None
 }
 
-fn head_before(horizon: Stamp, action: Action, next: usize) -> Option<Head>
-    ensures { result ≡ head_before horizon action next }
+fn head_before(horizon: Stamp, stamp: Stamp, place: usize) -> Option<Head>
+    ensures { result ≡ head_before horizon stamp place }
 {
-    if action.stamp() < horizon {
-        Some(Head { action, next })
+    if stamp < horizon {
+        Some(Head { stamp, place })
     } else {
         None
     }
@@ -101,7 +113,7 @@ fn nearer(least: Option<(usize, Head)>, k: usize, head: Option<Head>) -> Option<
         (least, None) => least,
         (None, Some(head)) => Some((k, head)),
         (Some(first), Some(head)) => {
-            if head.action.stamp() < first.1.action.stamp() {
+            if head.stamp < first.1.stamp {
                 Some((k, head))
             } else {
                 Some(first)
