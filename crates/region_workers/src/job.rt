@@ -13,6 +13,9 @@ use std::sync::Wait;
 // few steps save work; but each slice costs two meetings.
 const SLICE: u32 = 4;
 
+// How far apart the numbers of linked regions can be: a region has one column at least, and reaches one beside it.
+const FARTHEST: u32 = 2;
+
 /// The work of one worker: on each region whose number is the worker's own modulo the number of workers.
 #[derive(Drop)]
 pub(crate) struct Job<'a, G: Gate> {
@@ -87,7 +90,8 @@ impl<'a, G: Gate> Job<'a, G> {
     fn hear_all<R: Wait>(&self, rt: &R, region: u32) -> Result<(), AllocError>
         requires { region < self.now.locks.now }
     {
-        for other in 0..self.locks.count() {
+        let end = region.saturating_add(FARTHEST + 1).min(self.locks.count());
+        for other in region.saturating_sub(FARTHEST)..end {
             if self.grid.linked(region, other) {
                 self.locks.meet(rt, self.alloc, region, other)?;
             }
