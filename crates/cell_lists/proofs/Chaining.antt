@@ -9,7 +9,7 @@ use Rattle.cell_lists.specs.Firsts.{after_of, ascent}
 use Rattle.cell_lists.proofs.Firsts.{falls, first_kept, first_before, first_is, first_later, first_earlier}
 
 -- ---- a disk that is listed, or taken off
-same_or_not : (i j : ℕ) → (i ≡ j) ⊎ (i ≢ j)
+pub same_or_not : (i j : ℕ) → (i ≡ j) ⊎ (i ≢ j)
 same_or_not i j = grind arith
 
 -- only whether the disk d is in the bucket b has changed

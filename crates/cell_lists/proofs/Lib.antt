@@ -1,5 +1,6 @@
 -- The lemmas of the crate.
 pub mod Blocks
 mod Chaining
+mod Nodes
 pub mod Firsts
 mod Listed

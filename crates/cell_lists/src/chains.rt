@@ -2,9 +2,9 @@
 //!
 //! These are the cell lists of molecular dynamics (Hockney and Eastwood, Computer Simulation Using
 //! Particles, 8.4), with a head for each bucket of cells, and for each disk the next one of its
-//! bucket. The chains ascend. Where the grid has at most four times as many cells as there is room
-//! for disks, each cell has a bucket of its own; else cells share buckets, so that the empty cells of
-//! a great grid take no memory.
+//! bucket beside its cell, since a walk asks for both. The chains ascend. Where the grid has at most
+//! four times as many cells as there is room for disks, each cell has a bucket of its own; else cells
+//! share buckets, so that the empty cells of a great grid take no memory.
 
 use crate::slot::Slot;
 use std::alloc::{AllocError, Global};
@@ -17,15 +17,20 @@ const MOST_ROOM: usize = (1 << 32) - 1;
 // The most buckets for each disk that there is room for, where there are so many cells.
 const MOST_BUCKETS_A_DISK: usize = 4;
 
+// Of one disk: the cell in which it is listed, or none, and if it is listed, the next one of its bucket.
+#[derive(Clone, Copy)]
+struct Node {
+    cell: Slot,
+    next: Slot,
+}
+
 // The cell in which each disk is listed, or none.
 #[derive(Drop)]
 pub struct Chains {
     // The least disk of each bucket. The bucket of a cell is its remainder after division by their
     // number.
     heads: Vec<Slot>,
-    // Of each listed disk, the next one of its bucket.
-    nexts: Vec<Slot>,
-    cells: Vec<Slot>,
+    nodes: Vec<Node>,
     // How many cells the grid has.
     cell_count: u32,
 }
@@ -33,16 +38,18 @@ pub struct Chains {
 impl Model for Chains {
     ghost use Rattle.std.specs.Prelude.{length};
     ghost use Rattle.cell_lists.specs.Chain.{ChainsData, chains_of, IsChained};
+    ghost use Rattle.cell_lists.specs.Nodes.{nexts_of, cells_of};
 
     ghost Value = { ChainsData };
 
-    ghost view = { λ a. chains_of (length a.heads.items) a.cells.items };
+    ghost view = { λ a. chains_of (length a.heads.items) (cells_of a.nodes.items) };
 
-    ghost invariant = { λ a. IsChained a.heads.items a.nexts.items a.cells.items };
+    ghost invariant = { λ a. IsChained a.heads.items (nexts_of a.nodes.items) (cells_of a.nodes.items) };
 }
 
 ghost use Rattle.std.specs.Prelude.{◌≡◌, ◌+◌, ◌%◌, ◌<◌, ◌≤◌, ◌^◌, ℕ, length, None, Some, replicate, IfOk, OnOk, IfSome};
 ghost use Rattle.cell_lists.specs.Firsts.{IsFirstOf};
+ghost use Rattle.cell_lists.specs.Nodes.{nexts_of, cells_of};
 ghost use Rattle.cell_lists.specs.Chain.{chains_of, bucket_count, with_cell, at, IsIn, IsFirst, IsLast, IsLinked, IsUnlinked, HasRoom};
 
 impl Chains {
@@ -56,8 +63,7 @@ impl Chains {
         let buckets = (cell_count as usize).min(most).max(room);
         Ok(Chains {
             heads: vec![in alloc; Slot::none(); buckets]?,
-            nexts: vec![in alloc; Slot::none(); room]?,
-            cells: vec![in alloc; Slot::none(); room]?,
+            nodes: vec![in alloc; Node::none(); room]?,
             cell_count,
         })
     }
@@ -68,11 +74,11 @@ impl Chains {
         ensures same { (i : ℕ) → at self.new.cells i ≡ at self.old.cells i }
     {
         let least = disk as usize + 1;
-        if least > self.cells.len() {
+        if least > self.nodes.len() {
             if least > MOST_ROOM {
                 return Err(AllocError);
             }
-            let twice = (2 * self.cells.len()).min(MOST_ROOM);
+            let twice = (2 * self.nodes.len()).min(MOST_ROOM);
             *self = self.with_room(alloc, least.max(twice))?;
         }
         Ok(())
@@ -86,11 +92,11 @@ impl Chains {
         ensures { IfOk result (λ chains. HasRoom self.now.cells room chains.cells) }
     {
         let mut wider = Chains::new(alloc, self.cell_count, room)?;
-        let mut disk = self.cells.len();
+        let mut disk = self.nodes.len();
         // From the greatest on, so that each comes to the head of its chain.
         while disk > 0 {
             disk -= 1;
-            if let Some(cell) = self.cells[disk].get() {
+            if let Some(cell) = self.nodes[disk].cell.get() {
                 wider.put(disk as u32, cell);
             }
         }
@@ -106,8 +112,8 @@ impl Chains {
     {
         let bucket = self.bucket(cell);
         let before = self.last_below(bucket, disk);
-        link(&mut self.heads, &mut self.nexts, bucket, disk, before);
-        self.cells[disk as usize] = Slot::of(cell);
+        link(&mut self.heads, &mut self.nodes, bucket, disk, before);
+        self.nodes[disk as usize].cell = Slot::of(cell);
     }
 
     // Takes a disk off the cell in which it is listed.
@@ -117,15 +123,15 @@ impl Chains {
     {
         let bucket = self.bucket(cell);
         let before = self.last_below(bucket, disk);
-        unlink(&mut self.heads, &mut self.nexts, bucket, disk, before);
-        self.cells[disk as usize] = Slot::none();
+        unlink(&mut self.heads, &mut self.nodes, bucket, disk, before);
+        self.nodes[disk as usize].cell = Slot::none();
     }
 
     // The cell in which a disk is listed.
     pub fn cell_of(&self, disk: u32) -> Option<u32>
         ensures { result ≡ at self.now.cells disk }
     {
-        self.cells.get(disk as usize)?.get()
+        self.nodes.get(disk as usize)?.cell.get()
     }
 
     // The least disk listed in a cell.
@@ -140,7 +146,7 @@ impl Chains {
         requires { at self.now.cells disk ≡ Some cell }
         ensures { IsFirstOf (IsIn self.now.cells cell) (disk + 1) result }
     {
-        self.skip(cell, disk as u64 + 1, self.nexts[disk as usize].get())
+        self.skip(cell, disk as u64 + 1, self.nodes[disk as usize].next.get())
     }
 
     // The first disk of a cell, where `start` is the first of its bucket from a number on.
@@ -150,10 +156,11 @@ impl Chains {
     {
         let mut next = start;
         while let Some(disk) = next {
-            if self.cells[disk as usize].get() == Some(cell) {
+            let node = self.nodes[disk as usize];
+            if node.cell.get() == Some(cell) {
                 break;
             }
-            next = self.nexts[disk as usize].get();
+            next = node.next.get();
         }
         next
     }
@@ -184,28 +191,42 @@ impl Chains {
                 break;
             }
             last = next;
-            next = self.nexts[i as usize].get();
+            next = self.nodes[i as usize].next.get();
         }
         last
     }
 }
 
+impl Node {
+    // Of a disk that isn't listed.
+    fn none() -> Node
+        ensures { result ≡ record { cell = None; next = None } }
+    {
+        Node {
+            cell: Slot::none(),
+            next: Slot::none(),
+        }
+    }
+}
+
 // Sets a disk into its bucket's chain, after the one that comes before it.
-fn link(heads: &mut Vec<Slot>, nexts: &mut Vec<Slot>, bucket: usize, disk: u32, before: Option<u32>)
+fn link(heads: &mut Vec<Slot>, nodes: &mut Vec<Node>, bucket: usize, disk: u32, before: Option<u32>)
     requires bucket { bucket < length heads.old.items }
-    requires disk { disk < length nexts.old.items }
-    requires few { length nexts.old.items < 2 ^ 32 }
-    requires before { IfSome before (λ p. p < length nexts.old.items) }
-    ensures { IsLinked heads.old.items nexts.old.items bucket disk before heads.new.items nexts.new.items }
+    requires disk { disk < length nodes.old.items }
+    requires few { length nodes.old.items < 2 ^ 32 }
+    requires before { IfSome before (λ p. p < length nodes.old.items) }
+    ensures linked { IsLinked heads.old.items (nexts_of nodes.old.items) bucket disk before
+        heads.new.items (nexts_of nodes.new.items) }
+    ensures cells { cells_of nodes.new.items ≡ cells_of nodes.old.items }
 {
     match before {
         None => {
-            nexts[disk as usize] = heads[bucket];
+            nodes[disk as usize].next = heads[bucket];
             heads[bucket] = Slot::of(disk);
         }
         Some(p) => {
-            nexts[disk as usize] = nexts[p as usize];
-            nexts[p as usize] = Slot::of(disk);
+            nodes[disk as usize].next = nodes[p as usize].next;
+            nodes[p as usize].next = Slot::of(disk);
         }
     }
 }
@@ -213,18 +234,20 @@ fn link(heads: &mut Vec<Slot>, nexts: &mut Vec<Slot>, bucket: usize, disk: u32, 
 // Takes a disk out of its bucket's chain.
 fn unlink(
     heads: &mut Vec<Slot>,
-    nexts: &mut Vec<Slot>,
+    nodes: &mut Vec<Node>,
     bucket: usize,
     disk: u32,
     before: Option<u32>,
 )
     requires bucket { bucket < length heads.old.items }
-    requires disk { disk < length nexts.old.items }
-    requires before { IfSome before (λ p. p < length nexts.old.items) }
-    ensures { IsUnlinked heads.old.items nexts.old.items bucket disk before heads.new.items nexts.new.items }
+    requires disk { disk < length nodes.old.items }
+    requires before { IfSome before (λ p. p < length nodes.old.items) }
+    ensures unlinked { IsUnlinked heads.old.items (nexts_of nodes.old.items) bucket disk before
+        heads.new.items (nexts_of nodes.new.items) }
+    ensures cells { cells_of nodes.new.items ≡ cells_of nodes.old.items }
 {
     match before {
-        None => heads[bucket] = nexts[disk as usize],
-        Some(p) => nexts[p as usize] = nexts[disk as usize],
+        None => heads[bucket] = nodes[disk as usize].next,
+        Some(p) => nodes[p as usize].next = nodes[disk as usize].next,
     }
 }

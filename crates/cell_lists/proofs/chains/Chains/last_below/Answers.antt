@@ -4,38 +4,40 @@ use Rattle.std.specs.Prelude.{ℕ, Option}
 use Rattle.cell_lists.specs.Firsts.{after_of, ascent}
 use Rattle.cell_lists.specs.Chain.{InBucket, IsFirst}
 use Rattle.cell_lists.proofs.Firsts.{last_past, last_end}
+use Rattle.cell_lists.specs.Nodes.{nexts_of, cells_of}
 use Rattle.cell_lists.proofs.Chaining.{seen, head_is_first, next_is_first, next_falls}
+use Rattle.cell_lists.proofs.Nodes.{next_read}
 use Rattle.cell_lists.proofs.chains.Chains.last_below.Goals as goal
 
 pub loop-next-init : goal.loop-next-init
 loop-next-init c =
     let heads = c.self.inside.heads.items in
-    let nexts = c.self.inside.nexts.items in
+    let nexts = nexts_of c.self.inside.nodes.items in
     record {
       next = rw c.get-next.ensures.value (head_is_first heads nexts c.args.self.now c.args.bucket c.index.result.now
-          (seen heads nexts c.self.inside.cells.items c.args.self.now c.self.view_is c.self.invariant) c.requires c.index.ensures);
+          (seen heads nexts (cells_of c.self.inside.nodes.items) c.args.self.now c.self.view_is c.self.invariant) c.requires c.index.ensures);
       last = tt;
     }
 
 pub loop-next-smaller : goal.loop-next-smaller
 loop-next-smaller c =
     let heads = c.self.inside.heads.items in
-    let nexts = c.self.inside.nexts.items in
+    let nexts = nexts_of c.self.inside.nodes.items in
     let chains = c.args.self.now in
-    let is = seen heads nexts c.self.inside.cells.items c.args.self.now c.self.view_is c.self.invariant in
+    let is = seen heads nexts (cells_of c.self.inside.nodes.items) c.args.self.now c.self.view_is c.self.invariant in
     let here = subst (λ (o : Option ℕ). IsFirst c.args.self.now.cells c.args.self.now.buckets c.args.bucket (after_of c.loop-next.last) o) c.in-Some.is c.loop-next.invariant.next in
     subst (λ (o : Option ℕ). ascent c.get-next-in-Some.result < ascent o) (sym c.in-Some.is) (rw c.get-next-in-Some.ensures.value
-    (next_falls heads nexts chains c.args.bucket c.in-Some.i c.index-in-Some.result.now is here.1
-    (next_is_first heads nexts chains c.args.bucket c.in-Some.i c.index-in-Some.result.now is here.1 c.index-in-Some.ensures)))
+    (next_falls heads nexts chains c.args.bucket c.in-Some.i c.index-in-Some.result.now.next is here.1
+    (next_is_first heads nexts chains c.args.bucket c.in-Some.i c.index-in-Some.result.now.next is here.1 (next_read c.self.inside.nodes.items c.in-Some.i c.index-in-Some.result.now c.index-in-Some.ensures))))
 
 pub loop-next-preserved : goal.loop-next-preserved
 loop-next-preserved c =
     let heads = c.self.inside.heads.items in
-    let nexts = c.self.inside.nexts.items in
-    let is = seen heads nexts c.self.inside.cells.items c.args.self.now c.self.view_is c.self.invariant in
+    let nexts = nexts_of c.self.inside.nodes.items in
+    let is = seen heads nexts (cells_of c.self.inside.nodes.items) c.args.self.now c.self.view_is c.self.invariant in
     let here = subst (λ (o : Option ℕ). IsFirst c.args.self.now.cells c.args.self.now.buckets c.args.bucket (after_of c.loop-next.last) o) c.in-Some.is c.loop-next.invariant.next in
     record {
-      next = rw c.get-next-in-Some.ensures.value (next_is_first heads nexts c.args.self.now c.args.bucket c.in-Some.i c.index-in-Some.result.now is here.1 c.index-in-Some.ensures);
+      next = rw c.get-next-in-Some.ensures.value (next_is_first heads nexts c.args.self.now c.args.bucket c.in-Some.i c.index-in-Some.result.now.next is here.1 (next_read c.self.inside.nodes.items c.in-Some.i c.index-in-Some.result.now c.index-in-Some.ensures));
       last = (let less = c.if-i-disk.false in omega arith, here.1);
     }
 

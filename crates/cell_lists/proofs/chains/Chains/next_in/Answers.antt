@@ -1,11 +1,13 @@
 -- The chain goes on.
 use Rattle.std.proofs.Common.{◌%◌, refl}
+use Rattle.cell_lists.specs.Nodes.{nexts_of, cells_of}
 use Rattle.cell_lists.proofs.Chaining.{seen, next_is_first}
+use Rattle.cell_lists.proofs.Nodes.{next_read}
 use Rattle.cell_lists.proofs.chains.Chains.next_in.Goals as goal
 
 pub skip-requires : goal.skip-requires
 skip-requires c =
     let heads = c.self.inside.heads.items in
-    let nexts = c.self.inside.nexts.items in
-    rw c.get.ensures.value (next_is_first heads nexts c.args.self.now (c.args.cell % c.args.self.now.buckets) c.args.disk c.index.result.now
-    (seen heads nexts c.self.inside.cells.items c.args.self.now c.self.view_is c.self.invariant) (c.args.cell, c.requires, refl) c.index.ensures)
+    let nexts = nexts_of c.self.inside.nodes.items in
+    rw c.get.ensures.value (next_is_first heads nexts c.args.self.now (c.args.cell % c.args.self.now.buckets) c.args.disk c.index.result.now.next
+    (seen heads nexts (cells_of c.self.inside.nodes.items) c.args.self.now c.self.view_is c.self.invariant) (c.args.cell, c.requires, refl) (next_read c.self.inside.nodes.items c.args.disk c.index.result.now c.index.ensures))

@@ -1,15 +1,17 @@
 -- The chains stay chains.
-use Rattle.std.proofs.Common.{◌≡◌, ◌%◌, ◌<◌, length, sym, subst}
-use Rattle.std.specs.Prelude.{None}
-use Rattle.cell_lists.specs.Chain.{ChainsData, at, IsLast}
+use Rattle.std.proofs.Common.{◌≡◌, ◌%◌, ◌<◌, List, length, set, sym, subst}
+use Rattle.std.specs.Prelude.{ℕ, Option, Some, None}
+use Rattle.cell_lists.specs.Chain.{ChainsData, at, IsLast, IsChained}
+use Rattle.cell_lists.specs.Nodes.{nexts_of, cells_of}
 use Rattle.cell_lists.proofs.Chaining.{chained_put}
+use Rattle.cell_lists.proofs.Nodes.{chained_as, seen_with_cell, linked_count}
 use Rattle.cell_lists.proofs.chains.Chains.put.Goals as goal
 
 pub invariant_of-self : goal.invariant_of-self
 invariant_of-self c =
     let heads = c.self.inside.heads.items in
-    let nexts = c.self.inside.nexts.items in
-    let cells = c.self.inside.cells.items in
+    let nexts = nexts_of c.self.inside.nodes.items in
+    let cells = cells_of c.self.inside.nodes.items in
     let bucket = c.bucket-bucket.result in
     let before = c.last_below-before.result in
     let is : c.args.cell % length heads ≡ bucket =
@@ -19,4 +21,14 @@ invariant_of-self c =
     let free : at cells c.args.disk ≡ None = subst (λ (d : ChainsData). at d.cells c.args.disk ≡ None) (sym c.self.view_is) c.requires.free in
     let last : IsLast cells (length heads) bucket c.args.disk before =
     subst (λ (d : ChainsData). IsLast d.cells d.buckets bucket c.args.disk before) (sym c.self.view_is) c.last_below-before.ensures in
-    rw c.of.ensures (chained_put heads nexts cells _ _ bucket c.args.disk c.args.cell before c.self.invariant room free is lt last c.link.ensures)
+    chained_as c.link.new.heads.items c.link.new.nodes.items c.args.disk c.index_mut.result.now _ c.index_mut.ensures.value
+    (rw c.of.ensures (subst (λ (xs : List (Option ℕ)). IsChained c.link.new.heads.items (nexts_of c.link.new.nodes.items) (set xs c.args.disk (Some c.args.cell)))
+    (sym c.link.ensures.cells)
+    (chained_put heads nexts cells _ _ bucket c.args.disk c.args.cell before c.self.invariant room free is lt last c.link.ensures.linked)))
+
+pub returns : goal.returns
+returns c =
+    seen_with_cell c.self.inside.heads.items c.link.new.heads.items c.self.inside.nodes.items c.link.new.nodes.items c.args.self.now c.args.disk
+    c.index_mut.result.now c.of.result (Some c.args.cell) c.self.view_is
+    (linked_count c.self.inside.heads.items (nexts_of c.self.inside.nodes.items) c.link.new.heads.items (nexts_of c.link.new.nodes.items)
+    c.bucket-bucket.result c.args.disk c.last_below-before.result c.link.ensures.linked) c.link.ensures.cells c.of.ensures

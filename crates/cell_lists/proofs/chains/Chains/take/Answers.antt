@@ -1,15 +1,17 @@
 -- The chains stay chains.
-use Rattle.std.proofs.Common.{◌≡◌, ◌%◌, ◌<◌, length, sym, subst}
-use Rattle.std.specs.Prelude.{Some}
-use Rattle.cell_lists.specs.Chain.{ChainsData, at, IsLast}
+use Rattle.std.proofs.Common.{◌≡◌, ◌%◌, ◌<◌, List, length, set, sym, subst}
+use Rattle.std.specs.Prelude.{ℕ, Option, Some, None}
+use Rattle.cell_lists.specs.Chain.{ChainsData, at, IsLast, IsChained}
+use Rattle.cell_lists.specs.Nodes.{nexts_of, cells_of}
 use Rattle.cell_lists.proofs.Chaining.{chained_take}
+use Rattle.cell_lists.proofs.Nodes.{chained_as, seen_with_cell, unlinked_count}
 use Rattle.cell_lists.proofs.chains.Chains.take.Goals as goal
 
 pub invariant_of-self : goal.invariant_of-self
 invariant_of-self c =
     let heads = c.self.inside.heads.items in
-    let nexts = c.self.inside.nexts.items in
-    let cells = c.self.inside.cells.items in
+    let nexts = nexts_of c.self.inside.nodes.items in
+    let cells = cells_of c.self.inside.nodes.items in
     let bucket = c.bucket-bucket.result in
     let before = c.last_below-before.result in
     let is : c.args.cell % length heads ≡ bucket =
@@ -18,4 +20,14 @@ invariant_of-self c =
     let listed : at cells c.args.disk ≡ Some c.args.cell = subst (λ (d : ChainsData). at d.cells c.args.disk ≡ Some c.args.cell) (sym c.self.view_is) c.requires in
     let last : IsLast cells (length heads) bucket c.args.disk before =
     subst (λ (d : ChainsData). IsLast d.cells d.buckets bucket c.args.disk before) (sym c.self.view_is) c.last_below-before.ensures in
-    rw c.none.ensures (chained_take heads nexts cells _ _ bucket c.args.disk c.args.cell before c.self.invariant listed is lt last c.unlink.ensures)
+    chained_as c.unlink.new.heads.items c.unlink.new.nodes.items c.args.disk c.index_mut.result.now _ c.index_mut.ensures.value
+    (rw c.none.ensures (subst (λ (xs : List (Option ℕ)). IsChained c.unlink.new.heads.items (nexts_of c.unlink.new.nodes.items) (set xs c.args.disk None))
+    (sym c.unlink.ensures.cells)
+    (chained_take heads nexts cells _ _ bucket c.args.disk c.args.cell before c.self.invariant listed is lt last c.unlink.ensures.unlinked)))
+
+pub returns : goal.returns
+returns c =
+    seen_with_cell c.self.inside.heads.items c.unlink.new.heads.items c.self.inside.nodes.items c.unlink.new.nodes.items c.args.self.now c.args.disk
+    c.index_mut.result.now c.none.result None c.self.view_is
+    (unlinked_count c.self.inside.heads.items (nexts_of c.self.inside.nodes.items) c.unlink.new.heads.items (nexts_of c.unlink.new.nodes.items)
+    c.bucket-bucket.result c.args.disk c.last_below-before.result c.unlink.ensures.unlinked) c.unlink.ensures.cells c.none.ensures
