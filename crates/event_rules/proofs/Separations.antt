@@ -1,51 +1,55 @@
 -- What the separation of two disks at the later of their base ticks tells of their contact.
-use Rattle.std.proofs.Common.{◌≡◌, ◌↔◌, ℕ, suc, ◌+◌, ◌-◌, ◌^◌, ◌<◌, ◌≤◌, max, arith, ap, sym, subst, ◌∙◌}
-use Rattle.std.specs.Prelude.{ℤ, pos, negsuc, nat_abs, ◌+ℤ◌, ◌-ℤ◌, ◌*ℤ◌, ◌≤ℤ◌}
+use Rattle.std.proofs.Common.{◌≡◌, ◌↔◌, ℕ, ◌+◌, ◌-◌, ◌*◌, ◌^◌, ◌<◌, ◌≤◌, max, arith, ap, sym, subst, ◌∙◌}
+use Rattle.std.specs.Prelude.{ℤ, pos, nat_abs, ◌+ℤ◌, ◌-ℤ◌, ◌*ℤ◌}
 use Rattle.std.proofs.lemmas.Int.{ints}
-use Rattle.std.proofs.Math.Nat.{mul-le-mul_left}
 use Rattle.plane_vectors.specs.declared.Vector.{Vector}
 use Rattle.plane_vectors.specs.Vectors.{vector, difference, after, IsWithin}
-use Rattle.plane_vectors.proofs.Sizes.{sent, sent_same}
+use Rattle.plane_vectors.proofs.Sizes.{sent, sent_same, size_of_product}
 use Rattle.fixed_motion.specs.declared.rules.Rules.{Rules}
 use Rattle.fixed_motion.specs.declared.disk.Disk.{Disk}
 use Rattle.fixed_motion.specs.Rules.{IsChecked}
-use Rattle.fixed_motion.specs.Motion.{IsInside, IsValidDisk, centre_of, velocity_of, place_of, radius_of, contact_distance}
-use Rattle.fixed_motion.proofs.Sizes.{inside_in_box, in_box_size, difference_size, slow_size, within_more, contact_least, contact_most}
-use Rattle.contact_predictor.specs.Contact.{coordinate_after, IsBetween, IsContact, IsContactAfter}
+use Rattle.fixed_motion.specs.Motion.{IsInside, IsValidDisk, centre_of, velocity_of, place_of, contact_distance}
+use Rattle.fixed_motion.proofs.Sizes.{inside_in_box, in_box_size, difference_size, slow_size, contact_least, contact_most}
+use Rattle.contact_predictor.specs.Contact.{coordinate_after, IsContact, IsContactAfter}
 use Rattle.plane_vectors.proofs.Products.{distributes}
 use Rattle.event_rules.specs.declared.predict.Separation.{Separation}
 use Rattle.event_rules.specs.Events.{IsContactTick, MeetAt}
-use Rattle.event_rules.specs.Predict.{HaveBegun, AreInside, IsLastTogether, MeetAfter, IsMeeting, IsOnlyContactTick, IsSeparation, PathsMeetAfter}
-
--- ---- inside
--- a coordinate within its bounds now and later is so at each tick between
-between : (lo hi x v : ℤ) (m n : ℕ) → lo ≤ℤ x → x ≤ℤ hi → lo ≤ℤ coordinate_after x v n → coordinate_after x v n ≤ℤ hi → m ≤ n →
-    IsBetween lo hi (coordinate_after x v m)
-between lo hi x (pos k) m n h0 h1 l0 l1 le = (omega (arith, ints, mul-le-mul_left k le), omega (arith, ints, mul-le-mul_left k le))
-between lo hi x (negsuc k) m n h0 h1 l0 l1 le =
-    (omega (arith, ints, mul-le-mul_left (suc k) le), omega (arith, ints, mul-le-mul_left (suc k) le))
-
--- a disk that is inside at a later tick is inside until then
-inside_until : (rules : Rules) (a : Disk) (start tick : ℕ) → IsInside rules a (centre_of a) → start ≤ tick →
-    IsInside rules a (place_of a tick) → IsInside rules a (place_of a start)
-inside_until rules a start tick now le later =
-    let r = radius_of a in
-    let x = between r (rules.width -ℤ r) a.x a.vx (start - a.base) (tick - a.base) now.left now.right later.left later.right (omega arith) in
-    let y = between r (rules.height -ℤ r) a.y a.vy (start - a.base) (tick - a.base) now.bottom now.top later.bottom later.top (omega arith) in
-    record { left = x.0; right = x.1; bottom = y.0; top = y.1 }
-
--- disks of which one is outside at the later base tick don't meet
-pub never_outside : (rules : Rules) (a b : Disk) (start : ℕ) → IsInside rules a (centre_of a) → IsInside rules b (centre_of b) →
-    start ≡ max a.base b.base → ¬ AreInside rules a b start → (tick : ℕ) → IsContactTick rules a b tick → ⊥
-never_outside rules a b start ia ib e outside tick contact =
-    let x : a.base ≤ tick = contact.first_base in
-    let y : b.base ≤ tick = contact.second_base in
-    outside (inside_until rules a start tick ia (omega arith) contact.first_inside, inside_until rules b start tick ib (omega arith) contact.second_inside)
+use Rattle.event_rules.proofs.Courses.{inside_until}
+use Rattle.event_rules.specs.Predict.{HaveBegun, AreInside, IsLastTogether, MeetAfter, IsMeeting, IsOnlyContactTick, IsSeparation, AreNear, PathsMeetAfter}
 
 -- ---- sizes
-pub place_size : (rules : Rules) (a : Disk) (p : Vector) → IsChecked rules → IsValidDisk rules a → IsInside rules a p → IsWithin (2 ^ 62 - 1) p
-place_size rules a p checked valid inside =
-    within_more (2 ^ 30) (2 ^ 62 - 1) p (omega arith) (in_box_size p (inside_in_box rules a p checked valid.size inside))
+way_size : (x v : ℤ) (t : ℕ) → nat_abs x ≤ 2 ^ 30 → nat_abs v ≤ 2 ^ 20 → t ≤ 2 ^ 40 → nat_abs (coordinate_after x v t) ≤ 2 ^ 62 - 1
+way_size x v t hx hv ht =
+    let size = size_of_product v (pos t) (2 ^ 20) (2 ^ 40) hv ht in
+    small (v *ℤ pos t) size
+  where
+    small : (way : ℤ) → nat_abs way ≤ 2 ^ 20 * 2 ^ 40 → nat_abs (x +ℤ way) ≤ 2 ^ 62 - 1
+    small way h = omega (arith, ints)
+
+-- the rules bound how far a disk gets in a run, whatever the walls
+place_size : (rules : Rules) (a : Disk) (tick : ℕ) → IsChecked rules → IsValidDisk rules a → tick ≤ rules.end →
+    IsWithin (2 ^ 62 - 1) (place_of a tick)
+place_size rules a tick checked valid le =
+    let centre = in_box_size (centre_of a) (inside_in_box rules a (centre_of a) checked valid.size valid.centre) in
+    let slow = slow_size rules (velocity_of a) checked valid.velocity in
+    let end = checked.end.1 in
+    let short : tick - a.base ≤ 2 ^ 40 = omega (arith, ints) in
+    record {
+      x = way_size a.x a.vx (tick - a.base) centre.x slow.x short;
+      y = way_size a.y a.vy (tick - a.base) centre.y slow.y short;
+    }
+
+-- so the places at the later base tick can be subtracted
+pub sizes_at_start : (rules : Rules) (a b : Disk) (start : ℕ) (p q : Vector) → IsChecked rules → IsValidDisk rules a → IsValidDisk rules b →
+    start ≡ max a.base b.base → p ≡ place_of a start → q ≡ place_of b start →
+    IsWithin (2 ^ 62 - 1) p × IsWithin (2 ^ 62 - 1) q
+sizes_at_start rules a b start p q checked va vb e ep eq =
+    let first : a.base ≤ rules.end = va.base in
+    let second : b.base ≤ rules.end = vb.base in
+    let before : start ≤ rules.end = omega arith in (
+      subst (λ (z : Vector). IsWithin (2 ^ 62 - 1) z) (sym ep) (place_size rules a start checked va before),
+      subst (λ (z : Vector). IsWithin (2 ^ 62 - 1) z) (sym eq) (place_size rules b start checked vb before),
+    )
 
 -- the separation of two disks that are inside
 inside_size : (rules : Rules) (a b : Disk) (p q : Vector) → IsChecked rules → IsValidDisk rules a → IsValidDisk rules b →
@@ -77,14 +81,13 @@ pub record AreSmall (s : Separation) : Type 0 where
   pub same : sent s.distance ≡ s.distance
 
 pub are_small : (rules : Rules) (a b : Disk) (s : Separation) → IsChecked rules → IsValidDisk rules a → IsValidDisk rules b →
-    IsSeparation rules a b s → AreSmall s
-are_small rules a b s checked va vb h =
-    let places = inside_size rules a b (place_of a s.start) (place_of b s.start) checked va vb h.first_inside h.second_inside in
+    IsSeparation a b s → AreNear s → AreSmall s
+are_small rules a b s checked va vb h near =
     let velocities = relative_size (velocity_of a) (velocity_of b)
     (slow_size rules (velocity_of a) checked va.velocity) (slow_size rules (velocity_of b) checked vb.velocity) in
     let distance = subst (λ (d : ℤ). nat_abs d ≤ 2 ^ 30) (sym h.distance) (distance_size rules a b checked va vb) in
     record {
-      places = subst (λ (r : Vector). IsWithin (2 ^ 30) r) (sym h.places) places;
+      places = near;
       velocities = subst (λ (u : Vector). IsWithin (2 ^ 21) u) (sym h.velocities) velocities;
       distance = distance;
       same = small_same s.distance distance;
@@ -93,46 +96,28 @@ are_small rules a b s checked va vb h =
 -- the code's numbers are those meant
 pub separated : (rules : Rules) (a b : Disk) (start : ℕ) (p q v w r u : Vector) (d : ℤ) → IsChecked rules → IsValidDisk rules a → IsValidDisk rules b →
     start ≡ max a.base b.base → p ≡ place_of a start → q ≡ place_of b start → v ≡ velocity_of a → w ≡ velocity_of b →
-    r ≡ difference p q → u ≡ difference v w → d ≡ contact_distance a b → IsInside rules a p → IsInside rules b q →
-    IsSeparation rules a b (record { start = start; places = r; velocities = u; distance = sent d })
-separated rules a b start p q v w r u d checked va vb e ep eq ev ew er eu ed ia ib =
+    r ≡ difference p q → u ≡ difference v w → d ≡ contact_distance a b →
+    IsSeparation a b (record { start = start; places = r; velocities = u; distance = sent d })
+separated rules a b start p q v w r u d checked va vb e ep eq ev ew er eu ed =
     let distance : sent (contact_distance a b) ≡ contact_distance a b = small_same (contact_distance a b) (distance_size rules a b checked va vb) in
     record {
       start = e;
-      first_inside = subst (λ (z : Vector). IsInside rules a z) ep ia;
-      second_inside = subst (λ (z : Vector). IsInside rules b z) eq ib;
       places = er ∙ (λ i. difference (ep i) (eq i));
       velocities = eu ∙ (λ i. difference (ev i) (ew i));
       distance = ap sent ed ∙ distance;
     }
 
--- disks that are both inside at a last tick are so at the later base tick
-start_inside : (rules : Rules) (a b : Disk) (start last : ℕ) → start ≡ max a.base b.base → IsLastTogether rules a b last →
-    AreInside rules a b start
-start_inside rules a b start last e together =
-    let begun : HaveBegun a b last = together.begun in
-    let x : a.base ≤ last = begun.0 in
-    let y : b.base ≤ last = begun.1 in
-    let end : last < rules.end = together.end in
-    (together.inside start (omega arith, omega arith) (omega arith)).1 (omega arith)
-
-pub sizes_at_start : (rules : Rules) (a b : Disk) (start last : ℕ) (p q : Vector) → IsChecked rules → IsValidDisk rules a → IsValidDisk rules b →
-    start ≡ max a.base b.base → IsLastTogether rules a b last → p ≡ place_of a start → q ≡ place_of b start →
-    IsWithin (2 ^ 62 - 1) p × IsWithin (2 ^ 62 - 1) q
-sizes_at_start rules a b start last p q checked va vb e together ep eq =
-    let now = start_inside rules a b start last e together in (
-      place_size rules a p checked va (subst (λ (z : Vector). IsInside rules a z) (sym ep) now.0),
-      place_size rules b q checked vb (subst (λ (z : Vector). IsInside rules b z) (sym eq) now.1),
-    )
-
-pub separated_while : (rules : Rules) (a b : Disk) (start last : ℕ) (p q v w r u : Vector) (d : ℤ) → IsChecked rules → IsValidDisk rules a → IsValidDisk rules b →
-    start ≡ max a.base b.base → IsLastTogether rules a b last → p ≡ place_of a start → q ≡ place_of b start → v ≡ velocity_of a → w ≡ velocity_of b →
-    r ≡ difference p q → u ≡ difference v w → d ≡ contact_distance a b →
-    IsSeparation rules a b (record { start = start; places = r; velocities = u; distance = sent d })
-separated_while rules a b start last p q v w r u d checked va vb e together ep eq ev ew er eu ed =
-    let now = start_inside rules a b start last e together in
-    separated rules a b start p q v w r u d checked va vb e ep eq ev ew er eu ed
-    (subst (λ (z : Vector). IsInside rules a z) (sym ep) now.0) (subst (λ (z : Vector). IsInside rules b z) (sym eq) now.1)
+-- disks that aren't near at the later base tick don't meet, since one of them is outside then
+pub never_far : (rules : Rules) (a b : Disk) (s : Separation) → IsChecked rules → IsValidDisk rules a → IsValidDisk rules b →
+    IsSeparation a b s → ¬ AreNear s → (tick : ℕ) → IsContactTick rules a b tick → ⊥
+never_far rules a b s checked va vb h far tick contact =
+    let x : a.base ≤ tick = contact.first_base in
+    let y : b.base ≤ tick = contact.second_base in
+    let e = h.start in
+    let first = inside_until rules a s.start tick va.centre (omega arith) contact.first_inside in
+    let second = inside_until rules b s.start tick vb.centre (omega arith) contact.second_inside in
+    far (subst (λ (r : Vector). IsWithin (2 ^ 30) r) (sym h.places)
+    (inside_size rules a b (place_of a s.start) (place_of b s.start) checked va vb first second))
 
 -- ---- later ticks
 coordinate_later : (x v : ℤ) (m n : ℕ) → coordinate_after x v (m + n) ≡ coordinate_after (coordinate_after x v m) v n
@@ -178,7 +163,7 @@ meet_after a b start s begun =
 
 -- the separation is small also at the last tick at which both are inside
 pub later_small : (rules : Rules) (a b : Disk) (s : Separation) (last : ℕ) → IsChecked rules → IsValidDisk rules a → IsValidDisk rules b →
-    IsSeparation rules a b s → IsLastTogether rules a b last → IsWithin (2 ^ 30) (after s.places s.velocities (last - s.start))
+    IsSeparation a b s → IsLastTogether rules a b last → IsWithin (2 ^ 30) (after s.places s.velocities (last - s.start))
 later_small rules a b s last checked va vb h together =
     let e = h.start in
     let begun : HaveBegun a b last = together.begun in
@@ -196,7 +181,7 @@ later_small rules a b s last checked va vb h together =
 
 -- ---- contacts
 -- so many ticks after the separation is to be in contact then
-contact_same : (rules : Rules) (a b : Disk) (s : Separation) (n : ℕ) → IsSeparation rules a b s →
+contact_same : (rules : Rules) (a b : Disk) (s : Separation) (n : ℕ) → IsSeparation a b s →
     IsContactAfter s.places s.velocities s.distance n ↔ MeetAfter a (place_of a s.start) b (place_of b s.start) n
 contact_same rules a b s n h = alike s.places s.velocities _ _ s.distance _ h.places h.velocities h.distance
   where
@@ -204,7 +189,7 @@ contact_same rules a b s n h = alike s.places s.velocities _ _ s.distance _ h.pl
     alike r u r' u' d d' p q t = rw (p, q, t) (λ h. h, λ h. h)
 
 -- a contact tick is a contact so many ticks after the later base tick
-ticks_until : (rules : Rules) (a b : Disk) (s : Separation) (tick : ℕ) → IsSeparation rules a b s → IsContactTick rules a b tick →
+ticks_until : (rules : Rules) (a b : Disk) (s : Separation) (tick : ℕ) → IsSeparation a b s → IsContactTick rules a b tick →
     (tick ≡ s.start + (tick - s.start)) × IsContactAfter s.places s.velocities s.distance (tick - s.start)
 ticks_until rules a b s tick h contact =
     let x : a.base ≤ tick = contact.first_base in
@@ -217,7 +202,7 @@ ticks_until rules a b s tick h contact =
     )
 
 -- and the other way about, if both disks are inside then
-contact_tick_from : (rules : Rules) (a b : Disk) (s : Separation) (n : ℕ) → IsSeparation rules a b s →
+contact_tick_from : (rules : Rules) (a b : Disk) (s : Separation) (n : ℕ) → IsSeparation a b s →
     IsContactAfter s.places s.velocities s.distance n → AreInside rules a b (s.start + n) → IsContactTick rules a b (s.start + n)
 contact_tick_from rules a b s n h contact inside =
     let e = h.start in
@@ -230,7 +215,7 @@ contact_tick_from rules a b s n h contact inside =
     }
 
 -- the only contact is at the only contact tick
-only_tick : (rules : Rules) (a b : Disk) (s : Separation) (n : ℕ) → IsSeparation rules a b s →
+only_tick : (rules : Rules) (a b : Disk) (s : Separation) (n : ℕ) → IsSeparation a b s →
     ((m : ℕ) → IsContactAfter s.places s.velocities s.distance m → m ≡ n) → (tick : ℕ) → IsContactTick rules a b tick → tick ≡ s.start + n
 only_tick rules a b s n h only tick contact =
     let at = ticks_until rules a b s tick h contact in
@@ -238,25 +223,25 @@ only_tick rules a b s n h only tick contact =
     let t : tick - s.start ≡ n = only (tick - s.start) at.1 in
     omega arith
 
-pub never_from : (rules : Rules) (a b : Disk) (s : Separation) → IsSeparation rules a b s →
+pub never_from : (rules : Rules) (a b : Disk) (s : Separation) → IsSeparation a b s →
     ((n : ℕ) → IsContactAfter s.places s.velocities s.distance n → ⊥) → (tick : ℕ) → IsContactTick rules a b tick → ⊥
 never_from rules a b s h never tick contact = never (tick - s.start) (ticks_until rules a b s tick h contact).1
 
 -- the contact of the paths is the contact of the disks, if they are inside then
-pub meeting_from : (rules : Rules) (a b : Disk) (s : Separation) (n : ℕ) → IsSeparation rules a b s → PathsMeetAfter s n →
+pub meeting_from : (rules : Rules) (a b : Disk) (s : Separation) (n : ℕ) → IsSeparation a b s → PathsMeetAfter s n →
     (s.start + n) < rules.end → AreInside rules a b (s.start + n) → IsMeeting rules a b (s.start + n)
 meeting_from rules a b s n h found before inside =
     (contact_tick_from rules a b s n h found.contact inside, before, only_tick rules a b s n h found.only)
 
 -- and no tick else
-pub no_meeting : (rules : Rules) (a b : Disk) (s : Separation) (n : ℕ) → IsSeparation rules a b s → PathsMeetAfter s n →
+pub no_meeting : (rules : Rules) (a b : Disk) (s : Separation) (n : ℕ) → IsSeparation a b s → PathsMeetAfter s n →
     ((s.start + n) < rules.end → AreInside rules a b (s.start + n) → ⊥) → (tick : ℕ) → tick < rules.end → IsContactTick rules a b tick → ⊥
 no_meeting rules a b s n h found never tick before contact =
     let e : tick ≡ s.start + n = only_tick rules a b s n h found.only tick contact in
     never (omega arith) (subst (λ (t : ℕ). AreInside rules a b t) e (contact.first_inside, contact.second_inside))
 
 -- the contact up to the last tick at which both are inside
-pub only_contact_tick : (rules : Rules) (a b : Disk) (s : Separation) (last n : ℕ) → IsSeparation rules a b s → IsLastTogether rules a b last →
+pub only_contact_tick : (rules : Rules) (a b : Disk) (s : Separation) (last n : ℕ) → IsSeparation a b s → IsLastTogether rules a b last →
     n ≤ last - s.start → IsContactAfter s.places s.velocities s.distance n →
     ((m : ℕ) → IsContactAfter s.places s.velocities s.distance m → m ≡ n) → IsOnlyContactTick rules a b last (s.start + n)
 only_contact_tick rules a b s last n h together le contact only =
@@ -269,7 +254,7 @@ only_contact_tick rules a b s last n h together le contact only =
     let inside = (together.inside (s.start + n) (omega arith, omega arith) (omega arith)).1 within in
     (contact_tick_from rules a b s n h contact inside, within, only_tick rules a b s n h only)
 
-pub no_contact_tick : (rules : Rules) (a b : Disk) (s : Separation) (last : ℕ) → IsSeparation rules a b s →
+pub no_contact_tick : (rules : Rules) (a b : Disk) (s : Separation) (last : ℕ) → IsSeparation a b s →
     ((n : ℕ) → n ≤ last - s.start → IsContactAfter s.places s.velocities s.distance n → ⊥) →
     (tick : ℕ) → tick ≤ last → IsContactTick rules a b tick → ⊥
 no_contact_tick rules a b s last h never tick le contact =

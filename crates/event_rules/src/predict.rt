@@ -1,12 +1,13 @@
 //! When disks hit each other and the sides of the box next.
 
 ghost use Rattle.std.specs.Prelude.{◌≡◌, ◌↔◌, ℕ, ◌+◌, ◌^◌, ◌<◌, ◌≤◌, pos, IsTrue, false, IsNone, IfSome, MatchOption};
+ghost use Rattle.plane_vectors.specs.Vectors.{IsWithin};
 ghost use Rattle.fixed_motion.specs.Rules.{IsChecked};
 ghost use Rattle.fixed_motion.specs.Motion.{IsValidDisk};
 ghost use Rattle.event_stamps.specs.declared.Stamp.{Stamp};
 ghost use Rattle.event_stamps.specs.Least.{IsOnly, IsLeastOf};
 ghost use Rattle.event_rules.specs.Events.{IsWallEvent, IsWallBelow, IsPairEvent, IsContactTick, IsPast, IsLastInside, wall_stamp};
-ghost use Rattle.event_rules.specs.Predict.{IsUpTo, IsFirstPast, IsLastTogether, IsOnlyContactTick, IsMeeting, IsSeparation, PathsCross, PathsMeetAfter};
+ghost use Rattle.event_rules.specs.Predict.{IsUpTo, IsFirstPast, IsLastTogether, IsOnlyContactTick, IsMeeting, IsSeparation, AreNear, PathsCross, PathsMeetAfter};
 
 use contact_predictor::{contact_between, may_meet, quick_contact, stay};
 use event_stamps::{Kind, Stamp};
@@ -16,6 +17,9 @@ use std::cmp::{max, min};
 
 // The sides of the box.
 const SIDES: u32 = 4;
+
+// The greatest difference of two places in a box, in units of length on each axis.
+const MAX_DIFFERENCE: u64 = 1 << 30;
 
 /// The stamp at which a disk next hits a side of the box if it keeps its course, before the last tick of
 /// the run.
@@ -99,6 +103,7 @@ struct Separation {
     distance: i64,
 }
 
+// The cheap tests, which most pairs fail, come first.
 fn meeting_tick(rules: &Rules, a: &Disk, b: &Disk) -> Option<u64>
     requires checked { IsChecked rules.now }
     requires first_valid { IsValidDisk rules.now a.now }
@@ -106,37 +111,42 @@ fn meeting_tick(rules: &Rules, a: &Disk, b: &Disk) -> Option<u64>
     ensures { MatchOption result ((tick : ℕ) → tick < rules.now.end → IsContactTick rules.now a.now b.now tick → ⊥)
         (IsMeeting rules.now a.now b.now) }
 {
-    let s = separate(rules, a, b)?;
+    let s = separate(rules, a, b);
+    if !is_near(s.places) {
+        // One of them isn't inside the box at the later base tick, and so at no later tick.
+        return None;
+    }
     if !are_on_course(rules, a, b, &s) {
         return None;
     }
     match quick_ticks(rules, a, b, &s) {
         Some(ticks) => tick_inside(rules, a, b, &s, ticks),
-        None => searched_tick(rules, a, b),
+        None => searched_tick(rules, a, b, &s),
     }
 }
 
-// None where one of the disks isn't inside the box at the later base tick, and so at no later tick.
-fn separate(rules: &Rules, a: &Disk, b: &Disk) -> Option<Separation>
+fn separate(rules: &Rules, a: &Disk, b: &Disk) -> Separation
     requires checked { IsChecked rules.now }
     requires first_valid { IsValidDisk rules.now a.now }
     requires second_valid { IsValidDisk rules.now b.now }
-    ensures { MatchOption result ((tick : ℕ) → IsContactTick rules.now a.now b.now tick → ⊥)
-        (IsSeparation rules.now a.now b.now) }
+    ensures { IsSeparation a.now b.now result }
 {
     let start = max(a.base, b.base);
     let p = a.centre_at(rules, start);
     let q = b.centre_at(rules, start);
-    if a.is_inside(rules, p) && b.is_inside(rules, q) {
-        Some(Separation {
-            start,
-            places: p.minus(q),
-            velocities: a.velocity().minus(b.velocity()),
-            distance: a.contact_distance(b),
-        })
-    } else {
-        None
+    Separation {
+        start,
+        places: p.minus(q),
+        velocities: a.velocity().minus(b.velocity()),
+        distance: a.contact_distance(b),
     }
+}
+
+// Of the separation of two disks; disks that are both inside the box are near.
+fn is_near(places: Vector) -> bool
+    ensures { IsTrue result ↔ IsWithin (2 ^ 30) places }
+{
+    places.x.unsigned_abs() <= MAX_DIFFERENCE && places.y.unsigned_abs() <= MAX_DIFFERENCE
 }
 
 // Most pairs are told by this, by products alone.
@@ -144,7 +154,8 @@ fn are_on_course(rules: &Rules, a: &Disk, b: &Disk, s: &Separation) -> bool
     requires checked { IsChecked rules.now }
     requires first_valid { IsValidDisk rules.now a.now }
     requires second_valid { IsValidDisk rules.now b.now }
-    requires separation { IsSeparation rules.now a.now b.now s.now }
+    requires separation { IsSeparation a.now b.now s.now }
+    requires near { AreNear s.now }
     ensures yes { IsTrue result → PathsCross s.now }
     ensures no { result ≡ false → (tick : ℕ) → IsContactTick rules.now a.now b.now tick → ⊥ }
 {
@@ -159,7 +170,8 @@ fn quick_ticks(rules: &Rules, a: &Disk, b: &Disk, s: &Separation) -> Option<u64>
     requires checked { IsChecked rules.now }
     requires first_valid { IsValidDisk rules.now a.now }
     requires second_valid { IsValidDisk rules.now b.now }
-    requires separation { IsSeparation rules.now a.now b.now s.now }
+    requires separation { IsSeparation a.now b.now s.now }
+    requires near { AreNear s.now }
     requires paths { PathsCross s.now }
     ensures found { IfSome result (PathsMeetAfter s.now) }
     ensures near { IfSome result (λ ticks. ticks ≤ 2 ^ 30) }
@@ -174,7 +186,7 @@ fn tick_inside(rules: &Rules, a: &Disk, b: &Disk, s: &Separation, ticks: u64) ->
     requires checked { IsChecked rules.now }
     requires first_valid { IsValidDisk rules.now a.now }
     requires second_valid { IsValidDisk rules.now b.now }
-    requires separation { IsSeparation rules.now a.now b.now s.now }
+    requires separation { IsSeparation a.now b.now s.now }
     requires found { PathsMeetAfter s.now ticks }
     requires near { ticks ≤ 2 ^ 30 }
     ensures { MatchOption result ((tick : ℕ) → tick < rules.now.end → IsContactTick rules.now a.now b.now tick → ⊥)
@@ -192,15 +204,17 @@ fn tick_inside(rules: &Rules, a: &Disk, b: &Disk, s: &Separation, ticks: u64) ->
 }
 
 // The contact tick of any two disks, by the last tick at which both are inside.
-fn searched_tick(rules: &Rules, a: &Disk, b: &Disk) -> Option<u64>
+fn searched_tick(rules: &Rules, a: &Disk, b: &Disk, s: &Separation) -> Option<u64>
     requires checked { IsChecked rules.now }
     requires first_valid { IsValidDisk rules.now a.now }
     requires second_valid { IsValidDisk rules.now b.now }
+    requires separation { IsSeparation a.now b.now s.now }
+    requires near { AreNear s.now }
     ensures { MatchOption result ((tick : ℕ) → tick < rules.now.end → IsContactTick rules.now a.now b.now tick → ⊥)
         (IsMeeting rules.now a.now b.now) }
 {
     let last = last_together(rules, a, b)?;
-    contact_tick(rules, a, b, last)
+    contact_tick(rules, a, b, s, last)
 }
 
 // The last tick at which a disk that keeps its course is inside the box; none where it stands still.
@@ -281,17 +295,19 @@ fn last_together(rules: &Rules, a: &Disk, b: &Disk) -> Option<u64>
     }
 }
 
-fn contact_tick(rules: &Rules, a: &Disk, b: &Disk, last: u64) -> Option<u64>
+fn contact_tick(rules: &Rules, a: &Disk, b: &Disk, s: &Separation, last: u64) -> Option<u64>
     requires checked { IsChecked rules.now }
     requires first_valid { IsValidDisk rules.now a.now }
     requires second_valid { IsValidDisk rules.now b.now }
+    requires separation { IsSeparation a.now b.now s.now }
+    requires near { AreNear s.now }
     requires last { IsLastTogether rules.now a.now b.now last }
     ensures { MatchOption result ((tick : ℕ) → tick ≤ last → IsContactTick rules.now a.now b.now tick → ⊥)
         (IsOnlyContactTick rules.now a.now b.now last) }
 {
-    let start = max(a.base, b.base);
-    let places = a.centre_at(rules, start).minus(b.centre_at(rules, start));
-    let velocities = a.velocity().minus(b.velocity());
-    let ticks = contact_between(places, velocities, a.contact_distance(b), last - start)?;
-    Some(start + ticks)
+    let _rules = rules;
+    let _first = a;
+    let _second = b;
+    let ticks = contact_between(s.places, s.velocities, s.distance, last - s.start)?;
+    Some(s.start + ticks)
 }

@@ -7,24 +7,24 @@ use Rattle.event_rules.proofs.predict.are_on_course.Goals as goal
 
 pub may_meet-requires-clause-separation : goal.may_meet-requires-clause-separation
 may_meet-requires-clause-separation c =
-    (are_small c.args.rules.now c.args.a.now c.args.b.now c.args.s.now c.requires.checked c.requires.first_valid c.requires.second_valid c.requires.separation).places
+    (are_small c.args.rules.now c.args.a.now c.args.b.now c.args.s.now c.requires.checked c.requires.first_valid c.requires.second_valid c.requires.separation c.requires.near).places
 
 pub may_meet-requires-clause-velocity : goal.may_meet-requires-clause-velocity
 may_meet-requires-clause-velocity c =
-    (are_small c.args.rules.now c.args.a.now c.args.b.now c.args.s.now c.requires.checked c.requires.first_valid c.requires.second_valid c.requires.separation).velocities
+    (are_small c.args.rules.now c.args.a.now c.args.b.now c.args.s.now c.requires.checked c.requires.first_valid c.requires.second_valid c.requires.separation c.requires.near).velocities
 
 pub may_meet-requires-clause-distance : goal.may_meet-requires-clause-distance
 may_meet-requires-clause-distance c =
-    let small = are_small c.args.rules.now c.args.a.now c.args.b.now c.args.s.now c.requires.checked c.requires.first_valid c.requires.second_valid c.requires.separation in
+    let small = are_small c.args.rules.now c.args.a.now c.args.b.now c.args.s.now c.requires.checked c.requires.first_valid c.requires.second_valid c.requires.separation c.requires.near in
     subst (λ (d : ℤ). nat_abs d ≤ 2 ^ 30) (sym small.same) small.distance
 
 pub returns-clause-yes : goal.returns-clause-yes
 returns-clause-yes c =
-    let small = are_small c.args.rules.now c.args.a.now c.args.b.now c.args.s.now c.requires.checked c.requires.first_valid c.requires.second_valid c.requires.separation in
+    let small = are_small c.args.rules.now c.args.a.now c.args.b.now c.args.s.now c.requires.checked c.requires.first_valid c.requires.second_valid c.requires.separation c.requires.near in
     λ yes. (subst (λ (d : ℤ). MayMeet c.args.s.now.places c.args.s.now.velocities d) small.same (c.may_meet.ensures.fact.0 yes)).crossing
 
 pub returns-clause-no : goal.returns-clause-no
 returns-clause-no c =
-    let small = are_small c.args.rules.now c.args.a.now c.args.b.now c.args.s.now c.requires.checked c.requires.first_valid c.requires.second_valid c.requires.separation in
+    let small = are_small c.args.rules.now c.args.a.now c.args.b.now c.args.s.now c.requires.checked c.requires.first_valid c.requires.second_valid c.requires.separation c.requires.near in
     λ no. never_from c.args.rules.now c.args.a.now c.args.b.now c.args.s.now c.requires.separation
     (subst (λ (d : ℤ). (n : ℕ) → IsContactAfter c.args.s.now.places c.args.s.now.velocities d n → ⊥) small.same (c.may_meet.ensures.never no))
