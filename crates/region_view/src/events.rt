@@ -16,7 +16,7 @@ ghost use Rattle.region_view.specs.Laws.{HasCells};
 use crate::{Action, Placed, View};
 use cell_grid::Grid;
 use event_rules::{Limit, apply, first_wall, pair_event};
-use event_stamps::{Kind, Stamp, earlier};
+use event_stamps::{Kind, Stamp};
 use fixed_motion::{Disk, Rules};
 
 /// The stamp of the first event of a placed disk by itself: it leaves its recorded cell, or hits a side of
@@ -28,10 +28,11 @@ pub fn first_alone(rules: &Rules, grid: &Grid, number: u32, row: &Placed) -> Opt
     requires cell { IsCell grid.now row.now.cell }
     ensures { IsLeastOf (IsAlone rules.now grid.now number row.now) result }
 {
-    earlier(
-        grid.crossing(rules, number, &row.disk, row.cell),
-        first_wall(rules, number, &row.disk),
-    )
+    match grid.crossing(rules, number, &row.disk, row.cell) {
+        // The disk is inside the box then, so it hits no side before.
+        Some(crossing) => Some(crossing),
+        None => first_wall(rules, number, &row.disk),
+    }
 }
 
 /// The stamp of the next event of two placed disks with each other, where their recorded cells are adjacent.

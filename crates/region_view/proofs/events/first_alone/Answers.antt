@@ -1,13 +1,11 @@
-use Rattle.std.proofs.Common.{sym, subst}
-use Rattle.event_stamps.specs.Least.{IsLeastOf}
-use Rattle.region_view.specs.Events.{IsAlone}
-use Rattle.region_view.proofs.First.{alone}
+-- A disk that leaves its cell does so before it hits a side.
+use Rattle.region_view.proofs.First.{crossing_is_first, wall_is_first}
 use Rattle.region_view.proofs.events.first_alone.Goals as goal
 
-pub returns : goal.returns
-returns c =
-    subst (IsLeastOf (IsAlone c.args.rules.now c.args.grid.now c.args.number c.args.row.now))
-    (sym c.earlier.ensures)
-    (alone c.args.rules.now c.args.grid.now c.args.number c.args.row.now c.crossing.result
-    c.first_wall.result
-    c.crossing.ensures c.first_wall.ensures)
+pub returns-in-Some : goal.returns-in-Some
+returns-in-Some c =
+    crossing_is_first c.args.rules.now c.args.grid.now c.args.number c.args.row.now c.in-Some.crossing c.requires.valid c.in-Some.ensures
+
+pub returns-in-None : goal.returns-in-None
+returns-in-None c =
+    wall_is_first c.args.rules.now c.args.grid.now c.args.number c.args.row.now c.first_wall.result c.in-None.ensures c.first_wall.ensures
