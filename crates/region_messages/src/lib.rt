@@ -129,14 +129,24 @@ pub fn first_disagreement(a: &Trail, b: &Trail) -> Option<Stamp>
 }
 
 /// From which stamp on what is told differs from what was heard, where both are taken to be the
-/// same in what has stood since `told` was marked. None where they are taken to be the same.
-/// Constant time where nothing is new.
-pub fn first_news(heard: &Trail, told: &Trail) -> Option<Stamp> {
+/// same in what has stood since `told` was marked. None where nothing is new.
+///
+/// `clock` is the stamp of the last entry of the region that tells. A message that was heard and isn't
+/// told any more counts once that region is past it: what was taken back mostly comes back the same, so
+/// until then it is waited for (lazy cancellation: Gafni, Rollback mechanisms for optimistic distributed
+/// simulation systems, 1988). Constant time where nothing is new.
+pub fn first_news(heard: &Trail, told: &Trail, clock: Option<Stamp>) -> Option<Stamp> {
     let known = told.kept.min(heard.len()).min(told.len());
     let old = &heard.messages[known..];
     let new = &told.messages[known..];
     let same = count_same(old, new);
-    earlier(stamp_at(old, same), stamp_at(new, same))
+    earlier(passed_by(clock, stamp_at(old, same)), stamp_at(new, same))
+}
+
+// A stamp, where a clock is after it.
+fn passed_by(clock: Option<Stamp>, stamp: Option<Stamp>) -> Option<Stamp> {
+    let stamp = stamp?;
+    if stamp < clock? { Some(stamp) } else { None }
 }
 
 // How many messages two lists have in common, from the front on.
