@@ -30,12 +30,12 @@ not_after_trans (Some r) (Some s) (Some t) h k = stamps r s t h k
 
 -- ---- the earlier of two
 -- one of the two, and not after either
-record IsLesser (a b key : Key) : Type 0 where
-  one : (key ≡ a) ⊎ (key ≡ b)
-  first : IsNotAfter key a
-  second : IsNotAfter key b
+pub record IsLesser (a b key : Key) : Type 0 where
+  pub one : (key ≡ a) ⊎ (key ≡ b)
+  pub first : IsNotAfter key a
+  pub second : IsNotAfter key b
 
-lesser : (a b : Key) → IsLesser a b (earlier_of a b)
+pub lesser : (a b : Key) → IsLesser a b (earlier_of a b)
 lesser None None = record { one = inl refl; first = tt; second = tt }
 lesser None (Some t) = record { one = inr refl; first = tt; second = not_before_itself t }
 lesser (Some s) None = record { one = inl refl; first = not_before_itself s; second = tt }

@@ -8,12 +8,12 @@ use Rattle.std.specs.FinMap as map
 use Rattle.std.proofs.lemmas.Bool.{cases_eq}
 use Rattle.std.proofs.lemmas.Grind.{common_steps}
 use Rattle.std.proofs.lemmas.List.Elements.{Contains-push_cases, Contains-append_right, Contains-append_cases}
-use Rattle.event_tree.specs.Keys.{Key, IsSetAt, key_at}
 use Rattle.cell_lists.specs.Listing.{ListsData, with_disk, without_disk}
 use Rattle.region_view.specs.declared.action.Placed.{Placed}
 use Rattle.region_view.specs.Views.{ViewData, rows_in}
 use Rattle.region_queue.specs.declared.finder.Finder.{Finder}
-use Rattle.region_queue.specs.Finding.{Cells, cell_in, IsTakenOff, IsRelisted, AreRelisted, IsBest, AreRetaken, AreRetakenOf}
+use Rattle.region_queue.specs.declared.keys.Keys.{Keys}
+use Rattle.region_queue.specs.Finding.{Cells, cell_in, IsTakenOff, IsRelisted, AreRelisted, AreRetaken, AreRetakenOf, IsTaken, IsTakenAt, entry_at}
 
 pub none_among : (i : ℕ) → ¬ Contains {X = ℕ} [] i
 none_among i h = let lt = h.1 in absurd (omega arith)
@@ -60,17 +60,15 @@ pub relisted_more : (view : ViewData) (done : List ℕ) (disk : ℕ) (old mid ne
 relisted_more view done disk old mid new before is =
     again_more (λ i o. o ≡ cell_in view i) done disk (map.get old) (map.get mid) (map.get new) before is.listed is.others
 
-pub retaken_more : (finder : Finder) (view : ViewData) (done : List ℕ) (disk : ℕ) (key : Key) (old mid new : List Key) →
-    AreRetaken finder view done old mid → IsSetAt disk key mid new → IsBest finder view disk key →
-    AreRetaken finder view (done ++ disk ∷ []) old new
-retaken_more finder view done disk key old mid new before is best =
-    again_more (IsBest finder view) done disk (key_at old) (key_at mid) (key_at new) before
-    (subst (IsBest finder view disk) (sym is.set) best) is.others
+pub retaken_more : (finder : Finder) (view : ViewData) (done : List ℕ) (disk : ℕ) (old mid new : Keys) →
+    AreRetaken finder view done old mid → IsTakenAt finder view disk mid new → AreRetaken finder view (done ++ disk ∷ []) old new
+retaken_more finder view done disk old mid new before is =
+    again_more (IsTaken finder view) done disk (entry_at old) (entry_at mid) (entry_at new) before is.taken is.others
 
-pub retaken_one : (finder : Finder) (view : ViewData) (Such : ℕ → Type 0) (disk : ℕ) (key : Key) (old new : List Key) →
-    IsSetAt disk key old new → IsBest finder view disk key → ((i : ℕ) → Such i → i ≡ disk) → AreRetakenOf finder view Such old new
-retaken_one finder view Such disk key old new is best only i = elim (cases_eq i disk) [
-  | inl same ↦ inl (subst (λ (n : ℕ). IsBest finder view n (key_at new n)) (sym same) (subst (IsBest finder view disk) (sym is.set) best))
+pub retaken_one : (finder : Finder) (view : ViewData) (Such : ℕ → Type 0) (disk : ℕ) (old new : Keys) →
+    IsTakenAt finder view disk old new → ((i : ℕ) → Such i → i ≡ disk) → AreRetakenOf finder view Such old new
+retaken_one finder view Such disk old new is only i = elim (cases_eq i disk) [
+  | inl same ↦ inl (subst (λ (n : ℕ). IsTaken finder view n (entry_at new n)) (sym same) is.taken)
   | inr ne ↦ inr (is.others i ne, λ such. ne (only i such))
 ]
 

@@ -4,6 +4,7 @@ use Rattle.std.specs.Prelude.{Option, Some, None, MatchOption, option_map, IsTru
 use Rattle.std.proofs.lemmas.Bool.{cases_lt}
 use Rattle.fixed_motion.specs.declared.rules.Rules.{Rules}
 use Rattle.event_stamps.specs.declared.Stamp.{Stamp}
+use Rattle.event_stamps.specs.declared.Kind.{Kind}
 use Rattle.event_stamps.specs.declared.Kind.TheVariants.{Cross, Wall, Pair}
 use Rattle.event_stamps.specs.Least.{IsLeastOf, HasNone, IsOnly, earlier_of}
 use Rattle.event_stamps.proofs.Least.{only_least, least_of_either, least_same}
@@ -19,8 +20,8 @@ use Rattle.region_view.specs.Events.{IsAlone, IsNear}
 use Rattle.region_view.specs.Placing.{IsCellCandidate, IsNearPair, IsNative}
 use Rattle.region_view.specs.Views.{ViewData, rows_in}
 use Rattle.region_queue.specs.declared.finder.Finder.{Finder}
-use Rattle.region_queue.specs.Naming.{Names}
-use Rattle.region_queue.specs.Finding.{IsReady, IsFound, IsAloneAt, IsNativeOf, IsNativePair, IsNativeWith, IsBest, AreListed}
+use Rattle.region_queue.specs.Naming.{Names, IsPairOf}
+use Rattle.region_queue.specs.Finding.{IsReady, IsFound, IsAloneAt, IsNativeOf, IsNativePair, IsNativeWith, IsSingle, IsPaired, IsBest, IsBestSingle, IsBestPair, AreListed}
 
 pub same_row : (view : ViewData) (i j : ℕ) (p q : Placed) → rows_in view i ≡ Some p → rows_in view j ≡ Some q → i ≡ j → p ≡ q
 same_row view i j p q a b e = let at : Some p ≡ Some q = sym a ∙ ap (rows_in view) e ∙ b in cc
@@ -48,19 +49,27 @@ by_itself s disk alone (inr pair) = absurd (alone pair.0)
 
 -- ---- a disk by itself
 pub alone_found : (finder : Finder) (view : ViewData) (disk : ℕ) (p : Placed) (s : Stamp) → rows_in view disk ≡ Some p →
-    IsAloneAt finder disk p s → IsFound finder view s × Names s disk
+    IsAloneAt finder disk p s → IsSingle finder view disk s
 alone_found finder view disk p s row h = from h.0
   where
     at : s.first ≡ disk → rows_in view s.first ≡ Some p
     at e = ap (rows_in view) e ∙ row
 
-    from : IsAlone finder.rules finder.grid disk p s → IsFound finder view s × Names s disk
+    from : IsAlone finder.rules finder.grid disk p s → IsSingle finder view disk s
     from (inl cross) =
         let e : s.first ≡ disk = ap (λ (v : Stamp). v.first) cross.2 in
-        ((inl (p, at e, subst (λ (n : ℕ). IsCrossEvent finder.rules finder.grid n p.disk p.cell s) (sym e) cross), (p, at e, h.1)), inl e)
+        let kind : s.kind ≡ Cross = ap (λ (v : Stamp). v.kind) cross.2 in (
+          (inl (p, at e, subst (λ (n : ℕ). IsCrossEvent finder.rules finder.grid n p.disk p.cell s) (sym e) cross), (p, at e, h.1)),
+          e,
+          λ pair. let no : Cross ≡ Pair = sym kind ∙ pair in cc,
+        )
     from (inr wall) =
         let e : s.first ≡ disk = ap (λ (v : Stamp). v.first) wall.2 in
-        ((inr (inl (p, at e, subst (λ (n : ℕ). IsWallEvent finder.rules n p.disk s.second s) (sym e) wall)), (p, at e, h.1)), inl e)
+        let kind : s.kind ≡ Wall = ap (λ (v : Stamp). v.kind) wall.2 in (
+          (inr (inl (p, at e, subst (λ (n : ℕ). IsWallEvent finder.rules n p.disk s.second s) (sym e) wall)), (p, at e, h.1)),
+          e,
+          λ pair. let no : Wall ≡ Pair = sym kind ∙ pair in cc,
+        )
 
 pub alone_or_pair : (finder : Finder) (view : ViewData) (disk : ℕ) (p : Placed) (s : Stamp) → rows_in view disk ≡ Some p →
     IsFound finder view s → Names s disk → IsAloneAt finder disk p s ⊎ IsNearPair finder.rules finder.grid (rows_in view) s
@@ -175,10 +184,24 @@ pub pair_high : (finder : Finder) (view : ViewData) (i j : ℕ) (o : Option Stam
 pair_high finder view i j o lt h = least_same (IsNativeOf finder view j i) (IsNativePair finder view i j) o (λ t x. inr x)
     (λ t x. elim x [ inl y ↦ (let back = native_order finder view i j t y in absurd (omega arith)) | inr y ↦ y ]) h
 
-pub pair_found : (finder : Finder) (view : ViewData) (disk other : ℕ) (s : Stamp) → IsNativePair finder view disk other s →
-    IsFound finder view s × Names s disk
-pair_found finder view disk other s (inl h) = (h.0, inl h.1.1.0)
-pair_found finder view disk other s (inr h) = (h.0, inr (h.1.0, h.1.1.1))
+pub pair_found : (finder : Finder) (view : ViewData) (i j : ℕ) (s : Stamp) → IsNativePair finder view i j s →
+    IsFound finder view s × (s.kind ≡ Pair) × IsPairOf s i j
+pair_found finder view i j s (inl h) = (h.0, h.1.0, inl h.1.1)
+pair_found finder view i j s (inr h) = (h.0, h.1.0, inr h.1.1)
+
+pub pair_of : (finder : Finder) (view : ViewData) (i j : ℕ) (s : Stamp) → IsFound finder view s → s.kind ≡ Pair → IsPairOf s i j →
+    IsNativePair finder view i j s
+pair_of finder view i j s found kind (inl e) = inl (found, (kind, e))
+pair_of finder view i j s found kind (inr e) = inr (found, (kind, e))
+
+-- a pair that names a disk has another one
+other_of : (s : Stamp) (disk : ℕ) → Names s disk → (other : ℕ) × IsPairOf s disk other
+other_of s disk (inl first) = (s.second, inl (first, refl))
+other_of s disk (inr second) = (s.first, inr (refl, second.1))
+
+pub names_pair : (s : Stamp) (i j : ℕ) → s.kind ≡ Pair → IsPairOf s i j → Names s i
+names_pair s i j kind (inl e) = inl e.0
+names_pair s i j kind (inr e) = inr (kind, e.1)
 
 -- ---- walks
 pub with_none : (finder : Finder) (view : ViewData) (disk : ℕ) (With : ℕ → Type 0) → ((i : ℕ) → ¬ With i) →
@@ -275,51 +298,84 @@ pub listed_at : (view : ViewData) (lists : ListsData) (disk : ℕ) (p : Placed) 
     IsListed lists p.cell disk
 listed_at view lists disk p listed row = listed disk ∙ ap (option_map (λ (q : Placed). q.cell)) row
 
+-- the cells of the block are those adjacent to a cell
+abbrev pub IsAround : GridData → ℕ → Block → Type 0
+IsAround grid at block = (cell : ℕ) → IsCell grid cell → (IsAdjacent grid at cell ↔ IsWithin grid block cell)
+
 -- two disks of a pair are in adjacent cells, whichever is first
-pub pair_beside : (rules : Rules) (grid : GridData) (view : ViewData) (disk : ℕ) (p : Placed) (s : Stamp) → rows_in view disk ≡ Some p →
-    IsNearPair rules grid (rows_in view) s → Names s disk →
-    (other : ℕ) × (q : Placed) × (rows_in view other ≡ Some q) × IsAdjacent grid p.cell q.cell
-    × (((s.first ≡ disk) × (s.second ≡ other)) ⊎ ((s.first ≡ other) × (s.second ≡ disk)))
-pair_beside rules grid view disk p s row near (inl first) = (
-  s.second,
+pub pair_beside : (rules : Rules) (grid : GridData) (view : ViewData) (disk other : ℕ) (p : Placed) (s : Stamp) → rows_in view disk ≡ Some p →
+    IsNearPair rules grid (rows_in view) s → IsPairOf s disk other →
+    (q : Placed) × (rows_in view other ≡ Some q) × IsAdjacent grid p.cell q.cell
+pair_beside rules grid view disk other p s row near (inl e) = (
   near.1.2.0,
-  near.1.2.1,
-  subst (λ (x : Placed). IsAdjacent grid x.cell near.1.2.0.cell) (same_row view s.first disk near.1.0 p near.1.1 row first) near.1.2.2,
-  inl (first, refl),
+  sym (ap (rows_in view) e.1) ∙ near.1.2.1,
+  subst (λ (x : Placed). IsAdjacent grid x.cell near.1.2.0.cell) (same_row view s.first disk near.1.0 p near.1.1 row e.0) near.1.2.2,
 )
-pair_beside rules grid view disk p s row near (inr second) = (
-  s.first,
+pair_beside rules grid view disk other p s row near (inr e) = (
   near.1.0,
-  near.1.1,
+  sym (ap (rows_in view) e.0) ∙ near.1.1,
   adjacent_back grid near.1.0.cell p.cell
-      (subst (λ (x : Placed). IsAdjacent grid near.1.0.cell x.cell) (same_row view s.second disk near.1.2.0 p near.1.2.1 row second.1) near.1.2.2),
-  inr (refl, second.1),
+      (subst (λ (x : Placed). IsAdjacent grid near.1.0.cell x.cell) (same_row view s.second disk near.1.2.0 p near.1.2.1 row e.1) near.1.2.2),
 )
 
-pub best_is : (finder : Finder) (view : ViewData) (disk : ℕ) (p : Placed) (block : Block) (a b : Option Stamp) → IsReady finder view →
-    rows_in view disk ≡ Some p →
-    ((other : ℕ) → IsCell finder.grid other → (IsAdjacent finder.grid p.cell other ↔ IsWithin finder.grid block other)) →
-    IsLeastOf (IsAloneAt finder disk p) a → IsLeastOf (IsNativeWith finder view disk (IsListedWithin finder.lists block)) b →
-    AreListed view finder.lists.cells → IsBest finder view disk (earlier_of a b)
-best_is finder view disk p block a b ready row around ha hb listed =
-    least_of_either (IsAloneAt finder disk p) (IsNativeWith finder view disk (IsListedWithin finder.lists block))
-    (λ s. IsFound finder view s × Names s disk) a b
-    (λ s x. alone_found finder view disk p s row x) (λ s x. pair_found finder view disk x.0 s x.2)
-    (λ s x. elim (alone_or_pair finder view disk p s row x.0 x.1) [
-      | inl alone ↦ inl alone
-      | inr near ↦ inr (found s x.0 (pair_kind finder.rules finder.grid view s near) (pair_beside finder.rules finder.grid view disk p s row near x.1))
-    ])
-    ha hb
+-- the other disk of a pair is listed in a cell of the block around the disk's own
+pub listed_beside : (finder : Finder) (view : ViewData) (disk other : ℕ) (p : Placed) (block : Block) (s : Stamp) → IsReady finder view →
+    rows_in view disk ≡ Some p → IsAround finder.grid p.cell block → AreListed view finder.lists.cells → IsFound finder view s →
+    s.kind ≡ Pair → IsPairOf s disk other →
+    (q : Placed) × (rows_in view other ≡ Some q) × IsListed finder.lists q.cell other × IsWithin finder.lists.grid block q.cell
+listed_beside finder view disk other p block s ready row around listed found kind pair = (
+  beside.0,
+  beside.1,
+  listed_at view finder.lists other beside.0 listed beside.1,
+  subst (λ (g : GridData). IsWithin g block beside.0.cell) (sym ready.lists)
+      ((around beside.0.cell (ready.valid.cell other beside.0 beside.1)).0 beside.2),
+)
   where
-    within : (q : Placed) (other : ℕ) → rows_in view other ≡ Some q → IsAdjacent finder.grid p.cell q.cell → IsListedWithin finder.lists block other
-    within q other at beside = (
-      q.cell,
-      listed_at view finder.lists other q listed at,
-      subst (λ (g : GridData). IsWithin g block q.cell) (sym ready.lists) ((around q.cell (ready.valid.cell other q at)).0 beside),
-    )
+    beside : (q : Placed) × (rows_in view other ≡ Some q) × IsAdjacent finder.grid p.cell q.cell
+    beside = pair_beside finder.rules finder.grid view disk other p s row
+        (near_pair finder.rules finder.grid finder.region view s found kind) pair
 
-    found : (s : Stamp) → IsFound finder view s → s.kind ≡ Pair →
-        (other : ℕ) × (q : Placed) × (rows_in view other ≡ Some q) × IsAdjacent finder.grid p.cell q.cell
-        × (((s.first ≡ disk) × (s.second ≡ other)) ⊎ ((s.first ≡ other) × (s.second ≡ disk))) →
-        IsNativeWith finder view disk (IsListedWithin finder.lists block) s
-    found s is kind h = (h.0, within h.1 h.0 h.2 h.3, elim h.4 [ inl e ↦ inl (is, (kind, e)) | inr e ↦ inr (is, (kind, e)) ])
+-- ---- the best ones
+pub best_single : (finder : Finder) (view : ViewData) (disk : ℕ) (p : Placed) (o : Option Stamp) → rows_in view disk ≡ Some p →
+    IsLeastOf (IsAloneAt finder disk p) o → IsBestSingle finder view disk o
+best_single finder view disk p o row h =
+    least_same (IsAloneAt finder disk p) (IsSingle finder view disk) o
+    (λ s x. alone_found finder view disk p s row x)
+    (λ s x. elim (alone_or_pair finder view disk p s row x.0 (inl x.1)) [
+      | inl alone ↦ alone
+      | inr near ↦ absurd (x.2 (pair_kind finder.rules finder.grid view s near))
+    ])
+    h
+
+pub best_pairs : (finder : Finder) (view : ViewData) (disk : ℕ) (p : Placed) (block : Block) (o : Option Stamp) → IsReady finder view →
+    rows_in view disk ≡ Some p → IsAround finder.grid p.cell block → AreListed view finder.lists.cells →
+    IsLeastOf (IsNativeWith finder view disk (IsListedWithin finder.lists block)) o →
+    IsBestPair finder view disk o
+best_pairs finder view disk p block o ready row around listed h =
+    least_same (IsNativeWith finder view disk (IsListedWithin finder.lists block)) (IsPaired finder view disk) o
+    to from h
+  where
+    to : (s : Stamp) → IsNativeWith finder view disk (IsListedWithin finder.lists block) s → IsPaired finder view disk s
+    to s x = let pair = pair_found finder view disk x.0 s x.2 in (pair.0, pair.1, names_pair s disk x.0 pair.1 pair.2)
+
+    from : (s : Stamp) → IsPaired finder view disk s → IsNativeWith finder view disk (IsListedWithin finder.lists block) s
+    from s x =
+        let other = other_of s disk x.2 in
+        let at = listed_beside finder view disk other.0 p block s ready row around listed x.0 x.1 other.1 in
+        (other.0, (at.0.cell, at.2, at.3), pair_of finder view disk other.0 s x.0 x.1 other.1)
+
+-- a candidate that names a disk is of the disk by itself or of a pair
+pub best_of_both : (finder : Finder) (view : ViewData) (disk : ℕ) (a b : Option Stamp) → IsBestSingle finder view disk a →
+    IsBestPair finder view disk b → IsBest finder view disk (earlier_of a b)
+best_of_both finder view disk a b ha hb =
+    least_of_either (IsSingle finder view disk) (IsPaired finder view disk) (λ s. IsFound finder view s × Names s disk) a b
+    (λ s x. (x.0, inl x.1)) (λ s x. (x.0, x.2)) (λ s x. by_kind s s.kind refl x.0 x.1) ha hb
+  where
+    alone : (s : Stamp) → ¬ (s.kind ≡ Pair) → IsFound finder view s → Names s disk → IsSingle finder view disk s ⊎ IsPaired finder view disk s
+    alone s not found names = inl (found, by_itself s disk not names, not)
+
+    by_kind : (s : Stamp) (k : Kind) → s.kind ≡ k → IsFound finder view s → Names s disk →
+        IsSingle finder view disk s ⊎ IsPaired finder view disk s
+    by_kind s Cross e found names = alone s (λ pair. let no : Cross ≡ Pair = sym e ∙ pair in cc) found names
+    by_kind s Wall e found names = alone s (λ pair. let no : Wall ≡ Pair = sym e ∙ pair in cc) found names
+    by_kind s Pair e found names = inr (found, e, names)

@@ -1,5 +1,5 @@
 -- Which keys have to be taken again, and why that is enough.
-use Rattle.std.proofs.Common.{◌≡◌, ◌⊎◌, ◌↔◌, inl, inr, ℕ, List, [], refl, sym, subst, ◌∙◌}
+use Rattle.std.proofs.Common.{◌≡◌, ◌⊎◌, ◌↔◌, inl, inr, ℕ, List, [], refl, sym, subst}
 use Rattle.std.specs.Prelude.{Some, None}
 use Rattle.std.specs.List.{Contains}
 use Rattle.event_stamps.specs.declared.Stamp.{Stamp}
@@ -9,21 +9,59 @@ use Rattle.event_stamps.specs.Least.{IsLeastOf}
 use Rattle.event_tree.specs.Keys.{Key, IsNotAfter, IsLeastKey, key_at}
 use Rattle.event_tree.proofs.Trees.{not_after_trans}
 use Rattle.region_queue.specs.Naming.{Names, NamesAny}
-use Rattle.region_queue.specs.Covering.{Covers}
+use Rattle.region_queue.specs.declared.keys.Keys.{Keys}
+use Rattle.region_queue.specs.Finding.{entry_at}
+use Rattle.region_queue.specs.Covering.{IsKey, Covers}
 use Rattle.region_queue.proofs.Again.{among_or_not, none_among}
 use Rattle.region_queue.proofs.Candidates.{by_itself}
 
--- the least of the candidates that name the disk
-abbrev pub IsBestOf : (Stamp → Type 0) → ℕ → Key → Type 0
-IsBestOf D i key = IsLeastOf (λ s. D s × Names s i) key
+-- a disk's candidates, those of it by itself, and its pairs
+abbrev pub CandidatesOf : (Stamp → Type 0) → ℕ → Stamp → Type 0
+CandidatesOf D i s = D s × Names s i
 
--- the key is the disk's best, or as it was where the disk isn't such a one
-abbrev pub IsRetaken : (Stamp → Type 0) → (ℕ → Type 0) → List Key → List Key → ℕ → Type 0
-IsRetaken D Such old new i = IsBestOf D i (key_at new i) ⊎ ((key_at new i ≡ key_at old i) × ¬ Such i)
+abbrev pub SinglesOf : (Stamp → Type 0) → ℕ → Stamp → Type 0
+SinglesOf D i s = D s × (s.first ≡ i) × ¬ (s.kind ≡ Pair)
 
-best_not_after : (D : Stamp → Type 0) (i : ℕ) (key : Key) (s : Stamp) → IsBestOf D i key → D s → Names s i → IsNotAfter key (Some s)
-best_not_after D i None s best d named = best s (d, named)
-best_not_after D i (Some t) s best d named = best.1 s (d, named)
+abbrev pub PairsOf : (Stamp → Type 0) → ℕ → Stamp → Type 0
+PairsOf D i s = D s × (s.kind ≡ Pair) × Names s i
+
+-- the least of the candidates and of the pairs
+abbrev pub IsTakenOf : (Stamp → Type 0) → ℕ → Key × Key → Type 0
+IsTakenOf D i entry = IsLeastOf (CandidatesOf D i) entry.0 × IsLeastOf (PairsOf D i) entry.1
+
+-- the entry is taken, or as it was where the disk isn't such a one
+abbrev pub IsRetaken : (Stamp → Type 0) → (ℕ → Type 0) → Keys → Keys → ℕ → Type 0
+IsRetaken D Such old new i = IsTakenOf D i (entry_at new i) ⊎ ((entry_at new i ≡ entry_at old i) × ¬ Such i)
+
+pub least_not_after : (P : Stamp → Type 0) (key : Key) (s : Stamp) → IsLeastOf P key → P s → IsNotAfter key (Some s)
+least_not_after P None s least p = least s p
+least_not_after P (Some t) s least p = least.1 s p
+
+-- ---- the key of one disk
+pub taken_is_key : (D : Stamp → Type 0) (i : ℕ) (key bound : Key) → IsLeastOf (CandidatesOf D i) key → IsLeastOf (PairsOf D i) bound →
+    IsKey D i key bound
+taken_is_key D i key bound best pairs = record {
+  named = λ s e. (subst (IsLeastOf (CandidatesOf D i)) e best).0.1;
+  bound_named = λ s e. (subst (IsLeastOf (PairsOf D i)) e pairs).0.2;
+  alone = λ s e not. (subst (IsLeastOf (CandidatesOf D i)) e best).0.0;
+  single = λ s d not first. least_not_after (CandidatesOf D i) key s best (d, inl first);
+  below = below bound pairs;
+}
+  where
+    below : (bound : Key) → IsLeastOf (PairsOf D i) bound → IsNotAfter key bound
+    below None none = tt
+    below (Some t) least = least_not_after (CandidatesOf D i) key t best (least.0.0, least.0.2)
+
+-- it stays where the disk's candidates by itself do
+pub key_stays : (C D : Stamp → Type 0) (i : ℕ) (key bound : Key) → ((s : Stamp) → ¬ (s.kind ≡ Pair) → s.first ≡ i → (C s ↔ D s)) →
+    IsKey C i key bound → IsKey D i key bound
+key_stays C D i key bound stay is = record {
+  named = is.named;
+  bound_named = is.bound_named;
+  alone = λ s e not. (stay s not (by_itself s i not (is.named s e))).0 (is.alone s e not);
+  single = λ s d not first. is.single s ((stay s not first).1 d) not first;
+  below = is.below;
+}
 
 -- ---- which disks an event names
 pub is_pair_or_not : (kind : Kind) → (kind ≡ Pair) ⊎ ¬ (kind ≡ Pair)
@@ -47,59 +85,68 @@ one_named : (s : Stamp) (ids : List ℕ) → NamesAny s ids → (i : ℕ) × Nam
 one_named s ids (inl first) = (s.first, inl refl, first)
 one_named s ids (inr pair) = (s.second, inr (pair.0, refl), pair.1)
 
+pub any_named : (s : Stamp) (ids : List ℕ) (i : ℕ) → Names s i → Contains ids i → NamesAny s ids
+any_named s ids i (inl first) among = inl (subst (λ (n : ℕ). Contains ids n) (sym first) among)
+any_named s ids i (inr pair) among = inr (pair.0, subst (λ (n : ℕ). Contains ids n) (sym pair.1) among)
+
 -- what names one disk alone, which isn't touched, names none that is
 names_none : (s : Stamp) (ids : List ℕ) (i : ℕ) → ¬ (s.kind ≡ Pair) → Names s i → ¬ Contains ids i → ¬ NamesAny s ids
 names_none s ids i alone names not (inl first) = not (subst (λ (n : ℕ). Contains ids n) (by_itself s i alone names) first)
 names_none s ids i alone names not (inr pair) = alone pair.0
 
--- ---- the theorem: where each touched disk's key is its best, and each other disk's key is its best too or was kept, the
--- keys cover the candidates again
-pub covers_again : (C D : Stamp → Type 0) (ids : List ℕ) (old new : List Key) → Covers C old →
-    ((s : Stamp) → ¬ NamesAny s ids → (C s ↔ D s)) → ((i : ℕ) → IsRetaken D (λ n. Contains ids n) old new i) → Covers D new
+-- ---- the theorem: where the keys of all touched disks are taken again, and the others are too or are kept, the keys cover
+-- the candidates again
+pub covers_again : (C D : Stamp → Type 0) (ids : List ℕ) (old new : Keys) → Covers C old.tree old.bounds →
+    ((s : Stamp) → ¬ NamesAny s ids → (C s ↔ D s)) → ((i : ℕ) → IsRetaken D (λ n. Contains ids n) old new i) →
+    Covers D new.tree new.bounds
 covers_again C D ids old new covers stay kept = record {
-  named = λ i s e. named i s e (kept i);
-  alone = λ i s e not. alone i s e not (kept i);
-  covered = λ s d. covered s d (names_or_not s ids);
+  each = λ i. each i (kept i);
+  paired = λ s d pair. paired s d pair (names_or_not s ids);
 }
   where
-    named : (i : ℕ) (s : Stamp) → key_at new i ≡ Some s → IsRetaken D (λ n. Contains ids n) old new i → Names s i
-    named i s e (inl best) = (subst (IsBestOf D i) e best).0.1
-    named i s e (inr k) = covers.named i s (sym k.0 ∙ e)
+    each : (i : ℕ) → IsRetaken D (λ n. Contains ids n) old new i → IsKey D i (key_at new.tree i) (key_at new.bounds i)
+    each i (inl taken) = taken_is_key D i (key_at new.tree i) (key_at new.bounds i) taken.0 taken.1
+    each i (inr k) = subst (λ (entry : Key × Key). IsKey D i entry.0 entry.1) (sym k.0)
+        (key_stays C D i (key_at old.tree i) (key_at old.bounds i) (λ s not first. stay s (names_none s ids i not (inl first) k.1)) (covers.each i))
 
-    alone : (i : ℕ) (s : Stamp) → key_at new i ≡ Some s → ¬ (s.kind ≡ Pair) → IsRetaken D (λ n. Contains ids n) old new i → D s
-    alone i s e not (inl best) = (subst (IsBestOf D i) e best).0.0
-    alone i s e not (inr k) =
-        let was = sym k.0 ∙ e in
-        (stay s (names_none s ids i not (covers.named i s was) k.1)).0 (covers.alone i s was not)
+    stays : (s : Stamp) (i : ℕ) → PairsOf D i s → IsNotAfter (key_at old.bounds i) (Some s) → IsRetaken D (λ n. Contains ids n) old new i →
+        IsNotAfter (key_at new.bounds i) (Some s)
+    stays s i pair le (inl taken) = least_not_after (PairsOf D i) (key_at new.bounds i) s taken.1 pair
+    stays s i pair le (inr k) = subst (λ (entry : Key × Key). IsNotAfter entry.1 (Some s)) (sym k.0) le
 
-    stays : (s : Stamp) (i : ℕ) → D s → Names s i → IsNotAfter (key_at old i) (Some s) → IsRetaken D (λ n. Contains ids n) old new i →
-        IsNotAfter (key_at new i) (Some s)
-    stays s i d names le (inl best) = best_not_after D i (key_at new i) s best d names
-    stays s i d names le (inr k) = subst (λ (key : Key). IsNotAfter key (Some s)) (sym k.0) le
+    touched : (s : Stamp) (i : ℕ) → PairsOf D i s → Contains ids i → IsRetaken D (λ n. Contains ids n) old new i →
+        IsNotAfter (key_at new.bounds i) (Some s)
+    touched s i pair among (inl taken) = least_not_after (PairsOf D i) (key_at new.bounds i) s taken.1 pair
+    touched s i pair among (inr k) = absurd (k.1 among)
 
-    touched : (s : Stamp) (i : ℕ) → D s → Names s i → Contains ids i → IsRetaken D (λ n. Contains ids n) old new i →
-        IsNotAfter (key_at new i) (Some s)
-    touched s i d names among (inl best) = best_not_after D i (key_at new i) s best d names
-    touched s i d names among (inr k) = absurd (k.1 among)
-
-    covered : (s : Stamp) → D s → NamesAny s ids ⊎ ¬ NamesAny s ids → (i : ℕ) × Names s i × IsNotAfter (key_at new i) (Some s)
-    covered s d (inl any) =
+    paired : (s : Stamp) → D s → s.kind ≡ Pair → NamesAny s ids ⊎ ¬ NamesAny s ids →
+        (i : ℕ) × Names s i × IsNotAfter (key_at new.bounds i) (Some s)
+    paired s d pair (inl any) =
         let one = one_named s ids any in
-        (one.0, one.1, touched s one.0 d one.1 one.2 (kept one.0))
-    covered s d (inr none) =
-        let was = covers.covered s ((stay s none).1 d) in
-        (was.0, was.1, stays s was.0 d was.1 was.2 (kept was.0))
+        (one.0, one.1, touched s one.0 (d, pair, one.1) one.2 (kept one.0))
+    paired s d pair (inr none) =
+        let was = covers.paired s ((stay s none).1 d) pair in
+        (was.0, was.1, stays s was.0 (d, pair, was.1) was.2 (kept was.0))
 
 -- taking any keys again takes nothing away
-pub covers_still : (C : Stamp → Type 0) (Such : ℕ → Type 0) (old new : List Key) → Covers C old →
-    ((i : ℕ) → IsRetaken C Such old new i) → Covers C new
+pub covers_still : (C : Stamp → Type 0) (Such : ℕ → Type 0) (old new : Keys) → Covers C old.tree old.bounds →
+    ((i : ℕ) → IsRetaken C Such old new i) → Covers C new.tree new.bounds
 covers_still C Such old new covers kept = covers_again C C [] old new covers (λ s none. (λ c. c, λ c. c)) again
   where
     again : (i : ℕ) → IsRetaken C (λ n. Contains [] n) old new i
-    again i = elim (kept i) [ inl best ↦ inl best | inr k ↦ inr (k.0, none_among i) ]
+    again i = elim (kept i) [ inl taken ↦ inl taken | inr k ↦ inr (k.0, none_among i) ]
 
 -- ---- the least
-pub covered_from : (C : Stamp → Type 0) (keys : List Key) (key : Key) (s : Stamp) → Covers C keys → IsLeastKey keys key → C s →
+-- each candidate has a disk whose key isn't after it
+covered : (C : Stamp → Type 0) (keys bounds : List Key) (s : Stamp) → Covers C keys bounds → C s → ((s.kind ≡ Pair) ⊎ ¬ (s.kind ≡ Pair)) →
+    (i : ℕ) × IsNotAfter (key_at keys i) (Some s)
+covered C keys bounds s covers c (inl pair) =
+    let i = covers.paired s c pair in
+    (i.0, not_after_trans (key_at keys i.0) (key_at bounds i.0) (Some s) (covers.each i.0).below i.2)
+covered C keys bounds s covers c (inr alone) = (s.first, (covers.each s.first).single s c alone refl)
+
+pub covered_from : (C : Stamp → Type 0) (keys bounds : List Key) (key : Key) (s : Stamp) → Covers C keys bounds → IsLeastKey keys key → C s →
     IsNotAfter key (Some s)
-covered_from C keys key s covers least c =
-    let i = covers.covered s c in not_after_trans key (key_at keys i.0) (Some s) (least.least i.0) i.2
+covered_from C keys bounds key s covers least c =
+    let i = covered C keys bounds s covers c (is_pair_or_not s.kind) in
+    not_after_trans key (key_at keys i.0) (Some s) (least.least i.0) i.1

@@ -14,6 +14,7 @@ use Rattle.event_rules.proofs.Valid.{mark_within}
 use Rattle.cell_grid.specs.Grid.{GridData}
 use Rattle.region_view.specs.declared.action.Placed.{Placed}
 use Rattle.region_view.specs.Events.{IsAlone}
+use Rattle.region_view.specs.Placing.{Placing, IsCellCandidate, IsNative, IsValidPlacing}
 
 alone_range : (rules : Rules) (grid : GridData) (disk : ℕ) (p : Placed) (s : Stamp) → IsChecked rules → IsValidDisk rules p.disk → disk < 65536 →
     IsAlone rules grid disk p s → IsInRange s
@@ -37,14 +38,35 @@ pub alone_in_range : (rules : Rules) (grid : GridData) (disk : ℕ) (p : Placed)
 alone_in_range rules grid disk p None checked valid lt least = tt
 alone_in_range rules grid disk p (Some s) checked valid lt least = alone_range rules grid disk p s checked valid lt least.0
 
+pair_range : (rules : Rules) (i j : ℕ) (a b : Disk) (s : Stamp) → IsChecked rules → IsValidDisk rules a → IsValidDisk rules b →
+    i < 65536 → j < 65536 → IsPairEvent rules i a j b s → IsInRange s
+pair_range rules i j a b s checked first second low high event =
+    let limit = rounds rules checked in
+    let one = mark_within a s.tick rules.round_limit first.mark in
+    let other = mark_within b s.tick rules.round_limit second.mark in
+    let round : s.round ≡ max (mark_at a s.tick) (mark_at b s.tick) = ap (λ (v : Stamp). v.round) event.2 in
+    let from : s.first ≡ i = ap (λ (v : Stamp). v.first) event.2 in
+    let to : s.second ≡ j = ap (λ (v : Stamp). v.second) event.2 in
+    (omega arith, omega arith, omega arith)
+
 pub pair_in_range : (rules : Rules) (i j : ℕ) (a b : Disk) (o : Option Stamp) → IsChecked rules → IsValidDisk rules a → IsValidDisk rules b →
     i < 65536 → j < 65536 → MatchOption o ((s : Stamp) → IsPairEvent rules i a j b s → ⊥) (IsOnly (IsPairEvent rules i a j b)) → IfSome o IsInRange
 pair_in_range rules i j a b None checked first second low high event = tt
 pair_in_range rules i j a b (Some s) checked first second low high event =
-    let limit = rounds rules checked in
-    let one = mark_within a s.tick rules.round_limit first.mark in
-    let other = mark_within b s.tick rules.round_limit second.mark in
-    let round : s.round ≡ max (mark_at a s.tick) (mark_at b s.tick) = ap (λ (v : Stamp). v.round) event.0.2 in
-    let from : s.first ≡ i = ap (λ (v : Stamp). v.first) event.0.2 in
-    let to : s.second ≡ j = ap (λ (v : Stamp). v.second) event.0.2 in
-    (omega arith, omega arith, omega arith)
+    pair_range rules i j a b s checked first second low high event.0
+
+-- those of native candidates of a valid placing
+pub native_in_range : (rules : Rules) (grid : GridData) (region : ℕ) (at : Placing) (s : Stamp) → IsChecked rules →
+    IsValidPlacing rules grid at → IsNative rules grid region at s → IsInRange s
+native_in_range rules grid region at s checked valid native = from native.0
+  where
+    from : IsCellCandidate rules grid at s → IsInRange s
+    from (inl cross) = alone_range rules grid s.first cross.0 s checked (valid.disk s.first cross.0 cross.1) (valid.number s.first cross.0 cross.1) (inl cross.2)
+    from (inr (inl wall)) = alone_range rules grid s.first wall.0 s checked (valid.disk s.first wall.0 wall.1) (valid.number s.first wall.0 wall.1) (inr wall.2)
+    from (inr (inr near)) =
+        let p = near.1.0 in
+        let q = near.1.2.0 in
+        let here = near.1.1 in
+        let there = near.1.2.1 in
+        pair_range rules s.first s.second p.disk q.disk s checked (valid.disk s.first p here) (valid.disk s.second q there)
+        (valid.number s.first p here) (valid.number s.second q there) near.1.2.3

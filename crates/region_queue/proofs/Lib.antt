@@ -1,8 +1,12 @@
 mod Again
+mod Back
 mod Beside
 mod Candidates
 mod Covered
 mod InRange
+mod Moved
 mod Numbered
+mod Outside
 mod Settled
 mod Standing
+mod Unchanged

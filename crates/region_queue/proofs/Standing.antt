@@ -1,26 +1,29 @@
 -- The queue stands for a view again after changes.
-use Rattle.std.proofs.Common.{◌≡◌, ◌⊎◌, inl, inr, ℕ, List, [], refl, sym, ap, ◌∙◌}
-use Rattle.std.specs.Prelude.{Some, None, option_map, ⊤, Result, Ok, Err, OnOk}
+use Rattle.std.proofs.Common.{◌≡◌, ◌⊎◌, ◌↔◌, inl, inr, ℕ, List, [], ◌∷◌, refl, sym, ap, ◌∙◌}
+use Rattle.std.specs.Prelude.{Option, Some, None, option_map, ⊤, Result, Ok, Err, OnOk}
 use Rattle.std.specs.List.{Contains}
 use Rattle.std.specs.Ordering.{nat_cmp}
 use Rattle.std.specs.FinMap as map
 use Rattle.fixed_motion.specs.declared.rules.Rules.{Rules}
 use Rattle.event_stamps.specs.declared.Stamp.{Stamp}
 use Rattle.event_stamps.specs.declared.Kind.TheVariants.{Pair}
-use Rattle.event_stamps.specs.Least.{IsLeastOf}
+use Rattle.event_stamps.specs.Least.{IsLeast, IsLeastOf}
 use Rattle.event_tree.specs.Keys.{Key, IsLeastKey}
 use Rattle.cell_grid.specs.Grid.{GridData}
 use Rattle.region_view.specs.declared.action.Placed.{Placed}
 use Rattle.region_view.specs.Placing.{IsCellCandidate, IsNearPair, IsNative}
 use Rattle.region_view.specs.Views.{ViewData, rows_in}
 use Rattle.region_queue.specs.declared.finder.Finder.{Finder}
-use Rattle.region_queue.specs.Naming.{IsSameBut, NativesStay}
-use Rattle.region_queue.specs.Finding.{Cells, cell_in, AreListed, AreRelisted, AreRetaken, IsFound}
+use Rattle.region_queue.specs.declared.keys.Keys.{Keys}
+use Rattle.region_queue.specs.Naming.{Names, IsSameBut, IsSameButBy, IsMoved, NativesStay}
+use Rattle.region_queue.specs.Finding.{Cells, cell_in, AreListed, AreRelisted, AreRelistedOf, AreRetaken, AreGiven, IsFound}
 use Rattle.region_queue.specs.Queue.{QueueData, queue_of, StandsFor}
 use Rattle.region_queue.specs.Covering.{Covers, IsSettled}
 use Rattle.region_queue.proofs.Candidates.{pair_kind}
-use Rattle.region_queue.proofs.Covered.{covers_again}
+use Rattle.region_queue.proofs.Covered.{covers_again, any_named}
+use Rattle.region_queue.proofs.Back.{covers_back}
 use Rattle.region_queue.proofs.Settled.{settled_least}
+use Rattle.region_queue.proofs.Unchanged.{all_but_moved}
 
 -- ---- what names no changed disk
 moved_pair : (rules : Rules) (grid : GridData) (x y : ViewData) (s : Stamp) → rows_in y s.first ≡ rows_in x s.first →
@@ -37,55 +40,83 @@ moved rules grid region x y s first second h = (candidate h.0, (h.1.0, first ∙
     candidate (inr (inl wall)) = inr (inl (wall.0, first ∙ wall.1, wall.2))
     candidate (inr (inr pair)) = inr (inr (moved_pair rules grid x y s first second pair))
 
-pub natives_stay : NativesStay
-natives_stay rules grid region before after ids s same none =
-    let first : rows_in after s.first ≡ rows_in before s.first = same s.first (λ among. none (inl among)) in
-    let second : s.kind ≡ Pair → rows_in after s.second ≡ rows_in before s.second = λ pair. same s.second (λ among. none (inr (pair, among))) in
+pub native_stays : (rules : Rules) (grid : GridData) (region : ℕ) (before after : ViewData) (s : Stamp) →
+    ((i : ℕ) → Names s i → rows_in after i ≡ rows_in before i) →
+    (IsNative rules grid region (rows_in before) s ↔ IsNative rules grid region (rows_in after) s)
+native_stays rules grid region before after s same =
+    let first : rows_in after s.first ≡ rows_in before s.first = same s.first (inl refl) in
+    let second : s.kind ≡ Pair → rows_in after s.second ≡ rows_in before s.second = λ pair. same s.second (inr (pair, refl)) in
     (moved rules grid region before after s first second, moved rules grid region after before s (sym first) (λ pair. sym (second pair)))
 
+pub natives_stay : NativesStay
+natives_stay rules grid region before after ids s same none =
+    native_stays rules grid region before after s (λ i names. same i (λ among. none (any_named s ids i names among)))
+
 -- ---- lists
-pub lists_again : (before after : ViewData) (ids : List ℕ) (old new : Cells) → AreListed before old → IsSameBut ids before after →
-    AreRelisted after ids old new → AreListed after new
-lists_again before after ids old new listed same again i = from (again i)
+lists_again : (before after : ViewData) (Such : ℕ → Type 0) (old new : Cells) → AreListed before old →
+    ((i : ℕ) → ¬ Such i → rows_in after i ≡ rows_in before i) → AreRelistedOf after Such old new → AreListed after new
+lists_again before after Such old new listed same again i = from (again i)
   where
-    from : (map.get new i ≡ cell_in after i) ⊎ ((map.get new i ≡ map.get old i) × ¬ Contains ids i) → map.get new i ≡ cell_in after i
+    from : (map.get new i ≡ cell_in after i) ⊎ ((map.get new i ≡ map.get old i) × ¬ Such i) → map.get new i ≡ cell_in after i
     from (inl now) = now
     from (inr k) = k.0 ∙ listed i ∙ sym (ap (option_map (λ (p : Placed). p.cell)) (same i k.1))
 
 -- ---- the queue
-pub stands_again : (finder : Finder) (before after : ViewData) (was : Cells) (ids : List ℕ) (old mid new : List Key) →
-    AreRelisted after ids was finder.lists.cells → (AreListed after finder.lists.cells → AreRetaken finder after ids old mid) →
-    (AreListed after finder.lists.cells → Covers (IsFound finder after) mid → Covers (IsFound finder after) new) →
-    (AreListed after finder.lists.cells → Covers (IsFound finder after) mid → IsSettled (IsFound finder after) new) →
-    IsSameBut ids before after → StandsFor (queue_of finder.rules finder.grid finder.region was old) before →
-    StandsFor (queue_of finder.rules finder.grid finder.region finder.lists.cells new) after
+-- where the keys cover the candidates of a view, and are settled after that, the queue stands for it
+pub stands_settled : {E : Type 0} (done : Result ⊤ E) (finder : Finder) (view : ViewData) (mid new : Keys) →
+    OnOk done (AreListed view finder.lists.cells → Covers (IsFound finder view) mid.tree mid.bounds → Covers (IsFound finder view) new.tree new.bounds) →
+    OnOk done (AreListed view finder.lists.cells → Covers (IsFound finder view) mid.tree mid.bounds → IsSettled (IsFound finder view) new.tree) →
+    OnOk done (AreListed view finder.lists.cells → Covers (IsFound finder view) mid.tree mid.bounds →
+    StandsFor (queue_of finder.rules finder.grid finder.region finder.lists.cells new.tree new.bounds) view)
 unfolding StandsFor
-stands_again finder before after was ids old mid new relisted retaken covers settled same stands = (
+stands_settled (Ok done) finder view mid new covers settled = λ listed again. (listed, (covers listed again, settled listed again))
+stands_settled (Err e) finder view mid new covers settled = tt
+
+-- after changes of some disks
+pub stands_again : (finder : Finder) (before after : ViewData) (was : Cells) (ids : List ℕ) (old mid : Keys) →
+    AreRelisted after ids was finder.lists.cells → (AreListed after finder.lists.cells → AreRetaken finder after ids old mid) →
+    IsSameBut ids before after → StandsFor (queue_of finder.rules finder.grid finder.region was old.tree old.bounds) before →
+    AreListed after finder.lists.cells × Covers (IsFound finder after) mid.tree mid.bounds
+unfolding StandsFor
+stands_again finder before after was ids old mid relisted retaken same stands = (
   listed,
-  (covers listed again, settled listed again),
+  covers_again (IsNative finder.rules finder.grid finder.region (rows_in before)) (IsFound finder after) ids old mid stands.1.0
+      (λ s none. natives_stay finder.rules finder.grid finder.region before after ids s same none) (retaken listed),
 )
   where
     listed : AreListed after finder.lists.cells
-    listed = lists_again before after ids was finder.lists.cells stands.0 same relisted
+    listed = lists_again before after (λ i. Contains ids i) was finder.lists.cells stands.0 same relisted
 
-    again : Covers (IsFound finder after) mid
-    again = covers_again (IsNative finder.rules finder.grid finder.region (rows_in before)) (IsFound finder after) ids old mid stands.1.0
-        (λ s none. natives_stay finder.rules finder.grid finder.region before after ids s same none) (retaken listed)
+-- after an event is taken back
+pub stands_back : (finder : Finder) (s : Stamp) (later view : ViewData) (was : Cells) (old mid : Keys) →
+    AreRelistedOf view (Names s) was finder.lists.cells → IsLeast (IsFound finder view) s → AreGiven s old mid →
+    IsSameButBy s later view → StandsFor (queue_of finder.rules finder.grid finder.region was old.tree old.bounds) later →
+    AreListed view finder.lists.cells × Covers (IsFound finder view) mid.tree mid.bounds
+unfolding StandsFor
+stands_back finder s later view was old mid relisted least given same stands = (
+  lists_again later view (Names s) was finder.lists.cells stands.0 same relisted,
+  covers_back (IsNative finder.rules finder.grid finder.region (rows_in later)) (IsFound finder view) s old mid stands.1.0
+      (λ t apart. native_stays finder.rules finder.grid finder.region later view t (λ i names. same i (apart i names))) least given,
+)
 
-pub stands_on_ok : {E : Type 0} (done : Result ⊤ E) (finder : Finder) (after : ViewData) (was : Cells) (ids : List ℕ) (old mid new : List Key) →
-    AreRelisted after ids was finder.lists.cells → (AreListed after finder.lists.cells → AreRetaken finder after ids old mid) →
-    OnOk done (AreListed after finder.lists.cells → Covers (IsFound finder after) mid → Covers (IsFound finder after) new) →
-    OnOk done (AreListed after finder.lists.cells → Covers (IsFound finder after) mid → IsSettled (IsFound finder after) new) →
-    OnOk done ((before : ViewData) → StandsFor (queue_of finder.rules finder.grid finder.region was old) before → IsSameBut ids before after →
-    StandsFor (queue_of finder.rules finder.grid finder.region finder.lists.cells new) after)
-stands_on_ok (Ok done) finder after was ids old mid new relisted retaken covers settled = λ before stands same.
-    stands_again finder before after was ids old mid new relisted retaken covers settled same stands
-stands_on_ok (Err e) finder after was ids old mid new relisted retaken covers settled = tt
+-- after a disk has come to another cell
+pub stands_moved : (finder : Finder) (before view : ViewData) (was : Cells) (disk : ℕ) (cell : Option ℕ) (old mid : Keys) →
+    AreRelisted view (disk ∷ []) was finder.lists.cells → cell ≡ map.get was disk →
+    (AreListed view finder.lists.cells → (before : ViewData) → IsMoved disk before view → cell ≡ cell_in before disk →
+    Covers (IsFound finder before) old.tree old.bounds → Covers (IsFound finder view) mid.tree mid.bounds) →
+    IsMoved disk before view → StandsFor (queue_of finder.rules finder.grid finder.region was old.tree old.bounds) before →
+    AreListed view finder.lists.cells × Covers (IsFound finder view) mid.tree mid.bounds
+unfolding StandsFor
+stands_moved finder before view was disk cell old mid relisted at covers moved stands =
+    (listed, covers listed before moved (at ∙ stands.0 disk) stands.1.0)
+  where
+    listed : AreListed view finder.lists.cells
+    listed = lists_again before view (λ i. Contains (disk ∷ []) i) was finder.lists.cells stands.0 (all_but_moved disk before view moved) relisted
 
 pub none_in_empty : (i : ℕ) → rows_in map.empty i ≡ None
 none_in_empty i = map.get-empty nat_cmp i
 
-pub empty_stands : (rules : Rules) (grid : GridData) (region : ℕ) → StandsFor (queue_of rules grid region map.empty []) map.empty
+pub empty_stands : (rules : Rules) (grid : GridData) (region : ℕ) → StandsFor (queue_of rules grid region map.empty [] []) map.empty
 unfolding StandsFor
 empty_stands rules grid region = (
   λ disk. map.get-empty nat_cmp disk ∙ sym (ap (option_map (λ (p : Placed). p.cell)) (none_in_empty disk)),
@@ -95,11 +126,16 @@ empty_stands rules grid region = (
     none : (s : Stamp) (p : Placed) → rows_in map.empty s.first ≡ Some p → ⊥
     none s p e = let never : None ≡ Some p = sym (none_in_empty s.first) ∙ e in cc
 
-    covers : Covers (IsNative rules grid region (rows_in map.empty)) []
+    covers : Covers (IsNative rules grid region (rows_in map.empty)) [] []
     covers = record {
-      named = λ disk s e. absurd cc;
-      alone = λ disk s e not. absurd cc;
-      covered = λ s native. absurd (none s native.1.0 native.1.1);
+      each = λ disk. record {
+        named = λ s e. absurd cc;
+        bound_named = λ s e. absurd cc;
+        alone = λ s e not. absurd cc;
+        single = λ s native not first. absurd (none s native.1.0 native.1.1);
+        below = tt;
+      };
+      paired = λ s native pair. absurd (none s native.1.0 native.1.1);
     }
 
     settled : IsSettled (IsNative rules grid region (rows_in map.empty)) []
@@ -110,4 +146,4 @@ pub stands_least : (queue : QueueData) (view : ViewData) (key : Key) → StandsF
     IsLeastOf (IsNative queue.rules queue.grid queue.region (rows_in view)) key
 unfolding StandsFor
 stands_least queue view key stands least =
-    settled_least (IsNative queue.rules queue.grid queue.region (rows_in view)) queue.keys key stands.1.0 stands.1.1 least
+    settled_least (IsNative queue.rules queue.grid queue.region (rows_in view)) queue.keys queue.bounds key stands.1.0 stands.1.1 least

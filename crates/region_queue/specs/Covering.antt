@@ -5,11 +5,19 @@ use Rattle.event_stamps.specs.declared.Kind.TheVariants.{Pair}
 use Rattle.event_tree.specs.Keys.{Key, IsNotAfter, IsLeastKey, key_at}
 use Rattle.region_queue.specs.Naming.{Names}
 
--- each key names its disk, and is a candidate unless it is of a pair; each candidate has a disk whose key isn't after it
-pub record Covers (C : Stamp → Type 0) (keys : List Key) : Type 0 where
-  pub named : (disk : ℕ) (s : Stamp) → key_at keys disk ≡ Some s → Names s disk
-  pub alone : (disk : ℕ) (s : Stamp) → key_at keys disk ≡ Some s → ¬ (s.kind ≡ Pair) → C s
-  pub covered : (s : Stamp) → C s → (disk : ℕ) × Names s disk × IsNotAfter (key_at keys disk) (Some s)
+-- a disk's key, and the bound of its pairs, both of which name it: the key is a candidate unless it is of a pair, and is
+-- after none of the disk's candidates by itself, nor after the bound
+pub record IsKey (C : Stamp → Type 0) (disk : ℕ) (key bound : Key) : Type 0 where
+  pub named : (s : Stamp) → key ≡ Some s → Names s disk
+  pub bound_named : (s : Stamp) → bound ≡ Some s → Names s disk
+  pub alone : (s : Stamp) → key ≡ Some s → ¬ (s.kind ≡ Pair) → C s
+  pub single : (s : Stamp) → C s → ¬ (s.kind ≡ Pair) → s.first ≡ disk → IsNotAfter key (Some s)
+  pub below : IsNotAfter key bound
+
+-- each disk has such a key, and each pair has a disk whose bound isn't after it
+pub record Covers (C : Stamp → Type 0) (keys bounds : List Key) : Type 0 where
+  pub each : (disk : ℕ) → IsKey C disk (key_at keys disk) (key_at bounds disk)
+  pub paired : (s : Stamp) → C s → s.kind ≡ Pair → (disk : ℕ) × Names s disk × IsNotAfter (key_at bounds disk) (Some s)
 
 -- the least key is a candidate
 abbrev pub IsSettled : (Stamp → Type 0) → List Key → Type 0

@@ -6,7 +6,7 @@ use Rattle.std.specs.List.{Contains}
 use Rattle.fixed_motion.specs.Rules.{IsChecked}
 use Rattle.event_stamps.specs.declared.Stamp.{Stamp}
 use Rattle.event_stamps.specs.declared.Kind.TheVariants.{Pair}
-use Rattle.event_stamps.specs.Least.{IsLeastOf}
+use Rattle.event_stamps.specs.Least.{IsLeastOf, earlier_of}
 use Rattle.event_tree.specs.Keys.{Key, key_at}
 use Rattle.cell_grid.specs.declared.grid.Strip.{Strip}
 use Rattle.cell_grid.specs.Grid.{GridData, IsGridOf, IsRegion, IsCell, IsAdjacent, IsStripOf, Owns}
@@ -18,7 +18,8 @@ use Rattle.region_view.specs.Events.{IsAlone}
 use Rattle.region_view.specs.Placing.{IsNative, IsValidPlacing}
 use Rattle.region_view.specs.Views.{ViewData, rows_in}
 use Rattle.region_queue.specs.declared.finder.Finder.{Finder}
-use Rattle.region_queue.specs.Naming.{Names}
+use Rattle.region_queue.specs.declared.keys.Keys.{Keys}
+use Rattle.region_queue.specs.Naming.{Names, IsPairOf}
 
 -- ---- where disks are listed
 abbrev pub Cells : Type 0
@@ -43,10 +44,13 @@ pub record IsRelisted (view : ViewData) (disk : ℕ) (old new : Cells) : Type 0 
   pub listed : map.get new disk ≡ cell_in view disk
   pub others : (other : ℕ) → other ≢ disk → map.get new other ≡ map.get old other
 
--- these disks are, and each other one too, or is where it was
+-- such disks are, and each other one too, or is where it was
+abbrev pub AreRelistedOf : ViewData → (ℕ → Type 0) → Cells → Cells → Type 0
+AreRelistedOf view Such old new = (i : ℕ) →
+    (map.get new i ≡ cell_in view i) ⊎ ((map.get new i ≡ map.get old i) × ¬ Such i)
+
 abbrev pub AreRelisted : ViewData → List ℕ → Cells → Cells → Type 0
-AreRelisted view disks old new = (i : ℕ) →
-    (map.get new i ≡ cell_in view i) ⊎ ((map.get new i ≡ map.get old i) × ¬ Contains disks i)
+AreRelisted view disks old new = AreRelistedOf view (λ i. Contains disks i) old new
 
 -- ---- which candidates a disk has
 -- the columns of a strip
@@ -97,18 +101,76 @@ IsNativeWith finder view disk With s = (other : ℕ) × With other × IsNativePa
 abbrev pub IsBest : Finder → ViewData → ℕ → Key → Type 0
 IsBest finder view disk key = IsLeastOf (λ s. IsFound finder view s × Names s disk) key
 
--- the keys of such disks are their best, and those of others too or are as they were
-abbrev pub AreRetakenOf : Finder → ViewData → (ℕ → Type 0) → List Key → List Key → Type 0
-AreRetakenOf finder view Such old new = (i : ℕ) →
-    IsBest finder view i (key_at new i) ⊎ ((key_at new i ≡ key_at old i) × ¬ Such i)
+-- a native candidate of the disk by itself
+abbrev pub IsSingle : Finder → ViewData → ℕ → Stamp → Type 0
+IsSingle finder view disk s = IsFound finder view s × (s.first ≡ disk) × ¬ (s.kind ≡ Pair)
 
-abbrev pub AreRetaken : Finder → ViewData → List ℕ → List Key → List Key → Type 0
+-- a native pair that names the disk
+abbrev pub IsPaired : Finder → ViewData → ℕ → Stamp → Type 0
+IsPaired finder view disk s = IsFound finder view s × (s.kind ≡ Pair) × Names s disk
+
+-- the view has the disk in a cell that isn't adjacent to this one
+abbrev pub IsBeyond : Finder → ViewData → ℕ → ℕ → Type 0
+IsBeyond finder view cell disk = (at : ℕ) × (cell_in view disk ≡ Some at) × ¬ IsAdjacent finder.grid cell at
+
+-- a native pair of the disk with one beyond the cells adjacent to this one
+abbrev pub IsPairedBeyond : Finder → ViewData → ℕ → ℕ → Stamp → Type 0
+IsPairedBeyond finder view disk cell s = IsFound finder view s × (s.kind ≡ Pair)
+    × ((other : ℕ) × IsBeyond finder view cell other × IsPairOf s disk other)
+
+-- the least of each of these; none where there is none
+abbrev pub IsBestSingle : Finder → ViewData → ℕ → Key → Type 0
+IsBestSingle finder view disk key = IsLeastOf (IsSingle finder view disk) key
+
+abbrev pub IsBestPair : Finder → ViewData → ℕ → Key → Type 0
+IsBestPair finder view disk key = IsLeastOf (IsPaired finder view disk) key
+
+abbrev pub IsBestBeyond : Finder → ViewData → ℕ → ℕ → Key → Type 0
+IsBestBeyond finder view disk cell key = IsLeastOf (IsPairedBeyond finder view disk cell) key
+
+-- ---- what is kept of the disks
+-- a disk's key, and the bound of its pairs
+abbrev pub entry_at : Keys → ℕ → Key × Key
+entry_at keys disk = (key_at keys.tree disk, key_at keys.bounds disk)
+
+-- one disk has this entry, and the others have theirs
+pub record IsEntered (disk : ℕ) (entry : Key × Key) (old new : Keys) : Type 0 where
+  pub set : entry_at new disk ≡ entry
+  pub others : (other : ℕ) → other ≢ disk → entry_at new other ≡ entry_at old other
+
+-- the least native candidate that names the disk, and the least pair
+abbrev pub IsTaken : Finder → ViewData → ℕ → Key × Key → Type 0
+IsTaken finder view disk entry = IsBest finder view disk entry.0 × IsBestPair finder view disk entry.1
+
+-- so is the entry of one disk, and the others have theirs
+pub record IsTakenAt (finder : Finder) (view : ViewData) (disk : ℕ) (old new : Keys) : Type 0 where
+  pub taken : IsTaken finder view disk (entry_at new disk)
+  pub others : (other : ℕ) → other ≢ disk → entry_at new other ≡ entry_at old other
+
+-- so are the entries of such disks, and those of others too or are as they were
+abbrev pub AreRetakenOf : Finder → ViewData → (ℕ → Type 0) → Keys → Keys → Type 0
+AreRetakenOf finder view Such old new = (i : ℕ) →
+    IsTaken finder view i (entry_at new i) ⊎ ((entry_at new i ≡ entry_at old i) × ¬ Such i)
+
+abbrev pub AreRetaken : Finder → ViewData → List ℕ → Keys → Keys → Type 0
 AreRetaken finder view disks old new = AreRetakenOf finder view (λ i. Contains disks i) old new
 
+-- the disk's bound is the earlier of the old one and its least pair beyond the cells adjacent to this one, and its key
+-- the earlier of that and its least candidate by itself
+abbrev pub IsExtended : Finder → ViewData → ℕ → ℕ → Keys → Keys → Type 0
+IsExtended finder view disk cell old new = (single : Key) × (beyond : Key) × IsBestSingle finder view disk single
+    × IsBestBeyond finder view disk cell beyond
+    × IsEntered disk (earlier_of single (earlier_of (key_at old.bounds disk) beyond), earlier_of (key_at old.bounds disk) beyond) old new
+
+-- the keys and bounds of an event's disks are its stamp, and the others are as they were
+pub record AreGiven (s : Stamp) (old new : Keys) : Type 0 where
+  pub given : (i : ℕ) → Names s i → entry_at new i ≡ (Some s, Some s)
+  pub others : (i : ℕ) → ¬ Names s i → entry_at new i ≡ entry_at old i
+
 -- it is this disk, and its key is this one
-abbrev pub HasKey : List Key → ℕ → Stamp → ℕ → Type 0
-HasKey keys disk s i = (i ≡ disk) × (key_at keys i ≡ Some s)
+abbrev pub HasKey : Keys → ℕ → Stamp → ℕ → Type 0
+HasKey keys disk s i = (i ≡ disk) × (key_at keys.tree i ≡ Some s)
 
 -- the disk has this key, which names it
-abbrev pub IsHolder : List Key → Stamp → ℕ → Type 0
-IsHolder keys s i = Names s i × (key_at keys i ≡ Some s)
+abbrev pub IsHolder : Keys → Stamp → ℕ → Type 0
+IsHolder keys s i = Names s i × (key_at keys.tree i ≡ Some s)

@@ -1,4 +1,5 @@
 pub mod Naming
 pub mod Finding
+pub mod Outside
 pub mod Covering
 pub mod Queue

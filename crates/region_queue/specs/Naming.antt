@@ -1,5 +1,5 @@
 -- Which disks an event has, and what a change of some disks leaves as it was.
-use Rattle.std.specs.Prelude.{◌≡◌, ◌⊎◌, ◌↔◌, ℕ, List}
+use Rattle.std.specs.Prelude.{◌≡◌, ◌≢◌, ◌⊎◌, ◌↔◌, ℕ, List, option_map}
 use Rattle.std.specs.List.{Contains}
 use Rattle.fixed_motion.specs.declared.rules.Rules.{Rules}
 use Rattle.event_stamps.specs.declared.Stamp.{Stamp}
@@ -12,6 +12,10 @@ use Rattle.region_view.specs.Views.{ViewData, rows_in}
 abbrev pub Names : Stamp → ℕ → Type 0
 Names s disk = (s.first ≡ disk) ⊎ ((s.kind ≡ Pair) × (s.second ≡ disk))
 
+-- the event's disks are these two, in some order
+abbrev pub IsPairOf : Stamp → ℕ → ℕ → Type 0
+IsPairOf s i j = ((s.first ≡ i) × (s.second ≡ j)) ⊎ ((s.first ≡ j) × (s.second ≡ i))
+
 -- one of the event's disks is among these
 abbrev pub NamesAny : Stamp → List ℕ → Type 0
 NamesAny s ids = Contains ids s.first ⊎ ((s.kind ≡ Pair) × Contains ids s.second)
@@ -19,6 +23,15 @@ NamesAny s ids = Contains ids s.first ⊎ ((s.kind ≡ Pair) × Contains ids s.s
 -- at numbers other than these the same stands before and after
 abbrev pub IsSameBut : List ℕ → ViewData → ViewData → Type 0
 IsSameBut ids before after = (i : ℕ) → ¬ Contains ids i → rows_in after i ≡ rows_in before i
+
+-- at numbers other than those of an event's disks the same stands before and after
+abbrev pub IsSameButBy : Stamp → ViewData → ViewData → Type 0
+IsSameButBy s before after = (i : ℕ) → ¬ Names s i → rows_in after i ≡ rows_in before i
+
+-- at other numbers the same stands before and after, and the disk has the same record
+abbrev pub IsMoved : ℕ → ViewData → ViewData → Type 0
+IsMoved disk before after = ((i : ℕ) → i ≢ disk → rows_in after i ≡ rows_in before i)
+    × (option_map (λ p. p.disk) (rows_in after disk) ≡ option_map (λ p. p.disk) (rows_in before disk))
 
 -- what names no changed disk is native exactly where it was
 abbrev pub NativesStay : Type 0

@@ -15,26 +15,28 @@ use Rattle.region_view.specs.Views.{ViewData, rows_in}
 use Rattle.region_queue.specs.Finding.{Cells, AreListed}
 use Rattle.region_queue.specs.Covering.{Covers, IsSettled}
 
--- what a queue is seen as: its region, the cell in which each disk is listed, and the key of each disk
+-- what a queue is seen as: its region, the cell in which each disk is listed, and of each disk the key and the bound of
+-- its pairs
 pub record QueueData : Type 0 where
   pub rules : Rules
   pub grid : GridData
   pub region : ℕ
   pub cells : Cells
   pub keys : List Key
+  pub bounds : List Key
 
-abbrev pub queue_of : Rules → GridData → ℕ → Cells → List Key → QueueData
-queue_of rules grid region cells keys =
-    record { rules = rules; grid = grid; region = region; cells = cells; keys = keys }
+abbrev pub queue_of : Rules → GridData → ℕ → Cells → List Key → List Key → QueueData
+queue_of rules grid region cells keys bounds =
+    record { rules = rules; grid = grid; region = region; cells = cells; keys = keys; bounds = bounds }
 
 -- a queue is stored as its parts
 abbrev pub queue_code : Coded QueueData
 queue_code =
-    code_by (Rules × (GridData × (ℕ × (Cells × List Key))))
+    code_by (Rules × (GridData × (ℕ × (Cells × (List Key × List Key)))))
     (coded× rules_type.the_row.coded (coded× grid_type.the_row.coded (coded× coded_ℕ
-    (coded× (map.code coded_ℕ coded_ℕ) tree_type.the_row.coded))))
-    (λ q. (q.rules, (q.grid, (q.region, (q.cells, q.keys)))))
-    (λ p. queue_of p.0 p.1.0 p.1.1.0 p.1.1.1.0 p.1.1.1.1) (λ _. refl)
+    (coded× (map.code coded_ℕ coded_ℕ) (coded× tree_type.the_row.coded tree_type.the_row.coded)))))
+    (λ q. (q.rules, (q.grid, (q.region, (q.cells, (q.keys, q.bounds))))))
+    (λ p. queue_of p.0 p.1.0 p.1.1.0 p.1.1.1.0 p.1.1.1.1.0 p.1.1.1.1.1) (λ _. refl)
 
 -- what each queue keeps: a region of a grid of checked rules, its columns, and lists of this grid
 pub record IsSound (r : Rules) (g : GridData) (k : ℕ) (columns : Strip) (listed : GridData) : Type 0 where
@@ -53,5 +55,5 @@ pub record IsOf (queue : QueueData) (r : Rules) (g : GridData) (k : ℕ) : Type 
 -- disks are listed where the view has them, the keys cover the native candidates, and the least key is one
 unfoldable pub StandsFor : QueueData → ViewData → Type 0
 StandsFor queue view = AreListed view queue.cells
-    × (Covers (IsNative queue.rules queue.grid queue.region (rows_in view)) queue.keys
+    × (Covers (IsNative queue.rules queue.grid queue.region (rows_in view)) queue.keys queue.bounds
     × IsSettled (IsNative queue.rules queue.grid queue.region (rows_in view)) queue.keys)

@@ -7,9 +7,11 @@ ghost use Rattle.event_stamps.specs.Least.{IsLeastOf, HasNone, IsOnly};
 ghost use Rattle.cell_grid.specs.Grid.{IsCell, IsAdjacent, IsStripOf, Owns, column_of};
 ghost use Rattle.cell_lists.specs.Listing.{IsListed};
 ghost use Rattle.cell_lists.specs.Nearby.{IsBlock, IsListedWithin, columns_to};
+ghost use Rattle.region_queue.specs.Outside.{IsListedOutside};
 ghost use Rattle.region_view.specs.declared.action.Placed.{Placed};
-ghost use Rattle.region_queue.specs.Finding.{IsReady, IsFound, IsAloneAt, IsNativeOf, IsNativePair, IsNativeWith, IsBest, IsBlockBeside, IsPlacedBeside, IsOfStrip, AreListed};
+ghost use Rattle.region_queue.specs.Finding.{IsReady, IsFound, IsAloneAt, IsNativeOf, IsNativePair, IsNativeWith, IsBestSingle, IsBestPair, IsBestBeyond, IsBlockBeside, IsPlacedBeside, IsOfStrip, AreListed};
 
+use crate::parts::parts_outside;
 use cell_grid::{Grid, Strip};
 use cell_lists::{Block, Lists, block_around};
 use event_rules::pair_event;
@@ -30,18 +32,43 @@ pub(crate) struct Finder {
 }
 
 impl Finder {
-    // The least native candidate that names a disk.
-    pub fn best(&self, view: &View, disk: u32) -> Packed
+    // The least native candidate of a disk by itself.
+    pub fn best_single(&self, view: &View, disk: u32) -> Packed
         requires { IsReady self.now view.now }
-        ensures { AreListed view.now self.now.lists.cells → IsBest self.now view.now disk result }
+        ensures { IsBestSingle self.now view.now disk result }
+    {
+        let Some(placed) = view.get(disk) else {
+            return Packed::new(None);
+        };
+        self.best_alone(view, disk, placed, self.owns(placed.cell))
+    }
+
+    // The least native pair that names a disk.
+    pub fn best_pairs(&self, view: &View, disk: u32) -> Packed
+        requires { IsReady self.now view.now }
+        ensures { AreListed view.now self.now.lists.cells → IsBestPair self.now view.now disk result }
     {
         let Some(placed) = view.get(disk) else {
             return Packed::new(None);
         };
         let own = self.owns(placed.cell);
         let block = block_around(&self.grid, placed.cell);
-        self.best_alone(view, disk, placed, own)
-            .earlier(self.best_within(view, disk, placed, own, block))
+        self.best_within(view, disk, placed, own, block)
+    }
+
+    // The least native pair of a disk with one in a cell that isn't adjacent to this one.
+    pub fn best_beyond(&self, view: &View, disk: u32, old: u32) -> Packed
+        requires ready { IsReady self.now view.now }
+        requires old { IsCell self.now.grid old }
+        ensures { AreListed view.now self.now.lists.cells → IsBestBeyond self.now view.now disk old result }
+    {
+        let Some(placed) = view.get(disk) else {
+            return Packed::new(None);
+        };
+        let own = self.owns(placed.cell);
+        let block = block_around(&self.grid, placed.cell);
+        let known = block_around(&self.grid, old);
+        self.best_outside(view, disk, placed, own, block, known)
     }
 
     // Whether a stamp, where it is that of a pair, is that of a native candidate.
@@ -78,7 +105,7 @@ impl Finder {
     }
 
     // Whether the region owns a cell.
-    fn owns(&self, cell: u32) -> bool
+    pub fn owns(&self, cell: u32) -> bool
         requires strip { IsStripOf self.now.grid self.now.region self.now.strip }
         requires cell { IsCell self.now.grid cell }
         ensures { IsTrue result ↔ Owns self.now.grid self.now.region cell }
@@ -129,6 +156,32 @@ impl Finder {
             best = best.earlier(self.best_in_row(view, disk, placed, own, block, row));
         }
         best
+    }
+
+    // The same of the cells of the block that are in no second one.
+    fn best_outside(
+        &self,
+        view: &View,
+        disk: u32,
+        placed: &Placed,
+        own: bool,
+        block: Block,
+        known: Block,
+    ) -> Packed
+        requires ready { IsReady self.now view.now }
+        requires placed { map.get view.now disk ≡ Some placed.now }
+        requires own { IsTrue own ↔ Owns self.now.grid self.now.region placed.now.cell }
+        requires block { IsBlock self.now.grid block }
+        requires beside { IsBlockBeside self.now.grid placed.now.cell block }
+        requires known { IsBlock self.now.grid known }
+        ensures { AreListed view.now self.now.lists.cells → IsLeastOf (IsNativeWith self.now view.now disk
+            (IsListedOutside self.now.lists block known)) result }
+    {
+        let parts = parts_outside(block, known);
+        self.best_within(view, disk, placed, own, parts.left)
+            .earlier(self.best_within(view, disk, placed, own, parts.right))
+            .earlier(self.best_within(view, disk, placed, own, parts.low))
+            .earlier(self.best_within(view, disk, placed, own, parts.high))
     }
 
     // The same of one row of the block.

@@ -1,23 +1,66 @@
 //! The keys of a region's disks, and when they are taken again.
 
-ghost use Rattle.std.specs.Prelude.{◌≡◌, IfSome, OnOk};
-ghost use Rattle.event_stamps.specs.Order.{Before};
+ghost use Rattle.std.specs.Prelude.{◌≡◌, ◌↔◌, [], Some, IsTrue, IfSome, OnOk};
+ghost use Rattle.event_stamps.specs.declared.Kind.TheVariants.{Pair};
+ghost use Rattle.event_stamps.specs.Order.{Before, IsInRange};
 ghost use Rattle.event_tree.specs.Packing.{HasRoom};
+ghost use Rattle.cell_grid.specs.Grid.{IsCell, Owns};
+ghost use Rattle.region_view.specs.declared.action.Placed.{Placed};
+ghost use Rattle.region_view.specs.Views.{ViewData, rows_in};
+ghost use Rattle.region_queue.specs.Naming.{IsMoved};
 ghost use Rattle.region_queue.specs.Covering.{Covers, IsSettled};
-ghost use Rattle.region_queue.specs.Finding.{IsReady, IsFound, AreListed, AreRetaken, AreRetakenOf, HasKey, IsHolder};
+ghost use Rattle.region_queue.specs.Finding.{IsReady, IsFound, AreListed, AreRetaken, AreRetakenOf, AreGiven};
+ghost use Rattle.region_queue.specs.Finding.{IsEntered, IsTakenAt, IsExtended, HasKey, IsHolder, cell_in};
 
+use crate::bounds::Bounds;
 use crate::finder::{Finder, has_stamp};
-use event_stamps::{Stamp, compare};
-use event_tree::EventTree;
+use event_stamps::{Kind, Stamp, compare};
+use event_tree::{EventTree, Packed};
 use region_view::View;
 use std::alloc::{AllocError, Global};
 use std::cmp::Ordering;
+
+// What is kept of each disk.
+#[derive(Drop)]
+pub(crate) struct Keys {
+    // The least native candidate that names the disk, as of when it was last taken.
+    pub tree: EventTree,
+    // A stamp after none of its pairs, as of then: the least of them, or one that has come before it.
+    pub bounds: Bounds,
+}
+
+impl Keys {
+    // Nothing of any disk. No memory is taken.
+    pub fn new(alloc: Global) -> Keys
+        ensures tree { result.tree ≡ [] }
+        ensures bounds { result.bounds ≡ [] }
+    {
+        Keys {
+            tree: EventTree::new(alloc),
+            bounds: Bounds::new(alloc),
+        }
+    }
+
+    // Sets the key of a disk, and the bound of its pairs.
+    pub fn set(
+        &mut self,
+        alloc: Global,
+        disk: u32,
+        key: Packed,
+        bound: Packed,
+    ) -> Result<(), AllocError>
+        ensures { OnOk result (IsEntered disk (key, bound) self.old self.new) }
+    {
+        self.bounds.set(alloc, disk, bound)?;
+        self.tree.set(alloc, disk, key)
+    }
+}
 
 // Takes the keys of these disks again.
 pub(crate) fn take_keys(
     alloc: Global,
     finder: &Finder,
-    keys: &mut EventTree,
+    keys: &mut Keys,
     view: &View,
     disks: &[u32],
 ) -> Result<(), AllocError>
@@ -26,9 +69,116 @@ pub(crate) fn take_keys(
         AreRetaken finder.now view.now disks.now keys.old keys.new) }
 {
     for disk in disks {
-        keys.set(alloc, *disk, finder.best(view, *disk))?;
+        take_key(alloc, finder, keys, view, *disk)?;
     }
     Ok(())
+}
+
+// Takes the key of a disk again.
+fn take_key(
+    alloc: Global,
+    finder: &Finder,
+    keys: &mut Keys,
+    view: &View,
+    disk: u32,
+) -> Result<(), AllocError>
+    requires { IsReady finder.now view.now }
+    ensures { OnOk result (AreListed view.now finder.now.lists.cells →
+        IsTakenAt finder.now view.now disk keys.old keys.new) }
+{
+    let bound = finder.best_pairs(view, disk);
+    let key = finder.best_single(view, disk).earlier(bound);
+    keys.set(alloc, disk, key, bound)
+}
+
+// Takes the key again of a disk that was in this cell, or nowhere, and keeps its course.
+pub(crate) fn take_crossed(
+    alloc: Global,
+    finder: &Finder,
+    keys: &mut Keys,
+    view: &View,
+    disk: u32,
+    cell: Option<u32>,
+) -> Result<(), AllocError>
+    requires ready { IsReady finder.now view.now }
+    requires cell { IfSome cell (IsCell finder.now.grid) }
+    ensures { OnOk result (AreListed view.now finder.now.lists.cells → (before : ViewData) →
+        IsMoved disk before view.now → cell ≡ cell_in before disk →
+        Covers (IsFound finder.now before) keys.old.tree keys.old.bounds →
+        Covers (IsFound finder.now view.now) keys.new.tree keys.new.bounds) }
+{
+    let Some(cell) = cell else {
+        return take_key(alloc, finder, keys, view, disk);
+    };
+    if is_owner_kept(finder, view, disk, cell) && is_pair_or_none(keys.bounds.get(disk)) {
+        extend_key(alloc, finder, keys, view, disk, cell)
+    } else {
+        take_key(alloc, finder, keys, view, disk)
+    }
+}
+
+// Whether the region owns both this cell and that of a disk, or neither.
+fn is_owner_kept(finder: &Finder, view: &View, disk: u32, cell: u32) -> bool
+    requires ready { IsReady finder.now view.now }
+    requires cell { IsCell finder.now.grid cell }
+    ensures { IsTrue result → (p : Placed) → rows_in view.now disk ≡ Some p →
+        (Owns finder.now.grid finder.now.region cell ↔ Owns finder.now.grid finder.now.region p.cell) }
+{
+    match view.get(disk) {
+        Some(placed) => finder.owns(cell) == finder.owns(placed.cell),
+        None => false,
+    }
+}
+
+// Whether a key is that of a pair, if it is there.
+fn is_pair_or_none(key: Packed) -> bool
+    ensures { IsTrue result → IfSome key (λ s. s.kind ≡ Pair) }
+{
+    match key.key() {
+        Some(stamp) => is_of_pair(&stamp),
+        None => true,
+    }
+}
+
+// Takes in that a disk was in this cell, and keeps its course. Of its pairs with disks beside both cells nothing
+// has changed, so that only the others are looked for.
+fn extend_key(
+    alloc: Global,
+    finder: &Finder,
+    keys: &mut Keys,
+    view: &View,
+    disk: u32,
+    cell: u32,
+) -> Result<(), AllocError>
+    requires ready { IsReady finder.now view.now }
+    requires cell { IsCell finder.now.grid cell }
+    ensures { OnOk result (AreListed view.now finder.now.lists.cells →
+        IsExtended finder.now view.now disk cell keys.old keys.new) }
+{
+    let known = keys.bounds.get(disk);
+    let bound = known.earlier(finder.best_beyond(view, disk, cell));
+    let key = finder.best_single(view, disk).earlier(bound);
+    keys.set(alloc, disk, key, bound)
+}
+
+// Makes an event the key of its disks.
+pub(crate) fn give_key(alloc: Global, keys: &mut Keys, event: &Stamp) -> Result<(), AllocError>
+    requires { IsInRange event.now }
+    ensures { OnOk result (AreGiven event.now keys.old keys.new) }
+{
+    let key = Packed::new(Some(*event));
+    keys.set(alloc, event.first, key, key)?;
+    if is_of_pair(event) {
+        keys.set(alloc, event.second, key, key)?;
+    }
+    Ok(())
+}
+
+// Whether an event is one of two disks.
+pub(crate) fn is_of_pair(event: &Stamp) -> bool
+    ensures { IsTrue result ↔ (event.now.kind ≡ Pair) }
+{
+    event.kind == Kind::Pair
 }
 
 // Takes keys again until the least one is that of a native candidate. One that isn't is of a pair of which a
@@ -36,22 +186,24 @@ pub(crate) fn take_keys(
 pub(crate) fn settle(
     alloc: Global,
     finder: &Finder,
-    keys: &mut EventTree,
+    keys: &mut Keys,
     view: &View,
 ) -> Result<(), AllocError>
     requires { IsReady finder.now view.now }
     ensures covers { OnOk result (AreListed view.now finder.now.lists.cells →
-        Covers (IsFound finder.now view.now) keys.old → Covers (IsFound finder.now view.now) keys.new) }
+        Covers (IsFound finder.now view.now) keys.old.tree keys.old.bounds →
+        Covers (IsFound finder.now view.now) keys.new.tree keys.new.bounds) }
     ensures settled { OnOk result (AreListed view.now finder.now.lists.cells →
-        Covers (IsFound finder.now view.now) keys.old → IsSettled (IsFound finder.now view.now) keys.new) }
+        Covers (IsFound finder.now view.now) keys.old.tree keys.old.bounds →
+        IsSettled (IsFound finder.now view.now) keys.new.tree) }
 {
-    let mut least = keys.least();
+    let mut least = keys.tree.least();
     while let Some(stamp) = least {
         if finder.is_fresh(view, &stamp) {
             break;
         }
         take_held(alloc, finder, keys, view, &stamp)?;
-        least = risen(&stamp, keys.least());
+        least = risen(&stamp, keys.tree.least());
     }
     Ok(())
 }
@@ -60,7 +212,7 @@ pub(crate) fn settle(
 fn take_held(
     alloc: Global,
     finder: &Finder,
-    keys: &mut EventTree,
+    keys: &mut Keys,
     view: &View,
     stamp: &Stamp,
 ) -> Result<(), AllocError>
@@ -76,7 +228,7 @@ fn take_held(
 fn take_if_held(
     alloc: Global,
     finder: &Finder,
-    keys: &mut EventTree,
+    keys: &mut Keys,
     view: &View,
     stamp: &Stamp,
     disk: u32,
@@ -85,8 +237,8 @@ fn take_if_held(
     ensures { OnOk result (AreListed view.now finder.now.lists.cells →
         AreRetakenOf finder.now view.now (HasKey keys.old disk stamp.now) keys.old keys.new) }
 {
-    if has_stamp(keys.key(disk), stamp) {
-        keys.set(alloc, disk, finder.best(view, disk))?;
+    if has_stamp(keys.tree.key(disk), stamp) {
+        take_key(alloc, finder, keys, view, disk)?;
     }
     Ok(())
 }

@@ -4,13 +4,18 @@
 //! Each disk has one key, the least native candidate that names it, as of when the key was last taken. A
 //! candidate may be missing from the key of one of its two disks, never from both. The key of a disk whose
 //! partner has changed since isn't a candidate any more; it is left until it is the least of all, which is
-//! early enough, since the disk has no candidate before it.
+//! early enough, since no candidate is before the least key.
+//!
+//! Beside its key a disk has a bound of its pairs, which it keeps where it comes to another cell: its pairs with
+//! disks that are beside both cells are those that they were, so that only the others are looked for.
 #![tactic(auto)]
 
+mod bounds;
 mod finder;
 mod keys;
 mod laws;
 mod listing;
+mod parts;
 mod queue;
 
 pub use laws::natives_stay;

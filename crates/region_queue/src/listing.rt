@@ -3,9 +3,12 @@
 ghost use Rattle.std.specs.Prelude.{◌≡◌, OnOk};
 ghost use Rattle.region_view.specs.Laws.{HasCells};
 ghost use Rattle.region_view.specs.Views.{rows_in};
-ghost use Rattle.region_queue.specs.Finding.{IsTakenOff, IsRelisted, AreRelisted};
+ghost use Rattle.region_queue.specs.Naming.{Names};
+ghost use Rattle.region_queue.specs.Finding.{IsTakenOff, IsRelisted, AreRelisted, AreRelistedOf};
 
+use crate::keys::is_of_pair;
 use cell_lists::Lists;
+use event_stamps::Stamp;
 use region_view::View;
 use std::alloc::{AllocError, Global};
 
@@ -24,6 +27,24 @@ pub(crate) fn list_again(
         list_one(alloc, lists, view, *disk)?;
     }
     Ok(())
+}
+
+// Lists the disks of an event where a view has them, and nowhere else.
+pub(crate) fn list_event(
+    alloc: Global,
+    lists: &mut Lists,
+    view: &View,
+    event: &Stamp,
+) -> Result<(), AllocError>
+    requires { HasCells lists.old.grid (rows_in view.now) }
+    ensures grid { lists.new.grid ≡ lists.old.grid }
+    ensures listed { OnOk result (AreRelistedOf view.now (Names event.now) lists.old.cells lists.new.cells) }
+{
+    if is_of_pair(event) {
+        list_again(alloc, lists, view, &[event.first, event.second])
+    } else {
+        list_again(alloc, lists, view, &[event.first])
+    }
 }
 
 // Lists one disk where a view has it, and nowhere else.

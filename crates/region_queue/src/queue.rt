@@ -1,12 +1,11 @@
 //! The queue of a region.
 
 use crate::finder::Finder;
-use crate::keys::{settle, take_keys};
-use crate::listing::list_again;
+use crate::keys::{Keys, give_key, settle, take_crossed, take_keys};
+use crate::listing::{list_again, list_event};
 use cell_grid::Grid;
 use cell_lists::Lists;
 use event_stamps::Stamp;
-use event_tree::EventTree;
 use fixed_motion::Rules;
 use region_view::View;
 use std::alloc::{AllocError, Global};
@@ -19,7 +18,7 @@ use std::marker::Model;
 #[derive(Drop)]
 pub struct Queue {
     finder: Finder,
-    keys: EventTree,
+    keys: Keys,
 }
 
 impl Model for Queue {
@@ -29,7 +28,7 @@ impl Model for Queue {
 
     ghost coded = { queue_code };
 
-    ghost view = { λ a. queue_of a.finder.rules a.finder.grid a.finder.region a.finder.lists.cells a.keys };
+    ghost view = { λ a. queue_of a.finder.rules a.finder.grid a.finder.region a.finder.lists.cells a.keys.tree a.keys.bounds };
 
     ghost invariant = { λ a. IsSound a.finder.rules a.finder.grid a.finder.region a.finder.strip a.finder.lists.grid };
 }
@@ -38,12 +37,12 @@ ghost use Rattle.std.specs.Prelude.{◌≡◌, ℕ, ◌<◌, None, Some, IfOk, O
 ghost use Rattle.std.specs.FinMap as map;
 ghost use Rattle.std.specs.List.{Contains};
 ghost use Rattle.fixed_motion.specs.Rules.{IsChecked};
-ghost use Rattle.event_stamps.specs.Least.{IsLeastOf};
+ghost use Rattle.event_stamps.specs.Least.{IsLeast, IsLeastOf};
 ghost use Rattle.cell_grid.specs.Grid.{IsGridOf, IsRegion};
 ghost use Rattle.region_view.specs.declared.action.Placed.{Placed};
 ghost use Rattle.region_view.specs.Placing.{IsNative, IsValidPlacing};
 ghost use Rattle.region_view.specs.Views.{ViewData, rows_in};
-ghost use Rattle.region_queue.specs.Naming.{IsSameBut};
+ghost use Rattle.region_queue.specs.Naming.{IsSameBut, IsSameButBy, IsMoved};
 ghost use Rattle.region_queue.specs.Queue.{IsOf, StandsFor};
 
 impl Queue {
@@ -76,7 +75,7 @@ impl Queue {
         ensures { (view : ViewData) → StandsFor self.now view →
             IsLeastOf (IsNative self.now.rules self.now.grid self.now.region (rows_in view)) result }
     {
-        self.keys.least()
+        self.keys.tree.least()
     }
 
     /// Takes in the changes of these disks, to what stands at their numbers in a view. The queue then stands
@@ -92,6 +91,40 @@ impl Queue {
     {
         list_again(alloc, &mut self.finder.lists, view, ids)?;
         take_keys(alloc, &self.finder, &mut self.keys, view, ids)?;
+        settle(alloc, &self.finder, &mut self.keys, view)
+    }
+
+    /// Takes in that a disk is in another cell of a view than it was, and keeps its course. The queue then
+    /// stands for this view where it stood for one that is the same at all other numbers.
+    ///
+    /// # Errors
+    /// Out of memory: the queue stands for no view that could be named, and has to be opened anew.
+    pub fn crossed(&mut self, alloc: Global, view: &View, disk: u32) -> Result<(), AllocError>
+        requires valid { IsValidPlacing self.old.rules self.old.grid (rows_in view.now) }
+        ensures same { IsOf self.new self.old.rules self.old.grid self.old.region }
+        ensures stands { OnOk result ((before : ViewData) → StandsFor self.old before →
+            IsMoved disk before view.now → StandsFor self.new view.now) }
+    {
+        let cell = self.finder.lists.cell_of(disk);
+        list_again(alloc, &mut self.finder.lists, view, &[disk])?;
+        take_crossed(alloc, &self.finder, &mut self.keys, view, disk, cell)?;
+        settle(alloc, &self.finder, &mut self.keys, view)
+    }
+
+    /// Takes back an event, which is the least native candidate of a view again. The queue then stands for
+    /// this view where it stood for one that is the same at all numbers but those of the event's disks.
+    ///
+    /// # Errors
+    /// Out of memory: the queue stands for no view that could be named, and has to be opened anew.
+    pub fn take_back(&mut self, alloc: Global, view: &View, event: &Stamp) -> Result<(), AllocError>
+        requires valid { IsValidPlacing self.old.rules self.old.grid (rows_in view.now) }
+        requires least { IsLeast (IsNative self.old.rules self.old.grid self.old.region (rows_in view.now)) event.now }
+        ensures same { IsOf self.new self.old.rules self.old.grid self.old.region }
+        ensures stands { OnOk result ((later : ViewData) → StandsFor self.old later →
+            IsSameButBy event.now later view.now → StandsFor self.new view.now) }
+    {
+        list_event(alloc, &mut self.finder.lists, view, event)?;
+        give_key(alloc, &mut self.keys, event)?;
         settle(alloc, &self.finder, &mut self.keys, view)
     }
 
@@ -111,7 +144,7 @@ impl Queue {
                 strip: grid.strip(region),
                 lists: Lists::new(alloc, grid)?,
             },
-            keys: EventTree::new(alloc),
+            keys: Keys::new(alloc),
         })
     }
 }

@@ -10,8 +10,8 @@ use Rattle.region_queue.proofs.keys.settle.Given as goal
 abbrev pub invariant-loop-least : goal.invariant-loop-least
 invariant-loop-least l = record {
   room : IfSome l.least HasRoom;
-  stands : AreListed l.view l.finder.lists.cells → Covers (IsFound l.finder l.view) l.fn.keys →
-      Covers (IsFound l.finder l.view) l.keys × IsLeastKey l.keys l.least;
+  stands : AreListed l.view l.finder.lists.cells → Covers (IsFound l.finder l.view) l.fn.keys.tree l.fn.keys.bounds →
+      Covers (IsFound l.finder l.view) l.keys.tree l.keys.bounds × IsLeastKey l.keys.tree l.least;
 }
 
 abbrev pub decreases-loop-least : goal.decreases-loop-least

@@ -1,22 +1,21 @@
 -- One more key is taken again.
 use Rattle.std.proofs.Common.{◌<◌, List, ℕ, take, length, get_or, arith, sym, subst}
 use Rattle.std.proofs.lemmas.List.{take_more}
-use Rattle.event_tree.specs.Keys.{key_at}
-use Rattle.region_queue.specs.Finding.{IsBest, AreRetaken}
+use Rattle.region_queue.specs.Finding.{IsTaken, AreRetaken, entry_at}
 use Rattle.region_queue.proofs.Again.{again_none, retaken_more, take_whole}
 use Rattle.region_queue.proofs.keys.take_keys.Goals as goal
 
 pub loop-disk-init : goal.loop-disk-init
-loop-disk-init c = λ listed. again_none (IsBest c.args.finder.now c.args.view.now) (key_at c.args.keys.now)
+loop-disk-init c = λ listed. again_none (IsTaken c.args.finder.now c.args.view.now) (entry_at c.args.keys.now)
 
 pub loop-disk-preserved : goal.loop-disk-preserved
 loop-disk-preserved c = λ listed.
     let lt : c.loop-disk.disk-index < length c.args.disks.now = omega arith in
-    subst (λ (done : List ℕ). AreRetaken c.args.finder.now c.args.view.now done c.args.keys.now c.set.new.self)
+    subst (λ (done : List ℕ). AreRetaken c.args.finder.now c.args.view.now done c.args.keys.now c.take_key.new.keys)
     (sym (take_more c.args.disks.now c.loop-disk.disk-index 0 lt))
     (retaken_more c.args.finder.now c.args.view.now (take c.loop-disk.disk-index c.args.disks.now)
-    (get_or c.args.disks.now c.loop-disk.disk-index 0) c.best.result c.args.keys.now c.loop-disk.keys c.set.new.self
-    (c.loop-disk.invariant listed) c.in_ok-set.ensures.set (c.best.ensures listed))
+    (get_or c.args.disks.now c.loop-disk.disk-index 0) c.args.keys.now c.loop-disk.keys c.take_key.new.keys
+    (c.loop-disk.invariant listed) (c.in_ok-take_key.ensures listed))
 
 pub returns : goal.returns
 returns c = λ listed.

@@ -1,5 +1,5 @@
 -- No disk is listed, and none has a key.
-use Rattle.std.proofs.Common.{List, refl, sym, ap, subst}
+use Rattle.std.proofs.Common.{List, [], refl, sym, ap, subst}
 use Rattle.std.specs.FinMap as map
 use Rattle.event_tree.specs.Keys.{Key}
 use Rattle.cell_lists.specs.Listing.{ListsData}
@@ -13,8 +13,10 @@ returns c =
     let rules = c.args.rules.now in
     let grid = c.args.grid.now in (
       record { rules = refl; grid = refl; region = refl },
-      subst (λ (cells : Cells). StandsFor (queue_of rules grid c.args.region cells c.new-2.result) map.empty)
+      subst (λ (cells : Cells). StandsFor (queue_of rules grid c.args.region cells c.new-2.result.tree c.new-2.result.bounds) map.empty)
           (sym (ap (λ (l : ListsData). l.cells) c.in_ok-new.ensures))
-          (subst (λ (keys : List Key). StandsFor (queue_of rules grid c.args.region map.empty keys) map.empty) (sym c.new-2.ensures)
-          (empty_stands rules grid c.args.region)),
+          (subst (λ (keys : List Key). StandsFor (queue_of rules grid c.args.region map.empty keys c.new-2.result.bounds) map.empty)
+          (sym c.new-2.ensures.tree)
+          (subst (λ (keys : List Key). StandsFor (queue_of rules grid c.args.region map.empty [] keys) map.empty) (sym c.new-2.ensures.bounds)
+          (empty_stands rules grid c.args.region))),
     )

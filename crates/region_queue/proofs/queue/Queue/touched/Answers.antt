@@ -3,9 +3,12 @@ use Rattle.std.proofs.Common.{subst}
 use Rattle.std.specs.Prelude.{OnOk}
 use Rattle.region_view.specs.Views.{ViewData}
 use Rattle.region_queue.specs.declared.finder.Finder.{Finder}
+use Rattle.region_queue.specs.Finding.{AreListed, IsFound}
+use Rattle.region_queue.specs.Covering.{Covers}
 use Rattle.region_queue.specs.Queue.{QueueData, queue_of, StandsFor}
 use Rattle.region_queue.specs.Naming.{IsSameBut}
-use Rattle.region_queue.proofs.Standing.{stands_on_ok}
+use Rattle.region_queue.proofs.Again.{on_ok}
+use Rattle.region_queue.proofs.Standing.{stands_settled, stands_again}
 use Rattle.region_queue.proofs.queue.Queue.touched.Goals as goal
 
 pub returns-clause-stands : goal.returns-clause-stands
@@ -17,11 +20,20 @@ returns-clause-stands c =
       strip = c.self.inside.finder.strip;
       lists = c.list_again.new.lists;
     } in
+    let was = c.self.inside.finder.lists.cells in
+    let old = c.self.inside.keys in
+    let mid = c.take_keys.new.keys in
+    let new = c.settle.new.keys in
     let ids = c.args.ids.now in
-    let after = c.args.view.now in
-    let old = queue_of finder.rules finder.grid finder.region c.self.inside.finder.lists.cells c.self.inside.keys in
-    subst (λ (q : QueueData). OnOk c.settle.result ((before : ViewData) → StandsFor q before → IsSameBut ids before after →
-    StandsFor (queue_of finder.rules finder.grid finder.region finder.lists.cells c.settle.new.keys) after))
+    let view = c.args.view.now in
+    let queue = queue_of finder.rules finder.grid finder.region was old.tree old.bounds in
+    let again = queue_of finder.rules finder.grid finder.region finder.lists.cells new.tree new.bounds in
+    subst (λ (q : QueueData). OnOk c.settle.result ((before : ViewData) → StandsFor q before → IsSameBut ids before view → StandsFor again view))
     c.self.view_is
-    (stands_on_ok c.settle.result finder after c.self.inside.finder.lists.cells ids c.self.inside.keys c.take_keys.new.keys c.settle.new.keys
-    c.in_ok-list_again.ensures.listed c.in_ok-take_keys.ensures c.settle.ensures.covers c.settle.ensures.settled)
+    (on_ok c.settle.result
+    (AreListed view finder.lists.cells → Covers (IsFound finder view) mid.tree mid.bounds → StandsFor again view)
+    ((before : ViewData) → StandsFor queue before → IsSameBut ids before view → StandsFor again view)
+    (λ once before stands same.
+    let is = stands_again finder before view was ids old mid c.in_ok-list_again.ensures.listed c.in_ok-take_keys.ensures same stands in
+    once is.0 is.1)
+    (stands_settled c.settle.result finder view mid new c.settle.ensures.covers c.settle.ensures.settled))

@@ -1,0 +1,126 @@
+-- What of a block of cells is in no second block, as four blocks.
+use Rattle.std.proofs.Common.{◌≡◌, ◌⊎◌, ◌↔◌, inl, inr, ℕ, arith, refl, sym, subst, ◌∙◌}
+use Rattle.std.specs.Prelude.{Option, Some, None, option_map}
+use Rattle.event_stamps.specs.declared.Stamp.{Stamp}
+use Rattle.event_stamps.specs.Least.{IsLeastOf, earlier_of}
+use Rattle.event_stamps.proofs.Least.{least_same}
+use Rattle.cell_grid.specs.Grid.{GridData, IsCell, IsAdjacent, column_of, row_of}
+use Rattle.cell_lists.specs.declared.near.Block.{Block}
+use Rattle.cell_lists.specs.Listing.{ListsData}
+use Rattle.cell_lists.specs.Nearby.{IsWithin, IsListedWithin}
+use Rattle.region_view.specs.declared.action.Placed.{Placed}
+use Rattle.region_view.specs.Views.{ViewData, rows_in}
+use Rattle.region_queue.specs.declared.finder.Finder.{Finder}
+use Rattle.region_queue.specs.declared.parts.Parts.{Parts}
+use Rattle.region_queue.specs.Outside.{IsIn, IsPart, AreParts, IsListedOutside}
+use Rattle.region_queue.specs.Finding.{IsReady, IsNativeWith, IsPairedBeyond, IsBestBeyond, AreListed, cell_in}
+use Rattle.region_queue.proofs.Candidates.{IsAround, with_more, pair_found, pair_of, listed_beside}
+
+-- ---- one part
+in_block : (block known part : Block) (column row : ℕ) → IsPart block known part → IsIn part column row → IsIn block column row
+in_block block known part column row is x =
+    let left = is.left in
+    let right = is.right in
+    let low = is.low in
+    let high = is.high in
+    let a = x.0.0 in
+    let b = x.0.1 in
+    let c = x.1.0 in
+    let d = x.1.1 in
+    ((omega arith, omega arith), (omega arith, omega arith))
+
+part_outside : (lists : ListsData) (block known part : Block) (i : ℕ) → IsPart block known part → IsListedWithin lists part i →
+    IsListedOutside lists block known i
+part_outside lists block known part i of x =
+    let column = column_of lists.grid x.0 in
+    let row = row_of lists.grid x.0 in
+    (x.0, x.1, in_block block known part column row of x.2, of.outside column row x.2)
+
+-- ---- all parts
+whole : (lists : ListsData) (block known : Block) (parts : Parts) (i : ℕ) → AreParts block known parts → IsListedOutside lists block known i →
+    ((IsListedWithin lists parts.left i ⊎ IsListedWithin lists parts.right i) ⊎ IsListedWithin lists parts.low i)
+    ⊎ IsListedWithin lists parts.high i
+whole lists block known parts i are x = elim (are.whole (column_of lists.grid x.0) (row_of lists.grid x.0) x.2 x.3) [
+  | inl (inl (inl left)) ↦ inl (inl (inl (x.0, x.1, left)))
+  | inl (inl (inr right)) ↦ inl (inl (inr (x.0, x.1, right)))
+  | inl (inr low) ↦ inl (inr (x.0, x.1, low))
+  | inr high ↦ inr (x.0, x.1, high)
+]
+
+either : (finder : Finder) (view : ViewData) (disk : ℕ) (P Q : ℕ → Type 0) (a b : Option Stamp) → IsLeastOf (IsNativeWith finder view disk P) a →
+    IsLeastOf (IsNativeWith finder view disk Q) b → IsLeastOf (IsNativeWith finder view disk (λ i. P i ⊎ Q i)) (earlier_of a b)
+either finder view disk P Q a b ha hb =
+    with_more finder view disk P Q (λ i. P i ⊎ Q i) a b (λ i x. inl x) (λ i x. inr x) (λ i x. x) ha hb
+
+pub best_of_parts : (finder : Finder) (view : ViewData) (disk : ℕ) (block known : Block) (parts : Parts) (a b c d : Option Stamp) →
+    AreParts block known parts → IsLeastOf (IsNativeWith finder view disk (IsListedWithin finder.lists parts.left)) a →
+    IsLeastOf (IsNativeWith finder view disk (IsListedWithin finder.lists parts.right)) b →
+    IsLeastOf (IsNativeWith finder view disk (IsListedWithin finder.lists parts.low)) c →
+    IsLeastOf (IsNativeWith finder view disk (IsListedWithin finder.lists parts.high)) d →
+    IsLeastOf (IsNativeWith finder view disk (IsListedOutside finder.lists block known)) (earlier_of (earlier_of (earlier_of a b) c) d)
+best_of_parts finder view disk block known parts a b c d are ha hb hc hd =
+    with_more finder view disk (λ i. (Left i ⊎ Right i) ⊎ Low i) High (IsListedOutside finder.lists block known) (earlier_of (earlier_of a b) c) d
+    (λ i x. elim x [
+      | inl (inl left) ↦ part_outside finder.lists block known parts.left i are.left left
+      | inl (inr right) ↦ part_outside finder.lists block known parts.right i are.right right
+      | inr low ↦ part_outside finder.lists block known parts.low i are.low low
+    ])
+    (λ i x. part_outside finder.lists block known parts.high i are.high x) (λ i x. whole finder.lists block known parts i are x)
+    (either finder view disk (λ i. Left i ⊎ Right i) Low (earlier_of a b) c (either finder view disk Left Right a b ha hb) hc) hd
+  where
+    Left : ℕ → Type 0
+    Left i = IsListedWithin finder.lists parts.left i
+
+    Right : ℕ → Type 0
+    Right i = IsListedWithin finder.lists parts.right i
+
+    Low : ℕ → Type 0
+    Low i = IsListedWithin finder.lists parts.low i
+
+    High : ℕ → Type 0
+    High i = IsListedWithin finder.lists parts.high i
+
+-- ---- beyond the cells adjacent to one
+-- a row that has a cell
+pub placed_in : (o : Option Placed) (cell : ℕ) → option_map (λ (p : Placed). p.cell) o ≡ Some cell → (q : Placed) × (o ≡ Some q) × (q.cell ≡ cell)
+placed_in None cell e = absurd (let no = e in cc)
+placed_in (Some q) cell e = (q, refl, (let same : Some q.cell ≡ Some cell = e in cc))
+
+-- the cells of the block around one are those adjacent to it, of the cells where disks are
+within_known : (finder : Finder) (view : ViewData) (old other : ℕ) (known : Block) → IsReady finder view →
+    IsAround finder.grid old known → (cell : ℕ) → cell_in view other ≡ Some cell →
+    (IsWithin finder.lists.grid known cell ↔ IsAdjacent finder.grid old cell)
+within_known finder view old other known ready around cell at =
+    subst (λ (g : GridData). IsWithin g known cell ↔ IsAdjacent finder.grid old cell) (sym ready.lists) ((around cell is).1, (around cell is).0)
+  where
+    is : IsCell finder.grid cell
+    is =
+        let p = placed_in (rows_in view other) cell at in
+        subst (IsCell finder.grid) p.2 (ready.valid.cell other p.0 p.1)
+
+pub best_beyond : (finder : Finder) (view : ViewData) (disk old : ℕ) (p : Placed) (block known : Block) (o : Option Stamp) → IsReady finder view →
+    rows_in view disk ≡ Some p → IsAround finder.grid p.cell block → IsAround finder.grid old known →
+    AreListed view finder.lists.cells → IsLeastOf (IsNativeWith finder view disk (IsListedOutside finder.lists block known)) o →
+    IsBestBeyond finder view disk old o
+best_beyond finder view disk old p block known o ready row around around_old listed h =
+    least_same (IsNativeWith finder view disk (IsListedOutside finder.lists block known)) (IsPairedBeyond finder view disk old) o to from h
+  where
+    to : (s : Stamp) → IsNativeWith finder view disk (IsListedOutside finder.lists block known) s → IsPairedBeyond finder view disk old s
+    to s x =
+        let pair = pair_found finder view disk x.0 s x.2 in
+        let at : cell_in view x.0 ≡ Some x.1.0 = sym (listed x.0) ∙ x.1.1 in
+        let is = within_known finder view old x.0 known ready around_old x.1.0 at in
+        (pair.0, pair.1, (x.0, (x.1.0, at, λ beside. x.1.3 (is.1 beside)), pair.2))
+
+    from : (s : Stamp) → IsPairedBeyond finder view disk old s → IsNativeWith finder view disk (IsListedOutside finder.lists block known) s
+    from s x =
+        let other = x.2.0 in
+        let far = x.2.1 in
+        let pair = x.2.2 in
+        let at = listed_beside finder view disk other p block s ready row around listed x.0 x.1 pair in
+        let same : at.0.cell ≡ far.0 = (let e : Some at.0.cell ≡ Some far.0 = sym at.2 ∙ listed other ∙ far.1 in cc) in
+        let is = within_known finder view old other known ready around_old far.0 far.1 in (
+          other,
+          (far.0, listed other ∙ far.1, subst (λ (n : ℕ). IsWithin finder.lists.grid block n) same at.3, λ within. far.2 (is.0 within)),
+          pair_of finder view disk other s x.0 x.1 pair,
+        )

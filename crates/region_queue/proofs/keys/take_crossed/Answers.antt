@@ -1,0 +1,54 @@
+-- What was known of the disk's pairs is kept, or all is taken again.
+use Rattle.std.proofs.Common.{◌≡◌, sym, subst, ◌∙◌}
+use Rattle.std.specs.Prelude.{IfSome}
+use Rattle.event_stamps.specs.declared.Kind.TheVariants.{Pair}
+use Rattle.event_tree.specs.Keys.{Key}
+use Rattle.region_view.specs.Views.{ViewData}
+use Rattle.region_queue.specs.Naming.{IsMoved}
+use Rattle.region_queue.specs.Finding.{AreListed, IsFound, IsTakenAt, IsExtended, cell_in}
+use Rattle.region_queue.specs.Covering.{Covers}
+use Rattle.region_queue.proofs.Again.{on_ok}
+use Rattle.region_queue.proofs.Moved.{moved_covers, taken_covers}
+use Rattle.region_queue.proofs.keys.take_crossed.Goals as goal
+
+pub returns-in_default : goal.returns-in_default
+returns-in_default c =
+    let finder = c.args.finder.now in
+    let view = c.args.view.now in
+    let disk = c.args.disk in
+    let old = c.args.keys.now in
+    let new = c.take_key.new.keys in
+    on_ok c.take_key.result (AreListed view finder.lists.cells → IsTakenAt finder view disk old new)
+    (AreListed view finder.lists.cells → (before : ViewData) → IsMoved disk before view → c.args.cell ≡ cell_in before disk →
+    Covers (IsFound finder before) old.tree old.bounds → Covers (IsFound finder view) new.tree new.bounds)
+    (λ taken listed before moved at covers. taken_covers finder before view disk old new moved (taken listed) covers) c.take_key.ensures
+
+pub returns-else-is_owner_kept : goal.returns-else-is_owner_kept
+returns-else-is_owner_kept c =
+    let finder = c.args.finder.now in
+    let view = c.args.view.now in
+    let disk = c.args.disk in
+    let old = c.args.keys.now in
+    let new = c.take_key-else-is_owner_kept.new.keys in
+    on_ok c.take_key-else-is_owner_kept.result (AreListed view finder.lists.cells → IsTakenAt finder view disk old new)
+    (AreListed view finder.lists.cells → (before : ViewData) → IsMoved disk before view → c.args.cell ≡ cell_in before disk →
+    Covers (IsFound finder before) old.tree old.bounds → Covers (IsFound finder view) new.tree new.bounds)
+    (λ taken listed before moved at covers. taken_covers finder before view disk old new moved (taken listed) covers)
+    c.take_key-else-is_owner_kept.ensures
+
+pub returns-then-is_pair_or_none : goal.returns-then-is_pair_or_none
+returns-then-is_pair_or_none c =
+    let finder = c.args.finder.now in
+    let view = c.args.view.now in
+    let disk = c.args.disk in
+    let cell = c.in-Some.cell in
+    let old = c.args.keys.now in
+    let new = c.extend_key.new.keys in
+    on_ok c.extend_key.result (AreListed view finder.lists.cells → IsExtended finder view disk cell old new)
+    (AreListed view finder.lists.cells → (before : ViewData) → IsMoved disk before view → c.args.cell ≡ cell_in before disk →
+    Covers (IsFound finder before) old.tree old.bounds → Covers (IsFound finder view) new.tree new.bounds)
+    (λ extended listed before moved at covers.
+    moved_covers finder before view disk cell old new moved (sym c.in-Some.is ∙ at) (c.is_owner_kept.ensures c.if-is_owner_kept.true)
+    (subst (λ (key : Key). IfSome key (λ s. s.kind ≡ Pair)) c.get.ensures (c.is_pair_or_none.ensures c.if-is_pair_or_none.true))
+    (extended listed) covers)
+    c.extend_key.ensures

@@ -1,0 +1,41 @@
+-- The disk is listed again, and its key is taken with what was known of its old cell.
+use Rattle.std.proofs.Common.{subst}
+use Rattle.std.specs.Prelude.{OnOk}
+use Rattle.region_view.specs.Views.{ViewData}
+use Rattle.region_queue.specs.declared.finder.Finder.{Finder}
+use Rattle.region_queue.specs.Finding.{AreListed, IsFound}
+use Rattle.region_queue.specs.Covering.{Covers}
+use Rattle.region_queue.specs.Queue.{QueueData, queue_of, StandsFor}
+use Rattle.region_queue.specs.Naming.{IsMoved}
+use Rattle.region_queue.proofs.Again.{on_ok}
+use Rattle.region_queue.proofs.Standing.{stands_settled, stands_moved}
+use Rattle.region_queue.proofs.queue.Queue.crossed.Goals as goal
+
+pub returns-clause-stands : goal.returns-clause-stands
+returns-clause-stands c =
+    let finder : Finder = record {
+      rules = c.self.inside.finder.rules;
+      grid = c.self.inside.finder.grid;
+      region = c.self.inside.finder.region;
+      strip = c.self.inside.finder.strip;
+      lists = c.list_again.new.lists;
+    } in
+    let was = c.self.inside.finder.lists.cells in
+    let old = c.self.inside.keys in
+    let mid = c.take_crossed.new.keys in
+    let new = c.settle.new.keys in
+    let disk = c.args.disk in
+    let view = c.args.view.now in
+    let queue = queue_of finder.rules finder.grid finder.region was old.tree old.bounds in
+    let again = queue_of finder.rules finder.grid finder.region finder.lists.cells new.tree new.bounds in
+    subst (λ (q : QueueData). OnOk c.settle.result ((before : ViewData) → StandsFor q before → IsMoved disk before view → StandsFor again view))
+    c.self.view_is
+    (on_ok c.settle.result
+    (AreListed view finder.lists.cells → Covers (IsFound finder view) mid.tree mid.bounds → StandsFor again view)
+    ((before : ViewData) → StandsFor queue before → IsMoved disk before view → StandsFor again view)
+    (λ once before stands moved.
+    let is =
+    stands_moved finder before view was disk c.cell_of-cell.result old mid c.in_ok-list_again.ensures.listed
+    c.cell_of-cell.ensures.value c.in_ok-take_crossed.ensures moved stands in
+    once is.0 is.1)
+    (stands_settled c.settle.result finder view mid new c.settle.ensures.covers c.settle.ensures.settled))

@@ -1,0 +1,34 @@
+-- What of a block of cells is in no second block.
+use Rattle.std.specs.Prelude.{◌⊎◌, ℕ, ◌<◌, ◌≤◌}
+use Rattle.cell_lists.specs.declared.near.Block.{Block}
+use Rattle.cell_lists.specs.Listing.{ListsData, IsListed}
+use Rattle.cell_lists.specs.Nearby.{IsWithin}
+use Rattle.region_queue.specs.declared.parts.Parts.{Parts}
+
+-- the cell of this column and row is in the block
+abbrev pub IsIn : Block → ℕ → ℕ → Type 0
+IsIn block column row = ((block.left ≤ column) × (column < block.right)) × ((block.low ≤ row) × (row < block.high))
+
+-- a part of the block that has no cell of the second one
+pub record IsPart (block known part : Block) : Type 0 where
+  pub columns : part.left ≤ part.right
+  pub rows : part.low ≤ part.high
+  pub left : block.left ≤ part.left
+  pub right : part.right ≤ block.right
+  pub low : block.low ≤ part.low
+  pub high : part.high ≤ block.high
+  pub outside : (column row : ℕ) → IsIn part column row → ¬ IsIn known column row
+
+-- such parts, which have all cells of the block that are outside the second one
+pub record AreParts (block known : Block) (parts : Parts) : Type 0 where
+  pub left : IsPart block known parts.left
+  pub right : IsPart block known parts.right
+  pub low : IsPart block known parts.low
+  pub high : IsPart block known parts.high
+  pub whole : (column row : ℕ) → IsIn block column row → ¬ IsIn known column row →
+      ((IsIn parts.left column row ⊎ IsIn parts.right column row) ⊎ IsIn parts.low column row) ⊎ IsIn parts.high column row
+
+-- the disk is listed in a cell of the block that isn't in the second one
+abbrev pub IsListedOutside : ListsData → Block → Block → ℕ → Type 0
+IsListedOutside lists block known disk = (cell : ℕ) × IsListed lists cell disk × IsWithin lists.grid block cell
+    × ¬ IsWithin lists.grid known cell
