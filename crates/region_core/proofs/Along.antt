@@ -53,7 +53,7 @@ last_is : (first pair : ℕ × ViewData) (s : SavedData) → last_of first (s ++
 last_is first pair [] = refl
 last_is first pair (x ∷ xs) = last_is x pair xs
 
-pub ends_last : (s : SavedData) (pair p : ℕ × ViewData) → EndsWith (s ++ pair ∷ []) p → p ≡ pair
+ends_last : (s : SavedData) (pair p : ℕ × ViewData) → EndsWith (s ++ pair ∷ []) p → p ≡ pair
 ends_last [] pair p is = is
 ends_last (x ∷ xs) pair p is = is ∙ last_is x pair xs
 
@@ -71,3 +71,11 @@ pub appended_is : (a : At) (es : List Entry) (old new : SavedData) (position : �
 appended_is a es old new position rows saved (last, ends, is) =
     is ∙ ap (λ (pair : ℕ × ViewData). old ++ (position, set_rows pair.1 rows) ∷ [])
     (along_ends 0 a es last (subst (λ (s : SavedData). EndsWith s last) saved ends))
+
+-- so is the newest view then
+pub newest_appended : (a : At) (es : List Entry) (old new : SavedData) (position : ℕ) (rows : RowList)
+    (pair : ℕ × ViewData) → old ≡ saved_along 0 a es → Appends old new position rows → EndsWith new pair →
+    pair.1 ≡ set_rows (after_log a es).view rows
+newest_appended a es old new position rows pair saved appends ends =
+    ap (λ (p : ℕ × ViewData). p.1) (ends_last old (position, set_rows (after_log a es).view rows) pair
+    (subst (λ (s : SavedData). EndsWith s pair) (appended_is a es old new position rows saved appends) ends))

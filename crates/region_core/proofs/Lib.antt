@@ -33,3 +33,4 @@ pub mod Raised
 pub mod LetGo
 pub mod Stands
 pub mod Running
+pub mod Shorter

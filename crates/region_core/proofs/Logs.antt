@@ -1,6 +1,6 @@
 -- Logs that are split and joined, and what is before a stamp in them.
-use Rattle.std.proofs.Common.{◌≡◌, ◌⊎◌, inl, inr, ◌≤◌, Bool, true, false, List, [], ◌∷◌, ◌++◌}
-use Rattle.std.proofs.Common.{length, length-append, ◌∙◌, sym, ap, subst, refl, arith}
+use Rattle.std.proofs.Common.{◌≡◌, ◌⊎◌, inl, inr, Bool, true, false, List, [], ◌∷◌, ◌++◌}
+use Rattle.std.proofs.Common.{◌∙◌, sym, ap, subst, refl}
 use Rattle.std.specs.Prelude.{if◌then◌else◌, ⊤}
 use Rattle.event_stamps.specs.declared.Stamp.{Stamp}
 use Rattle.event_stamps.specs.Order.{Before}
@@ -51,12 +51,6 @@ pub below_out : (s : Stamp) (e : Entry) (es : List Entry) → ¬ Before (entry_s
     entries_below s (e ∷ es) ≡ []
 below_out s e es not = rw (is_before_false (entry_stamp e) s not) refl
 
-pub fewer_below : (s : Stamp) (log : List Entry) → length (entries_below s log) ≤ length log
-fewer_below s log =
-    let parts = ap length (below_then_from s log) in
-    let sizes = length-append (entries_below s log) (entries_from s log) in
-    omega arith
-
 abbrev pub AllBefore : Stamp → List Entry → Type 0
 AllBefore d [] = ⊤
 AllBefore d (e ∷ es) = Before (entry_stamp e) d × AllBefore d es
@@ -81,26 +75,13 @@ among_after s (e ∷ es) x r (inl same) =
 among_after s (e ∷ es) x r (inr h) =
     before_trans s (entry_stamp e) (entry_stamp x) r.0 (among_after (entry_stamp e) es x r.1 h)
 
-pub after_below : (s d : Stamp) (log : List Entry) → RiseAfter s log →
-    RiseAfter s (entries_below d log)
-after_below s d [] rises = tt
-after_below s d (e ∷ es) rises =
-    by_test (is_before (entry_stamp e) d) (after_below (entry_stamp e) d es rises.1)
-  where
-    by_test : (b : Bool) → RiseAfter (entry_stamp e) (entries_below d es) →
-        RiseAfter s (if b then e ∷ entries_below d es else [])
-    by_test true rest = (rises.0, rest)
-    by_test false rest = tt
+first_after : (s : Stamp) (xs ys : List Entry) → RiseAfter s (xs ++ ys) → RiseAfter s xs
+first_after s [] ys rises = tt
+first_after s (x ∷ xs) ys rises = (rises.0, first_after (entry_stamp x) xs ys rises.1)
 
-pub rises_below : (f d : Stamp) (log : List Entry) → RiseFrom f log → RiseFrom f (entries_below d log)
-rises_below f d [] rises = tt
-rises_below f d (e ∷ es) rises =
-    by_test (is_before (entry_stamp e) d) (after_below (entry_stamp e) d es rises.1)
-  where
-    by_test : (b : Bool) → RiseAfter (entry_stamp e) (entries_below d es) →
-        RiseFrom f (if b then e ∷ entries_below d es else [])
-    by_test true rest = (rises.0, rest)
-    by_test false rest = tt
+pub rises_first : (f : Stamp) (xs ys : List Entry) → RiseFrom f (xs ++ ys) → RiseFrom f xs
+rises_first f [] ys rises = tt
+rises_first f (x ∷ xs) ys rises = (rises.0, first_after (entry_stamp x) xs ys rises.1)
 
 after_appended : (s : Stamp) (log : List Entry) (e : Entry) → RiseAfter s log →
     Before (clock_of s log) (entry_stamp e) → RiseAfter s (log ++ e ∷ [])

@@ -1,5 +1,5 @@
 -- Right local runs: what waits in them, one more entry, and an end that is taken back.
-use Rattle.std.proofs.Common.{ℕ, ◌<◌, List, [], ◌∷◌, length, length-append, sym, subst, arith}
+use Rattle.std.proofs.Common.{◌≡◌, ℕ, ◌<◌, List, [], ◌∷◌, ◌++◌, length, length-append, sym, ap, ◌∙◌, subst, arith}
 use Rattle.event_stamps.specs.declared.Stamp.{Stamp}
 use Rattle.region_view.specs.declared.rows.Message.{Message}
 use Rattle.region_messages.specs.Trails.{IsAmong, Rises}
@@ -8,13 +8,13 @@ use Rattle.region_core.specs.declared.home.Home.{Home}
 use Rattle.region_core.specs.declared.entry.Entry.{Entry}
 use Rattle.region_core.specs.declared.entry.TheConstants.{MAX_ENTRIES}
 use Rattle.region_core.specs.LocalRun.{At, Local, trail_of, start_of, now_of, after_log}
-use Rattle.region_core.specs.LocalRun.{entry_stamp, Moves, IsMove, IsRight, entries_below}
+use Rattle.region_core.specs.LocalRun.{entry_stamp, Moves, RiseFrom, IsMove, IsRight, entries_below}
 use Rattle.region_core.specs.LocalRun.{entries_from}
 use Rattle.region_core.specs.Taken.{taken_of}
 use Rattle.region_core.specs.Answers.{with_entry, IsInTurn}
 use Rattle.region_core.proofs.Among.{AllRise, among_drop}
-use Rattle.region_core.proofs.Logs.{moves_split, moves_join, below_then_from, fewer_below}
-use Rattle.region_core.proofs.Logs.{rises_below, rises_appended}
+use Rattle.region_core.proofs.Logs.{moves_split, moves_join, below_then_from}
+use Rattle.region_core.proofs.Logs.{rises_first, rises_appended}
 use Rattle.region_core.proofs.Taken.{waiting_is_drop}
 
 -- ---- what waits
@@ -47,14 +47,22 @@ right_appended h r e right room turn move = record {
 }
 
 -- ---- an end that is taken back
-pub right_rewound : (h : Home) (r : Local) (at : Stamp) → IsRight h r →
-    IsRight h (record r { log = entries_below at r.log })
-right_rewound h r at right = record {
+-- without its last entries it is right
+pub right_before : (h : Home) (r : Local) (xs ys : List Entry) → r.log ≡ xs ++ ys → IsRight h r →
+    IsRight h (record r { log = xs })
+right_before h r xs ys parts right = record {
   base = right.base;
   floor = right.floor;
   heard = right.heard;
-  moves = (moves_split h (start_of r) (entries_below at r.log) (entries_from at r.log)
-      (subst (Moves h (start_of r)) (below_then_from at r.log) right.moves)).0;
-  rises = rises_below r.floor at r.log right.rises;
-  few = let fewer = fewer_below at r.log in let few = right.few in omega arith;
+  moves = (moves_split h (start_of r) xs ys (subst (Moves h (start_of r)) parts right.moves)).0;
+  rises = rises_first r.floor xs ys (subst (RiseFrom r.floor) parts right.rises);
+  few =
+      let sizes = ap length parts ∙ length-append xs ys in
+      let few = right.few in
+      omega arith;
 }
+
+pub right_rewound : (h : Home) (r : Local) (at : Stamp) → IsRight h r →
+    IsRight h (record r { log = entries_below at r.log })
+right_rewound h r at right =
+    right_before h r (entries_below at r.log) (entries_from at r.log) (below_then_from at r.log) right

@@ -1,7 +1,8 @@
 -- Whether a view is what a region sees of placed disks, row by row.
-use Rattle.std.proofs.Common.{◌≡◌, ◌≢◌, ◌⊎◌, inl, inr, ℕ, ◌<◌, ◌≤◌, Bool, true, false, Decides, List, length, Option, Some, None, refl, sym, ap, ◌∙◌, subst, arith}
+use Rattle.std.proofs.Common.{◌≡◌, ◌≢◌, ◌⊎◌, inl, inr, ℕ, ◌+◌, ◌-◌, ◌*◌, ◌%◌, ◌<◌, ◌≤◌, Bool, true, false, Decides, List, length, Option, Some, None, refl, sym, ap, ◌∙◌, subst, arith}
 use Rattle.std.specs.Prelude.{◌↔◌, IsTrue, slice_get, option_map, not}
 use Rattle.std.specs.FinMap as map
+use Rattle.std.proofs.lemmas.Nat.{mod-mul-add}
 use Rattle.std.proofs.lemmas.Option.{none-some, same_Some, slice_get_within}
 use Rattle.std.proofs.lemmas.Bool.{false≢true, iff_false, not-true, not_from_false, false_from_ne_true}
 use Rattle.event_stamps.specs.declared.Stamp.{Stamp}
@@ -152,3 +153,14 @@ differs_in_row state k view grid placed i grid_is placed_is unseen =
     let here = subst (λ (g : GridData). IsUnseenFirst g k (slice_get state.placed) view i) grid_is
     (subst (λ (ps : List Placed). IsUnseenFirst grid k (slice_get ps) view i) placed_is unseen) in
     record { here = here.0; before = here.1 }
+
+-- ---- columns
+rest_of_row : (start index : ℕ) → start ≤ index → start + (index - start) ≡ index
+rest_of_row start index le = omega arith
+
+-- a cell that isn't before the start of a row, nor past its end, is in the column by which it is after the start
+pub column_is : (row columns index cell count : ℕ) → index ≡ cell → columns ≡ count → row * columns ≤ index →
+    index - row * columns < columns → index - row * columns ≡ cell % count
+column_is row columns index cell count same of le lt =
+    sym (mod-mul-add row columns (index - row * columns) lt)
+    ∙ ap (λ (n : ℕ). n % columns) (rest_of_row (row * columns) index le ∙ same) ∙ ap (λ (n : ℕ). cell % n) of

@@ -1,5 +1,5 @@
 -- Views that are the same but at the numbers of some rows.
-use Rattle.std.proofs.Common.{◌≡◌, ◌≢◌, ℕ, suc, ◌<◌, ◌≤◌, Bool, false, List, [], ◌∷◌, ◌==◌, map, length, get_or, refl, sym, ap, subst, ◌∙◌, arith, Option}
+use Rattle.std.proofs.Common.{◌≡◌, ◌≢◌, ℕ, suc, ◌<◌, ◌≤◌, Bool, false, List, [], ◌∷◌, ◌==◌, length, get_or, refl, sym, ap, subst, ◌∙◌, arith, Option}
 use Rattle.std.specs.Prelude.{if◌then◌else◌}
 use Rattle.std.specs.List.{Contains}
 use Rattle.region_view.specs.declared.action.Placed.{Placed}
@@ -7,12 +7,10 @@ use Rattle.region_view.specs.Views.{ViewData, rows_in}
 use Rattle.region_view.specs.Setting.{RowList, AreRows, set_rows, get_over}
 use Rattle.region_view.proofs.Puts.{set_rows_are_put_over}
 use Rattle.region_queue.specs.Naming.{IsSameBut}
+use Rattle.region_core.specs.Touched.{numbers_of}
 
 other_number : (i j : ℕ) → i ≢ j → (i == j) ≡ false
 other_number i j other = grind arith
-
-abbrev pub numbers_of : RowList → List ℕ
-numbers_of rows = map (λ r. r.0) rows
 
 over_others : (rows : RowList) (i : ℕ) (before : Option Placed) → ¬ Contains (numbers_of rows) i →
     get_over rows i before ≡ before
@@ -22,12 +20,16 @@ over_others (r ∷ rows) i before none =
     (other_number i r.0 (λ same. none (0, omega arith, sym same)))
     ∙ over_others rows i before (λ has. none (suc has.0, omega (arith, has.1), has.2))
 
-same_but : (before : ViewData) (rows : RowList) →
+pub same_but : (before : ViewData) (rows : RowList) →
     IsSameBut (numbers_of rows) before (set_rows before rows)
 same_but before rows = λ i none.
     set_rows_are_put_over before rows i ∙ over_others rows i (rows_in before i) none
 
 -- ---- a slice of rows
+pub no_number : (rows : RowList) → length rows < 1 → numbers_of rows ≡ []
+no_number [] few = refl
+no_number (r ∷ rows) few = absurd (omega arith)
+
 pub one_number : (rows : RowList) (d : ℕ × Option Placed) → 1 ≤ length rows → length rows < 2 →
     numbers_of rows ≡ (get_or rows 0 d).0 ∷ []
 one_number [] d some few = absurd (omega arith)
@@ -41,9 +43,8 @@ two_numbers (r ∷ []) d are some = absurd (omega arith)
 two_numbers (r ∷ s ∷ []) d are some = refl
 two_numbers (r ∷ s ∷ t ∷ rows) d are some = absurd are
 
--- rows are set at these numbers alone
+-- the numbers of a slice are those of its rows
 pub same_but_at : (before view : ViewData) (rows slice : RowList) (ids : List ℕ) → slice ≡ rows →
-    numbers_of slice ≡ ids → view ≡ set_rows before rows → IsSameBut ids before view
+    numbers_of slice ≡ ids → IsSameBut (numbers_of rows) before view → IsSameBut ids before view
 same_but_at before view rows slice ids here numbers is =
-    subst (λ (v : List ℕ). IsSameBut v before view) (ap numbers_of (sym here) ∙ numbers)
-    (subst (IsSameBut (numbers_of rows) before) (sym is) (same_but before rows))
+    subst (λ (v : List ℕ). IsSameBut v before view) (ap numbers_of (sym here) ∙ numbers) is

@@ -1,59 +1,69 @@
--- What entries leave as it was: the rows of disks that they don't touch.
-use Rattle.std.proofs.Common.{◌≡◌, ◌≢◌, ℕ, ◌+◌, suc, ◌<◌, List, [], ◌∷◌, ◌++◌, length, get_or, take, Option, Some, None, sym, ap, ◌∙◌, refl, arith, append_assoc}
-use Rattle.std.specs.Prelude.{map as each}
+-- What an action leaves as it was: the rows of disks that its event hasn't, and at a crossing the disk's record.
+use Rattle.std.proofs.Common.{◌≡◌, ◌≢◌, inl, inr, ℕ, ◌==◌, Bool, true, false, List, ◌++◌, Option, Some, None, Ok, Err, sym, ap, ◌∙◌, subst, refl}
+use Rattle.std.specs.Prelude.{map as each, if◌then◌else◌, option_map, IfSome}
 use Rattle.std.specs.FinMap as map
-use Rattle.std.specs.List.{Contains}
-use Rattle.std.proofs.Math.Seq.{take-suc}
-use Rattle.std.proofs.lemmas.List.{append-nil}
-use Rattle.std.proofs.lemmas.List.Elements.{Contains-append_left, Contains-append_right}
 use Rattle.fixed_motion.specs.declared.disk.Disk.{Disk}
+use Rattle.fixed_motion.specs.Motion.{place_of}
+use Rattle.event_stamps.specs.declared.Stamp.{Stamp}
+use Rattle.event_stamps.specs.declared.Kind.{Kind}
+use Rattle.event_stamps.specs.declared.Kind.TheVariants.{Cross as Crossing, Wall, Pair}
+use Rattle.event_rules.specs.declared.change.Change.{Change}
+use Rattle.event_rules.specs.declared.change.Limit.TheVariants.{Rounds, Speed}
+use Rattle.event_rules.specs.Effect.{change_of, keeps_speed}
+use Rattle.cell_grid.specs.Grid.{cell_at}
 use Rattle.region_view.specs.declared.action.Placed.{Placed}
 use Rattle.region_view.specs.declared.action.Action.{Action}
 use Rattle.region_view.specs.declared.action.Action.TheVariants.{Cross, Hit}
-use Rattle.region_view.specs.Acting.{recelled, redisked}
-use Rattle.region_view.specs.Setting.{RowList, put, set_row, set_rows, after_action}
-use Rattle.region_view.specs.Views.{ViewData}
-use Rattle.region_view.proofs.Puts.{get_put_other}
-use Rattle.region_queue.specs.Naming.{IsSameBut}
-use Rattle.region_core.specs.declared.entry.Entry.{Entry}
-use Rattle.region_core.specs.declared.entry.Entry.TheVariants.{Native, Heard}
-use Rattle.region_core.specs.LocalRun.{At, after_entry, after_log}
-use Rattle.region_core.specs.Touched.{numbers_of, partner_of, changed_by, touched_by, touched_by_all}
-
--- ---- numbers in lists
-other_than_first : (x i : ℕ) (xs : List ℕ) → ¬ Contains (x ∷ xs) i → i ≢ x
-other_than_first x i xs not e = not (0, omega arith, sym e)
-
-not_in_rest : (x i : ℕ) (xs : List ℕ) → ¬ Contains (x ∷ xs) i → ¬ Contains xs i
-not_in_rest x i xs not c = not (Contains-append_right (x ∷ []) xs i c)
-
--- ---- rows of other disks
-others_stay : (view : ViewData) (rows : RowList) (i : ℕ) → ¬ Contains (numbers_of rows) i →
-    map.get (set_rows view rows) i ≡ map.get view i
-others_stay view [] i not = refl
-others_stay view (r ∷ rows) i not =
-    others_stay (set_row view r) rows i (not_in_rest r.0 i (numbers_of rows) not)
-    ∙ get_put_other view r.0 r.1 i (other_than_first r.0 i (numbers_of rows) not)
+use Rattle.region_view.specs.Acting.{stamp_of, action_of, hit_of, partner_in, recelled, redisked}
+use Rattle.region_view.specs.Setting.{RowList, put, set_rows, after_action}
+use Rattle.region_view.specs.Views.{ViewData, rows_in}
+use Rattle.region_view.proofs.Puts.{get_put_here, get_put_other}
+use Rattle.region_queue.specs.Naming.{IsSameButBy, IsMoved}
+use Rattle.region_core.specs.declared.home.Home.{Home}
+use Rattle.region_core.specs.LocalRun.{ComesTo}
 
 -- what a list of new records sets
 abbrev as_rows : List (ℕ × Placed) → RowList
 as_rows rows = each (λ r. (r.0, Some r.1)) rows
 
--- the same place with another record
-abbrev with_disk : Disk → Placed → Option Placed
-with_disk disk p = Some (record { disk = disk; cell = p.cell })
-
-action_leaves : (view : ViewData) (x : Action) (i : ℕ) → ¬ Contains (changed_by x) i →
-    map.get (after_action view x) i ≡ map.get view i
-action_leaves view (Cross s cell) i not = by_row (map.get view s.first)
+-- ---- crossings
+crossing_leaves : (view : ViewData) (s : Stamp) (cell i : ℕ) → i ≢ s.first →
+    map.get (after_action view (Cross s cell)) i ≡ map.get view i
+crossing_leaves view s cell i other = by_row (map.get view s.first)
   where
     by_row : (o : Option Placed) →
         map.get (set_rows view (as_rows (recelled s.first cell o))) i ≡ map.get view i
     by_row None = refl
-    by_row (Some p) = get_put_other view s.first (Some (record { disk = p.disk; cell = cell })) i
-        (other_than_first s.first i [] not)
-action_leaves view (Hit change) i not =
-    by_rows change.second (map.get view first) (map.get view second) not
+    by_row (Some p) = get_put_other view s.first (Some (record { disk = p.disk; cell = cell })) i other
+
+abbrev disk_in : Option Placed → Option Disk
+disk_in row = option_map (λ p. p.disk) row
+
+crossing_keeps : (view : ViewData) (s : Stamp) (cell : ℕ) →
+    disk_in (map.get (after_action view (Cross s cell)) s.first) ≡ disk_in (map.get view s.first)
+crossing_keeps view s cell = by_row (map.get view s.first) refl
+  where
+    by_row : (o : Option Placed) → map.get view s.first ≡ o →
+        disk_in (map.get (set_rows view (as_rows (recelled s.first cell o))) s.first) ≡ disk_in o
+    by_row None is = ap disk_in is
+    by_row (Some p) is =
+        ap disk_in (get_put_here view s.first (Some (record { disk = p.disk; cell = cell })))
+
+-- a crossing moves its disk alone, and the disk keeps its record
+pub crossing_moves : (view : ViewData) (s : Stamp) (cell : ℕ) →
+    IsMoved s.first view (after_action view (Cross s cell))
+crossing_moves view s cell = (crossing_leaves view s cell, crossing_keeps view s cell)
+
+-- ---- collisions
+-- the same place with another record
+abbrev with_disk : Disk → Placed → Option Placed
+with_disk disk p = Some (record { disk = disk; cell = p.cell })
+
+hit_leaves : (view : ViewData) (change : Change) (i : ℕ) → i ≢ change.stamp.first →
+    IfSome change.second (λ _. i ≢ change.stamp.second) →
+    map.get (after_action view (Hit change)) i ≡ map.get view i
+hit_leaves view change i other both =
+    by_rows change.second (map.get view first) (map.get view second) both
   where
     first : ℕ
     first = change.stamp.first
@@ -61,54 +71,61 @@ action_leaves view (Hit change) i not =
     second : ℕ
     second = change.stamp.second
 
-    by_rows : (b : Option Disk) (o p : Option Placed) → ¬ Contains (first ∷ partner_of second b) i →
+    by_rows : (b : Option Disk) (o p : Option Placed) → IfSome b (λ _. i ≢ second) →
         map.get (set_rows view (as_rows (redisked first (Some change.first) o ++ redisked second b p))) i
         ≡ map.get view i
-    by_rows None None p none = refl
-    by_rows None (Some o) p none =
-        get_put_other view first (with_disk change.first o) i (other_than_first first i [] none)
-    by_rows (Some b) None None none = refl
-    by_rows (Some b) None (Some p) none = get_put_other view second (with_disk b p) i
-        (other_than_first second i [] (not_in_rest first i (second ∷ []) none))
-    by_rows (Some b) (Some o) None none =
-        get_put_other view first (with_disk change.first o) i (other_than_first first i (second ∷ []) none)
-    by_rows (Some b) (Some o) (Some p) none =
-        get_put_other (put view first (with_disk change.first o)) second (with_disk b p) i
-        (other_than_first second i [] (not_in_rest first i (second ∷ []) none))
-        ∙ get_put_other view first (with_disk change.first o) i
-        (other_than_first first i (second ∷ []) none)
+    by_rows None None p also = refl
+    by_rows None (Some o) p also = get_put_other view first (with_disk change.first o) i other
+    by_rows (Some b) None None also = refl
+    by_rows (Some b) None (Some p) also = get_put_other view second (with_disk b p) i also
+    by_rows (Some b) (Some o) None also = get_put_other view first (with_disk change.first o) i other
+    by_rows (Some b) (Some o) (Some p) also =
+        get_put_other (put view first (with_disk change.first o)) second (with_disk b p) i also
+        ∙ get_put_other view first (with_disk change.first o) i other
 
--- ---- entries
-entry_leaves : (a : At) (e : Entry) (i : ℕ) → ¬ Contains (touched_by e) i →
-    map.get (after_entry a e).view i ≡ map.get a.view i
-entry_leaves a (Native x) i not = action_leaves a.view x i not
-entry_leaves a (Heard q m) i not = others_stay a.view m.rows i not
+-- a collision that changes two disks is that of a pair
+two_are_a_pair : (h : Home) (view : ViewData) (change : Change) →
+    ComesTo h view change.stamp (Ok (Hit change)) → IfSome change.second (λ _. change.stamp.kind ≡ Pair)
+two_are_a_pair h view change (p, there, comes) = by_kind s.kind refl comes
+  where
+    s : Stamp
+    s = change.stamp
 
-untouched : (a : At) (es : List Entry) (i : ℕ) → ¬ Contains (touched_by_all es) i →
-    map.get (after_log a es).view i ≡ map.get a.view i
-untouched a [] i not = refl
-untouched a (e ∷ es) i not =
-    untouched (after_entry a e) es i
-    (λ c. not (Contains-append_right (touched_by e) (touched_by_all es) i c))
-    ∙ entry_leaves a e i (λ c. not (Contains-append_left (touched_by e) (touched_by_all es) i c))
+    never_crosses : (late : Bool) → Ok (Hit change)
+        ≡ (if late then Err (Rounds s) else Ok (Cross s (cell_at h.grid (place_of p.disk s.tick)))) →
+        IfSome change.second (λ _. s.kind ≡ Pair)
+    never_crosses true e = cc
+    never_crosses false e = cc
 
-pub same_but_touched : (a : At) (es : List Entry) →
-    IsSameBut (touched_by_all es) (after_log a es).view a.view
-same_but_touched a es i not = sym (untouched a es i not)
+    by_tests : (late slow : Bool) → Ok (Hit change) ≡ hit_of (if late then Err (Rounds s)
+        else (if slow then Ok (change_of s p.disk None) else Err (Speed s))) → change.second ≡ None
+    by_tests true slow e = cc
+    by_tests false true e =
+        let same : change ≡ change_of s p.disk None = cc in ap (λ (c : Change). c.second) same
+    by_tests false false e = cc
 
--- ---- one more entry
-touched_joined : (xs ys : List Entry) →
-    touched_by_all (xs ++ ys) ≡ touched_by_all xs ++ touched_by_all ys
-touched_joined [] ys = refl
-touched_joined (x ∷ xs) ys =
-    ap (λ (v : List ℕ). touched_by x ++ v) (touched_joined xs ys)
-    ∙ sym (append_assoc (touched_by x) (touched_by_all xs) (touched_by_all ys))
+    always : (b : Option Disk) → s.kind ≡ Pair → IfSome b (λ _. s.kind ≡ Pair)
+    always None is = tt
+    always (Some b) is = is
 
-pub touched_more : (es : List Entry) (i : ℕ) (e : Entry) → i < length es → e ≡ get_or es i e →
-    touched_by_all (take (i + 1) es) ≡ touched_by_all (take i es) ++ touched_by e
-touched_more es i e lt is =
-    let next : i + 1 ≡ suc i = omega arith in
-    ap (λ (n : ℕ). touched_by_all (take n es)) next ∙ ap touched_by_all (take-suc es i e lt)
-    ∙ touched_joined (take i es) (get_or es i e ∷ [])
-    ∙ ap (λ (v : List ℕ). touched_by_all (take i es) ++ v) (append-nil (touched_by (get_or es i e)))
-    ∙ ap (λ (v : Entry). touched_by_all (take i es) ++ touched_by v) (sym is)
+    by_kind : (k : Kind) → s.kind ≡ k → Ok (Hit change)
+        ≡ action_of h.rules h.grid s p.disk (partner_in k (rows_in view) s.second) k →
+        IfSome change.second (λ _. s.kind ≡ Pair)
+    by_kind Crossing is e = never_crosses (s.round == h.rules.round_limit) e
+    by_kind Wall is e = subst (λ (b : Option Disk). IfSome b (λ _. s.kind ≡ Pair))
+        (sym (by_tests (s.round == h.rules.round_limit) (keeps_speed h.rules (change_of s p.disk None)) e)) tt
+    by_kind Pair is e = always change.second is
+
+-- ---- any action
+pub action_leaves : (h : Home) (view : ViewData) (x : Action) → ComesTo h view (stamp_of x) (Ok x) →
+    IsSameButBy (stamp_of x) (after_action view x) view
+action_leaves h view (Cross s cell) comes i not =
+    sym (crossing_leaves view s cell i (λ same. not (inl (sym same))))
+action_leaves h view (Hit change) comes i not =
+    sym (hit_leaves view change i (λ same. not (inl (sym same)))
+    (others change.second (two_are_a_pair h view change comes)))
+  where
+    others : (b : Option Disk) → IfSome b (λ _. change.stamp.kind ≡ Pair) →
+        IfSome b (λ _. i ≢ change.stamp.second)
+    others None is = tt
+    others (Some b) is = λ same. not (inr (is, sym same))

@@ -4,12 +4,12 @@ use Rattle.event_stamps.specs.declared.Stamp.{Stamp}
 use Rattle.event_stamps.specs.Order.{Before, end_stamp}
 use Rattle.cell_grid.specs.Grid.{IsRegion, AreLinked}
 use Rattle.region_view.specs.Views.{ViewData}
-use Rattle.region_queue.specs.Queue.{IsOf, StandsFor}
+use Rattle.region_queue.specs.Queue.{QueueData, IsOf, StandsFor}
 use Rattle.saved_states.specs.Positions.{SavedData}
 use Rattle.region_core.specs.declared.home.Home.{Home}
 use Rattle.region_core.specs.declared.entry.Entry.{Entry}
 use Rattle.region_core.specs.declared.live.Live.{Live}
-use Rattle.region_core.specs.LocalRun.{Local, At, Trails, trail_of, after_entry, after_log, sent_to, IsInPlace, IsRight}
+use Rattle.region_core.specs.LocalRun.{Local, At, Trails, trail_of, start_of, now_of, after_entry, after_log, sent_to, IsInPlace, IsRight}
 use Rattle.region_core.specs.Inbox.{InboxData, taken_from}
 use Rattle.region_core.specs.Taken.{taken_of}
 
@@ -61,6 +61,17 @@ pub record IsLive (home : Home) (floor : Stamp) (live : Live) : Type 0 where
 -- the same from some floor on
 abbrev pub HasRun : Home → Live → Type 0
 HasRun home live = (floor : Stamp) × IsLive home floor live
+
+-- a right local run, the views along it, and the queue of the last
+pub record IsAlong (home : Home) (run : Local) (views : SavedData) (events : QueueData) : Type 0 where
+  pub right : IsRight home run
+  pub saved : views ≡ saved_along 0 (start_of run) run.log
+  pub queue : IsOf events home.rules home.grid home.number
+  pub stands : StandsFor events (now_of run).view
+
+-- the views and the queue of a body are those of its log
+abbrev pub GoesAlong : Home → Live → Type 0
+GoesAlong home live = (floor : Stamp) × IsAlong home (run_in floor live) live.saved live.queue
 
 -- what each region keeps
 pub record IsSound (home : Home) (floor : Stamp) (live : Option Live) : Type 0 where

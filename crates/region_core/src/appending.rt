@@ -9,14 +9,16 @@ ghost use Rattle.region_view.specs.Setting.{set_rows, IsInOrder};
 ghost use Rattle.region_view.specs.Messages.{message_of, RecordsCell};
 ghost use Rattle.region_messages.specs.Trails.{IsAfterAll};
 ghost use Rattle.cell_grid.specs.Grid.{IsRegion};
+ghost use Rattle.region_queue.specs.Naming.{IsSameBut};
 ghost use Rattle.region_queue.specs.Queue.{IsOf, StandsFor};
 ghost use Rattle.region_core.specs.declared.entry.Entry.TheVariants.{Native, Heard};
 ghost use Rattle.region_core.specs.declared.moves.Move.TheVariants.{Run, TakeIn};
-ghost use Rattle.region_core.specs.LocalRun.{IsInPlace, trail_of, told};
+ghost use Rattle.region_core.specs.LocalRun.{At, IsInPlace, after_entry, trail_of, told};
 ghost use Rattle.region_core.specs.Answers.{with_entry};
 ghost use Rattle.region_core.specs.Live.{run_in, now_in, IsLive, AreSavedAlong};
 ghost use Rattle.region_core.specs.Keeping.{SendsTo};
 ghost use Rattle.region_core.specs.Moves.{Fits};
+ghost use Rattle.region_core.specs.Touched.{numbers_of};
 
 use crate::live::Live;
 use crate::{Entry, Home, MAX_ENTRIES};
@@ -27,27 +29,30 @@ use region_view::{Action, Message, Rows, View, message_for, rows_of};
 use std::alloc::{AllocError, Global};
 
 impl Live {
-    // Sets rows in the view after the whole log, before the entry that sets them is appended.
-    fn set(&mut self, alloc: Global, rows: Rows) -> Result<(), AllocError>
+    // Appends an entry, which sets these rows in the view after the whole log.
+    fn append(&mut self, alloc: Global, entry: Entry, rows: Rows) -> Result<(), AllocError>
         requires saved { AreSavedAlong self.old }
         requires room { length self.old.log.items < MAX_ENTRIES }
         requires stands { StandsFor self.old.queue (now_in self.old).view }
+        requires rows { (after_entry (now_in self.old) entry).view
+            ≡ set_rows (now_in self.old).view rows }
         requires valid { IsValidPlacing self.old.queue.rules self.old.queue.grid
-            (rows_in (set_rows (now_in self.old).view rows)) }
+            (rows_in (after_entry (now_in self.old) entry).view) }
+        ensures log { OnOk result (self.new.log.items ≡ self.old.log.items ++ entry ∷ []) }
         ensures saved { OnOk result (self.new.saved ≡ self.old.saved
-            ++ (length self.old.log.items + 1, set_rows (now_in self.old).view rows) ∷ []) }
+            ++ (length self.old.log.items + 1, (after_entry (now_in self.old) entry).view) ∷ []) }
         ensures queue { OnOk result (IsOf self.new.queue self.old.queue.rules self.old.queue.grid
             self.old.queue.region) }
         ensures stands { OnOk result
-            (StandsFor self.new.queue (set_rows (now_in self.old).view rows)) }
+            (StandsFor self.new.queue (after_entry (now_in self.old) entry).view) }
         ensures base { self.new.base ≡ self.old.base }
         ensures inbox { self.new.inbox ≡ self.old.inbox }
         ensures sent { self.new.sent ≡ self.old.sent }
-        ensures log { self.new.log ≡ self.old.log }
     {
         let position = self.log.len() as u64 + 1;
         self.saved.append(position, rows)?;
-        touch(alloc, &mut self.queue, self.saved.newest(), &rows)?;
+        tell(alloc, &mut self.queue, self.saved.newest(), &entry, &rows)?;
+        self.log.push(entry)?;
         Ok(())
     }
 
@@ -72,9 +77,9 @@ impl Live {
     {
         let _home = home;
         let _floor = floor;
-        self.set(alloc, message.rows)?;
+        let rows = message.rows;
+        self.append(alloc, Entry::Heard { from, message }, rows)?;
         self.inbox.take(from);
-        self.log.push(Entry::Heard { from, message })?;
         Ok(())
     }
 }
@@ -102,8 +107,7 @@ impl Live {
         let view = self.saved.newest();
         let rows = rows_of(view, &action);
         send(&mut self.sent, home, view, &action)?;
-        self.set(alloc, rows)?;
-        self.log.push(Entry::Native(action))?;
+        self.append(alloc, Entry::Native(action), rows)?;
         Ok(())
     }
 }
@@ -152,12 +156,38 @@ fn send_one(trail: &mut Trail, message: Option<Message>) -> Result<(), AllocErro
     Ok(())
 }
 
-// Tells the queue of rows that were set.
-fn touch(alloc: Global, queue: &mut Queue, view: &View, rows: &Rows) -> Result<(), AllocError>
+// Tells the queue of an entry, which set these rows.
+fn tell(
+    alloc: Global,
+    queue: &mut Queue,
+    view: &View,
+    entry: &Entry,
+    rows: &Rows,
+) -> Result<(), AllocError>
     requires valid { IsValidPlacing queue.old.rules queue.old.grid (rows_in view.now) }
-    ensures queue { OnOk result (IsOf queue.new queue.old.rules queue.old.grid queue.old.region) }
+    ensures queue { IsOf queue.new queue.old.rules queue.old.grid queue.old.region }
+    ensures stands { OnOk result ((before : At) → StandsFor queue.old before.view →
+        view.now ≡ (after_entry before entry.now).view → view.now ≡ set_rows before.view rows.now →
+        StandsFor queue.new view.now) }
+{
+    match entry {
+        // Its disk keeps its course.
+        Entry::Native(Action::Cross { stamp, .. }) => queue.crossed(alloc, view, stamp.first),
+        Entry::Native(Action::Hit(_)) | Entry::Heard { .. } => touch(alloc, queue, view, rows),
+    }
+}
+
+/// Tells the queue of a view that differs in the disks of some rows from the one that it stands for.
+pub(crate) fn touch(
+    alloc: Global,
+    queue: &mut Queue,
+    view: &View,
+    rows: &Rows,
+) -> Result<(), AllocError>
+    requires valid { IsValidPlacing queue.old.rules queue.old.grid (rows_in view.now) }
+    ensures queue { IsOf queue.new queue.old.rules queue.old.grid queue.old.region }
     ensures stands { OnOk result ((before : ViewData) → StandsFor queue.old before →
-        view.now ≡ set_rows before rows.now → StandsFor queue.new view.now) }
+        IsSameBut (numbers_of rows.now) before view.now → StandsFor queue.new view.now) }
 {
     match rows.as_slice() {
         [] => queue.touched(alloc, view, &[]),

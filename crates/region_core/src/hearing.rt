@@ -42,8 +42,9 @@ impl Live {
         self.hear_from(alloc, home, from, at, sent)
     }
 
-    /// Hears what is new since the other's last mark: all that stood then is taken to be heard.
-    /// What was done since the first news is taken back.
+    /// Hears what is new since the other's last mark: all that stood then is taken to be heard, and
+    /// what isn't sent any more is waited for until the other's `clock` is past it. What was done
+    /// since the first news is taken back.
     ///
     /// # Errors
     /// Out of memory: what is left is to be dropped.
@@ -53,6 +54,7 @@ impl Live {
         home: &Home,
         from: u32,
         sent: &Trail,
+        clock: Option<Stamp>,
     ) -> Result<(), AllocError>
         requires place { IsInPlace home.now }
         requires live { HasRun home.now self.old }
@@ -60,7 +62,7 @@ impl Live {
         ensures { OnOk result ((floor : Stamp) → IsLive home.now floor self.old →
             IsHearable home.now floor from sent.now → IsLive home.now floor self.new) }
     {
-        let Some(at) = self.inbox.first_news(from, sent) else {
+        let Some(at) = self.inbox.first_news(from, sent, clock) else {
             return Ok(());
         };
         self.hear_from(alloc, home, from, at, sent)?;

@@ -1,17 +1,21 @@
 //! Rollback: taking back what a region did too early.
 
-ghost use Rattle.std.specs.Prelude.{◌≡◌, ◌≤◌, ◌++◌, length, take, drop, map, IfOk, OnOk};
-ghost use Rattle.region_messages.specs.Trails.{below};
-ghost use Rattle.region_core.specs.LocalRun.{RiseFrom, IsInPlace, entries_below, entries_from};
-ghost use Rattle.region_core.specs.Live.{IsLive, HasRun};
-ghost use Rattle.region_core.specs.Touched.{numbers_of, changed_by, touched_by, touched_by_all};
+ghost use Rattle.std.specs.Prelude.{◌≡◌, ◌≤◌, ◌-◌, length, take, drop, map, OnOk};
 ghost use Rattle.event_stamps.specs.declared.Stamp.{Stamp};
+ghost use Rattle.region_view.specs.Placing.{IsValidPlacing};
+ghost use Rattle.region_view.specs.Views.{rows_in};
+ghost use Rattle.region_messages.specs.Trails.{below};
+ghost use Rattle.region_queue.specs.Queue.{IsOf, StandsFor};
+ghost use Rattle.region_core.specs.LocalRun.{At, RiseFrom, IsInPlace, IsMove, after_entry, entries_below, entries_from};
+ghost use Rattle.region_core.specs.Live.{IsLive, GoesAlong, HasRun};
 
+use crate::appending::touch;
 use crate::live::Live;
 use crate::{Entry, Home};
 use event_stamps::Stamp;
 use region_messages::Trail;
-use region_view::{Action, Placed};
+use region_queue::Queue;
+use region_view::View;
 use std::alloc::{AllocError, Global};
 
 impl Live {
@@ -30,14 +34,65 @@ impl Live {
             IsLive home.now floor self.new) }
     {
         let kept = count_before(&self.log, at);
-        let dropped = &self.log[kept..];
-        let disks = disks_of(alloc, dropped)?;
-        self.inbox.give_back(dropped);
-        self.log.truncate(kept);
+        self.inbox.give_back(&self.log[kept..]);
         cut_from(&mut self.sent, at);
-        self.saved.drop_after(kept as u64)?;
-        self.queue.touched(alloc, self.saved.newest(), &disks)?;
+        self.drop_down_to(alloc, home, kept)?;
         Ok(())
+    }
+
+    // Takes entries back, the last one first, until no more than so many are left.
+    fn drop_down_to(&mut self, alloc: Global, home: &Home, kept: usize) -> Result<(), AllocError>
+        requires place { IsInPlace home.now }
+        requires along { GoesAlong home.now self.old }
+        ensures along { OnOk result (GoesAlong home.now self.new) }
+        ensures log { OnOk result (self.new.log.items ≡ take kept self.old.log.items) }
+        ensures base { self.new.base ≡ self.old.base }
+        ensures inbox { self.new.inbox ≡ self.old.inbox }
+        ensures sent { self.new.sent ≡ self.old.sent }
+    {
+        while self.log.len() > kept {
+            self.drop_last(alloc, home)?;
+        }
+        Ok(())
+    }
+
+    // Takes the last entry back, if there is one.
+    fn drop_last(&mut self, alloc: Global, home: &Home) -> Result<(), AllocError>
+        requires place { IsInPlace home.now }
+        requires along { GoesAlong home.now self.old }
+        ensures along { OnOk result (GoesAlong home.now self.new) }
+        ensures log { OnOk result (self.new.log.items
+            ≡ take (length self.old.log.items - 1) self.old.log.items) }
+        ensures base { self.new.base ≡ self.old.base }
+        ensures inbox { self.new.inbox ≡ self.old.inbox }
+        ensures sent { self.new.sent ≡ self.old.sent }
+    {
+        let Some(entry) = self.log.pop() else {
+            return Ok(());
+        };
+        self.saved.drop_after(self.log.len() as u64)?;
+        take_back(alloc, home, &mut self.queue, self.saved.newest(), &entry)
+    }
+}
+
+// Tells the queue that an entry is taken back, and of the view before it.
+fn take_back(
+    alloc: Global,
+    home: &Home,
+    queue: &mut Queue,
+    view: &View,
+    entry: &Entry,
+) -> Result<(), AllocError>
+    requires of { IsOf queue.old home.now.rules home.now.grid home.now.number }
+    requires valid { IsValidPlacing home.now.rules home.now.grid (rows_in view.now) }
+    requires moves { (before : At) × (before.view ≡ view.now) × IsMove home.now before entry.now }
+    ensures queue { IsOf queue.new home.now.rules home.now.grid home.now.number }
+    ensures stands { OnOk result ((before : At) → before.view ≡ view.now →
+        StandsFor queue.old (after_entry before entry.now).view → StandsFor queue.new view.now) }
+{
+    match entry {
+        Entry::Native(action) => queue.take_back(alloc, view, &action.stamp()),
+        Entry::Heard { message, .. } => touch(alloc, queue, view, &message.rows),
     }
 }
 
@@ -58,51 +113,4 @@ fn cut_from(trails: &mut [Trail], at: Stamp)
     for trail in trails {
         trail.cut_from(at);
     }
-}
-
-// The disks whose rows some entries set; a disk may be named more than once.
-fn disks_of(alloc: Global, entries: &[Entry]) -> Result<Vec<u32>, AllocError>
-    ensures { IfOk result (λ disks. disks.items ≡ touched_by_all entries.now) }
-{
-    let mut disks = Vec::new(alloc);
-    for entry in entries {
-        push_touched(&mut disks, entry)?;
-    }
-    Ok(disks)
-}
-
-// Appends the disks whose rows an entry sets.
-fn push_touched(disks: &mut Vec<u32>, entry: &Entry) -> Result<(), AllocError>
-    ensures { OnOk result (disks.new.items ≡ disks.old.items ++ touched_by entry.now) }
-{
-    match entry {
-        Entry::Native(action) => push_changed(disks, action),
-        Entry::Heard { message, .. } => push_numbers(disks, message.rows.as_slice()),
-    }
-}
-
-// Appends the disks that an action changes.
-fn push_changed(disks: &mut Vec<u32>, action: &Action) -> Result<(), AllocError>
-    ensures { OnOk result (disks.new.items ≡ disks.old.items ++ changed_by action.now) }
-{
-    match action {
-        Action::Cross { stamp, .. } => disks.push(stamp.first)?,
-        Action::Hit(change) => {
-            disks.push(change.stamp.first)?;
-            if change.second.is_some() {
-                disks.push(change.stamp.second)?;
-            }
-        }
-    }
-    Ok(())
-}
-
-// Appends the numbers of some rows.
-fn push_numbers(disks: &mut Vec<u32>, rows: &[(u32, Option<Placed>)]) -> Result<(), AllocError>
-    ensures { OnOk result (disks.new.items ≡ disks.old.items ++ numbers_of rows.now) }
-{
-    for (disk, _) in rows {
-        disks.push(*disk)?;
-    }
-    Ok(())
 }

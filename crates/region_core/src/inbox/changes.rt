@@ -47,11 +47,12 @@ impl Inbox {
     }
 
     /// From which stamp on it differs, where what stood of `sent` when it was last marked is taken
-    /// to be heard; none where it is taken to be the same.
-    pub(crate) fn first_news(&self, from: u32, sent: &Trail) -> Option<Stamp>
+    /// to be heard, and what is missing is waited for until the other's `clock` is past it; none
+    /// where nothing is new.
+    pub(crate) fn first_news(&self, from: u32, sent: &Trail, clock: Option<Stamp>) -> Option<Stamp>
         requires { from < length self.now.heard }
     {
-        first_news(&self.heard[from as usize], sent)
+        first_news(&self.heard[from as usize], sent, clock)
     }
 
     /// Hears from a region what it sends from a stamp on, in place of what was heard from there on.

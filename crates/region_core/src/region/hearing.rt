@@ -62,8 +62,9 @@ impl Region {
 
     /// Hears what is new of what another region sends to it, and marks that it did. What it did
     /// from the first news on, it takes back. It takes for granted that it heard what the other had
-    /// sent when that was last marked; if it hadn't, it has heard only a part, as a burst may, and
-    /// is a right local run all the same.
+    /// sent when that was last marked, and keeps what the other took back until that one is past it;
+    /// so it may have heard only a part, or what isn't sent any more, as a burst may, and is a right
+    /// local run all the same.
     ///
     /// # Errors
     /// Out of memory: the region is spent.
@@ -74,13 +75,14 @@ impl Region {
         ensures teller { from.new ≡ from.old }
     {
         let number = from.home.number;
+        let clock = from.clock();
         let Some(sent) = self.sent_by(from) else {
             return Ok(());
         };
         let Some(live) = &mut self.live else {
             return Ok(());
         };
-        match live.catch_up(alloc, &self.home, number, sent) {
+        match live.catch_up(alloc, &self.home, number, sent, clock) {
             Ok(()) => {
                 from.mark_sent(self.home.number);
                 Ok(())

@@ -1,7 +1,7 @@
 //! Whether a region stands on a cell state.
 
-ghost use Rattle.std.specs.Prelude.{◌↔◌, ℕ, ◌≤◌, length, slice_get, option_copied, Some, IsTrue, MatchOption};
-ghost use Rattle.cell_grid.specs.Grid.{HasSizes, IsRegion, IsCell, IsStripOf, Reaches};
+ghost use Rattle.std.specs.Prelude.{◌≡◌, ◌↔◌, ℕ, ◌<◌, ◌≤◌, length, slice_get, option_copied, Some, IsTrue, MatchOption};
+ghost use Rattle.cell_grid.specs.Grid.{HasSizes, IsRegion, IsCell, IsStripOf, Reaches, column_of};
 ghost use Rattle.region_view.specs.Laws.{HasCells};
 ghost use Rattle.region_view.specs.Views.{IsViewOf};
 ghost use Rattle.region_core.specs.Keeping.{IsKept};
@@ -62,11 +62,12 @@ fn first_apart(view: &View, placed: &[Placed], grid: &Grid, number: u32) -> Opti
     ensures { MatchOption result (IsViewOf grid.now number (slice_get placed.now) view.now)
         (IsUnseenFirst grid.now number (slice_get placed.now) view.now) }
 {
-    // Once for all rows, since a strip takes divisions and the rows are many.
+    // Once for all rows, since these take divisions and the rows are many.
     let strip = grid.strip(number);
+    let factor = u32::MAX / grid.columns();
     for (i, row) in placed.iter().enumerate() {
         let disk = i as u32;
-        if !sees_row(view.get(disk), row, grid, strip) {
+        if !sees_row(view.get(disk), row, grid, strip, factor) {
             return Some(disk);
         }
     }
@@ -75,24 +76,41 @@ fn first_apart(view: &View, placed: &[Placed], grid: &Grid, number: u32) -> Opti
 }
 
 // Whether what a view has at a number is exactly what the region of a strip sees of the row there.
-fn sees_row(found: Option<&Placed>, row: &Placed, grid: &Grid, strip: Strip) -> bool
+fn sees_row(found: Option<&Placed>, row: &Placed, grid: &Grid, strip: Strip, factor: u32) -> bool
     requires sizes { HasSizes grid.now }
     requires cell { IsCell grid.now row.now.cell }
     ensures { (k : ℕ) → IsStripOf grid.now k strip →
         (IsTrue result ↔ SeesRow grid.now k (Some row.now) (option_copied found.entry)) }
 {
     match found {
-        Some(placed) => placed == row && reaches(strip, grid, row.cell),
-        None => !reaches(strip, grid, row.cell),
+        Some(placed) => placed == row && reaches(strip, grid, factor, row.cell),
+        None => !reaches(strip, grid, factor, row.cell),
     }
 }
 
 // Whether a cell is in a column of a strip or in one beside it.
-fn reaches(strip: Strip, grid: &Grid, cell: u32) -> bool
+fn reaches(strip: Strip, grid: &Grid, factor: u32, cell: u32) -> bool
     requires sizes { HasSizes grid.now }
     requires cell { IsCell grid.now cell }
     ensures { (k : ℕ) → IsStripOf grid.now k strip → (IsTrue result ↔ Reaches grid.now k cell) }
 {
-    let column = grid.column(cell);
+    let column = column_by(grid, factor, cell);
     strip.first <= column + 1 && column <= strip.end
+}
+
+// The column of a cell. With the factor 2^32 by the number of columns, rounded down, the row is mostly found by
+// a product; of another factor nothing need be known, since a wrong row is seen.
+fn column_by(grid: &Grid, factor: u32, cell: u32) -> u32
+    requires { IsCell grid.now cell }
+    ensures value { result ≡ column_of grid.now cell }
+    ensures in_range { result < grid.now.columns }
+{
+    let columns = u64::from(grid.columns());
+    let index = u64::from(cell);
+    let start = (((index + 1) * u64::from(factor)) >> 32) * columns;
+    if start <= index && index - start < columns {
+        (index - start) as u32
+    } else {
+        grid.column(cell)
+    }
 }

@@ -1,8 +1,17 @@
-use Rattle.std.proofs.Common.{sym, subst}
+use Rattle.std.proofs.Common.{[], sym, subst}
 use Rattle.region_view.specs.Setting.{AreRows}
 use Rattle.region_core.proofs.News.{on_ok}
-use Rattle.region_core.proofs.Touched.{one_number, two_numbers, same_but_at}
+use Rattle.region_core.proofs.Touched.{no_number, one_number, two_numbers, same_but_at}
 use Rattle.region_core.proofs.appending.touch.Goals as goal
+
+pub returns-in-empty-clause-stands : goal.returns-in-empty-clause-stands
+returns-in-empty-clause-stands c =
+    let slice = c.as_slice.result.now in
+    on_ok c.touched.result _ _
+    (λ stands. λ before here is. stands before here
+    (same_but_at before c.args.view.now c.args.rows.now slice [] c.as_slice.ensures.value
+    (no_number slice c.in-empty.len_below) is))
+    c.touched.ensures.stands
 
 pub returns-in-len1-clause-stands : goal.returns-in-len1-clause-stands
 returns-in-len1-clause-stands c =

@@ -1,13 +1,11 @@
-use Rattle.std.proofs.Common.{◌≡◌, ◌+◌, ◌∷◌, [], ◌++◌, length, ap, ◌∙◌, sym, subst}
+use Rattle.std.proofs.Common.{◌≡◌, ◌∷◌, [], ◌++◌, ap, ◌∙◌, sym, subst}
 use Rattle.region_view.specs.Laws.{HasCells}
-use Rattle.region_view.specs.Placing.{IsValidPlacing}
-use Rattle.region_view.specs.Setting.{RowList, set_rows, rows_set}
+use Rattle.region_view.specs.Setting.{set_rows, rows_set}
 use Rattle.region_view.specs.Views.{ViewData, rows_in}
 use Rattle.region_core.specs.declared.entry.Entry.TheVariants.{Native}
 use Rattle.region_core.specs.Inbox.{InboxData}
 use Rattle.region_core.specs.LocalRun.{trail_of, told}
 use Rattle.region_view.specs.Messages.{message_of}
-use Rattle.region_queue.specs.Queue.{StandsFor}
 use Rattle.region_core.specs.Live.{run_in, now_in, IsInbox, IsOutbox}
 use Rattle.region_core.proofs.Valid.{valid_now}
 use Rattle.region_core.proofs.Appended.{further_is, newest_is, native_action, native_valid, after_what_was_sent, inbox_native, outbox_native}
@@ -37,8 +35,8 @@ send-requires c =
       after = after_what_was_sent home c.args.floor live c.args.action c.requires.live c.requires.fits;
     }
 
-pub set-requires : goal.set-requires
-set-requires c =
+pub append-requires : goal.append-requires
+append-requires c =
     let live = c.args.self.now in
     let view = newest_is live c.newest-view.ensures.last.0 c.newest-view.result.now c.requires.live.saved
     c.newest-view.ensures.last.1 in
@@ -48,10 +46,9 @@ set-requires c =
       saved = c.requires.live.saved;
       room = c.requires.fits.0.0;
       stands = c.requires.live.stands;
-      valid = subst (λ (rs : RowList). IsValidPlacing live.queue.rules live.queue.grid
-          (rows_in (set_rows (now_in live).view rs))) (sym rows)
-          (native_valid c.args.home.now c.args.floor live c.args.action c.requires.place
-          c.requires.live c.requires.fits);
+      rows = ap (set_rows (now_in live).view) (sym rows);
+      valid = native_valid c.args.home.now c.args.floor live c.args.action c.requires.place
+          c.requires.live c.requires.fits;
     }
 
 pub returns-clause-live : goal.returns-clause-live
@@ -59,30 +56,26 @@ returns-clause-live c =
     let home = c.args.home.now in
     let live = c.args.self.now in
     let e = Native c.args.action in
-    let queue = c.in_ok-set.ensures.queue in
+    let queue = c.in_ok-append.ensures.queue in
     let view = newest_is live c.newest-view.ensures.last.0 c.newest-view.result.now c.requires.live.saved
     c.newest-view.ensures.last.1 in
-    let rows : c.rows_of-rows.result ≡ rows_set (rows_in (now_in live).view) c.args.action =
-    c.rows_of-rows.ensures ∙ ap (λ (v : ViewData). rows_set (rows_in v) c.args.action) view in
     further_is home c.args.floor live _ e c.requires.live c.requires.fits.0.0 c.requires.fits.1
     c.requires.fits.2
     record {
-      base = c.set.ensures.base;
-      heard = ap (λ (x : InboxData). x.heard) c.set.ensures.inbox;
-      log = c.in_ok-push.ensures.items ∙ (λ i. (c.set.ensures.log i).items ++ e ∷ []);
-      saved = c.in_ok-set.ensures.saved ∙ ap (λ (rs : RowList). live.saved
-          ++ (length live.log.items + 1, set_rows (now_in live).view rs) ∷ []) rows;
+      base = c.append.ensures.base;
+      heard = ap (λ (x : InboxData). x.heard) c.append.ensures.inbox;
+      log = c.in_ok-append.ensures.log;
+      saved = c.in_ok-append.ensures.saved;
       queue = record {
         rules = queue.rules ∙ c.requires.live.queue.rules;
         grid = queue.grid ∙ c.requires.live.queue.grid;
         region = queue.region ∙ c.requires.live.queue.region;
       };
-      stands = subst (λ (rs : RowList). StandsFor c.set.new.self.queue (set_rows (now_in live).view rs))
-          rows c.in_ok-set.ensures.stands;
-      inbox = subst (IsInbox home (live.log.items ++ e ∷ [])) (sym c.set.ensures.inbox)
+      stands = c.in_ok-append.ensures.stands;
+      inbox = subst (IsInbox home (live.log.items ++ e ∷ [])) (sym c.append.ensures.inbox)
           (inbox_native home live.log.items live.inbox c.args.action c.requires.live.inbox);
       sent = subst (IsOutbox home live.base (live.log.items ++ e ∷ []))
-          (λ i. (sym c.set.ensures.sent i).items)
+          (λ i. (sym c.append.ensures.sent i).items)
           (outbox_native home c.args.floor live c.args.action c.send.new.sent.items
           c.requires.live.sent c.in_ok-send.ensures.size
           (λ to sends. c.in_ok-send.ensures.told to sends

@@ -1,4 +1,4 @@
-use Rattle.std.proofs.Common.{◌<◌, ◌∷◌, [], ◌++◌, ap, ◌∙◌, sym, subst}
+use Rattle.std.proofs.Common.{◌<◌, ◌∷◌, [], ◌++◌, ap, ◌∙◌, sym, subst, refl}
 use Rattle.std.specs.Prelude.{IsSome}
 use Rattle.region_core.specs.declared.entry.Entry.TheVariants.{Heard}
 use Rattle.region_core.specs.declared.entry.TheConstants.{MAX_ENTRIES}
@@ -7,22 +7,23 @@ use Rattle.region_core.specs.Live.{IsInbox, IsOutbox}
 use Rattle.region_core.proofs.Appended.{further_is, heard_valid, waits_in, few_taken, inbox_heard, outbox_heard, sender_is_region}
 use Rattle.region_core.proofs.live.Live.take_in.Goals as goal
 
-pub set-requires : goal.set-requires
-set-requires c = record {
+pub append-requires : goal.append-requires
+append-requires c = record {
   saved = c.requires.live.saved;
   room = c.requires.fits.0.0;
   stands = c.requires.live.stands;
+  rows = refl;
   valid = heard_valid c.args.home.now c.args.floor c.args.self.now c.args.from c.args.message
       c.requires.place c.requires.live c.requires.fits;
 }
 
 pub take-requires : goal.take-requires
 take-requires c = record {
-  waits = subst (λ (inbox : InboxData). IsSome (next_from inbox c.args.from)) (sym c.set.ensures.inbox)
+  waits = subst (λ (inbox : InboxData). IsSome (next_from inbox c.args.from)) (sym c.append.ensures.inbox)
       (waits_in c.args.home.now c.args.floor c.args.self.now c.args.from c.args.message c.requires.live
       c.requires.fits);
   room = subst (λ (inbox : InboxData). taken_from inbox c.args.from < MAX_ENTRIES)
-      (sym c.set.ensures.inbox)
+      (sym c.append.ensures.inbox)
       (few_taken c.args.home.now c.args.floor c.args.self.now c.args.from c.args.message c.requires.live
       c.requires.fits);
 }
@@ -32,26 +33,26 @@ returns-clause-live c =
     let home = c.args.home.now in
     let live = c.args.self.now in
     let e = Heard c.args.from c.args.message in
-    let inbox = c.take.ensures ∙ ap (λ (x : InboxData). with_taken x c.args.from) c.set.ensures.inbox in
-    let queue = c.in_ok-set.ensures.queue in
+    let inbox = c.take.ensures ∙ ap (λ (x : InboxData). with_taken x c.args.from) c.append.ensures.inbox in
+    let queue = c.in_ok-append.ensures.queue in
     further_is home c.args.floor live _ e c.requires.live c.requires.fits.0.0 c.requires.fits.1
     c.requires.fits.2
     record {
-      base = c.set.ensures.base;
+      base = c.append.ensures.base;
       heard = ap (λ (x : InboxData). x.heard) inbox;
-      log = c.in_ok-push.ensures.items ∙ (λ i. (c.set.ensures.log i).items ++ e ∷ []);
-      saved = c.in_ok-set.ensures.saved;
+      log = c.in_ok-append.ensures.log;
+      saved = c.in_ok-append.ensures.saved;
       queue = record {
         rules = queue.rules ∙ c.requires.live.queue.rules;
         grid = queue.grid ∙ c.requires.live.queue.grid;
         region = queue.region ∙ c.requires.live.queue.region;
       };
-      stands = c.in_ok-set.ensures.stands;
+      stands = c.in_ok-append.ensures.stands;
       inbox = subst (IsInbox home (live.log.items ++ e ∷ [])) (sym inbox)
           (inbox_heard home live.log.items live.inbox c.args.from c.args.message
           (sender_is_region home c.args.floor live c.args.from c.args.message c.requires.live
           c.requires.fits) c.requires.live.inbox);
       sent = subst (IsOutbox home live.base (live.log.items ++ e ∷ []))
-          (λ i. (sym c.set.ensures.sent i).items)
+          (λ i. (sym c.append.ensures.sent i).items)
           (outbox_heard home c.args.floor live c.args.from c.args.message c.requires.live.sent);
     }

@@ -5,8 +5,8 @@ use Rattle.region_view.specs.Setting.{set_rows}
 use Rattle.region_queue.specs.Queue.{StandsFor}
 use Rattle.saved_states.specs.Positions.{SavedData, EndsWith}
 use Rattle.region_core.specs.Live.{start_in, now_in}
-use Rattle.region_core.proofs.Along.{along_has, ends_last, comes_after_last, appended_is}
-use Rattle.region_core.proofs.live.Live.set.Goals as goal
+use Rattle.region_core.proofs.Along.{along_has, comes_after_last, appended_is, newest_appended}
+use Rattle.region_core.proofs.live.Live.append.Goals as goal
 
 pub append-requires : goal.append-requires
 append-requires c =
@@ -17,40 +17,29 @@ append-requires c =
     (subst (λ (s : SavedData). EndsWith s (0 + length live.log.items, (now_in live).view))
     (sym c.requires.saved) (along_has 0 (start_in live) live.log.items)) lt
 
-pub touch-requires : goal.touch-requires
-touch-requires c =
+pub tell-requires : goal.tell-requires
+tell-requires c =
     let live = c.args.self.now in
-    let view = (now_in live).view in
-    let saved = appended_is (start_in live) live.log.items live.saved c.append.new.self (c.len.result + 1)
-    c.args.rows c.requires.saved c.in_ok-append.ensures.appended in
-    let pair = ends_last live.saved (c.len.result + 1, set_rows view c.args.rows)
-    (c.newest.ensures.last.0, c.newest.result.now)
-    (subst (λ (s : SavedData). EndsWith s (c.newest.ensures.last.0, c.newest.result.now)) saved
-    c.newest.ensures.last.1) in
+    let is = newest_appended (start_in live) live.log.items live.saved c.append.new.self (c.len.result + 1)
+    c.args.rows _ c.requires.saved c.in_ok-append.ensures.appended c.newest.ensures.last.1 in
     record {
       valid = subst (λ (v : ViewData). IsValidPlacing live.queue.rules live.queue.grid (rows_in v))
-          (sym (ap (λ (p : ℕ × ViewData). p.1) pair)) c.requires.valid;
+          (c.requires.rows ∙ sym is) c.requires.valid;
     }
 
 pub returns-clause-saved : goal.returns-clause-saved
 returns-clause-saved c =
     let live = c.args.self.now in
-    let view = (now_in live).view in
     let size : c.len.result ≡ length live.log.items = omega (arith, c.len.ensures, live.log.ok.0) in
     appended_is (start_in live) live.log.items live.saved c.append.new.self (c.len.result + 1)
     c.args.rows c.requires.saved c.in_ok-append.ensures.appended
-    ∙ ap (λ (n : ℕ). live.saved ++ (n + 1, set_rows view c.args.rows) ∷ []) size
+    ∙ ap (λ (n : ℕ). live.saved ++ (n + 1, set_rows (now_in live).view c.args.rows) ∷ []) size
+    ∙ ap (λ (v : ViewData). live.saved ++ (length live.log.items + 1, v) ∷ []) (sym c.requires.rows)
 
 pub returns-clause-stands : goal.returns-clause-stands
 returns-clause-stands c =
     let live = c.args.self.now in
-    let view = (now_in live).view in
-    let saved = appended_is (start_in live) live.log.items live.saved c.append.new.self (c.len.result + 1)
-    c.args.rows c.requires.saved c.in_ok-append.ensures.appended in
-    let pair = ends_last live.saved (c.len.result + 1, set_rows view c.args.rows)
-    (c.newest.ensures.last.0, c.newest.result.now)
-    (subst (λ (s : SavedData). EndsWith s (c.newest.ensures.last.0, c.newest.result.now)) saved
-    c.newest.ensures.last.1) in
-    let is : c.newest.result.now ≡ set_rows view c.args.rows = ap (λ (p : ℕ × ViewData). p.1) pair in
-    subst (StandsFor c.touch.new.queue) is
-    (c.in_ok-touch.ensures.stands view c.requires.stands is)
+    let is = newest_appended (start_in live) live.log.items live.saved c.append.new.self (c.len.result + 1)
+    c.args.rows _ c.requires.saved c.in_ok-append.ensures.appended c.newest.ensures.last.1 in
+    subst (StandsFor c.tell.new.queue) (is ∙ sym c.requires.rows)
+    (c.in_ok-tell.ensures.stands (now_in live) c.requires.stands (is ∙ sym c.requires.rows) is)
