@@ -10,6 +10,7 @@ mod horizons;
 mod impulses;
 mod listeners;
 mod motion;
+mod news;
 mod ports;
 mod predictions;
 mod queues;

@@ -131,7 +131,7 @@ const SCRIPTS: &[(&str, u32, &[Call])] = &[
 ];
 
 // The regions of the state with which a run begins.
-fn opened(alloc: Global, state: &CellState) -> Result<Vec<Region>, AllocError> {
+pub fn opened(alloc: Global, state: &CellState) -> Result<Vec<Region>, AllocError> {
     let mut regions = Vec::new(alloc);
     for number in 0..state.grid().regions() {
         regions.push(Region::open(alloc, state, number)?)?;
@@ -204,7 +204,7 @@ pub fn first_wrong(
 }
 
 // The state with which the run of a text begins, on a grid for so many regions.
-fn state_of(alloc: Global, text: &str, regions: u32) -> Result<Option<CellState>, AllocError>
+pub fn state_of(alloc: Global, text: &str, regions: u32) -> Result<Option<CellState>, AllocError>
     requires { IsAsked regions }
 {
     match scene_of(alloc, text)? {
