@@ -1,15 +1,15 @@
--- The root of a tree has the least key of its leaves.
-use Rattle.std.proofs.Common.{◌≡◌, ◌≢◌, ◌⊎◌, ℕ, zero, suc, ◌+◌, ◌-◌, ◌*◌, ◌/◌, ◌^◌, ◌<◌, ◌≤◌, List, length, drop, set, arith, refl, sym, ap, subst, ◌∙◌, inl, inr}
+-- The least of the topmost keys of a tree is the least of its leaves.
+use Rattle.std.proofs.Common.{◌≡◌, ◌≢◌, ◌⊎◌, ℕ, zero, suc, ◌+◌, ◌-◌, ◌*◌, ◌/◌, ◌^◌, ◌<◌, ◌≤◌, List, length, drop, set, get_or, arith, refl, sym, ap, subst, ◌∙◌, inl, inr}
 use Rattle.std.specs.Prelude.{Some, None, if◌then◌else◌}
 use Rattle.std.specs.Ordering.{is_lt}
 use Rattle.std.specs.declared.cmp.Ordering.{Ordering}
 use Rattle.std.specs.declared.cmp.Ordering.TheVariants.{Less, Equal, Greater}
-use Rattle.std.proofs.lemmas.List.{get_or-drop, get_or-set_same, get_or-set_other, get_or_past}
+use Rattle.std.proofs.lemmas.List.{get_or-drop, get_or-set_same, get_or-set_other, get_or_past, get_or_default}
 use Rattle.event_stamps.specs.declared.Stamp.{Stamp}
 use Rattle.event_stamps.specs.Order.{Before, stamp_cmp}
 use Rattle.event_stamps.specs.Least.{earlier_of}
 use Rattle.event_stamps.proofs.StampOrder.{before_decides, before_trans, same_stamp, not_before_itself}
-use Rattle.event_tree.specs.Keys.{Key, IsNotAfter, IsLeastKey, IsPlayed, IsTree, IsTreeBut, key_at}
+use Rattle.event_tree.specs.Keys.{Key, IsNotAfter, IsLeastKey, IsLeastFrom, IsPlayed, IsTree, IsTreeBut, key_at}
 
 -- ---- the order of keys
 not_after_itself : (a : Key) → IsNotAfter a a
@@ -56,152 +56,186 @@ lesser (Some s) (Some t) = by_order (stamp_cmp t s) refl
     by_order Equal e = keeps (λ less. let same : Less ≡ Equal = sym less ∙ e in cc)
     by_order Greater e = keeps (λ less. let same : Less ≡ Greater = sym less ∙ e in cc)
 
-played_lesser : (nodes : List Key) (k : ℕ) → IsPlayed nodes k →
-    IsLesser (key_at nodes (2 * k)) (key_at nodes (2 * k + 1)) (key_at nodes k)
-played_lesser nodes k is = subst (λ (key : Key). IsLesser (key_at nodes (2 * k)) (key_at nodes (2 * k + 1)) key)
-    (sym is) (lesser (key_at nodes (2 * k)) (key_at nodes (2 * k + 1)))
+-- ---- the least of some side by side
+at_same : (nodes : List Key) (j k : ℕ) → j ≡ k → key_at nodes j ≡ key_at nodes k
+at_same nodes j k e = ap (λ (i : ℕ). key_at nodes i) e
+
+-- a key that is read from its place
+alone : (nodes : List Key) (start : ℕ) (key : Key) → start < length nodes → key ≡ get_or nodes start key →
+    IsLeastFrom nodes start 1 key
+alone nodes start key within read = record {
+  one = (0, omega arith, sym (here 0 (omega arith)));
+  least = λ i lt. subst (λ (k : Key). IsNotAfter key k) (here i lt) (not_after_itself key);
+}
+  where
+    here : (i : ℕ) → i < 1 → key ≡ key_at nodes (start + i)
+    here i lt = read ∙ get_or_default nodes start key None within ∙ at_same nodes start (start + i) (omega arith)
+
+-- of some and of those that follow them
+both : (nodes : List Key) (start m n : ℕ) (a b : Key) → IsLeastFrom nodes start m a →
+    IsLeastFrom nodes (start + m) n b → IsLeastFrom nodes start (m + n) (earlier_of a b)
+both nodes start m n a b left right = record {
+  one = one (lesser a b).one left.one right.one;
+  least = λ i lt. least i lt (below_or_not i m);
+}
+  where
+    one : {key : Key} → (key ≡ a) ⊎ (key ≡ b) → ((i : ℕ) × (i < m) × (key_at nodes (start + i) ≡ a)) →
+        ((i : ℕ) × (i < n) × (key_at nodes (start + m + i) ≡ b)) →
+        (i : ℕ) × (i < m + n) × (key_at nodes (start + i) ≡ key)
+    one (inl e) (i, lt, same) y = (i, omega arith, same ∙ sym e)
+    one (inr e) x (i, lt, same) =
+        (m + i, omega arith, at_same nodes (start + (m + i)) (start + m + i) (omega arith) ∙ same ∙ sym e)
+
+    below_or_not : (i m : ℕ) → (i < m) ⊎ (m ≤ i)
+    below_or_not i m = grind arith
+
+    least : (i : ℕ) → i < m + n → (i < m) ⊎ (m ≤ i) → IsNotAfter (earlier_of a b) (key_at nodes (start + i))
+    least i lt (inl first) =
+        not_after_trans (earlier_of a b) a (key_at nodes (start + i)) (lesser a b).first (left.least i first)
+    least i lt (inr second) =
+        let at = at_same nodes (start + m + (i - m)) (start + i) (omega arith) in
+        not_after_trans (earlier_of a b) b (key_at nodes (start + i)) (lesser a b).second
+        (subst (λ (k : Key). IsNotAfter b k) at (right.least (i - m) (omega arith)))
+
+pub least_of_three : (nodes : List Key) (a b c : Key) → 3 ≤ length nodes → a ≡ get_or nodes 0 a → b ≡ get_or nodes 1 b →
+    c ≡ get_or nodes 2 c → IsLeastFrom nodes 0 3 (earlier_of (earlier_of a b) c)
+least_of_three nodes a b c within ea eb ec =
+    let left = both nodes 0 1 1 a b (alone nodes 0 a (omega arith) ea) (alone nodes 1 b (omega arith) eb) in
+    both nodes 0 2 1 (earlier_of a b) c left (alone nodes 2 c (omega arith) ec)
+
+pub least_of_four : (nodes : List Key) (start : ℕ) (a b c d : Key) → start + 4 ≤ length nodes →
+    a ≡ get_or nodes start a → b ≡ get_or nodes (start + 1) b → c ≡ get_or nodes (start + 2) c →
+    d ≡ get_or nodes (start + 3) d → IsLeastFrom nodes start 4 (earlier_of (earlier_of a b) (earlier_of c d))
+least_of_four nodes start a b c d within ea eb ec ed =
+    let last : d ≡ get_or nodes (start + 2 + 1) d = ed ∙ ap (λ (i : ℕ). get_or nodes i d) (omega arith) in
+    let left = both nodes start 1 1 a b (alone nodes start a (omega arith) ea)
+    (alone nodes (start + 1) b (omega arith) eb) in
+    let right = both nodes (start + 2) 1 1 c d (alone nodes (start + 2) c (omega arith) ec)
+    (alone nodes (start + 2 + 1) d (omega arith) last) in
+    both nodes start 2 2 (earlier_of a b) (earlier_of c d) left right
 
 -- ---- down the tree
 -- a node's key is not after its child's
-above : (count : ℕ) (nodes : List Key) (k p : ℕ) → IsTree count nodes → 0 < p → p < count →
-    (k ≡ 2 * p) ⊎ (k ≡ 2 * p + 1) → IsNotAfter (key_at nodes p) (key_at nodes k)
-above count nodes k p tree some lt (inl e) = subst (λ (n : ℕ). IsNotAfter (key_at nodes p) (key_at nodes n)) (sym e)
-    (played_lesser nodes p (tree.played p some lt)).first
-above count nodes k p tree some lt (inr e) = subst (λ (n : ℕ). IsNotAfter (key_at nodes p) (key_at nodes n)) (sym e)
-    (played_lesser nodes p (tree.played p some lt)).second
+above : (first : ℕ) (nodes : List Key) (k j : ℕ) → IsTree first nodes → k < first → 4 * k + 3 ≤ j → j < 4 * k + 7 →
+    IsNotAfter (key_at nodes k) (key_at nodes j)
+above first nodes k j tree inner ge lt = subst (λ (key : Key). IsNotAfter (key_at nodes k) key)
+    (at_same nodes (4 * k + 3 + (j - (4 * k + 3))) j (omega arith))
+    ((tree.played k inner).least (j - (4 * k + 3)) (omega arith))
 
-parent : (k : ℕ) → (k ≡ 2 * (k / 2)) ⊎ (k ≡ 2 * (k / 2) + 1)
-parent k = grind arith
-
-root_first : (count : ℕ) (nodes : List Key) (m k : ℕ) → IsTree count nodes → k ≤ m → 0 < k → k < count + count →
-    IsNotAfter (key_at nodes 1) (key_at nodes k)
-root_first count nodes zero k tree le some lt = absurd (omega arith)
-root_first count nodes (suc m) k tree le some lt = elim (one_or_more k) [
-  | inl e ↦ subst (λ (n : ℕ). IsNotAfter (key_at nodes 1) (key_at nodes n)) (sym e)
-      (not_after_itself (key_at nodes 1))
-  | inr more ↦
-      not_after_trans (key_at nodes 1) (key_at nodes (k / 2)) (key_at nodes k)
-      (root_first count nodes m (k / 2) tree (omega arith) (omega arith) (omega arith))
-      (above count nodes k (k / 2) tree (omega arith) (omega arith) (parent k))
-]
+top_first : (first : ℕ) (nodes : List Key) (top : Key) (m j : ℕ) → IsTree first nodes → IsLeastFrom nodes 0 3 top →
+    j ≤ m → j < 4 * first + 3 → IsNotAfter top (key_at nodes j)
+top_first first nodes top m j tree least le lt = go m j le lt (top_or_not j)
   where
-    one_or_more : (k : ℕ) → (k ≡ 1) ⊎ (1 < k) ⊎ (k ≡ 0)
-    one_or_more k = grind arith
+    top_or_not : (j : ℕ) → (j < 3) ⊎ (3 ≤ j)
+    top_or_not j = grind arith
+
+    go : (m j : ℕ) → j ≤ m → j < 4 * first + 3 → (j < 3) ⊎ (3 ≤ j) → IsNotAfter top (key_at nodes j)
+    go m j le lt (inl few) =
+        subst (λ (key : Key). IsNotAfter top key) (at_same nodes (0 + j) j (omega arith)) (least.least j few)
+    go zero j le lt (inr more) = absurd (omega arith)
+    go (suc m) j le lt (inr more) =
+        let k = (j - 3) / 4 in
+        not_after_trans top (key_at nodes k) (key_at nodes j)
+        (go m k (omega arith) (omega arith) (top_or_not k))
+        (above first nodes k j tree (omega arith) (omega arith) (omega arith))
 
 -- ---- and up: a node's key is one of the leaves'
 abbrev LeafWith : ℕ → List Key → Key → Type 0
-LeafWith count nodes key = (i : ℕ) × (i < count) × (key_at nodes (count + i) ≡ key)
+LeafWith first nodes key = (disk : ℕ) × (key_at nodes (first + disk) ≡ key)
 
-leaf_with : (count : ℕ) (nodes : List Key) (m k : ℕ) → IsTree count nodes → count + count ≤ k + m → 0 < k →
-    k < count + count → LeafWith count nodes (key_at nodes k)
-leaf_with count nodes zero k tree le some lt = absurd (omega arith)
-leaf_with count nodes (suc m) k tree le some lt = elim (leaf_or_not count k) [
-  | inl leaf ↦
-      let e : count + (k - count) ≡ k = omega arith in
-      (k - count, omega arith, subst (λ (n : ℕ). key_at nodes n ≡ key_at nodes k) (sym e) refl)
-  | inr inner ↦ from (played_lesser nodes k (tree.played k some inner)).one
-      (leaf_with count nodes m (2 * k) tree (omega arith) (omega arith) (omega arith))
-      (leaf_with count nodes m (2 * k + 1) tree (omega arith) (omega arith) (omega arith))
-]
+leaf_with : (first : ℕ) (nodes : List Key) (m k : ℕ) → IsTree first nodes → first ≤ k + m →
+    LeafWith first nodes (key_at nodes k)
+leaf_with first nodes m k tree le = go m k le (leaf_or_not k)
   where
-    leaf_or_not : (count k : ℕ) → (count ≤ k) ⊎ (k < count)
-    leaf_or_not count k = grind arith
+    leaf_or_not : (k : ℕ) → (first ≤ k) ⊎ (k < first)
+    leaf_or_not k = grind arith
 
-    from : {a b key : Key} → (key ≡ a) ⊎ (key ≡ b) → LeafWith count nodes a → LeafWith count nodes b →
-        LeafWith count nodes key
-    from (inl e) x y = (x.0, x.1, x.2 ∙ sym e)
-    from (inr e) x y = (y.0, y.1, y.2 ∙ sym e)
+    go : (m k : ℕ) → first ≤ k + m → (first ≤ k) ⊎ (k < first) → LeafWith first nodes (key_at nodes k)
+    go m k le (inl leaf) = (k - first, at_same nodes (first + (k - first)) k (omega arith))
+    go zero k le (inr inner) = absurd (omega arith)
+    go (suc m) k le (inr inner) =
+        let one = (tree.played k inner).one in
+        let child : ℕ = 4 * k + 3 + one.0 in
+        let leaf = go m child (omega arith) (leaf_or_not child) in
+        (leaf.0, leaf.1 ∙ one.2)
 
 -- ---- the least
-pub root_is_least : (count : ℕ) (nodes : List Key) → 0 < count → IsTree count nodes →
-    IsLeastKey (drop count nodes) (key_at nodes 1)
-root_is_least count nodes some tree = record {
-  one = λ s e. one s e (leaf_with count nodes (count + count) 1 tree (omega arith) (omega arith) (omega arith));
-  least = λ i. rw (get_or-drop count nodes i None) (least i (within (count + i) (count + count)));
+pub top_is_least : (first : ℕ) (nodes : List Key) (top : Key) → 0 < length nodes → IsTree first nodes →
+    IsLeastFrom nodes 0 3 top → IsLeastKey (drop first nodes) top
+top_is_least first nodes top some tree least = record {
+  one = λ s e.
+      let leaf = leaf_with first nodes first least.one.0 tree (omega arith) in
+      let at = at_same nodes least.one.0 (0 + least.one.0) (omega arith) in
+      (leaf.0, get_or-drop first nodes leaf.0 None ∙ leaf.1 ∙ at ∙ least.one.2 ∙ e);
+  least = λ i. rw (get_or-drop first nodes i None) (not_after i (within (first + i) (length nodes)));
 }
   where
-    one : (s : Stamp) → key_at nodes 1 ≡ Some s → LeafWith count nodes (key_at nodes 1) →
-        (i : ℕ) × (key_at (drop count nodes) i ≡ Some s)
-    one s e leaf = (leaf.0, get_or-drop count nodes leaf.0 None ∙ leaf.2 ∙ e)
-
     within : (k n : ℕ) → (k < n) ⊎ (n ≤ k)
     within k n = grind arith
 
-    least : (i : ℕ) → ((count + i) < (count + count)) ⊎ ((count + count) ≤ (count + i)) →
-        IsNotAfter (key_at nodes 1) (key_at nodes (count + i))
-    least i (inl lt) = root_first count nodes (count + count) (count + i) tree (omega arith) (omega arith) lt
-    least i (inr ge) = let n = tree.len in rw (get_or_past nodes (count + i) None (omega arith)) tt
-
--- ---- two children, in either order
-same_key : (a b : Key) → IsNotAfter a b → IsNotAfter b a → a ≡ b
-same_key None None h k = refl
-same_key None (Some t) h k = absurd h
-same_key (Some s) None h k = absurd k
-same_key (Some s) (Some t) h k = ap (λ (v : Stamp). Some v) (same_stamp s t k h)
-
-earlier_either : (a b : Key) → earlier_of a b ≡ earlier_of b a
-earlier_either a b = same_key (earlier_of a b) (earlier_of b a) (not_after_one a b (lesser b a).one)
-    (not_after_one b a (lesser a b).one)
-  where
-    not_after_one : {key : Key} → (x y : Key) → (key ≡ y) ⊎ (key ≡ x) → IsNotAfter (earlier_of x y) key
-    not_after_one x y (inl e) = subst (λ (k : Key). IsNotAfter (earlier_of x y) k) (sym e) (lesser x y).second
-    not_after_one x y (inr e) = subst (λ (k : Key). IsNotAfter (earlier_of x y) k) (sym e) (lesser x y).first
-
--- the keys of a child and of the other child of the same node
-pub earlier_of_siblings : (nodes : List Key) (child sibling : ℕ) (key other : Key) → key ≡ key_at nodes child →
-    other ≡ key_at nodes sibling → child + sibling ≡ 4 * (child / 2) + 1 →
-    earlier_of key other ≡ earlier_of (key_at nodes (2 * (child / 2))) (key_at nodes (2 * (child / 2) + 1))
-earlier_of_siblings nodes child sibling key other e f sum = elim (parent child) [
-  | inl first ↦ same key other (e ∙ at child (2 * (child / 2)) first)
-      (f ∙ at sibling (2 * (child / 2) + 1) (omega arith))
-  | inr second ↦ earlier_either key other
-      ∙ same other key (f ∙ at sibling (2 * (child / 2)) (omega arith)) (e ∙ at child (2 * (child / 2) + 1) second)
-]
-  where
-    at : (k n : ℕ) → k ≡ n → key_at nodes k ≡ key_at nodes n
-    at k n e = ap (λ (i : ℕ). key_at nodes i) e
-
-    same : {c d : Key} → (a b : Key) → a ≡ c → b ≡ d → earlier_of a b ≡ earlier_of c d
-    same a b e f = cc
+    not_after : (i : ℕ) → ((first + i) < length nodes) ⊎ (length nodes ≤ (first + i)) →
+        IsNotAfter top (key_at nodes (first + i))
+    not_after i (inl lt) =
+        let len = tree.len some in
+        top_first first nodes top (first + i) (first + i) tree least (omega arith) (omega arith)
+    not_after i (inr ge) = rw (get_or_past nodes (first + i) None ge) tt
 
 -- ---- playing again
 same_or_not : (k n : ℕ) → (k ≡ n) ⊎ (k ≢ n)
 same_or_not k n = grind arith
 
--- the node above is played, and the rest but its parent stay so
-pub played_up : (count child : ℕ) (nodes : List Key) (key : Key) → 1 < child → child < count + count →
-    length nodes ≡ count + count → IsTreeBut count child nodes →
-    key ≡ earlier_of (key_at nodes (2 * (child / 2))) (key_at nodes (2 * (child / 2) + 1)) →
-    IsTreeBut count (child / 2) (set nodes (child / 2) key)
-played_up count child nodes key more lt len but lesser k some inner other = elim (same_or_not k (child / 2)) [
-  | inl e ↦
-      let at : key_at (set nodes (child / 2) key) k ≡ key =
-      subst (λ (n : ℕ). key_at (set nodes (child / 2) key) n ≡ key) (sym e)
-      (get_or-set_same nodes (child / 2) key None (omega arith)) in
-      played nodes (set nodes (child / 2) key) k key at (stays (2 * k) (omega arith)) (stays (2 * k + 1) (omega arith))
-      (subst (λ (n : ℕ). key ≡ earlier_of (key_at nodes (2 * n)) (key_at nodes (2 * n + 1))) (sym e) lesser)
-  | inr ne ↦
-      played nodes (set nodes (child / 2) key) k (key_at nodes k) (stays k ne) (stays (2 * k) (omega arith))
-      (stays (2 * k + 1) (omega arith)) (but k some inner ne)
-]
+-- the same keys have the same least
+same_least : (old new : List Key) (start many : ℕ) (key : Key) →
+    ((i : ℕ) → i < many → key_at old (start + i) ≡ key_at new (start + i)) → IsLeastFrom old start many key →
+    IsLeastFrom new start many key
+same_least old new start many key same least = record {
+  one = (least.one.0, least.one.1, sym (same least.one.0 least.one.1) ∙ least.one.2);
+  least = λ i lt. subst (λ (k : Key). IsNotAfter key k) (same i lt) (least.least i lt);
+}
+
+-- the parent is played, and the rest but its own parent stay so
+pub played_up : (first child parent : ℕ) (nodes : List Key) (key : Key) → first ≤ length nodes →
+    IsTreeBut first child nodes → parent + 1 ≡ (child + 1) / 4 → parent < first →
+    IsLeastFrom nodes (4 * parent + 3) 4 key → IsTreeBut first parent (set nodes parent key)
+played_up first child parent nodes key len but above within least k inner other = go (same_or_not k parent)
   where
-    stays : (n : ℕ) → n ≢ (child / 2) → key_at (set nodes (child / 2) key) n ≡ key_at nodes n
-    stays n ne = get_or-set_other nodes (child / 2) n key None ne
+    stays : (n : ℕ) → n ≢ parent → key_at nodes n ≡ key_at (set nodes parent key) n
+    stays n ne = sym (get_or-set_other nodes parent n key None ne)
 
-    played : (old new : List Key) (k : ℕ) (key : Key) → key_at new k ≡ key → key_at new (2 * k) ≡ key_at old (2 * k) →
-        key_at new (2 * k + 1) ≡ key_at old (2 * k + 1) →
-        key ≡ earlier_of (key_at old (2 * k)) (key_at old (2 * k + 1)) → IsPlayed new k
-    played old new k key a b c h = rw (a, b, c) h
+    same : (i : ℕ) → i < 4 → key_at nodes (4 * k + 3 + i) ≡ key_at (set nodes parent key) (4 * k + 3 + i)
+    same i lt = stays (4 * k + 3 + i) (omega arith)
 
--- where the node above keeps its key, all are played
-pub kept_up : (count child : ℕ) (nodes : List Key) → count ≤ 2 ^ 32 → length nodes ≡ count + count →
-    IsTreeBut count child nodes → IsPlayed nodes (child / 2) → IsTree count nodes
-kept_up count child nodes most len but same = record {
+    go : (k ≡ parent) ⊎ (k ≢ parent) → IsPlayed (set nodes parent key) k
+    go (inl e) = subst (λ (v : Key). IsLeastFrom (set nodes parent key) (4 * k + 3) 4 v)
+        (sym (get_or-set_same nodes parent key None (omega arith)) ∙ at_same (set nodes parent key) parent k (sym e))
+        (same_least nodes (set nodes parent key) (4 * k + 3) 4 key same
+        (subst (λ (n : ℕ). IsLeastFrom nodes (4 * n + 3) 4 key) (sym e) least))
+    go (inr ne) = subst (λ (v : Key). IsLeastFrom (set nodes parent key) (4 * k + 3) 4 v) (stays k ne)
+        (same_least nodes (set nodes parent key) (4 * k + 3) 4 (key_at nodes k) same (but k inner (omega arith)))
+
+-- where the parent keeps its key, all are played
+pub kept_up : (first child parent : ℕ) (nodes : List Key) → first ≤ 2 ^ 32 → length nodes ≡ 4 * first + 3 →
+    IsTreeBut first child nodes → parent + 1 ≡ (child + 1) / 4 → IsPlayed nodes parent → IsTree first nodes
+kept_up first child parent nodes most len but above here = record {
   most = most;
-  len = len;
-  played = λ k some inner. at k some inner (same_or_not k (child / 2));
+  within = omega arith;
+  len = λ some. len;
+  played = λ k inner. at k inner (same_or_not k parent);
 }
   where
-    at : (k : ℕ) → 0 < k → k < count → (k ≡ (child / 2)) ⊎ (k ≢ (child / 2)) → IsPlayed nodes k
-    at k some inner (inl e) = subst (λ (n : ℕ). IsPlayed nodes n) (sym e) same
-    at k some inner (inr ne) = but k some inner ne
+    at : (k : ℕ) → k < first → (k ≡ parent) ⊎ (k ≢ parent) → IsPlayed nodes k
+    at k inner (inl e) = subst (λ (n : ℕ). IsPlayed nodes n) (sym e) here
+    at k inner (inr ne) = but k inner (omega arith)
+
+-- a new key of a leaf leaves all nodes played but its parent
+pub leaf_set : (first leaf : ℕ) (nodes : List Key) (key : Key) → first ≤ leaf → IsTree first nodes →
+    IsTreeBut first leaf (set nodes leaf key)
+leaf_set first leaf nodes key after tree k inner other =
+    subst (λ (v : Key). IsLeastFrom (set nodes leaf key) (4 * k + 3) 4 v) (stays k (omega arith))
+    (same_least nodes (set nodes leaf key) (4 * k + 3) 4 (key_at nodes k) same (tree.played k inner))
+  where
+    stays : (n : ℕ) → n ≢ leaf → key_at nodes n ≡ key_at (set nodes leaf key) n
+    stays n ne = sym (get_or-set_other nodes leaf n key None ne)
+
+    same : (i : ℕ) → i < 4 → key_at nodes (4 * k + 3 + i) ≡ key_at (set nodes leaf key) (4 * k + 3 + i)
+    same i lt = stays (4 * k + 3 + i) (omega arith)

@@ -2,7 +2,6 @@
 use Rattle.std.specs.Prelude.{◌≡◌, ◌≢◌, ⊤, ℕ, ◌+◌, ◌*◌, ◌/◌, ◌^◌, ◌<◌, ◌≤◌, List, length, slice_index_or, Option, Some, None}
 use Rattle.event_stamps.specs.declared.Stamp.{Stamp}
 use Rattle.event_stamps.specs.Order.{Before}
-use Rattle.event_stamps.specs.Least.{earlier_of}
 
 -- the stamp of a disk's next event, if it has one
 abbrev pub Key : Type 0
@@ -29,21 +28,27 @@ pub record IsSetAt (disk : ℕ) (key : Key) (old new : List Key) : Type 0 where
   pub others : (other : ℕ) → other ≢ disk → key_at new other ≡ key_at old other
 
 -- ---- how the keys are kept
--- so many keys, and the same for each disk
+-- room for so many keys, and the same for each disk
 pub record IsWider (old : List Key) (room : ℕ) (new : List Key) : Type 0 where
-  pub len : length new ≡ room
+  pub enough : room ≤ length new
   pub same : (disk : ℕ) → key_at new disk ≡ key_at old disk
 
--- the node has the lesser of its children's keys
+-- one of so many keys from a place on, and not after any of them
+pub record IsLeastFrom (nodes : List Key) (start many : ℕ) (key : Key) : Type 0 where
+  pub one : (i : ℕ) × (i < many) × (key_at nodes (start + i) ≡ key)
+  pub least : (i : ℕ) → i < many → IsNotAfter key (key_at nodes (start + i))
+
+-- the node has the least of its children's keys
 abbrev pub IsPlayed : List Key → ℕ → Type 0
-IsPlayed nodes k = key_at nodes k ≡ earlier_of (key_at nodes (2 * k)) (key_at nodes (2 * k + 1))
+IsPlayed nodes k = IsLeastFrom nodes (4 * k + 3) 4 (key_at nodes k)
 
--- so many disks have their keys in the second half of the nodes
-pub record IsTree (count : ℕ) (nodes : List Key) : Type 0 where
-  pub most : count ≤ 2 ^ 32
-  pub len : length nodes ≡ count + count
-  pub played : (k : ℕ) → 0 < k → k < count → IsPlayed nodes k
+-- the nodes below `first` are played, and the others have the disks' keys
+pub record IsTree (first : ℕ) (nodes : List Key) : Type 0 where
+  pub most : first ≤ 2 ^ 32
+  pub within : first ≤ length nodes
+  pub len : 0 < length nodes → length nodes ≡ 4 * first + 3
+  pub played : (k : ℕ) → k < first → IsPlayed nodes k
 
--- all nodes but the parent of one are played
+-- all nodes but the parent of one are played; the three at the top have no parent
 abbrev pub IsTreeBut : ℕ → ℕ → List Key → Type 0
-IsTreeBut count child nodes = (k : ℕ) → 0 < k → k < count → k ≢ (child / 2) → IsPlayed nodes k
+IsTreeBut first child nodes = (k : ℕ) → k < first → (k + 1) ≢ ((child + 1) / 4) → IsPlayed nodes k

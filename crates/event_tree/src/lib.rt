@@ -1,8 +1,9 @@
 //! The least of many keys, one for each disk, kept while single keys change.
 //!
 //! The keys are the leaves of a tournament tree (Knuth, The Art of Computer Programming 3, 5.4.1):
-//! each inner node has the lesser of its two children's keys, and after a change of one key only the
-//! nodes above it are played again.
+//! each inner node has the least of its four children's keys, and after a change of one key only the
+//! nodes above it are played again. Four children fill one line of the cache, and there are half as
+//! many levels as with two.
 #![tactic(auto)]
 
 pub mod packed;
@@ -12,20 +13,19 @@ pub use packed::Packed;
 use std::alloc::{AllocError, Global};
 use std::marker::Model;
 
-// The most disks that there is room for: more than any number of 32 bits.
-const MOST_ROOM: usize = 1 << 32;
-
 /// One key for each disk: a stamp, or none.
 ///
 /// Memory is taken for as many disks as the greatest number that ever had a key, or for up to twice
-/// as many: 32 bytes a disk, for two nodes of 16 bytes.
+/// as many, in threes: four nodes of 16 bytes for each three disks.
 #[derive(Drop)]
 pub struct EventTree {
-    // The key of disk i is at count + i, and at each k below count, but 0, the lesser of those at
-    // 2 k and 2 k + 1.
+    // The key of disk i is at first + i, and at each k below first is the least of the four from
+    // 4 k + 3 on. The three at the top, from 0 on, have no node above them. A big block of memory
+    // mostly begins 16 bytes after a multiple of 64, so that the four are in one line of the cache,
+    // and the three are too.
     nodes: Vec<Packed>,
-    // For how many disks there is room.
-    count: usize,
+    // Where the keys of the disks begin.
+    first: usize,
 }
 
 impl Model for EventTree {
@@ -34,14 +34,15 @@ impl Model for EventTree {
 
     ghost Value = { List Key };
 
-    ghost view = { λ a. drop a.count a.nodes.items };
+    ghost view = { λ a. drop a.first a.nodes.items };
 
-    ghost invariant = { λ a. IsTree a.count a.nodes.items };
+    ghost invariant = { λ a. IsTree a.first a.nodes.items };
 }
 
-ghost use Rattle.std.specs.Prelude.{◌≡◌, ◌+◌, ◌*◌, ◌/◌, ◌<◌, ◌≤◌, ◌^◌, ℕ, [], length};
+ghost use Rattle.std.specs.Prelude.{◌≡◌, ◌+◌, ◌*◌, ◌<◌, ◌≤◌, ◌^◌, [], length};
 ghost use Rattle.std.specs.Prelude.{slice_set, drop, IfSome, IfOk, OnOk, OnErr};
-ghost use Rattle.event_tree.specs.Keys.{IsLeastKey, IsTree, IsTreeBut, IsWider, IsSetAt, key_at};
+ghost use Rattle.event_tree.specs.Keys.{IsLeastKey, IsLeastFrom, IsTree, IsTreeBut, IsWider, IsSetAt};
+ghost use Rattle.event_tree.specs.Keys.{key_at};
 ghost use Rattle.event_tree.specs.Packing.{HasRoom};
 
 impl EventTree {
@@ -51,7 +52,7 @@ impl EventTree {
     {
         EventTree {
             nodes: Vec::new(alloc),
-            count: 0,
+            first: 0,
         }
     }
 
@@ -60,10 +61,10 @@ impl EventTree {
         ensures least { IsLeastKey self.now result }
         ensures room { IfSome result HasRoom }
     {
-        if self.count == 0 {
+        if self.nodes.is_empty() {
             None
         } else {
-            self.nodes[1].key()
+            least_of_three(&self.nodes).key()
         }
     }
 
@@ -72,8 +73,8 @@ impl EventTree {
         ensures { result ≡ key_at self.now disk }
     {
         let disk = disk as usize;
-        if disk < self.count {
-            self.nodes[self.count + disk].key()
+        if disk < self.room() {
+            self.nodes[self.first + disk].key()
         } else {
             None
         }
@@ -89,29 +90,37 @@ impl EventTree {
         ensures unchanged { OnErr result (self.new ≡ self.old) }
     {
         let disk = disk as usize;
-        if disk >= self.count {
+        if disk >= self.room() {
             if key.key().is_none() {
                 return Ok(());
             }
-            let twice = (2 * self.count).min(MOST_ROOM);
+            let twice = 2 * self.room();
             *self = self.with_room(alloc, twice.max(disk + 1))?;
         }
         self.put(disk, key);
         Ok(())
     }
 
-    // The same keys, with room for so many disks.
+    // For how many disks there is room.
+    fn room(&self) -> usize
+        ensures { result ≡ length self.now }
+    {
+        self.nodes.len() - self.first
+    }
+
+    // The same keys, with room for so many disks, or for up to two more.
     fn with_room(&self, alloc: Global, room: usize) -> Result<EventTree, AllocError>
-        requires more { length self.now ≤ room }
-        requires most { room ≤ 2 ^ 32 }
+        requires more { length self.now < room }
+        requires most { room ≤ 2 ^ 33 }
         ensures { IfOk result (λ wider. IsWider self.now room wider) }
     {
+        let first = (room - 1) / 3;
         let mut wider = EventTree {
-            nodes: vec![in alloc; Packed::new(None); 2 * room]?,
-            count: room,
+            nodes: vec![in alloc; Packed::new(None); 4 * first + 3]?,
+            first,
         };
-        for disk in 0..self.count {
-            wider.put(disk, self.nodes[self.count + disk]);
+        for disk in 0..self.room() {
+            wider.put(disk, self.nodes[self.first + disk]);
         }
         Ok(wider)
     }
@@ -121,27 +130,26 @@ impl EventTree {
         requires { disk < length self.old }
         ensures { self.new ≡ slice_set self.old disk key }
     {
-        let leaf = self.count + disk;
+        let leaf = self.first + disk;
         self.nodes[leaf] = key;
-        replay(&mut self.nodes, self.count, leaf);
+        replay(&mut self.nodes, self.first, leaf);
     }
 }
 
 // Plays the nodes above a leaf again, up to the first that keeps its key.
-fn replay(nodes: &mut Vec<Packed>, count: usize, leaf: usize)
-    requires most { count ≤ 2 ^ 32 }
-    requires leaf { count ≤ leaf }
-    requires within { leaf < count + count }
-    requires len { length nodes.old.items ≡ count + count }
-    requires tree { IsTreeBut count leaf nodes.old.items }
-    ensures tree { IsTree count nodes.new.items }
-    ensures leaves { drop count nodes.new.items ≡ drop count nodes.old.items }
+fn replay(nodes: &mut [Packed], first: usize, leaf: usize)
+    requires most { first ≤ 2 ^ 32 }
+    requires leaf { first ≤ leaf }
+    requires within { leaf < length nodes.old }
+    requires len { length nodes.old ≡ 4 * first + 3 }
+    requires tree { IsTreeBut first leaf nodes.old }
+    ensures tree { IsTree first nodes.new }
+    ensures leaves { drop first nodes.new ≡ drop first nodes.old }
 {
     let mut child = leaf;
-    let mut key = nodes[leaf];
-    while child > 1 {
-        key = key.earlier(nodes[sibling(child)]);
-        let parent = child / 2;
+    while child >= 3 {
+        let parent = (child - 3) / 4;
+        let key = least_of_four(nodes, 4 * parent + 3);
         if key.is(nodes[parent]) {
             return;
         }
@@ -150,9 +158,22 @@ fn replay(nodes: &mut Vec<Packed>, count: usize, leaf: usize)
     }
 }
 
-// The other child of the same node.
-fn sibling(child: usize) -> usize
-    ensures { child + result ≡ 4 * (child / 2) + 1 }
+// The least of four keys side by side.
+#[inline(always)]
+fn least_of_four(nodes: &[Packed], start: usize) -> Packed
+    requires { start + 4 ≤ length nodes.now }
+    ensures { IsLeastFrom nodes.now start 4 result }
 {
-    child ^ 1
+    let left = nodes[start].earlier(nodes[start + 1]);
+    let right = nodes[start + 2].earlier(nodes[start + 3]);
+    left.earlier(right)
+}
+
+// The least of the three keys at the top.
+#[inline(always)]
+fn least_of_three(nodes: &[Packed]) -> Packed
+    requires { 3 ≤ length nodes.now }
+    ensures { IsLeastFrom nodes.now 0 3 result }
+{
+    nodes[0].earlier(nodes[1]).earlier(nodes[2])
 }

@@ -46,6 +46,7 @@ ghost use Rattle.event_tree.specs.Packing.{HasRoom, IsPacked};
 
 impl Packed {
     /// A key, packed.
+    #[inline(always)]
     pub fn new(key: Option<Stamp>) -> Packed
         requires { IfSome key IsInRange }
         ensures { result ≡ key }
@@ -54,6 +55,7 @@ impl Packed {
     }
 
     /// The key.
+    #[inline(always)]
     pub fn key(self) -> Option<Stamp>
         ensures value { result ≡ self }
         ensures room { IfSome result HasRoom }
@@ -62,6 +64,7 @@ impl Packed {
     }
 
     /// Whether it is the same key.
+    #[inline(always)]
     pub fn is(self, other: Packed) -> bool
         ensures { IsTrue result ↔ self ≡ other }
     {
@@ -69,6 +72,7 @@ impl Packed {
     }
 
     /// The earlier of two keys that are both there; else the one that is there, if any.
+    #[inline(always)]
     pub fn earlier(self, other: Packed) -> Packed
         ensures { result ≡ earlier_of self other }
     {

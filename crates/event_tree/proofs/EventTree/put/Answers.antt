@@ -1,9 +1,21 @@
 -- The key stands among the leaves, which no playing changes.
-use Rattle.std.proofs.Common.{ap, set, ◌∙◌}
-use Rattle.std.proofs.lemmas.List.{drop-set-add}
+use Rattle.std.proofs.Common.{ap, drop, set, ◌+◌, ◌∙◌, arith}
+use Rattle.std.specs.Vec.{with_item}
+use Rattle.std.proofs.lemmas.List.{drop-set-add, with_items_is}
+use Rattle.event_tree.proofs.Trees.{leaf_set}
 use Rattle.event_tree.proofs.EventTree.put.Goals as goal
+
+pub replay-requires-clause-tree : goal.replay-requires-clause-tree
+replay-requires-clause-tree c = rw c.deref_mut.ensures.value
+    (leaf_set c.self.inside.first (c.self.inside.first + c.args.disk) c.self.inside.nodes.items c.args.key (omega arith)
+    c.self.invariant)
 
 pub returns : goal.returns
 returns c =
-    c.replay.ensures.leaves ∙ drop-set-add c.self.inside.count c.self.inside.nodes.items c.args.disk c.args.key
+    let first = c.self.inside.first in
+    let nodes = c.self.inside.nodes in
+    let now = with_items_is (with_item nodes (first + c.args.disk) c.args.key) c.replay.new.nodes
+    (c.replay.auto.nodes ∙ c.deref_mut.ensures.len) in
+    ap (λ items. drop first items) now ∙ c.replay.ensures.leaves ∙ ap (λ items. drop first items) c.deref_mut.ensures.value
+    ∙ drop-set-add first nodes.items c.args.disk c.args.key
     ∙ ap (λ keys. set keys c.args.disk c.args.key) c.self.view_is

@@ -6,7 +6,7 @@ use Rattle.event_tree.proofs.EventTree.with_room.Given as goal
 
 abbrev pub invariant-loop-disk : goal.invariant-loop-disk
 invariant-loop-disk l = record {
-  len : length l.wider ≡ l.room;
+  enough : l.room ≤ length l.wider;
   copied : (i : ℕ) → i < l.disk → key_at l.wider i ≡ key_at l.self i;
   free : (i : ℕ) → l.disk ≤ i → key_at l.wider i ≡ None;
 }
