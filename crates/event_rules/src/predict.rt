@@ -75,6 +75,7 @@ fn wall_at(disk: u32, a: &Disk, side: u32, tick: u64) -> Stamp
 /// the run.
 ///
 /// `first` and `second` are the numbers of the disks. None where they don't hit each other.
+#[inline(always)]
 pub fn pair_event(rules: &Rules, first: u32, a: &Disk, second: u32, b: &Disk) -> Option<Stamp>
     requires checked { IsChecked rules.now }
     requires first_valid { IsValidDisk rules.now a.now }
@@ -104,6 +105,7 @@ struct Separation {
 }
 
 // The cheap tests, which most pairs fail, come first.
+#[inline(always)]
 fn meeting_tick(rules: &Rules, a: &Disk, b: &Disk) -> Option<u64>
     requires checked { IsChecked rules.now }
     requires first_valid { IsValidDisk rules.now a.now }
@@ -119,9 +121,25 @@ fn meeting_tick(rules: &Rules, a: &Disk, b: &Disk) -> Option<u64>
     if !are_on_course(rules, a, b, &s) {
         return None;
     }
-    match quick_ticks(rules, a, b, &s) {
-        Some(ticks) => tick_inside(rules, a, b, &s, ticks),
-        None => searched_tick(rules, a, b, &s),
+    crossing_tick(rules, *a, *b, s)
+}
+
+// Where the paths cross. Kept apart, and told all by value, so that the tests before it, which most pairs fail,
+// are short and keep their numbers in registers.
+#[inline(never)]
+fn crossing_tick(rules: &Rules, a: Disk, b: Disk, s: Separation) -> Option<u64>
+    requires checked { IsChecked rules.now }
+    requires first_valid { IsValidDisk rules.now a }
+    requires second_valid { IsValidDisk rules.now b }
+    requires separation { IsSeparation a b s }
+    requires near { AreNear s }
+    requires paths { PathsCross s }
+    ensures { MatchOption result ((tick : ℕ) → tick < rules.now.end → IsContactTick rules.now a b tick → ⊥)
+        (IsMeeting rules.now a b) }
+{
+    match quick_ticks(rules, &a, &b, &s) {
+        Some(ticks) => tick_inside(rules, &a, &b, &s, ticks),
+        None => searched_tick(rules, &a, &b, &s),
     }
 }
 
