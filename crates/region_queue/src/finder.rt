@@ -40,7 +40,7 @@ impl Finder {
         let Some(placed) = view.get(disk) else {
             return Packed::new(None);
         };
-        self.best_alone(view, disk, placed, self.owns(placed.cell))
+        self.best_alone(view, disk, &placed, self.owns(placed.cell))
     }
 
     // The least native pair that names a disk.
@@ -53,7 +53,7 @@ impl Finder {
         };
         let own = self.owns(placed.cell);
         let block = block_around(&self.grid, placed.cell);
-        self.best_within(view, disk, placed, own, block)
+        self.best_within(view, disk, &placed, own, block)
     }
 
     // The least native pair of a disk with one in a cell that isn't adjacent to this one.
@@ -68,7 +68,7 @@ impl Finder {
         let own = self.owns(placed.cell);
         let block = block_around(&self.grid, placed.cell);
         let known = block_around(&self.grid, old);
-        self.best_outside(view, disk, placed, own, block, known)
+        self.best_outside(view, disk, &placed, own, block, known)
     }
 
     // Whether a stamp, where it is that of a pair, is that of a native candidate.
@@ -98,7 +98,7 @@ impl Finder {
         let first = view.get(low)?;
         let second = view.get(high)?;
         if low < high && self.owns(first.cell) {
-            near_event(&self.rules, &self.grid, low, first, high, second)
+            near_event(&self.rules, &self.grid, low, &first, high, &second)
         } else {
             None
         }
@@ -114,6 +114,7 @@ impl Finder {
     }
 
     // Whether the region owns a column.
+    #[inline(always)]
     fn owns_column(&self, column: u32) -> bool
         ensures { IsTrue result ↔ IsOfStrip self.now.strip column }
     {
@@ -242,6 +243,7 @@ impl Finder {
     }
 
     // The native event of a disk with another beside it. `home` tells whether the region owns the other's cell.
+    #[inline(always)]
     fn pair(
         &self,
         view: &View,
@@ -272,6 +274,7 @@ impl Finder {
 }
 
 // Whether the cell of the lower of two different disks is owned, by whether each one's is.
+#[inline(always)]
 fn owns_lower(disk: u32, own: bool, other: u32, home: bool) -> bool
     ensures { IsTrue result ↔ (((disk < other) × IsTrue own) ⊎ ((other < disk) × IsTrue home)) }
 {

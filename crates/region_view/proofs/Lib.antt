@@ -1,4 +1,5 @@
 pub mod After
+mod CompactRows
 mod First
 pub mod Homes
 mod InSlots

@@ -43,38 +43,6 @@ pub get_put_other : (view : ViewData) (i : ℕ) (row : Option Placed) (j : ℕ) 
 get_put_other view i row j ne = get_put view i row j
     ∙ ap (λ (b : Bool). if b then row else map.get view j) (not_same j i ne)
 
--- what stood there is put back
-pub put_undone : (view : ViewData) (i : ℕ) (row : Option Placed) →
-    put (put view i row) i (map.get view i) ≡ view
-put_undone view i row = same_view (put (put view i row) i (map.get view i)) view (λ j.
-    get_put (put view i row) i (map.get view i) j
-    ∙ ap (λ (o : Option Placed). if j == i then map.get view i else o) (get_put view i row j)
-    ∙ by_test j (j == i) refl)
-  where
-    by_test : (j : ℕ) (b : Bool) → (j == i) ≡ b →
-        (if b then map.get view i else (if b then row else map.get view j)) ≡ map.get view j
-    by_test j true e = ap (map.get view) (sym (is_same j i e))
-    by_test j false e = refl
-
--- rows of two disks are put in any order
-pub put_in_turn : (view : ViewData) (i j : ℕ) (first second : Option Placed) → i ≢ j →
-    put (put view j second) i first ≡ put (put view i first) j second
-put_in_turn view i j first second ne =
-    same_view (put (put view j second) i first) (put (put view i first) j second) (λ k.
-    get_put (put view j second) i first k
-    ∙ ap (λ (o : Option Placed). if k == i then first else o) (get_put view j second k)
-    ∙ by_tests k (k == i) (k == j) refl refl
-    ∙ sym (get_put (put view i first) j second k
-    ∙ ap (λ (o : Option Placed). if k == j then second else o) (get_put view i first k)))
-  where
-    by_tests : (k : ℕ) (a b : Bool) → (k == i) ≡ a → (k == j) ≡ b →
-        (if a then first else (if b then second else map.get view k))
-        ≡ (if b then second else (if a then first else map.get view k))
-    by_tests k true true e f = absurd (ne (sym (is_same k i e) ∙ is_same k j f))
-    by_tests k true false e f = refl
-    by_tests k false true e f = refl
-    by_tests k false false e f = refl
-
 -- ---- rows that are set
 pub set_rows_are_put_over : SetRowsArePutOver
 set_rows_are_put_over view [] i = refl

@@ -3,6 +3,7 @@ pub mod Placing
 pub mod Acting
 pub mod Views
 pub mod Setting
+pub mod Compact
 pub mod Slots
 pub mod Messages
 pub mod Laws

@@ -1,23 +1,47 @@
 -- Placed disks in an array by number.
-use Rattle.std.specs.Prelude.{ℕ, ◌+◌, List, [], ◌∷◌, slice_index_or, Option, Some, None}
+use Rattle.std.specs.Prelude.{ℕ, ◌+◌, ◌<◌, ◌⊎◌, Bool, true, false, IsTrue, List, [], ◌∷◌, length, slice_index_or, slice_set, Option, Some, None, IfSome}
 use Rattle.std.specs.FinMap as map
 use Rattle.region_view.specs.declared.action.Placed.{Placed}
+use Rattle.region_view.specs.declared.slots.Form.{Form}
+use Rattle.region_view.specs.declared.slots.Form.TheVariants.{Compact, Wide}
+use Rattle.region_view.specs.Compact.{IsSmall}
 use Rattle.region_view.specs.Views.{ViewData}
 
 -- what stands at each number, up to some number
-abbrev pub SlotsData : Type 0
-SlotsData = List (Option Placed)
+abbrev pub SlotList : Type 0
+SlotList = List (Option Placed)
+
+-- the slots, and whether a row in them may have any numbers
+pub record SlotsData : Type 0 where
+  pub wide : Bool
+  pub rows : SlotList
+
+abbrev pub slots_in : Form → SlotsData
+slots_in (Compact rows) = record { wide = false; rows = rows.items }
+slots_in (Wide rows) = record { wide = true; rows = rows.items }
 
 -- what stands at a number; past the end nothing does
 abbrev pub at : SlotsData → ℕ → Option Placed
-at slots i = slice_index_or slots i None
+at slots i = slice_index_or slots.rows i None
+
+-- a row may stand at the number
+pub record TakesRow (slots : SlotsData) (i : ℕ) (p : Placed) : Type 0 where
+  pub within : i < length slots.rows
+  pub form : IsTrue slots.wide ⊎ IsSmall p
+
+-- what may be set at the number; where nothing stands there's no need of room
+abbrev pub Takes : SlotsData → ℕ → Option Placed → Type 0
+Takes slots i row = IfSome row (TakesRow slots i)
+
+abbrev pub set_slot : SlotsData → ℕ → Option Placed → SlotsData
+set_slot slots i row = record { wide = slots.wide; rows = slice_set slots.rows i row }
 
 -- the disks with their numbers, where the first slot is that of the number n
-abbrev pub entries_from : ℕ → SlotsData → List (ℕ × Placed)
+abbrev pub entries_from : ℕ → SlotList → List (ℕ × Placed)
 entries_from n [] = []
-entries_from n (None ∷ slots) = entries_from (n + 1) slots
-entries_from n (Some p ∷ slots) = (n, p) ∷ entries_from (n + 1) slots
+entries_from n (None ∷ rows) = entries_from (n + 1) rows
+entries_from n (Some p ∷ rows) = (n, p) ∷ entries_from (n + 1) rows
 
 -- the placed disks by number
 abbrev pub placed_in : SlotsData → ViewData
-placed_in slots = map.from_entries (entries_from 0 slots)
+placed_in slots = map.from_entries (entries_from 0 slots.rows)

@@ -65,6 +65,7 @@ pub fn near_event(
 ///
 /// # Errors
 /// The limit at which the event fails.
+#[inline(always)]
 pub fn act(
     rules: &Rules,
     grid: &Grid,
@@ -89,6 +90,7 @@ pub fn act(
 }
 
 // The disk is inside the box at the tick of the stamp, which isn't before its base tick.
+#[inline(always)]
 fn cross(rules: &Rules, grid: &Grid, stamp: &Stamp, a: &Disk) -> Result<Action, Limit>
     requires checked { IsChecked rules.now }
     requires valid { IsValidDisk rules.now a.now }

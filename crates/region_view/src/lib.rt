@@ -5,6 +5,7 @@
 #![tactic(auto)]
 
 pub mod action;
+mod compact;
 pub mod events;
 mod laws;
 pub mod messages;

@@ -15,6 +15,7 @@ use cell_grid::Grid;
 use fixed_motion::Disk;
 
 /// The rows that an action sets, by what stands where before it.
+#[inline(always)]
 pub fn rows_of(before: &View, action: &Action) -> Rows
     requires order { IsInOrder action.now }
     ensures { result ≡ rows_set (rows_in before.now) action.now }
@@ -105,7 +106,7 @@ fn told_row(
     let (disk, after) = *row;
     if sees(grid, to, after.as_ref()) {
         Some((disk, after))
-    } else if sees(grid, to, before.get(disk)) {
+    } else if sees(grid, to, before.get(disk).as_ref()) {
         Some((disk, None))
     } else {
         None

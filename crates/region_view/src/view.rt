@@ -7,7 +7,9 @@ use std::marker::Model;
 /// Placed disks by number.
 ///
 /// Memory is taken for each number up to the greatest one that ever had a row, or for up to twice as many,
-/// and at the opening for those of all disks.
+/// and at the opening for those of all disks: 32 bytes a number. Where a row has a coordinate, a component of
+/// its velocity or a size that doesn't fit 32 bits with a sign, a base tick from 2^43 on or a mark from 2^20
+/// on, it is 72 bytes a number from then on. No valid disk has such numbers.
 #[derive(Drop)]
 pub struct View {
     slots: Slots,
@@ -28,7 +30,7 @@ impl Model for View {
     ghost view = { λ v. placed_in v.slots };
 }
 
-ghost use Rattle.std.specs.Prelude.{◌≡◌, ◌≢◌, ◌<◌, ◌≤◌, [], ◌∷◌, length, slice_get, option_copied, option_map, IsSome, IsNone, IfOk, OnOk, OnErr};
+ghost use Rattle.std.specs.Prelude.{◌≡◌, ℕ, ◌<◌, ◌≤◌, [], ◌∷◌, length, slice_get, None, IfOk, OnOk, OnErr};
 ghost use Rattle.std.specs.FinMap as map;
 ghost use Rattle.cell_grid.specs.Grid.{IsRegion};
 ghost use Rattle.region_view.specs.Laws.{HasCells};
@@ -40,16 +42,17 @@ use std::alloc::{AllocError, Global};
 
 impl View {
     /// The row of a disk; none exactly where there is none.
-    pub fn get(&self, disk: u32) -> Option<&Placed>
-        ensures { option_copied result ≡ map.get self.now disk }
+    #[inline(always)]
+    pub fn get(&self, disk: u32) -> Option<Placed>
+        ensures { result ≡ map.get self.now disk }
     {
         self.slots.get(disk)
     }
 
     /// The first disk from number `from` on that has a row: its number and the row. None says that no
     /// disk from there on has one.
-    pub fn next_row(&self, from: u32) -> Option<(u32, &Placed)>
-        ensures { IsNextRow self.now from (option_map (λ row. (row.0, row.1.now)) result) }
+    pub fn next_row(&self, from: u32) -> Option<(u32, Placed)>
+        ensures { IsNextRow self.now from result }
     {
         self.slots.next_row(from)
     }
@@ -66,11 +69,32 @@ impl View {
         })
     }
 
+    /// Becomes equal to another view, in the memory that it has where there is room.
+    ///
+    /// # Errors
+    /// Out of memory: the view stays as it is.
+    pub fn copy_from(&mut self, other: &View) -> Result<(), AllocError>
+        ensures copied { OnOk result (self.new ≡ other.now) }
+        ensures unchanged { OnErr result (self.new ≡ self.old) }
+    {
+        self.slots.copy_from(&other.slots)
+    }
+
+    /// For how many numbers, from 0 on, memory is in use, whether there are rows or not: what a copy takes
+    /// time for. No disk from this number on has a row.
+    pub fn room(&self) -> usize
+        ensures { (i : ℕ) → result ≤ i → map.get self.now i ≡ None }
+    {
+        self.slots.len()
+    }
+
     /// Sets these rows, and takes away what stands at the numbers of those that have no disk. Afterwards
-    /// `rows` holds what stood at these numbers before. Only a disk that had no row takes memory.
+    /// `rows` holds what stood at these numbers before. Only a disk that had no row takes memory, and a row
+    /// that is the first with a number too great for 32 bytes.
     ///
     /// # Errors
     /// Out of memory: the view and the rows stay as they are.
+    #[inline(always)]
     pub fn swap(&mut self, rows: &mut Rows) -> Result<(), AllocError>
         ensures view { OnOk result (self.new ≡ set_rows self.old rows.old) }
         ensures rows { OnOk result (rows.new ≡ rows_at (rows_in self.old) rows.old) }
@@ -119,6 +143,7 @@ impl View {
     }
 
     // Sets the rows of two disks, or none, and answers what stood there.
+    #[inline(always)]
     fn replace_both(
         &mut self,
         first: (u32, Option<Placed>),
@@ -130,58 +155,23 @@ impl View {
             (λ rows. rows ≡ rows_at (rows_in self.old) (first ∷ second ∷ [])) }
         ensures unchanged { OnErr result (self.new ≡ self.old) }
     {
-        // What is taken away comes last, since it would take memory to put it back.
-        if first.1.is_none() {
-            let (after, before) = self.replace_in_turn(second, first)?;
-            Ok(Rows::two((first.0, before), (second.0, after)))
-        } else {
-            let (before, after) = self.replace_in_turn(first, second)?;
-            Ok(Rows::two((first.0, before), (second.0, after)))
-        }
+        // Room for both comes first, so that nothing is set where memory runs out.
+        self.slots.make_room(first.0, first.1.as_ref())?;
+        self.slots.make_room(second.0, second.1.as_ref())?;
+        let before = self.slots.replace(first.0, first.1);
+        let after = self.slots.replace(second.0, second.1);
+        Ok(Rows::two((first.0, before), (second.0, after)))
     }
 
-    // Sets the rows of two disks in this order, or none, and answers what stood there.
-    fn replace_in_turn(
-        &mut self,
-        first: (u32, Option<Placed>),
-        second: (u32, Option<Placed>),
-    ) -> Result<(Option<Placed>, Option<Placed>), AllocError>
-        requires apart { first.0 ≢ second.0 }
-        requires taken_last { IsSome second.1 → IsSome first.1 }
-        ensures view { OnOk result (self.new ≡ set_rows self.old (first ∷ second ∷ [])) }
-        ensures rows { IfOk result
-            (λ before. before ≡ (map.get self.old first.0, map.get self.old second.0)) }
-        ensures unchanged { OnErr result (self.new ≡ self.old) }
-    {
-        let before = self.replace(first.0, first.1)?;
-        match self.replace(second.0, second.1) {
-            Ok(after) => Ok((before, after)),
-            Err(e) => {
-                self.put_back(first.0, before);
-                Err(e)
-            }
-        }
-    }
-
-    // Sets the row of a disk, and answers what stood there. Only a new row takes memory.
+    // Sets the row of a disk, or takes it away, and answers what stood there.
+    #[inline(always)]
     fn replace(&mut self, disk: u32, row: Option<Placed>) -> Result<Option<Placed>, AllocError>
         ensures view { OnOk result (self.new ≡ put self.old disk row) }
         ensures before { IfOk result (λ before. before ≡ map.get self.old disk) }
         ensures unchanged { OnErr result (self.new ≡ self.old) }
-        ensures only_new { OnErr result (IsSome row × IsNone (map.get self.old disk)) }
     {
-        if row.is_some() {
-            self.slots.make_room(disk)?;
-        }
+        self.slots.make_room(disk, row.as_ref())?;
         Ok(self.slots.replace(disk, row))
-    }
-
-    // Sets the row of a disk that has one, or takes it away.
-    fn put_back(&mut self, disk: u32, row: Option<Placed>)
-        requires present { IsSome (map.get self.old disk) }
-        ensures { self.new ≡ put self.old disk row }
-    {
-        self.slots.replace(disk, row);
     }
 }
 

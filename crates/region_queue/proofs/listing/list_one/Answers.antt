@@ -8,7 +8,7 @@ put-requires-clause-free c = c.take_off.ensures.free
 
 pub returns-in_ok-put-clause-listed : goal.returns-in_ok-put-clause-listed
 returns-in_ok-put-clause-listed c =
-    listed_again c.args.view.now c.args.disk c.in-Some.row.now c.args.lists.now c.take_off.new.lists c.put.new.self
+    listed_again c.args.view.now c.args.disk c.in-Some.row c.args.lists.now c.take_off.new.lists c.put.new.self
     (sym c.in-Some.ensures) c.take_off.ensures c.in_ok-put.ensures.listed
 
 pub returns-in_default-clause-listed : goal.returns-in_default-clause-listed

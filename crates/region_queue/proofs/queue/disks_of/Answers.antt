@@ -6,11 +6,11 @@ use Rattle.region_queue.proofs.queue.disks_of.Goals as goal
 pub loop-disk-preserved : goal.loop-disk-preserved
 loop-disk-preserved c =
     let next = c.in-Some.ensures in
-    let few : c.in-Some.disk < 65536 = c.requires c.in-Some.disk c.in-Some.field-0-1.now next.1 in
+    let few : c.in-Some.disk < 65536 = c.requires c.in-Some.disk c.in-Some.field-0-1 next.1 in
     rw c.in_ok-push.ensures.items
     (record {
       most = omega arith;
-      listed = numbered_more c.args.view.now c.loop-disk.from c.in-Some.disk c.in-Some.field-0-1.now c.loop-disk.disks.items next
+      listed = numbered_more c.args.view.now c.loop-disk.from c.in-Some.disk c.in-Some.field-0-1 c.loop-disk.disks.items next
           c.loop-disk.invariant.listed;
     })
 

@@ -8,6 +8,6 @@ best_outside-requires-clause-beside c = λ other cell within. (c.block_around-bl
 
 pub returns : goal.returns
 returns c = λ listed.
-    best_beyond c.args.self.now c.args.view.now c.args.disk c.args.old c.in-Some.placed.now c.block_around-block.result
+    best_beyond c.args.self.now c.args.view.now c.args.disk c.args.old c.in-Some.placed c.block_around-block.result
     c.block_around-known.result c.best_outside.result c.requires.ready (sym c.in-Some.ensures) c.block_around-block.ensures.around
     c.block_around-known.ensures.around listed (c.best_outside.ensures listed)

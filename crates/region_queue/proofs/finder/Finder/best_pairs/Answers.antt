@@ -8,5 +8,5 @@ best_within-requires-clause-beside c = λ other cell within. (c.block_around-blo
 
 pub returns : goal.returns
 returns c = λ listed.
-    best_pairs c.args.self.now c.args.view.now c.args.disk c.in-Some.placed.now c.block_around-block.result c.best_within.result
+    best_pairs c.args.self.now c.args.view.now c.args.disk c.in-Some.placed c.block_around-block.result c.best_within.result
     c.requires (sym c.in-Some.ensures) c.block_around-block.ensures.around listed (c.best_within.ensures listed)

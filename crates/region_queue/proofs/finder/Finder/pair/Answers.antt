@@ -12,11 +12,11 @@ pub pair_event-requires-clause-first_valid : goal.pair_event-requires-clause-fir
 pair_event-requires-clause-first_valid c = c.requires.ready.valid.disk c.args.disk c.args.placed.now c.requires.placed
 
 pub pair_event-requires-clause-second_valid : goal.pair_event-requires-clause-second_valid
-pair_event-requires-clause-second_valid c = c.requires.ready.valid.disk c.args.other c.in-Some.near.now (sym c.in-Some.ensures)
+pair_event-requires-clause-second_valid c = c.requires.ready.valid.disk c.args.other c.in-Some.near (sym c.in-Some.ensures)
 
 pub pair_event-requires-else-disk-other-clause-first_valid : goal.pair_event-requires-else-disk-other-clause-first_valid
 pair_event-requires-else-disk-other-clause-first_valid c =
-    c.requires.ready.valid.disk c.args.other c.in-Some.near.now (sym c.in-Some.ensures)
+    c.requires.ready.valid.disk c.args.other c.in-Some.near (sym c.in-Some.ensures)
 
 pub pair_event-requires-else-disk-other-clause-second_valid : goal.pair_event-requires-else-disk-other-clause-second_valid
 pair_event-requires-else-disk-other-clause-second_valid c =
@@ -27,15 +27,15 @@ new-requires-then-disk-other c =
     let valid = c.requires.ready.valid in
     let here = c.requires.placed in
     let there = sym c.in-Some.ensures in
-    pair_in_range c.args.self.now.rules c.args.disk c.args.other c.args.placed.now.disk c.in-Some.near.now.disk c.pair_event.result
-    c.requires.ready.checked (valid.disk c.args.disk c.args.placed.now here) (valid.disk c.args.other c.in-Some.near.now there)
-    (valid.number c.args.disk c.args.placed.now here) (valid.number c.args.other c.in-Some.near.now there) c.pair_event.ensures
+    pair_in_range c.args.self.now.rules c.args.disk c.args.other c.args.placed.now.disk c.in-Some.near.disk c.pair_event.result
+    c.requires.ready.checked (valid.disk c.args.disk c.args.placed.now here) (valid.disk c.args.other c.in-Some.near there)
+    (valid.number c.args.disk c.args.placed.now here) (valid.number c.args.other c.in-Some.near there) c.pair_event.ensures
 
 pub returns-then-disk-other : goal.returns-then-disk-other
 returns-then-disk-other c = λ beside.
     subst (λ (o : Option Stamp). IsLeastOf (IsNativePair c.args.self.now c.args.view.now c.args.disk c.args.other) o)
     (sym c.new-then-disk-other.ensures)
-    (pair_as_lower c.args.self.now c.args.view.now c.args.disk c.args.other c.args.placed.now c.in-Some.near.now c.args.home
+    (pair_as_lower c.args.self.now c.args.view.now c.args.disk c.args.other c.args.placed.now c.in-Some.near c.args.home
     c.pair_event.result c.if-disk-other.true c.requires.placed (sym c.in-Some.ensures)
     (c.requires.own.0 (elim (c.owns_lower.ensures.0 c.if-not-owns_lower.false) [
       | inl low ↦ low.1
@@ -48,9 +48,9 @@ new-requires-else-disk-other c =
     let valid = c.requires.ready.valid in
     let here = c.requires.placed in
     let there = sym c.in-Some.ensures in
-    pair_in_range c.args.self.now.rules c.args.other c.args.disk c.in-Some.near.now.disk c.args.placed.now.disk
-    c.pair_event-else-disk-other.result c.requires.ready.checked (valid.disk c.args.other c.in-Some.near.now there)
-    (valid.disk c.args.disk c.args.placed.now here) (valid.number c.args.other c.in-Some.near.now there)
+    pair_in_range c.args.self.now.rules c.args.other c.args.disk c.in-Some.near.disk c.args.placed.now.disk
+    c.pair_event-else-disk-other.result c.requires.ready.checked (valid.disk c.args.other c.in-Some.near there)
+    (valid.disk c.args.disk c.args.placed.now here) (valid.number c.args.other c.in-Some.near there)
     (valid.number c.args.disk c.args.placed.now here) c.pair_event-else-disk-other.ensures
 
 pub returns-else-disk-other : goal.returns-else-disk-other
@@ -60,7 +60,7 @@ returns-else-disk-other c = λ beside.
     (elim (c.owns_lower.ensures.0 c.if-not-owns_lower.false) [
       | inl low ↦ (let a = low.0 in let b = c.if-disk-other.false in absurd (omega arith))
       | inr high ↦
-          pair_as_higher c.args.self.now c.args.view.now c.args.disk c.args.other c.args.placed.now c.in-Some.near.now c.args.home
+          pair_as_higher c.args.self.now c.args.view.now c.args.disk c.args.other c.args.placed.now c.in-Some.near c.args.home
           c.pair_event-else-disk-other.result high.0 c.requires.placed (sym c.in-Some.ensures) high.1 beside
           c.pair_event-else-disk-other.ensures
     ])

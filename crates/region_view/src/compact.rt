@@ -1,0 +1,158 @@
+//! Rows of small numbers, as those of valid disks are, in less than half the room.
+
+use crate::Placed;
+use fixed_motion::Disk;
+use std::marker::Model;
+
+// How many marks a time tells apart, a power of two.
+const MARKS: u64 = 1 << 20;
+
+// How many base ticks, so few that each time is below that of no row.
+const BASES: u64 = 1 << 43;
+
+// The time of no row.
+const NO_TIME: u64 = u64::MAX;
+
+// What stands at a number: a placed disk of small numbers, or none.
+#[derive(Clone, Copy)]
+pub struct Compact {
+    x: i32,
+    y: i32,
+    vx: i32,
+    vy: i32,
+    size: i32,
+    cell: u32,
+    // The base tick and the mark.
+    time: u64,
+}
+
+impl Model for Compact {
+    ghost use Rattle.std.specs.Prelude.{Option};
+    ghost use Rattle.std.specs.Coded.{coded_option};
+    ghost use Rattle.region_view.specs.declared.action.Placed.{Placed};
+    ghost use Rattle.region_view.specs.contracts.action.Placed as placed;
+
+    ghost Value = { Option Placed };
+
+    ghost coded = { coded_option placed.the_row.coded };
+
+    ghost use Rattle.region_view.specs.Compact.{unpacked, packed, IsPacked};
+
+    ghost view = { λ a. unpacked a };
+
+    ghost invariant = { λ a. IsPacked a };
+
+    ghost inverse = { λ row. packed row };
+
+    ghost inverse_ok = { λ a h. h.exact };
+}
+
+ghost use Rattle.std.specs.Prelude.{◌≡◌, ◌↔◌, IfSome, IsTrue, None, Some, option_copied};
+ghost use Rattle.region_view.specs.Compact.{IsNarrow, HasSmallCourse, HasSmallTime, IsSmall};
+
+impl Compact {
+    // No disk.
+    pub fn none() -> Compact
+        ensures { result ≡ None }
+    {
+        Compact {
+            x: 0,
+            y: 0,
+            vx: 0,
+            vy: 0,
+            size: 0,
+            cell: 0,
+            time: NO_TIME,
+        }
+    }
+
+    // A placed disk of small numbers.
+    pub fn some(row: &Placed) -> Compact
+        requires small { IsSmall row.now }
+        ensures { result ≡ Some row.now }
+    {
+        let disk = &row.disk;
+        Compact {
+            x: disk.x as i32,
+            y: disk.y as i32,
+            vx: disk.vx as i32,
+            vy: disk.vy as i32,
+            size: disk.size as i32,
+            cell: row.cell,
+            time: disk.base * MARKS + disk.mark as u64,
+        }
+    }
+
+    // A placed disk of small numbers, or none.
+    pub fn new(row: Option<&Placed>) -> Compact
+        requires small { IfSome (option_copied row) IsSmall }
+        ensures { result ≡ option_copied row.entry }
+    {
+        match row {
+            Some(row) => Compact::some(row),
+            None => Compact::none(),
+        }
+    }
+
+    // What stands there. Nearly each look into a view comes here.
+    #[inline(always)]
+    pub fn get(&self) -> Option<Placed>
+        ensures { result ≡ self.now }
+    {
+        if self.time == NO_TIME {
+            return None;
+        }
+        Some(Placed {
+            disk: Disk {
+                x: self.x as i64,
+                y: self.y as i64,
+                vx: self.vx as i64,
+                vy: self.vy as i64,
+                size: self.size as i64,
+                base: self.time / MARKS,
+                mark: (self.time % MARKS) as u32,
+            },
+            cell: self.cell,
+        })
+    }
+}
+
+// Whether each number of a row is small enough.
+pub fn is_small(row: &Placed) -> bool
+    ensures { IsTrue result ↔ IsSmall row.now }
+{
+    has_small_course(&row.disk) && has_small_time(&row.disk)
+}
+
+// Whether the coordinates, the velocity and the size of a disk have 32 bits.
+fn has_small_course(disk: &Disk) -> bool
+    ensures { IsTrue result ↔ HasSmallCourse disk.now }
+{
+    has_narrow_centre(disk) && has_narrow_velocity(disk) && is_narrow(disk.size)
+}
+
+fn has_narrow_centre(disk: &Disk) -> bool
+    ensures { IsTrue result ↔ IsNarrow disk.now.x × IsNarrow disk.now.y }
+{
+    is_narrow(disk.x) && is_narrow(disk.y)
+}
+
+fn has_narrow_velocity(disk: &Disk) -> bool
+    ensures { IsTrue result ↔ IsNarrow disk.now.vx × IsNarrow disk.now.vy }
+{
+    is_narrow(disk.vx) && is_narrow(disk.vy)
+}
+
+// Whether the base tick and the mark of a disk have room in one time.
+fn has_small_time(disk: &Disk) -> bool
+    ensures { IsTrue result ↔ HasSmallTime disk.now }
+{
+    disk.base < BASES && (disk.mark as u64) < MARKS
+}
+
+// Whether a number has 32 bits.
+fn is_narrow(number: i64) -> bool
+    ensures { IsTrue result ↔ IsNarrow number }
+{
+    number >= i32::MIN as i64 && number <= i32::MAX as i64
+}
