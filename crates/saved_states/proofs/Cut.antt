@@ -1,11 +1,13 @@
 -- What stays of kept views where those after a position, or before it, are dropped.
-use Rattle.std.proofs.Common.{◌≡◌, ℕ, zero, suc, ◌<◌, ◌≤◌, true, false, [], ◌∷◌, length, take, drop, sym, ap, ◌∙◌, refl, arith}
+use Rattle.std.proofs.Common.{◌≡◌, List, ◌-◌, ◌++◌, subst, ℕ, zero, suc, ◌<◌, ◌≤◌, true, false, [], ◌∷◌, length, take, drop, sym, ap, ◌∙◌, refl, arith}
 use Rattle.std.specs.Prelude.{nat_le}
+use Rattle.std.proofs.Math.Seq.{take-append_seam}
+use Rattle.std.proofs.lemmas.List.{length-drop, take_rest}
 use Rattle.region_view.specs.Views.{ViewData}
-use Rattle.saved_states.specs.Positions.{up_to, dropped_after, dropped_before}
+use Rattle.saved_states.specs.Positions.{SavedData, EndsWith, up_to, dropped_after, dropped_before}
 use Rattle.saved_states.specs.Steps.{StepList, last_position, undone, later, rebuilt}
 use Rattle.saved_states.proofs.Rising.{IsPlace, next_place}
-use Rattle.saved_states.proofs.Rebuilt.{undone_parts}
+use Rattle.saved_states.proofs.Rebuilt.{undone_parts, ends}
 
 le_true : (m n : ℕ) → m ≤ n → nat_le m n ≡ true
 le_true m n le = grind arith
@@ -28,6 +30,14 @@ later_up_to position (suc n) view (step ∷ steps) h =
     let more = later_up_to position n view steps (next_place position step steps n h) in
     rw within (λ i. (step.0, here i) ∷ more i)
 
+-- What is left where a list is turned by its first elements, and then as many are dropped from its end.
+pub turned : {A : Type 0} (n count : ℕ) (l : List A) → count ≡ length l →
+    take (count - n) (drop n l ++ take n l) ≡ drop n l
+turned n count l e =
+    let left : length (drop n l) ≡ count - n = length-drop n l ∙ sym (ap (λ (k : ℕ). k - n) e) in
+    subst (λ (k : ℕ). take k (drop n l ++ take n l) ≡ drop n l) left
+    (take-append_seam (drop n l) (take n l))
+
 pub cut : (position n first : ℕ) (view : ViewData) (steps : StepList) → IsPlace position steps n →
     dropped_after position (rebuilt first view steps)
     ≡ rebuilt first (undone view (drop n steps)) (take n steps)
@@ -35,6 +45,23 @@ cut position n first view steps h =
     let here = undone_parts view n steps in
     let more = later_up_to position n view steps h in
     λ i. (first, here i) ∷ more i
+
+-- where the steps from n on are undone in a copy of the newest view, what comes of it is the last view up
+-- to the position
+pub restored : (position n first : ℕ) (newest copied view : ViewData) (steps whole : StepList)
+    (saved : SavedData) → IsPlace position steps n → rebuilt first newest steps ≡ saved → whole ≡ steps →
+    copied ≡ newest → view ≡ undone copied (take (length whole - n) (drop n whole)) →
+    EndsWith (dropped_after position saved) (last_position first (take n steps), view)
+restored position n first newest copied view steps whole saved place is same copy undone_in =
+    let before = undone newest (drop n steps) in
+    let last = last_position first (take n steps) in
+    let view_is : view ≡ before =
+    undone_in ∙ ap (undone copied) (take_rest whole n ∙ ap (drop n) same)
+    ∙ ap (λ (v : ViewData). undone v (drop n steps)) copy in
+    let kept = sym (cut position n first newest steps place) ∙ ap (dropped_after position) is in
+    subst (λ (v : SavedData). EndsWith v (last, view)) kept
+    (subst (λ (v : ViewData). EndsWith (rebuilt first before (take n steps)) (last, v)) (sym view_is)
+    (ends first before (take n steps)))
 
 pub dropped : (position n first : ℕ) (view : ViewData) (steps : StepList) →
     IsPlace position steps n → dropped_before position (rebuilt first view steps)

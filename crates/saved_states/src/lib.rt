@@ -35,7 +35,7 @@ impl Model for Saved {
 ghost use Rattle.std.specs.Prelude.{◌≡◌, ℕ, ◌<◌, ◌≤◌, ◌-◌, [], ◌∷◌, length, map, All, IfOk, OnOk, OnErr};
 ghost use Rattle.std.specs.List.Sorted.{IsNonDecreasingBy, IsPartitionPoint};
 ghost use Rattle.saved_states.specs.Positions.{AreSaved, EndsWith, IsAfterLast, Appends, first_position, dropped_after, dropped_before, lowered};
-ghost use Rattle.saved_states.specs.Steps.{last_position};
+ghost use Rattle.saved_states.specs.Steps.{last_position, undone};
 
 use std::alloc::{AllocError, Global};
 
@@ -66,6 +66,7 @@ impl Saved {
     ///
     /// # Errors
     /// Out of memory: nothing changes.
+    #[inline(always)]
     pub fn append(&mut self, position: u64, rows: Rows) -> Result<(), AllocError>
         requires { IsAfterLast self.old position }
         ensures appended { OnOk result (Appends self.old self.new position rows) }
@@ -89,11 +90,23 @@ impl Saved {
     {
         let kept = count_up_to(&self.steps, position);
         let mut view = self.newest.copy(alloc)?;
-        for i in (kept..self.steps.len()).rev() {
-            let mut rows = self.steps[i].1;
-            view.swap(&mut rows)?;
-        }
+        undo(&mut view, &self.steps[kept..])?;
         Ok((last_position(self.first, &self.steps[..kept]), view))
+    }
+
+    /// Makes a view equal to that at the last position that isn't after `position`, in the memory that it
+    /// has where there is room.
+    ///
+    /// # Errors
+    /// Out of memory: nothing is said of the view.
+    pub fn restore_into(&self, view: &mut View, position: u64) -> Result<(), AllocError>
+        requires { first_position self.now ≤ position }
+        ensures { OnOk result
+            ((at : ℕ) × EndsWith (dropped_after position self.now) (at, view.new)) }
+    {
+        let kept = count_up_to(&self.steps, position);
+        view.copy_from(&self.newest)?;
+        undo(view, &self.steps[kept..])
     }
 
     /// Drops what is kept after `position`; the first view stays in any case.
@@ -121,7 +134,9 @@ impl Saved {
     {
         let dropped = count_up_to(&self.steps, position);
         self.first = last_position(self.first, &self.steps[..dropped]);
-        self.steps.drain(..dropped);
+        // Where all is dropped, as it mostly is, no step moves.
+        self.steps.rotate_left(dropped);
+        self.steps.truncate(self.steps.len() - dropped);
     }
 
     /// Lowers each position by `by`.
@@ -132,6 +147,17 @@ impl Saved {
         self.first -= by;
         lower_steps(&mut self.steps, by);
     }
+}
+
+// Undoes steps in the view that they led to, the last one first.
+fn undo(view: &mut View, steps: &[(u64, Rows)]) -> Result<(), AllocError>
+    ensures { OnOk result (view.new ≡ undone view.old steps.now) }
+{
+    for i in (0..steps.len()).rev() {
+        let mut rows = steps[i].1;
+        view.swap(&mut rows)?;
+    }
+    Ok(())
 }
 
 // How many steps are at positions up to this one.

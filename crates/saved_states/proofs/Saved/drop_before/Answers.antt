@@ -1,9 +1,9 @@
-use Rattle.std.proofs.Common.{◌∙◌, ℕ, take, drop, sym, ap, subst}
+use Rattle.std.proofs.Common.{◌∙◌, ◌-◌, ℕ, length, take, drop, sym, ap, subst}
 use Rattle.std.specs.List.Sorted.{IsNonDecreasingBy}
 use Rattle.saved_states.specs.Positions.{dropped_before}
 use Rattle.saved_states.specs.Steps.{StepList, RiseAfter, last_position, rebuilt}
 use Rattle.saved_states.proofs.Rising.{IsPlace, non_decreasing, rise_drop}
-use Rattle.saved_states.proofs.Cut.{dropped}
+use Rattle.saved_states.proofs.Cut.{turned, dropped}
 use Rattle.saved_states.proofs.Saved.drop_before.Goals as goal
 
 pub count_up_to-dropped-requires : goal.count_up_to-dropped-requires
@@ -17,7 +17,10 @@ invariant_of-self c =
     let a = c.self.inside in
     let first = c.last_position-self-inside.ensures
     ∙ ap (λ (v : StepList). last_position a.first (take n v)) c.deref-2.ensures.value in
-    let kept = c.drop-drain.ensures.items ∙ c.drain.ensures.kept in
+    let kept = c.truncate.ensures.items
+    ∙ ap (take (c.len.result - n)) c.rotate_left.ensures.items
+    ∙ turned n c.len.result a.steps.items
+    (c.len.ensures ∙ c.rotate_left.ensures.len ∙ sym c.deref.ensures.len ∙ ap length c.deref.ensures.value) in
     subst (RiseAfter c.last_position-self-inside.result) (sym kept)
     (subst (λ (v : ℕ). RiseAfter v (drop n a.steps.items)) (sym first)
     (rise_drop n a.first a.steps.items c.self.invariant))
@@ -28,8 +31,11 @@ returns c =
     let a = c.self.inside in
     let first = c.last_position-self-inside.ensures
     ∙ ap (λ (v : StepList). last_position a.first (take n v)) c.deref-2.ensures.value in
-    let kept = c.drop-drain.ensures.items ∙ c.drain.ensures.kept in
-    ap (λ (v : ℕ). rebuilt v a.newest c.drop-drain.new.self.0.items) first
+    let kept = c.truncate.ensures.items
+    ∙ ap (take (c.len.result - n)) c.rotate_left.ensures.items
+    ∙ turned n c.len.result a.steps.items
+    (c.len.ensures ∙ c.rotate_left.ensures.len ∙ sym c.deref.ensures.len ∙ ap length c.deref.ensures.value) in
+    ap (λ (v : ℕ). rebuilt v a.newest c.truncate.new.self.items) first
     ∙ ap (rebuilt (last_position a.first (take n a.steps.items)) a.newest) kept
     ∙ sym (dropped c.args.position n a.first a.newest a.steps.items
     (subst (λ (v : StepList). IsPlace c.args.position v n) c.deref.ensures.value
