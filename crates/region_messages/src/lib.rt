@@ -13,6 +13,8 @@ pub struct Trail {
     messages: Vec<Message>,
     // How many of the first ones have stood since the last mark.
     kept: usize,
+    // How many messages the hearer had at the last mark.
+    heard: usize,
 }
 
 impl Model for Trail {
@@ -47,6 +49,7 @@ impl Trail {
         Trail {
             messages: Vec::new(alloc),
             kept: 0,
+            heard: 0,
         }
     }
 
@@ -94,6 +97,7 @@ impl Trail {
         let dropped = count_below(&self.messages, at);
         self.messages.drain(..dropped);
         self.kept = self.kept.saturating_sub(dropped);
+        self.heard = self.heard.saturating_sub(dropped);
     }
 
     /// Takes the messages of `other` from the stamp `at` on, in place of its own from there on.
@@ -110,11 +114,17 @@ impl Trail {
     }
 
     /// Marks what stands now: a hearer that has heard all of it needs to look at the rest alone
-    /// (see [`first_news`]).
-    pub fn mark(&mut self)
+    /// (see [`first_news`]). `heard` is how many messages the hearer has then.
+    pub fn mark(&mut self, heard: usize)
         ensures { self.new ≡ self.old }
     {
         self.kept = self.messages.len();
+        self.heard = heard;
+    }
+
+    /// Whether the hearer of the last mark may find something new: a message that it hasn't, or one less.
+    pub fn has_news(&self) -> bool {
+        self.kept < self.messages.len().max(self.heard)
     }
 }
 
