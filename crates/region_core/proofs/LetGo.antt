@@ -1,30 +1,32 @@
 -- A body that lets go of the entries before a later floor.
-use Rattle.std.proofs.Common.{◌≡◌, ℕ, ◌+◌, ◌-◌, ◌<◌, ◌≤◌, suc, List, [], ◌∷◌, ◌++◌, length, get_or, take, map, sym, ap, ◌∙◌, subst, arith, refl}
+use Rattle.std.proofs.Common.{◌≡◌, ℕ, ◌+◌, ◌-◌, ◌<◌, ◌≤◌, suc, List, [], ◌∷◌, ◌++◌, length, get_or, take, drop, map, sym, ap, ◌∙◌, subst, arith, refl}
 use Rattle.std.specs.Prelude.{All}
 use Rattle.std.proofs.Math.Seq.{take-suc}
-use Rattle.std.proofs.lemmas.List.{length-map}
+use Rattle.std.proofs.lemmas.List.{length-map, length-take-le, take-append-drop}
 use Rattle.std.proofs.lemmas.List.Elements.{All-nil, All-cons, All-same}
 use Rattle.std.proofs.Math.ListN.{get_or-map}
 use Rattle.event_stamps.specs.declared.Stamp.{Stamp}
 use Rattle.region_view.specs.Placing.{IsValidPlacing}
 use Rattle.region_view.specs.Views.{ViewData, rows_in}
+use Rattle.region_view.specs.Setting.{set_rows, after_action}
 use Rattle.region_messages.specs.Trails.{from}
 use Rattle.region_queue.specs.Queue.{QueueData, IsOf, StandsFor}
-use Rattle.saved_states.specs.Positions.{SavedData, first_position, dropped_before, lowered}
+use Rattle.saved_states.specs.Positions.{SavedData, EndsWith, first_position, dropped_after, dropped_before, lowered}
 use Rattle.region_core.specs.declared.home.Home.{Home}
 use Rattle.region_core.specs.declared.entry.Entry.{Entry}
 use Rattle.region_core.specs.declared.entry.Entry.TheVariants.{Native, Heard}
 use Rattle.region_core.specs.declared.live.Live.{Live}
-use Rattle.region_core.specs.LocalRun.{Local, At, Trails, start_of, now_of, after_entry, after_log}
+use Rattle.region_core.specs.LocalRun.{Local, At, Trails, start_of, now_of, without_first, after_entry, after_log}
 use Rattle.region_core.specs.LocalRun.{IsMove, Moves, entries_below, entries_from, IsInPlace, IsRight}
 use Rattle.region_core.specs.Inbox.{InboxData, taken_from}
 use Rattle.region_core.specs.Taken.{taken_of}
 use Rattle.region_core.specs.Live.{run_in, start_in, saved_along, IsInbox, IsOutbox, IsLive}
 use Rattle.region_core.specs.Raising.{raised_run, HasOrder, HasNoneWaitingBelow, IsRaised}
 use Rattle.region_core.proofs.Logs.{after_join, below_then_from, moves_split}
+use Rattle.region_core.proofs.Along.{along_ends}
 use Rattle.region_core.proofs.Back.{no_more_taken}
 use Rattle.region_core.proofs.Raised.{start_raised}
-use Rattle.region_core.proofs.Rewound.{is_up_to, is_past}
+use Rattle.region_core.proofs.Rewound.{is_up_to, is_past, kept_saved}
 use Rattle.region_core.proofs.Taken.{taken_below}
 use Rattle.region_core.proofs.Valid.{HaveValidRows, valid_without, valid_action, valid_along}
 
@@ -193,6 +195,35 @@ first_left home floor to live gone left is count dropped =
     (entries_from to live.log.items)
 
 -- ---- the view that is brought forward
+-- what waits makes no difference to it
+view_alike : (view : ViewData) (w x : Trails) (es : List Entry) →
+    (after_log (record { view = view; waiting = w }) es).view
+    ≡ (after_log (record { view = view; waiting = x }) es).view
+view_alike view w x [] = refl
+view_alike view w x (Native action ∷ es) = view_alike (after_action view action) w x es
+view_alike view w x (Heard q m ∷ es) =
+    view_alike (set_rows view m.rows) (without_first w q) (without_first x q) es
+
+-- the saved view at a position is that after so many entries
+pub saved_is_after : (gone : ℕ) (view now : ViewData) (log : List Entry) (saved : SavedData) →
+    gone ≤ length log →
+    (waiting : Trails) × (saved ≡ saved_along 0 (record { view = view; waiting = waiting }) log) →
+    (at : ℕ) × EndsWith (dropped_after gone saved) (at, now) → (waiting : Trails) →
+    now ≡ (after_log (record { view = view; waiting = waiting }) (take gone log)).view
+saved_is_after gone view now log saved within (w, is) (at, ends) waiting =
+    ap (λ (p : ℕ × ViewData). p.1) (along_ends 0 start (take gone log) (at, now)
+    (subst (λ (s : SavedData). EndsWith s (at, now)) kept ends))
+    ∙ view_alike view w waiting (take gone log)
+  where
+    start : At
+    start = record { view = view; waiting = w }
+
+    kept : dropped_after gone saved ≡ saved_along 0 start (take gone log)
+    kept =
+        let count = length-take-le gone log within in
+        ap (dropped_after gone) (is ∙ ap (saved_along 0 start) (sym (take-append-drop gone log)))
+        ∙ kept_saved gone 0 start (take gone log) (drop gone log) (omega arith)
+
 pub brought_further : (view here next : ViewData) (es : List Entry) (i : ℕ) (e : Entry) → i < length es →
     e ≡ get_or es i e →
     ((waiting : Trails) → here ≡ (after_log (record { view = view; waiting = waiting }) (take i es)).view) →

@@ -20,9 +20,14 @@ use Rattle.region_core.specs.LocalRun.{IsOwn, ComesTo}
 use Rattle.region_core.proofs.Valid.{own_candidate}
 
 -- ---- reads
-pub found_row : {T : Type 0} (o : Option (Bor T)) (p : T) → option_copied o ≡ Some p → IsSome o
+pub found_row : {T : Type 0} (o : Option T) (p : T) → o ≡ Some p → IsSome o
 found_row None p is = absurd (none-some p is)
 found_row (Some r) p is = refl
+
+-- the same behind a reference
+pub found_message : {T : Type 0} (o : Option (Bor T)) (p : T) → option_copied o ≡ Some p → IsSome o
+found_message None p is = absurd (none-some p is)
+found_message (Some r) p is = refl
 
 -- ---- rows of a native candidate
 pub first_row : (h : Home) (view : ViewData) (s : Stamp) → IsOwn h view s →

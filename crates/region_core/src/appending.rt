@@ -30,6 +30,7 @@ use std::alloc::{AllocError, Global};
 
 impl Live {
     // Appends an entry, which sets these rows in the view after the whole log.
+    #[inline(always)]
     fn append(&mut self, alloc: Global, entry: Entry, rows: Rows) -> Result<(), AllocError>
         requires saved { AreSavedAlong self.old }
         requires room { length self.old.log.items < MAX_ENTRIES }
@@ -157,6 +158,7 @@ fn send_one(trail: &mut Trail, message: Option<Message>) -> Result<(), AllocErro
 }
 
 // Tells the queue of an entry, which set these rows.
+#[inline(always)]
 fn tell(
     alloc: Global,
     queue: &mut Queue,
@@ -178,6 +180,7 @@ fn tell(
 }
 
 /// Tells the queue of a view that differs in the disks of some rows from the one that it stands for.
+#[inline(always)]
 pub(crate) fn touch(
     alloc: Global,
     queue: &mut Queue,

@@ -106,13 +106,31 @@ impl Live {
         self.inbox.replace(from, at, sent)
     }
 
-    /// Marks what stands of what goes to a region (see [`Trail::mark`]).
-    pub(crate) fn mark_sent(&mut self, to: u32)
+    /// Marks what stands of what goes to a region, which has so many of its messages (see [`Trail::mark`]).
+    pub(crate) fn mark_sent(&mut self, to: u32, heard: usize)
         ensures sent { self.new.sent.items ≡ self.old.sent.items }
         ensures rest { self.new ≡ record self.old { sent = self.new.sent } }
     {
         if let Some(trail) = self.sent.get_mut(to as usize) {
-            trail.mark();
+            trail.mark(heard);
+        }
+    }
+}
+
+impl Live {
+    /// Whether a region that it sends to may find something new (see [`Trail::has_news`]).
+    pub(crate) fn has_news(&self, to: u32) -> bool {
+        match self.sent.get(to as usize) {
+            Some(trail) => trail.has_news(),
+            None => false,
+        }
+    }
+
+    /// How many messages it has of a region, by number.
+    pub(crate) fn count_heard(&self, from: u32) -> usize {
+        match self.inbox.heard(from) {
+            Some(trail) => trail.len(),
+            None => 0,
         }
     }
 }

@@ -65,6 +65,7 @@ impl Inbox {
 
     /// The least stamp of the first messages of all regions, with the region; of those with one stamp, the
     /// least region.
+    #[inline(always)]
     pub(crate) fn least(&self) -> Option<(u32, Stamp)>
         ensures { IsLeastHead self.now result }
     {

@@ -257,8 +257,8 @@ fn outcome(home: &Home, view: &View, stamp: &Stamp) -> Result<Action, Limit>
     match stamp.kind {
         Kind::Pair => {
             let other = view.get(stamp.second).unwrap();
-            act(&home.rules, &home.grid, stamp, row, Some(&other.disk))
+            act(&home.rules, &home.grid, stamp, &row, Some(&other.disk))
         }
-        _ => act(&home.rules, &home.grid, stamp, row, None),
+        _ => act(&home.rules, &home.grid, stamp, &row, None),
     }
 }

@@ -1,11 +1,11 @@
 //! Raising the floor: letting go of what is final.
 
-ghost use Rattle.std.specs.Prelude.{◌≡◌, ◌≤◌, length, drop, All, map, IfOk, OnOk};
+ghost use Rattle.std.specs.Prelude.{◌≡◌, ◌≤◌, length, take, drop, All, map, IfOk, OnOk};
 ghost use Rattle.event_stamps.specs.declared.Stamp.{Stamp};
 ghost use Rattle.event_stamps.specs.Order.{Before, end_stamp};
 ghost use Rattle.region_messages.specs.Trails.{from};
 ghost use Rattle.region_core.specs.LocalRun.{Trails, after_entry, after_log, IsInPlace};
-ghost use Rattle.region_core.specs.Live.{run_in, IsLive, HasRun};
+ghost use Rattle.region_core.specs.Live.{run_in, saved_along, IsLive, HasRun};
 ghost use Rattle.region_core.specs.Raising.{raised_run, HasNoneWaitingBelow, HasOrder};
 
 use crate::live::Live;
@@ -14,6 +14,7 @@ use crate::{Entry, Home};
 use event_stamps::Stamp;
 use region_messages::Trail;
 use region_view::View;
+use saved_states::Saved;
 use std::alloc::AllocError;
 
 impl Live {
@@ -41,7 +42,7 @@ impl Live {
             mut log,
         } = self;
         let gone = count_before(&log, to);
-        bring_forward(&mut base, &log[..gone])?;
+        bring_forward(&mut base, &saved, &log, gone)?;
         inbox.drop_before(to, &log[..gone]);
         drop_before(&mut sent, to);
         saved.drop_before(gone as u64);
@@ -58,8 +59,35 @@ impl Live {
     }
 }
 
+// To do or to undo an entry takes about as long as to copy so many rows.
+const ROWS_PER_ENTRY: usize = 16;
+
+// Turns the view before a log into that after its first entries, so many. Where that costs less, it takes
+// over the newest view, and undoes in it what stays.
+fn bring_forward(
+    view: &mut View,
+    saved: &Saved,
+    log: &[Entry],
+    gone: usize,
+) -> Result<(), AllocError>
+    requires within { gone ≤ length log.now }
+    requires order { All HasOrder (take gone log.now) }
+    requires saved { (waiting : Trails) × (saved.now
+        ≡ saved_along 0 (record { view = view.old; waiting = waiting }) log.now) }
+    ensures { OnOk result ((waiting : Trails) → view.new
+        ≡ (after_log (record { view = view.old; waiting = waiting }) (take gone log.now)).view) }
+{
+    // Each entry that stays has to be undone, in place of one that goes and need not be done again.
+    let spared = gone.saturating_sub(log.len() - gone);
+    if spared.saturating_mul(ROWS_PER_ENTRY) >= saved.newest().room() {
+        saved.restore_into(view, gone as u64)
+    } else {
+        act_out(view, &log[..gone])
+    }
+}
+
 // Does in a view what some entries do.
-fn bring_forward(view: &mut View, entries: &[Entry]) -> Result<(), AllocError>
+fn act_out(view: &mut View, entries: &[Entry]) -> Result<(), AllocError>
     requires { All HasOrder entries.now }
     ensures { OnOk result ((waiting : Trails) → view.new
         ≡ (after_log (record { view = view.old; waiting = waiting }) entries.now).view) }
@@ -87,7 +115,9 @@ fn drop_first(log: &mut Vec<Entry>, gone: usize)
     requires { gone ≤ length log.old.items }
     ensures { log.new.items ≡ drop gone log.old.items }
 {
-    log.drain(..gone);
+    // Where all are taken away, as is common, no entry moves.
+    log.rotate_left(gone);
+    log.truncate(log.len() - gone);
 }
 
 /// Takes away the messages before a stamp.

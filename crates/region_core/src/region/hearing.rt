@@ -84,7 +84,7 @@ impl Region {
         };
         match live.catch_up(alloc, &self.home, number, sent, clock) {
             Ok(()) => {
-                from.mark_sent(self.home.number);
+                from.mark_sent(self.home.number, live.count_heard(number));
                 Ok(())
             }
             Err(error) => {
@@ -94,14 +94,23 @@ impl Region {
         }
     }
 
-    // Marks what stands of what it sends to a region.
-    fn mark_sent(&mut self, to: u32)
+    /// Whether a region, by number, may find something new in what it sends to it, since that one last
+    /// caught up with it. Nothing is claimed of the answer; false where it is spent.
+    pub fn has_news(&self, to: u32) -> bool {
+        match &self.live {
+            Some(live) => live.has_news(to),
+            None => false,
+        }
+    }
+
+    // Marks what stands of what it sends to a region, which has so many of its messages.
+    fn mark_sent(&mut self, to: u32, heard: usize)
         ensures { self.new ≡ self.old }
     {
         let Some(live) = &mut self.live else {
             return;
         };
-        live.mark_sent(to);
+        live.mark_sent(to, heard);
     }
 
     // What another region sends to it; none exactly where the two are apart.

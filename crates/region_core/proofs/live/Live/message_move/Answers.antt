@@ -6,7 +6,7 @@ use Rattle.region_core.specs.Answers.{HasDue, IsInTurn}
 use Rattle.region_core.specs.LocalRun.{IsOwn}
 use Rattle.region_core.specs.Inbox.{next_from, IsSharedHead}
 use Rattle.region_core.specs.Live.{run_in, now_in}
-use Rattle.region_core.proofs.Outcome.{found_row}
+use Rattle.region_core.proofs.Outcome.{found_message}
 use Rattle.region_core.proofs.NextMove.{tied_by_own, tied_by_other, take_fits, first_has}
 use Rattle.region_core.proofs.live.Live.message_move.Goals as goal
 use Rattle.region_core.proofs.live.Live.message_move.Goals.{then-is_own, else-is_own}
@@ -22,7 +22,7 @@ returns-then-is_shared c = elim c.if-is_own.branch [
 
 pub unwrap-message-requires : goal.unwrap-message-requires
 unwrap-message-requires c =
-    found_row c.next.result c.requires.first.0 (c.next.ensures ∙ c.requires.first.1)
+    found_message c.next.result c.requires.first.0 (c.next.ensures ∙ c.requires.first.1)
 
 pub returns-else-is_shared : goal.returns-else-is_shared
 returns-else-is_shared c =

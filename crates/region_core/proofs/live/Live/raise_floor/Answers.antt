@@ -1,11 +1,11 @@
-use Rattle.std.proofs.Common.{◌≡◌, ◌+◌, List, length, map, take, drop, sym, ap, ◌∙◌, arith, refl}
+use Rattle.std.proofs.Common.{◌≡◌, ◌+◌, ◌≤◌, List, length, map, take, drop, sym, ap, subst, ◌∙◌, arith, refl}
 use Rattle.std.proofs.lemmas.List.{length-map, with_items_is}
 use Rattle.region_messages.specs.Trails.{from}
 use Rattle.region_core.specs.declared.entry.Entry.{Entry}
 use Rattle.region_core.specs.LocalRun.{entries_below, entries_from, after_log}
 use Rattle.region_core.specs.Inbox.{taken_from}
 use Rattle.region_core.specs.Taken.{taken_of}
-use Rattle.region_core.specs.Live.{run_in, start_in}
+use Rattle.region_core.specs.Live.{run_in, start_in, saved_along}
 use Rattle.saved_states.specs.Positions.{lowered}
 use Rattle.region_core.proofs.Raised.{raised_right}
 use Rattle.region_core.proofs.Rewound.{kept_are, kept_count}
@@ -15,10 +15,17 @@ use Rattle.region_core.proofs.live.Live.raise_floor.Goals as goal
 pub bring_forward-requires : goal.bring_forward-requires
 bring_forward-requires c =
     let n = c.count_before-gone.result in
-    gone_ordered c.args.home.now c.requires.live.0 c.args.to c.args.self (take n c.deref-2.result.now)
-    c.requires.place c.requires.live.1
-    (ap (take n) c.deref-2.ensures.value ∙ kept_are c.args.to n c.args.self.log.items c.deref.result.now
-    c.deref.ensures.value c.count_before-gone.ensures.before)
+    let is = c.requires.live.1 in
+    let whole = c.deref-2.ensures.value in
+    record {
+      within = subst (λ (es : List Entry). n ≤ length es) (c.deref.ensures.value ∙ sym whole)
+          c.count_before-gone.ensures.within;
+      order = gone_ordered c.args.home.now c.requires.live.0 c.args.to c.args.self
+          (take n c.deref-2.result.now) c.requires.place is
+          (ap (take n) whole ∙ kept_are c.args.to n c.args.self.log.items c.deref.result.now
+          c.deref.ensures.value c.count_before-gone.ensures.before);
+      saved = (c.args.self.inbox.heard, is.saved ∙ ap (saved_along 0 (start_in c.args.self)) (sym whole));
+    }
 
 pub drop_before-requires : goal.drop_before-requires
 drop_before-requires c = λ q.

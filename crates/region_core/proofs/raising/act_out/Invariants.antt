@@ -1,6 +1,6 @@
 use Rattle.std.proofs.Common.{◌≡◌, take}
 use Rattle.region_core.specs.LocalRun.{Trails, after_log}
-use Rattle.region_core.proofs.raising.bring_forward.Given as goal
+use Rattle.region_core.proofs.raising.act_out.Given as goal
 
 abbrev pub invariant-loop-entry : goal.invariant-loop-entry
 invariant-loop-entry l = (waiting : Trails) →
