@@ -14,3 +14,4 @@ pub mod Merges
 pub mod Raises
 pub mod Commit
 pub mod Adopting
+pub mod Marks

@@ -4,3 +4,4 @@ pub mod Bounds
 pub mod Merging
 pub mod Raising
 pub mod Commits
+pub mod Comparing

@@ -7,6 +7,7 @@
 pub mod batch;
 mod bounding;
 pub mod committed;
+mod comparing;
 mod laws;
 mod merging;
 mod raising;

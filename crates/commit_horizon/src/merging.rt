@@ -39,7 +39,7 @@ pub(crate) fn merge(
 {
     let _floor = state.floor();
     let mut heads = first_heads(alloc, regions, horizon)?;
-    let mut actions = Vec::new(alloc);
+    let mut actions = Vec::with_capacity(alloc, entries_of_all(regions))?;
     while let Some((k, head)) = least(&heads) {
         let region = &regions[k];
         let action = action_at(region, head.place);
@@ -48,6 +48,15 @@ pub(crate) fn merge(
         heads[k] = head_after(region, head.place + 1, horizon);
     }
     Ok(actions)
+}
+
+// How many entries the logs have, of which no more come to actions.
+fn entries_of_all(regions: &[Region]) -> usize {
+    let mut count: usize = 0;
+    for region in regions {
+        count = count.saturating_add(region.entries());
+    }
+    count
 }
 
 // The action at a place of a region's log, which has one there.

@@ -6,6 +6,7 @@ ghost use Rattle.cell_grid.specs.Grid.{IsRegion};
 ghost use Rattle.commit_horizon.specs.Commits.{IsAdopted, AllAdopted};
 
 use crate::Committed;
+use crate::comparing::standing;
 use region_core::Region;
 use std::alloc::{AllocError, Global};
 
@@ -45,9 +46,12 @@ impl Committed {
         ensures adopted { OnOk result (AllAdopted self.now regions.old regions.new) }
         ensures stand { OnOk result (AllStand self.now regions.new) }
     {
-        let _state = self.state();
+        let state = self.state();
+        let stands = standing(alloc, state, regions)?;
         for place in 0..regions.len() {
-            self.renew(alloc, place as u32, &mut regions[place])?;
+            if !stands[place] {
+                self.renew(alloc, place as u32, &mut regions[place])?;
+            }
         }
         Ok(())
     }

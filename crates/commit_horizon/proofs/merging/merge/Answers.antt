@@ -11,7 +11,7 @@ loop-k-init c =
     let state = c.args.state.now in
     let regions = c.args.regions.now in
     subst (λ (xs : List Action). KeepsMerging state regions c.args.horizon c.in_ok-heads.heads.items xs state)
-    (sym c.new-actions.ensures.items)
+    (sym c.in_ok-actions.ensures.items)
     (keeps_begin state regions c.args.horizon c.in_ok-heads.heads.items c.floor-floor.ensures.kept
     c.requires.stand c.requires.kept c.requires.bound c.in_ok-heads.ensures)
 
