@@ -4,6 +4,7 @@ use crossbeam_utils::CachePadded;
 use region_core::Region;
 use std::marker::Model;
 use std::sync::Mutex;
+use std::sync::atomic::{AtomicU64, Ordering};
 
 /// Regions, each under a lock of its own, seen as their number.
 ///
@@ -12,22 +13,31 @@ use std::sync::Mutex;
 pub struct Locks {
     // Padded, since two locks in one line of the cache would slow each other.
     regions: Vec<CachePadded<Mutex<Region>>>,
+    // For whom each region may have news, as it stood when its lock was last let go: a bit for each number.
+    // Whoever looks there needs no lock, so that regions that have nothing to tell aren't waited for.
+    news: Vec<CachePadded<AtomicU64>>,
 }
 
 impl Model for Locks {
-    ghost use Rattle.std.specs.Prelude.{ℕ, ◌<◌, ◌^◌, vec_len};
+    ghost use Rattle.std.specs.Prelude.{◌≡◌, ℕ, ◌<◌, ◌^◌, vec_len};
 
     ghost Value = { ℕ };
 
     ghost view = { λ s. vec_len s.regions };
 
-    ghost invariant = { λ s. vec_len s.regions < 2 ^ 32 };
+    ghost invariant = { λ s. (vec_len s.regions < 2 ^ 32) × (vec_len s.news ≡ vec_len s.regions) };
 }
 
 ghost use Rattle.std.specs.Prelude.{◌≡◌, ◌≢◌, ◌<◌, ◌^◌, vec_len, length, IfOk};
 
 use std::alloc::{AllocError, Global};
 use std::sync::Wait;
+
+// How far apart the numbers of linked regions can be: a region has one column at least, and reaches one beside it.
+const FARTHEST: u32 = 2;
+
+// News for everybody.
+const ALL: u64 = u64::MAX;
 
 impl Locks {
     /// Puts regions under locks, which are numbered from 0 on in the order of the regions.
@@ -42,7 +52,10 @@ impl Locks {
         for region in regions {
             locked.push(CachePadded::new(Mutex::new(region)))?;
         }
-        Ok(Locks { regions: locked })
+        Ok(Locks {
+            news: news_of_all(alloc, locked.len())?,
+            regions: locked,
+        })
     }
 
     /// The number of regions.
@@ -68,7 +81,40 @@ impl Locks {
     {
         let mut held = self.regions[region as usize].lock(rt);
         held.run(alloc, steps)?;
+        self.tell(region, &held);
         Ok(())
+    }
+
+    /// Whether a region may have news for any other. Takes no lock. Nothing is claimed of the answer; before
+    /// its first turn it is yes.
+    pub fn has_any_news(&self, region: u32) -> bool
+        requires { region < self.now }
+    {
+        self.news[region as usize].load(Ordering::SeqCst) != 0
+    }
+
+    /// Whether a region may have news for another, since that one last met it. Takes no lock. Nothing is
+    /// claimed of the answer; before the first turn of the region it is yes.
+    pub fn has_news(&self, from: u32, to: u32) -> bool
+        requires { from < self.now }
+    {
+        self.news[from as usize].load(Ordering::SeqCst) & bit(to) != 0
+    }
+
+    // Lets the others see for whom a region, whose lock is held, may have news.
+    fn tell(&self, number: u32, region: &Region)
+        requires { number < self.now }
+    {
+        let mut news = 0;
+        for to in number.saturating_sub(FARTHEST)..number.saturating_add(FARTHEST + 1) {
+            if region.has_news(to) {
+                news |= bit(to);
+            }
+        }
+        // Written where it changed alone, since others have its line of the cache.
+        if self.news[number as usize].load(Ordering::SeqCst) != news {
+            self.news[number as usize].store(news, Ordering::SeqCst);
+        }
     }
 
     /// Under the locks of two regions, lets one hear what is new of the other since it last did:
@@ -92,10 +138,14 @@ impl Locks {
             let mut hears = self.regions[hearer as usize].lock(rt);
             let mut tells = self.regions[from as usize].lock(rt);
             hears.catch_up(alloc, &mut tells)?;
+            self.tell(hearer, &hears);
+            self.tell(from, &tells);
         } else {
             let mut tells = self.regions[from as usize].lock(rt);
             let mut hears = self.regions[hearer as usize].lock(rt);
             hears.catch_up(alloc, &mut tells)?;
+            self.tell(hearer, &hears);
+            self.tell(from, &tells);
         }
         Ok(())
     }
@@ -114,6 +164,22 @@ impl Locks {
         }
         Ok(regions)
     }
+}
+
+// News of so many regions, each for everybody.
+fn news_of_all(alloc: Global, count: usize) -> Result<Vec<CachePadded<AtomicU64>>, AllocError>
+    ensures { IfOk result (λ news. vec_len news ≡ count) }
+{
+    let mut news = Vec::with_capacity(alloc, count)?;
+    for _ in 0..count {
+        news.push(CachePadded::new(AtomicU64::new(ALL)))?;
+    }
+    Ok(news)
+}
+
+// The bit of a number; more numbers than bits share them, and are then told of each other's news.
+fn bit(number: u32) -> u64 {
+    1 << (number % 64)
 }
 
 #[cfg(test)]

@@ -11,7 +11,7 @@ use std::sync::Wait;
 
 // How many steps a region runs at most before it hears the others. What is run on old news is undone later, so
 // few steps save work; but each slice costs two meetings.
-const SLICE: u32 = 4;
+const SLICE: u32 = 8;
 
 // How far apart the numbers of linked regions can be: a region has one column at least, and reaches one beside it.
 const FARTHEST: u32 = 2;
@@ -46,8 +46,8 @@ impl<'a, G: Gate> Job<'a, G> {
         Ok(())
     }
 
-    // In slices, after each of which all workers meet, have their regions hear the others, and meet again: while
-    // they hear, no region runs, so nobody waits long for a lock.
+    // In slices, after each of which all workers meet. If any region has news, they have their regions hear the
+    // others, and meet again: while they hear, no region runs, so that a lock is only ever held for a hearing.
     fn make_turn<R: Wait>(
         &self,
         rt: &R,
@@ -57,9 +57,10 @@ impl<'a, G: Gate> Job<'a, G> {
         while left > 0 {
             let steps = left.min(SLICE);
             self.run_each(rt, steps)?;
-            attendance.arrive();
-            self.hear_each(rt)?;
-            attendance.arrive();
+            if attendance.end_slice(self.has_news()) {
+                self.hear_each(rt)?;
+                attendance.arrive();
+            }
             left -= steps;
         }
         Ok(())
@@ -77,7 +78,17 @@ impl<'a, G: Gate> Job<'a, G> {
         Ok(())
     }
 
-    // Each of the worker's regions hears those that it is linked with.
+    // Whether one of the worker's regions may have news for others.
+    fn has_news(&self) -> bool {
+        for region in 0..self.locks.count() {
+            if self.is_own(region) && self.locks.has_any_news(region) {
+                return true;
+            }
+        }
+        false
+    }
+
+    // Each of the worker's regions hears those that it is linked with and that may have news for it.
     fn hear_each<R: Wait>(&self, rt: &R) -> Result<(), AllocError> {
         for region in 0..self.locks.count() {
             if self.is_own(region) {
@@ -92,7 +103,7 @@ impl<'a, G: Gate> Job<'a, G> {
     {
         let end = region.saturating_add(FARTHEST + 1).min(self.locks.count());
         for other in region.saturating_sub(FARTHEST)..end {
-            if self.grid.linked(region, other) {
+            if self.locks.has_news(other, region) && self.grid.linked(region, other) {
                 self.locks.meet(rt, self.alloc, region, other)?;
             }
         }

@@ -17,6 +17,8 @@ const ENDED: u64 = 1 << 63;
 #[derive(Drop)]
 pub(crate) struct Meeting {
     arrivals: AtomicU64,
+    // The last slice that brought news, counted from 1 on.
+    news: AtomicU64,
     workers: u32,
 }
 
@@ -25,6 +27,7 @@ impl Meeting {
     pub(crate) fn new(workers: u32) -> Meeting {
         Meeting {
             arrivals: AtomicU64::new(0),
+            news: AtomicU64::new(0),
             workers,
         }
     }
@@ -34,6 +37,7 @@ impl Meeting {
         Attendance {
             meeting: self,
             due: 0,
+            slices: 0,
             waits: true,
         }
     }
@@ -66,11 +70,25 @@ pub(crate) struct Attendance<'m> {
     meeting: &'m Meeting,
     // How many arrivals there are once all have come as often as this worker.
     due: u64,
+    // How many slices the worker has made.
+    slices: u64,
     // Whether the worker waits still: one that waited in vain doesn't wait again.
     waits: bool,
 }
 
 impl Attendance<'_> {
+    /// Arrives at the end of a slice, with news or without, and waits as [`Attendance::arrive`] does. Whether
+    /// any worker came with news: all that came in time are told the same, since none begins the next slice
+    /// with news before all have left a meeting to which one came with some.
+    pub(crate) fn end_slice(&mut self, has_news: bool) -> bool {
+        self.slices = self.slices.saturating_add(1);
+        if has_news {
+            self.meeting.news.store(self.slices, Ordering::SeqCst);
+        }
+        self.arrive();
+        self.meeting.news.load(Ordering::SeqCst) == self.slices
+    }
+
     /// Arrives, and waits until all have arrived as often, or for a while.
     pub(crate) fn arrive(&mut self) {
         self.due = self.due.saturating_add(self.meeting.workers as u64);
@@ -88,6 +106,7 @@ impl Drop for Attendance<'_> {
         let Attendance {
             meeting: _,
             due: _,
+            slices: _,
             waits: _,
         } = self;
     }
