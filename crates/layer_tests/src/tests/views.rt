@@ -67,6 +67,29 @@ const UP: Action = Action::Hit(Change {
     second: None,
 });
 
+// No valid record has numbers as great as these, which a view keeps in a wider form.
+const FAR_AWAY: Disk = Disk {
+    x: 1 << 40,
+    y: -(1 << 33),
+    vx: 1 << 32,
+    vy: -8,
+    size: 1 << 34,
+    base: 1 << 50,
+    mark: 1 << 30,
+};
+
+const AWAY: Action = Action::Hit(Change {
+    stamp: Stamp {
+        tick: 1,
+        round: 0,
+        kind: Kind::Wall,
+        first: 1,
+        second: 3,
+    },
+    first: FAR_AWAY,
+    second: None,
+});
+
 // A number and the cell of the disk that is to stand there; none where nothing is.
 type ToldRow = (u32, Option<u32>);
 
@@ -210,4 +233,40 @@ fn swaps_of(alloc: Global, state: &CellState) -> Result<Option<Swaps>, AllocErro
     let once = seen_in(&swapped);
     swapped.swap(&mut rows)?;
     Ok(Some((seen_in(&acted), once, seen_in(&swapped), seen_in(&view))))
+}
+
+#[test]
+fn great_numbers_are_kept(rt: HostRuntime) -> Result<(), Fail> {
+    let read = opened(rt.alloc())?;
+    assert!(rt; read.is_some());
+    if let Some(state) = read {
+        let kept = kept_of(rt.alloc(), &state)?;
+        assert_eq!(rt;
+            kept,
+            Some((Some(FAR_AWAY), (Some(4), Some(9)), (Some(5), Some(9))))
+        );
+    }
+    Ok(())
+}
+
+// The record of disk 1 in a copy of what region 1 sees after it was set to one of great numbers, what is seen in
+// the copy, and what is seen there after a crossing.
+type Kept = (Option<Disk>, Seen, Seen);
+
+fn kept_of(alloc: Global, state: &CellState) -> Result<Option<Kept>, AllocError> {
+    if state.grid().regions() < 2 {
+        return Ok(None);
+    }
+    let mut view = view_of(alloc, state, 1)?;
+    view.act(&AWAY)?;
+    let mut copy = view.copy(alloc)?;
+    let before = seen_in(&copy);
+    let record = disk_in(&copy, 1);
+    copy.act(&RIGHT)?;
+    Ok(Some((record, before, seen_in(&copy))))
+}
+
+fn disk_in(view: &View, disk: u32) -> Option<Disk> {
+    let row = view.get(disk)?;
+    Some(row.disk)
 }
