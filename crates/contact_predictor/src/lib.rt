@@ -19,6 +19,15 @@ const MAX_SEPARATION: u64 = 1 << 30;
 
 const MAX_TICKS: u64 = 1 << 30;
 
+// A binary point at bit 30, for numbers about one.
+const ONE: u64 = 1 << 30;
+
+// Of a straight line near 2^47 / sqrt(n) for n from 2^30 to 2^32: where it starts, at 0.
+const LINE_START: u64 = 4_620_000_000;
+
+// How much the line falls for each 8.
+const LINE_FALL: u64 = 5;
+
 /// How many ticks the coordinate `x`, in units of length, keeps within `lo` and `hi` at `v` units
 /// per tick.
 ///
@@ -107,7 +116,18 @@ pub fn may_meet(r: Vector, u: Vector, distance: i64) -> bool
     ensures fact { IsTrue result ↔ MayMeet r u distance }
     ensures never { result ≡ false → (s : ℕ) → ¬ IsContactAfter r u distance s }
 {
-    is_approaching(r, u, distance) && is_crossing(r, u, distance)
+    let gap = squared_gap(r, distance);
+    let closing = r.dot(u);
+    let crossing = discriminant(u.dot(u), closing, gap) > 0;
+    are_all_three(gap >= 0, closing < 0, crossing)
+}
+
+// By a sum, as none of them can be foretold: `&&`, and `&` too, would be compiled into a branch for each.
+#[inline(always)]
+fn are_all_three(first: bool, second: bool, third: bool) -> bool
+    ensures { IsTrue result ↔ (IsTrue first × IsTrue second × IsTrue third) }
+{
+    u32::from(first) + u32::from(second) + u32::from(third) == 3
 }
 
 /// After how many ticks, at most 2^30, two disks whose paths cross are at their last whole tick
@@ -153,21 +173,30 @@ fn smaller_root(a: i64, b: i64, c: i64) -> u64 {
 
 // The square root of a number, but for a millionth of it, or for one.
 fn rough_root(square: u128) -> u64 {
-    let shift = 64u32.saturating_sub(square.leading_zeros()).div_ceil(2);
-    let high = u64::try_from(square >> (2 * shift)).unwrap_or(u64::MAX);
-    rough_root_of_high(high) << shift
+    // Pairs of zeros in front are taken away, and then all but 31 or 32 bits, whose root is as near as is asked for.
+    let pairs = square.leading_zeros().min(126) / 2;
+    let high = ((square << (2 * pairs)) >> 96) as u64;
+    // In units of 2^-16.
+    let root = high.wrapping_mul(inverse_root(high)) >> 31;
+    if pairs <= 32 {
+        root << (32 - pairs)
+    } else {
+        root >> (pairs - 32)
+    }
 }
 
-// Two of Newton's steps, from the mean of a power of two and the quotient by it, which is up to 6 %
-// above the root.
-fn rough_root_of_high(square: u64) -> u64 {
-    let half = (64 - square.leading_zeros()) / 2;
-    let mean = (1 << half) / 2 + (square >> half) / 2;
-    newton_step(square, newton_step(square, mean - mean / 32))
+// One over the square root of a number from 2^30 to 2^32, in units of 2^-47, but for 2^-22 of it: by Newton's
+// iteration for the inverse square root, from a line that is off by a tenth at most.
+fn inverse_root(square: u64) -> u64 {
+    let line = LINE_START.wrapping_sub(square / 8 * LINE_FALL);
+    newton_step(square, newton_step(square, newton_step(square, line)))
 }
 
-fn newton_step(square: u64, root: u64) -> u64 {
-    root.saturating_add(square / root.max(1)) / 2
+// From y to y (3 - n y^2) / 2, without a division; the error relative to the root becomes 3/2 of its square.
+fn newton_step(square: u64, inverse: u64) -> u64 {
+    // n y^2, which is about one: y^2 is in units of 2^-94, and of 2^-62 without its 32 lowest bits.
+    let ratio = square.wrapping_mul(inverse.wrapping_mul(inverse) >> 32) >> 32;
+    inverse.wrapping_mul((3 * ONE).wrapping_sub(ratio)) >> 31
 }
 
 // Of disks whose paths cross, whose separation is at most 2^30 in each component now and then.
@@ -237,15 +266,6 @@ fn is_approaching(r: Vector, u: Vector, distance: i64) -> bool
     ensures { IsTrue result ↔ IsApproaching r u distance }
 {
     squared_gap(r, distance) >= 0 && r.dot(u) < 0
-}
-
-fn is_crossing(r: Vector, u: Vector, distance: i64) -> bool
-    requires separation { IsWithin (2 ^ 30) r }
-    requires velocity { IsWithin (2 ^ 21) u }
-    requires distance { nat_abs distance ≤ 2 ^ 30 }
-    ensures { IsTrue result ↔ IsCrossing r u distance }
-{
-    discriminant(u.dot(u), r.dot(u), squared_gap(r, distance)) > 0
 }
 
 // Of the quadratic a s^2 + 2 b s + c. The products need more than 64 bits.

@@ -1,34 +1,38 @@
--- Disks that don't approach now never do, and paths that don't cross never do.
-use Rattle.std.proofs.Common.{◌≡◌, true, false, IsTrue, ◌↔◌}
-use Rattle.std.specs.Prelude.{FitsSigned}
-use Rattle.std.proofs.lemmas.Int.{to_z-of_z}
-use mir.Syntax.{w64}
-use Rattle.contact_predictor.specs.Contact.{IsApproaching, IsCrossing}
-use Rattle.contact_predictor.proofs.Approaching.{no_contact_apart, no_contact_beside}
+-- Each of the three tests is exact, and disks that have a contact later pass all of them now.
+use Rattle.std.proofs.Common.{rules, ◌≡◌, true, IsTrue, ◌↔◌, ap, ◌∙◌, arith}
+use Rattle.std.specs.Prelude.{ℤ, pos, FitsSigned, ◌-ℤ◌, ◌*ℤ◌, ◌≤ℤ◌, ◌<ℤ◌}
+use Rattle.std.proofs.lemmas.Int.{ints, to_z-of_z}
+use lib.Signed.{lt_z, le_z}
+use mir.Syntax.{w64, w128}
+use Rattle.plane_vectors.specs.Vectors.{dot}
+use Rattle.plane_vectors.proofs.Sizes.{sent, sent_same}
+use Rattle.contact_predictor.specs.Contact.{gap}
+use Rattle.contact_predictor.proofs.Integers.{positive_difference}
+use Rattle.contact_predictor.proofs.Approaching.{meet_from_now}
 use Rattle.contact_predictor.proofs.may_meet.Goals as goal
 
-pub returns-then-is_approaching-clause-fact : goal.returns-then-is_approaching-clause-fact
-returns-then-is_approaching-clause-fact c =
-    let f : FitsSigned w64 c.args.distance = c.ranges.distance in
-    let now : IsTrue c.is_approaching.result ↔ IsApproaching c.args.r c.args.u c.args.distance = simp to_z-of_z at c.is_approaching.ensures in
-    let crosses : IsTrue c.is_crossing.result ↔ IsCrossing c.args.r c.args.u c.args.distance = simp to_z-of_z at c.is_crossing.ensures in
-    (λ h. record { approaching = now.0 c.if-is_approaching.true; crossing = crosses.0 h }, λ m. crosses.1 m.crossing)
+not_negative : (z n : ℤ) → FitsSigned w64 z → z ≡ n → IsTrue (le_z (pos 0) (sent z)) ↔ (pos 0 ≤ℤ n)
+not_negative z n fits is = rw (sent_same z fits ∙ is) (search rules)
 
-pub returns-then-is_approaching-clause-never : goal.returns-then-is_approaching-clause-never
-returns-then-is_approaching-clause-never c =
-    let f : FitsSigned w64 c.args.distance = c.ranges.distance in
-    let crosses : IsTrue c.is_crossing.result ↔ IsCrossing c.args.r c.args.u c.args.distance = simp to_z-of_z at c.is_crossing.ensures in
-    λ no s. no_contact_beside c.args.r c.args.u c.args.distance s (λ h. let yes : c.is_crossing.result ≡ true = crosses.1 h in cc)
+negative : (z n : ℤ) → FitsSigned w64 z → z ≡ n → IsTrue (lt_z (sent z) (pos 0)) ↔ (n <ℤ pos 0)
+negative z n fits is = rw (sent_same z fits ∙ is) (search rules)
 
-pub returns-else-is_approaching-clause-fact : goal.returns-else-is_approaching-clause-fact
-returns-else-is_approaching-clause-fact c =
-    let f : FitsSigned w64 c.args.distance = c.ranges.distance in
-    let now : IsTrue c.is_approaching.result ↔ IsApproaching c.args.r c.args.u c.args.distance = simp to_z-of_z at c.is_approaching.ensures in
-    let no : c.is_approaching.result ≡ false = c.if-is_approaching.false in
-    (λ yes. absurd (let t : c.is_approaching.result ≡ true = yes in cc), λ m. now.1 m.approaching)
+pub returns-clause-fact : goal.returns-clause-fact
+returns-clause-fact c =
+    let d = c.args.distance in
+    let gap_is = c.squared_gap-gap.ensures ∙ ap (gap c.args.r) (sent_same d c.ranges.distance) in
+    let apart = not_negative c.squared_gap-gap.result (gap c.args.r d) (omega (arith, ints, c.squared_gap-gap.type_inv)) gap_is in
+    let nearing = negative c.dot-closing.result (dot c.args.r c.args.u) (omega (arith, ints, c.dot-closing.type_inv)) c.dot-closing.ensures.value in
+    let value : c.discriminant-crossing.result ≡ (dot c.args.r c.args.u *ℤ dot c.args.r c.args.u) -ℤ (dot c.args.u c.args.u *ℤ gap c.args.r d) =
+    grind (arith, to_z-of_z, c.discriminant-crossing.ensures, c.dot.ensures, c.dot-closing.ensures, c.squared_gap-gap.ensures) in
+    let fits : FitsSigned w128 c.discriminant-crossing.result = omega (arith, ints, c.discriminant-crossing.type_inv) in
+    let crossing = positive_difference c.discriminant-crossing.result (dot c.args.r c.args.u *ℤ dot c.args.r c.args.u) (dot c.args.u c.args.u *ℤ gap c.args.r d) fits value in
+    let all = c.are_all_three.ensures in (
+      λ yes. let each = all.0 yes in
+          record { approaching = record { apart = apart.0 each.0; approaching = nearing.0 each.1 }; crossing = crossing.0 each.2 },
+      λ m. all.1 (apart.1 m.approaching.apart, nearing.1 m.approaching.approaching, crossing.1 m.crossing),
+    )
 
-pub returns-else-is_approaching-clause-never : goal.returns-else-is_approaching-clause-never
-returns-else-is_approaching-clause-never c =
-    let f : FitsSigned w64 c.args.distance = c.ranges.distance in
-    let now : IsTrue c.is_approaching.result ↔ IsApproaching c.args.r c.args.u c.args.distance = simp to_z-of_z at c.is_approaching.ensures in
-    λ no s. no_contact_apart c.args.r c.args.u c.args.distance s (λ h. let yes : c.is_approaching.result ≡ true = now.1 h in cc)
+pub returns-clause-never : goal.returns-clause-never
+returns-clause-never c = λ no s contact.
+    let yes : c.are_all_three.result ≡ true = (returns-clause-fact c).1 (meet_from_now c.args.r c.args.u c.args.distance s contact) in cc
