@@ -12,6 +12,7 @@ pub mod Rise
 pub mod RunsTold
 pub mod Separations
 pub mod States
+pub mod Swapped
 pub mod Telling
 pub mod Together
 pub mod Valid

@@ -75,7 +75,6 @@ fn wall_at(disk: u32, a: &Disk, side: u32, tick: u64) -> Stamp
 /// the run.
 ///
 /// `first` and `second` are the numbers of the disks. None where they don't hit each other.
-#[inline(always)]
 pub fn pair_event(rules: &Rules, first: u32, a: &Disk, second: u32, b: &Disk) -> Option<Stamp>
     requires checked { IsChecked rules.now }
     requires first_valid { IsValidDisk rules.now a.now }
@@ -84,13 +83,29 @@ pub fn pair_event(rules: &Rules, first: u32, a: &Disk, second: u32, b: &Disk) ->
     ensures { MatchOption result ((s : Stamp) → IsPairEvent rules.now first a.now second b.now s → ⊥)
         (IsOnly (IsPairEvent rules.now first a.now second b.now)) }
 {
+    event_between(rules, first, a, second, b)
+}
+
+/// The stamp at which two different disks, whose numbers come in any order, next hit each other: that of
+/// [`pair_event`], with the lower number first.
+#[inline(always)]
+pub fn event_between(rules: &Rules, i: u32, a: &Disk, j: u32, b: &Disk) -> Option<Stamp>
+    requires checked { IsChecked rules.now }
+    requires first_valid { IsValidDisk rules.now a.now }
+    requires second_valid { IsValidDisk rules.now b.now }
+    ensures rising { i < j → MatchOption result ((s : Stamp) → IsPairEvent rules.now i a.now j b.now s → ⊥)
+        (IsOnly (IsPairEvent rules.now i a.now j b.now)) }
+    ensures falling { j < i → MatchOption result ((s : Stamp) → IsPairEvent rules.now j b.now i a.now s → ⊥)
+        (IsOnly (IsPairEvent rules.now j b.now i a.now)) }
+{
+    // Which number is lower can't be foretold, and is asked only where they meet: that is the same in either order.
     let tick = meeting_tick(rules, a, b)?;
     Some(Stamp {
         tick,
         round: max(a.mark_at(tick), b.mark_at(tick)),
         kind: Kind::Pair,
-        first,
-        second,
+        first: min(i, j),
+        second: max(i, j),
     })
 }
 
