@@ -1,10 +1,10 @@
 -- Blocks of cells, row by row and column by column.
-use Rattle.std.proofs.Common.{◌≡◌, ◌⊎◌, ◌↔◌, inl, inr, ℕ, ◌+◌, ◌*◌, ◌<◌, ◌≤◌, arith, sym, subst, ◌∙◌, ap}
+use Rattle.std.proofs.Common.{◌≡◌, ◌⊎◌, ◌↔◌, inl, inr, ℕ, ◌+◌, ◌-◌, ◌*◌, ◌/◌, ◌%◌, ◌<◌, ◌≤◌, arith, sym, subst, ◌∙◌, ap}
 use Rattle.std.proofs.lemmas.Nat.{div-mul-add, mod-mul-add, div-add-mod'}
 use Rattle.std.proofs.lemmas.Bool.{cases_lt}
-use Rattle.cell_grid.specs.Grid.{IsCell, IsAdjacent, column_of, row_of}
+use Rattle.cell_grid.specs.Grid.{GridData, column_of, row_of}
 use Rattle.cell_lists.specs.declared.near.Block.{Block}
-use Rattle.cell_lists.specs.Listing.{ListsData, IsListed, IsNear}
+use Rattle.cell_lists.specs.Listing.{ListsData, IsListed}
 use Rattle.cell_lists.specs.Nearby.{rows_to, columns_to, IsWithin, IsListedWithin}
 
 next : (n : ℕ) → n < n + 1
@@ -65,9 +65,31 @@ join_row lists block row i low x = elim x [
   | inr y ↦ (let above : row ≤ row_of lists.grid y.0 = y.2.1.0 in (y.0, y.1, (y.2.0, (omega arith, y.2.1.1))))
 ]
 
--- the disks of the block around a cell are those near it
-pub near_in_block : (lists : ListsData) (block : Block) (cell : ℕ) → ((i other : ℕ) → IsListed lists other i → IsCell lists.grid other) →
-    ((other : ℕ) → IsCell lists.grid other → (IsAdjacent lists.grid cell other ↔ IsWithin lists.grid block other)) →
-    (i : ℕ) → (IsListedWithin lists block i ↔ IsNear lists cell i)
-near_in_block lists block cell cells around i =
-    (λ x. (x.0, x.1, (around x.0 (cells i x.0 x.1)).1 x.2), λ x. (x.0, x.1, (around x.0 (cells i x.0 x.1)).0 x.2))
+-- the cells of one more row
+pub row_cells : (grid : GridData) (block : Block) (row cell : ℕ) → block.low ≤ row → block.left ≤ block.right → block.right ≤ grid.columns →
+    (IsWithin grid (rows_to block (row + 1)) cell ↔
+    (IsWithin grid (rows_to block row) cell ⊎ ((row * grid.columns + block.left ≤ cell) × (cell < row * grid.columns + block.right))))
+row_cells grid block row cell low order most = (λ h. forward h (less_or_last (row_of grid cell) row h.1.1), λ h. backward h)
+  where
+    whole : row_of grid cell * grid.columns + column_of grid cell ≡ cell
+    whole = div-add-mod' cell grid.columns
+
+    forward : IsWithin grid (rows_to block (row + 1)) cell → (row_of grid cell < row) ⊎ (row_of grid cell ≡ row) →
+        IsWithin grid (rows_to block row) cell ⊎ ((row * grid.columns + block.left ≤ cell) × (cell < row * grid.columns + block.right))
+    forward h (inl less) = inl (h.0, (h.1.0, less))
+    forward h (inr last) =
+        let is : row * grid.columns + column_of grid cell ≡ cell = ap (λ n. n * grid.columns + column_of grid cell) (sym last) ∙ whole in
+        let from : block.left ≤ column_of grid cell = h.0.0 in
+        let below : column_of grid cell < block.right = h.0.1 in
+        inr (omega arith, omega arith)
+
+    backward : IsWithin grid (rows_to block row) cell ⊎ ((row * grid.columns + block.left ≤ cell) × (cell < row * grid.columns + block.right)) →
+        IsWithin grid (rows_to block (row + 1)) cell
+    backward (inl h) = let less : row_of grid cell < row = h.1.1 in (h.0, (h.1.0, omega arith))
+    backward (inr (from, below)) =
+        let is : cell ≡ row * grid.columns + (cell - row * grid.columns) = omega arith in
+        let lt : cell - row * grid.columns < grid.columns = omega arith in
+        let column : column_of grid cell ≡ cell - row * grid.columns =
+        ap (λ n. n % grid.columns) is ∙ mod-mul-add row grid.columns (cell - row * grid.columns) lt in
+        let in_row : row_of grid cell ≡ row = ap (λ n. n / grid.columns) is ∙ div-mul-add row grid.columns (cell - row * grid.columns) lt in
+        rw (column, in_row) ((omega arith, omega arith), (low, next row))

@@ -4,3 +4,4 @@ mod Chaining
 mod Nodes
 pub mod Firsts
 mod Listed
+mod Walks

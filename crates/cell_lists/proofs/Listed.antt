@@ -8,8 +8,11 @@ use Rattle.std.specs.FinMap.{find, nat_cmp-IsAntisymmetric}
 use Rattle.std.proofs.lemmas.Bool.{cases_eq, cases_lt}
 use Rattle.std.proofs.lemmas.List.{get_or-set_same, get_or-set_other, get_or_past}
 use Rattle.cell_grid.specs.Grid.{GridData, IsCell}
+use Rattle.cell_lists.specs.declared.near.Block.{Block}
 use Rattle.cell_lists.specs.Firsts.{IsFirstOf}
 use Rattle.cell_lists.specs.Listing.{ListsData, lists_of, IsListed, IsFirstIn, with_disk, without_disk}
+use Rattle.cell_lists.specs.Nearby.{AreGathered}
+use Rattle.cell_lists.specs.Gathering.{AreGatheredIn}
 use Rattle.cell_lists.proofs.Firsts.{first_kept}
 use Rattle.cell_lists.specs.Chain.{at, IsIn, entries_from, cells_in, AreCells}
 
@@ -124,3 +127,10 @@ pub cells_seen : (grid : GridData) (xs : List (Option ℕ)) (lists : ListsData) 
     (i cell : ℕ) → IsListed lists cell i → IsCell lists.grid cell
 cells_seen grid xs lists seen are i cell here =
     subst (λ (l : ListsData). IsCell l.grid cell) seen (are i cell (cell_seen grid xs lists i (Some cell) seen here))
+
+pub gathered_seen : (grid : GridData) (xs : List (Option ℕ)) (lists : ListsData) (block : Block) (old new : List ℕ) → lists_of grid (cells_in xs) ≡ lists →
+    AreGatheredIn xs grid block old new → AreGathered lists block old new
+gathered_seen grid xs lists block old new seen h = subst (λ (l : ListsData). AreGathered l block old new) seen (λ disk. (
+  λ is. elim ((h disk).0 is) [ inl was ↦ inl was | inr here ↦ inr (here.0, cell_of xs disk ∙ here.1, here.2) ],
+  λ is. (h disk).1 (elim is [ inl was ↦ inl was | inr here ↦ inr (here.0, sym (cell_of xs disk) ∙ here.1, here.2) ]),
+))

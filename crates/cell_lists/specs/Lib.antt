@@ -4,3 +4,4 @@ pub mod Chain
 pub mod Slot
 pub mod Nodes
 pub mod Nearby
+pub mod Gathering

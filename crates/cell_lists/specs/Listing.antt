@@ -4,7 +4,7 @@ use Rattle.std.specs.Coded.{Coded, code_by, coded×, coded_ℕ}
 use Rattle.std.specs.Ordering.{nat_cmp}
 use Rattle.std.specs.FinMap as map
 use Rattle.cell_grid.specs.contracts.grid.Grid as grid_type
-use Rattle.cell_grid.specs.Grid.{GridData, IsCell, IsAdjacent}
+use Rattle.cell_grid.specs.Grid.{GridData, IsCell}
 use Rattle.cell_lists.specs.Firsts.{IsFirstOf}
 
 -- what lists are seen as: their grid, and the cell of each listed disk
@@ -42,7 +42,3 @@ without_disk lists disk = lists_of lists.grid (map.remove lists.cells disk)
 -- the first disk of the cell, from a number on
 abbrev pub IsFirstIn : ListsData → ℕ → ℕ → Option ℕ → Type 0
 IsFirstIn lists cell from o = IsFirstOf (IsListed lists cell) from o
-
--- the disk is listed in a cell adjacent to this one
-abbrev pub IsNear : ListsData → ℕ → ℕ → Type 0
-IsNear lists cell disk = (other : ℕ) × IsListed lists other disk × IsAdjacent lists.grid cell other

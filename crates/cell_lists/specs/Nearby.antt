@@ -1,5 +1,6 @@
 -- Blocks of cells, and the disks that are listed in them.
-use Rattle.std.specs.Prelude.{ℕ, ◌+◌, ◌<◌, ◌≤◌}
+use Rattle.std.specs.Prelude.{◌⊎◌, ◌↔◌, ℕ, ◌+◌, ◌<◌, ◌≤◌, List}
+use Rattle.std.specs.List.{Contains}
 use Rattle.cell_grid.specs.Grid.{GridData, column_of, row_of}
 use Rattle.cell_lists.specs.declared.near.Block.{Block}
 use Rattle.cell_lists.specs.Listing.{ListsData, IsListed}
@@ -26,3 +27,7 @@ rows_to block row = record { left = block.left; right = block.right; low = block
 -- the cells of a block in one row, in columns below one
 abbrev pub columns_to : Block → ℕ → ℕ → Block
 columns_to block row column = record { left = block.left; right = column; low = row; high = row + 1 }
+
+-- the new disks are the old ones and those that are listed in the block
+abbrev pub AreGathered : ListsData → Block → List ℕ → List ℕ → Type 0
+AreGathered lists block old new = (disk : ℕ) → Contains new disk ↔ (Contains old disk ⊎ IsListedWithin lists block disk)

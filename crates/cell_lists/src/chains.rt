@@ -47,10 +47,11 @@ impl Model for Chains {
     ghost invariant = { λ a. IsChained a.heads.items (nexts_of a.nodes.items) (cells_of a.nodes.items) };
 }
 
-ghost use Rattle.std.specs.Prelude.{◌≡◌, ◌+◌, ◌%◌, ◌<◌, ◌≤◌, ◌^◌, ℕ, length, None, Some, replicate, IfOk, OnOk, IfSome};
+ghost use Rattle.std.specs.Prelude.{◌≡◌, ◌↔◌, ◌+◌, ◌%◌, ◌<◌, ◌≤◌, ◌^◌, ℕ, length, None, Some, replicate, IfOk, OnOk, IfSome, IsTrue};
 ghost use Rattle.cell_lists.specs.Firsts.{IsFirstOf};
 ghost use Rattle.cell_lists.specs.Nodes.{nexts_of, cells_of};
 ghost use Rattle.cell_lists.specs.Chain.{chains_of, bucket_count, with_cell, at, IsIn, IsFirst, IsLast, IsLinked, IsUnlinked, HasRoom};
+ghost use Rattle.cell_lists.specs.Gathering.{HaveOwnBuckets};
 
 impl Chains {
     // No disk listed, with room for so many, in a grid of so many cells.
@@ -147,6 +148,34 @@ impl Chains {
         ensures { IsFirstOf (IsIn self.now.cells cell) (disk + 1) result }
     {
         self.skip(cell, disk as u64 + 1, self.nodes[disk as usize].next.get())
+    }
+
+    // Whether there is a bucket for each of so many cells.
+    #[inline(always)]
+    pub fn has_buckets(&self, cell_count: u32) -> bool
+        ensures { IsTrue result ↔ cell_count ≤ self.now.buckets }
+    {
+        cell_count as usize <= self.heads.len()
+    }
+
+    // The least disk listed in a cell that has a bucket of its own.
+    #[inline(always)]
+    pub fn head_of(&self, cell: u32) -> Slot
+        requires own { HaveOwnBuckets self.now }
+        requires cell { cell < self.now.buckets }
+        ensures { IsFirstOf (IsIn self.now.cells cell) 0 result }
+    {
+        self.heads[cell as usize]
+    }
+
+    // The next disk after one in its cell, which has a bucket of its own.
+    #[inline(always)]
+    pub fn next_of(&self, disk: u32) -> Slot
+        requires own { HaveOwnBuckets self.now }
+        requires listed { (cell : ℕ) × IsIn self.now.cells cell disk }
+        ensures { (cell : ℕ) → IsIn self.now.cells cell disk → IsFirstOf (IsIn self.now.cells cell) (disk + 1) result }
+    {
+        self.nodes[disk as usize].next
     }
 
     // The first disk of a cell, where `start` is the first of its bucket from a number on.

@@ -2,9 +2,12 @@
 #![tactic(auto)]
 
 mod chains;
+pub mod gathered;
+mod gathering;
 mod lists;
 mod near;
 mod slot;
 
+pub use gathered::{Gathered, MOST_GATHERED};
 pub use lists::Lists;
 pub use near::{Block, block_around};

@@ -1,6 +1,8 @@
 //! Lists of the disks in each cell.
 
 use crate::chains::Chains;
+use crate::gathered::Gathered;
+use crate::near::Block;
 use cell_grid::Grid;
 use std::alloc::{AllocError, Global};
 use std::marker::Model;
@@ -29,9 +31,10 @@ impl Model for Lists {
     ghost invariant = { λ a. AreCells a.grid a.chains.cells };
 }
 
-ghost use Rattle.std.specs.Prelude.{◌≡◌, ◌+◌, OnOk, OnErr, IfOk, IfSome};
+ghost use Rattle.std.specs.Prelude.{◌≡◌, ◌+◌, OnOk, OnErr, IfOk, IfSome, IsTrue};
 ghost use Rattle.std.specs.FinMap as map;
 ghost use Rattle.cell_grid.specs.Grid.{IsCell};
+ghost use Rattle.cell_lists.specs.Nearby.{IsBlock, AreGathered};
 ghost use Rattle.cell_lists.specs.Listing.{lists_of, IsListed, IsFree, IsFirstIn, AreInGrid, with_disk, without_disk};
 
 impl Lists {
@@ -94,5 +97,14 @@ impl Lists {
         ensures { IsFirstIn self.now cell (disk + 1) result }
     {
         self.chains.next_in(disk, cell)
+    }
+
+    /// Gathers the disks that are listed in a block, beside those that were gathered before. False where
+    /// there is no room for them, or where cells share buckets; then nothing is said of what is gathered.
+    pub fn gather(&self, block: Block, gathered: &mut Gathered) -> bool
+        requires { IsBlock self.now.grid block }
+        ensures { IsTrue result → AreGathered self.now block gathered.old gathered.new }
+    {
+        self.chains.gather(&self.grid, block, gathered)
     }
 }

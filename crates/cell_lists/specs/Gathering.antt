@@ -1,0 +1,44 @@
+-- How the disks of some cells are gathered: the first of each cell, and then the next of each that was gathered.
+use Rattle.std.specs.Prelude.{◌≡◌, ◌↔◌, ◌⊎◌, ℕ, ◌<◌, ◌≤◌, List, [], ◌∷◌, ◌++◌, take, drop, Option, Some, None}
+use Rattle.std.specs.List.{Contains}
+use Rattle.cell_grid.specs.Grid.{GridData}
+use Rattle.cell_lists.specs.declared.near.Block.{Block}
+use Rattle.cell_lists.specs.Chain.{ChainsData, IsIn}
+use Rattle.cell_lists.specs.Nearby.{IsWithin}
+
+-- with a number at the end, where there is one
+abbrev pub with_offered : List ℕ → Option ℕ → List ℕ
+with_offered disks None = disks
+with_offered disks (Some disk) = disks ++ (disk ∷ [])
+
+-- each cell in which a disk is listed has a bucket of its own: that of its number
+abbrev pub HaveOwnBuckets : ChainsData → Type 0
+HaveOwnBuckets chains = (disk cell : ℕ) → IsIn chains.cells cell disk → cell < chains.buckets
+
+-- each of the disks is listed in a cell
+abbrev pub AreListed : List (Option ℕ) → List ℕ → Type 0
+AreListed cells disks = (disk : ℕ) → Contains disks disk → (cell : ℕ) × IsIn cells cell disk
+
+-- the disk is in the cell of one of these, and is this one or after it
+abbrev pub IsFromOneOf : List (Option ℕ) → List ℕ → ℕ → Type 0
+IsFromOneOf cells starts disk =
+    (start : ℕ) × Contains starts start × ((cell : ℕ) × IsIn cells cell start × IsIn cells cell disk × (start ≤ disk))
+
+-- these disks are in such cells, and each disk of such a cell is one of these or after one in its cell
+pub record AreStarts (cells : List (Option ℕ)) (IsSuch : ℕ → Type 0) (starts : List ℕ) : Type 0 where
+  pub listed : (disk : ℕ) → Contains starts disk → (cell : ℕ) × IsIn cells cell disk × IsSuch cell
+  pub all : (disk cell : ℕ) → IsIn cells cell disk → IsSuch cell → IsFromOneOf cells starts disk
+
+-- such disks were added at the end
+abbrev pub StartsAdded : List (Option ℕ) → (ℕ → Type 0) → List ℕ → List ℕ → Type 0
+StartsAdded cells IsSuch old new = (starts : List ℕ) × (new ≡ old ++ starts) × AreStarts cells IsSuch starts
+
+-- the first so many disks stay, and the others are now those that are in the cell of one of the old others, and are this one or after it
+pub record AreFollowed (cells : List (Option ℕ)) (first : ℕ) (old new : List ℕ) : Type 0 where
+  pub kept : take first new ≡ take first old
+  pub all : (disk : ℕ) → (Contains (drop first new) disk ↔ IsFromOneOf cells (drop first old) disk)
+
+-- the new disks are the old ones and those that are listed in the block
+abbrev pub AreGatheredIn : List (Option ℕ) → GridData → Block → List ℕ → List ℕ → Type 0
+AreGatheredIn cells grid block old new = (disk : ℕ) →
+    Contains new disk ↔ (Contains old disk ⊎ ((cell : ℕ) × IsIn cells cell disk × IsWithin grid block cell))
