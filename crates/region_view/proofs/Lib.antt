@@ -3,7 +3,9 @@ mod CompactRows
 mod First
 pub mod Homes
 mod InSlots
+mod Marks
 pub mod Puts
+pub mod SamePlaced
 pub mod Seen
 pub mod Told
 pub mod ValidRows

@@ -47,7 +47,7 @@ impl Model for Compact {
     ghost inverse_ok = { λ a h. h.exact };
 }
 
-ghost use Rattle.std.specs.Prelude.{◌≡◌, ◌↔◌, IfSome, IsTrue, None, Some, option_copied};
+ghost use Rattle.std.specs.Prelude.{◌≡◌, ◌↔◌, ◌/◌, ◌%◌, ◌^◌, IfSome, IsTrue, None, Some, is_some, option_copied};
 ghost use Rattle.region_view.specs.Compact.{IsNarrow, HasSmallCourse, HasSmallTime, IsSmall};
 
 impl Compact {
@@ -115,6 +115,58 @@ impl Compact {
             cell: self.cell,
         })
     }
+
+    // Whether there is a row. The time alone would tell, and x is 0 where there is none. Both are read, since
+    // they are the two ends of a row, which may lie across two lines of the cache: so all of it comes from memory.
+    #[inline(always)]
+    pub fn is_there(&self) -> bool
+        ensures { result ≡ is_some self.now }
+    {
+        (self.time != NO_TIME) | (self.x != 0)
+    }
+
+    // Whether this row stands there. It mostly does, so all numbers are compared, with no branch between.
+    #[inline(always)]
+    pub fn is(&self, row: &Placed) -> bool
+        ensures { IsTrue result ↔ (self.now ≡ Some row.now) }
+    {
+        let disk = &row.disk;
+        (self.time != NO_TIME)
+            & has_time(disk, self.time)
+            & has_centre(disk, self.x, self.y)
+            & has_velocity(disk, self.vx, self.vy)
+            & has_size(disk, self.size)
+            & (self.cell == row.cell)
+    }
+}
+
+// Whether a disk has the base tick and the mark of this time.
+#[inline(always)]
+fn has_time(disk: &Disk, time: u64) -> bool
+    ensures { IsTrue result ↔ (time / 2 ^ 20 ≡ disk.now.base) × (time % 2 ^ 20 ≡ disk.now.mark) }
+{
+    (time / MARKS == disk.base) & (time % MARKS == disk.mark as u64)
+}
+
+#[inline(always)]
+fn has_centre(disk: &Disk, x: i32, y: i32) -> bool
+    ensures { IsTrue result ↔ (x ≡ disk.now.x) × (y ≡ disk.now.y) }
+{
+    (x as i64 == disk.x) & (y as i64 == disk.y)
+}
+
+#[inline(always)]
+fn has_velocity(disk: &Disk, vx: i32, vy: i32) -> bool
+    ensures { IsTrue result ↔ (vx ≡ disk.now.vx) × (vy ≡ disk.now.vy) }
+{
+    (vx as i64 == disk.vx) & (vy as i64 == disk.vy)
+}
+
+#[inline(always)]
+fn has_size(disk: &Disk, size: i32) -> bool
+    ensures { IsTrue result ↔ (size ≡ disk.now.size) }
+{
+    size as i64 == disk.size
 }
 
 // Whether each number of a row is small enough.

@@ -10,6 +10,8 @@ use std::mem;
 #[derive(Drop)]
 pub struct Slots {
     form: Form,
+    // Whether there is a row at each number. Most have none, which is seen here from one byte of memory.
+    present: Vec<bool>,
 }
 
 // How the rows are kept: in the wide form from the first one on whose numbers aren't small.
@@ -20,20 +22,18 @@ enum Form {
 }
 
 impl Model for Slots {
-    ghost use Rattle.std.specs.Prelude.{length, ◌≤◌, ◌^◌};
-    ghost use Rattle.region_view.specs.Slots.{SlotsData, slots_in};
+    ghost use Rattle.region_view.specs.Slots.{SlotsData, slots_in, AreMarked};
 
     ghost Value = { SlotsData };
 
     ghost view = { λ s. slots_in s.form };
 
-    // The numbers have 32 bits.
-    ghost invariant = { λ s. length (slots_in s.form).rows ≤ 2 ^ 32 };
+    ghost invariant = { λ s. AreMarked (slots_in s.form).rows s.present.items };
 }
 
-ghost use Rattle.std.specs.Prelude.{◌≡◌, ℕ, ◌<◌, ◌≤◌, ◌^◌, [], length, slice_index_or, Option, None, option_copied, false, IsTrue, IfOk, OnOk, OnErr};
+ghost use Rattle.std.specs.Prelude.{◌≡◌, ◌↔◌, ℕ, ◌-◌, ◌<◌, ◌≤◌, ◌^◌, [], ◌++◌, length, take, replicate, slice_index_or, Option, Some, None, is_some, option_copied, false, IsTrue, IfOk, OnOk, OnErr};
 ghost use Rattle.region_view.specs.declared.action.Placed.{Placed};
-ghost use Rattle.region_view.specs.Slots.{SlotsData, at, placed_in, set_slot, Takes};
+ghost use Rattle.region_view.specs.Slots.{SlotsData, slots_in, at, placed_in, set_slot, Takes};
 ghost use Rattle.region_view.specs.Views.{IsNextRow};
 
 impl Slots {
@@ -43,6 +43,7 @@ impl Slots {
     {
         Ok(Slots {
             form: Form::Compact(Vec::with_capacity(alloc, count)?),
+            present: Vec::with_capacity(alloc, count)?,
         })
     }
 
@@ -54,6 +55,7 @@ impl Slots {
                 Form::Compact(rows) => Form::Compact(Vec::from_slice(alloc, rows)?),
                 Form::Wide(rows) => Form::Wide(Vec::from_slice(alloc, rows)?),
             },
+            present: Vec::from_slice(alloc, &self.present)?,
         })
     }
 
@@ -63,8 +65,12 @@ impl Slots {
         ensures unchanged { OnErr result (self.new ≡ self.old) }
     {
         match (&mut self.form, &other.form) {
-            (Form::Compact(own), Form::Compact(rows)) => overwrite(own, rows)?,
-            (Form::Wide(own), Form::Wide(rows)) => overwrite(own, rows)?,
+            (Form::Compact(own), Form::Compact(rows)) => {
+                overwrite(own, &mut self.present, rows, &other.present)?
+            }
+            (Form::Wide(own), Form::Wide(rows)) => {
+                overwrite(own, &mut self.present, rows, &other.present)?
+            }
             (_, Form::Compact(rows)) => *self = other.copy(*rows.allocator())?,
             (_, Form::Wide(rows)) => *self = other.copy(*rows.allocator())?,
         }
@@ -79,6 +85,59 @@ impl Slots {
         match &self.form {
             Form::Compact(rows) => rows.get(number as usize)?.get(),
             Form::Wide(rows) => wide_row(rows, number),
+        }
+    }
+
+    // Whether there is a row at a number. It looks at the row itself, so that this comes from memory.
+    #[inline(always)]
+    pub fn has(&self, number: u32) -> bool
+        ensures { result ≡ is_some (at self.now number) }
+    {
+        match &self.form {
+            Form::Compact(rows) => match rows.get(number as usize) {
+                Some(own) => own.is_there(),
+                None => false,
+            },
+            Form::Wide(rows) => wide_row(rows, number).is_some(),
+        }
+    }
+
+    // Whether what stands at a number is this row, or none where none is given.
+    #[inline(always)]
+    pub fn is_row(&self, number: u32, row: Option<&Placed>) -> bool
+        ensures { IsTrue result ↔ (at self.now number ≡ option_copied row.entry) }
+    {
+        match row {
+            Some(row) => self.holds(number, row),
+            None => !self.is_marked(number),
+        }
+    }
+
+    // Whether there is a row at a number, without a look at the row.
+    #[inline(always)]
+    fn is_marked(&self, number: u32) -> bool
+        ensures { result ≡ is_some (at self.now number) }
+    {
+        match self.present.get(number as usize) {
+            Some(present) => *present,
+            None => false,
+        }
+    }
+
+    // Whether this row stands at a number.
+    #[inline(always)]
+    fn holds(&self, number: u32, row: &Placed) -> bool
+        ensures { IsTrue result ↔ (at self.now number ≡ Some row.now) }
+    {
+        match &self.form {
+            Form::Compact(rows) => match rows.get(number as usize) {
+                Some(own) => own.is(row),
+                None => false,
+            },
+            Form::Wide(rows) => match wide_row(rows, number) {
+                Some(own) => own == *row,
+                None => false,
+            },
         }
     }
 
@@ -125,6 +184,7 @@ impl Slots {
         if number as usize >= self.len() {
             return None;
         }
+        self.present[number as usize] = row.is_some();
         match &mut self.form {
             Form::Compact(rows) => {
                 mem::replace(&mut rows[number as usize], Compact::new(row.as_ref())).get()
@@ -144,7 +204,9 @@ impl Slots {
         }
     }
 
-    // Makes slots up to a number, with nothing in them.
+    // Makes slots up to a number, with nothing in them. Kept apart, since there mostly is room already.
+    #[cold]
+    #[inline(never)]
     fn lengthen(&mut self, number: u32) -> Result<(), AllocError>
         requires past { length self.old.rows ≤ number }
         ensures room { OnOk result (number < length self.new.rows) }
@@ -152,10 +214,11 @@ impl Slots {
         ensures same { (i : ℕ) → at self.new i ≡ at self.old i }
         ensures form { self.new.wide ≡ self.old.wide }
     {
-        match &mut self.form {
-            Form::Compact(rows) => rows.resize(number as usize + 1, Compact::none()),
-            Form::Wide(rows) => rows.resize(number as usize + 1, None),
-        }
+        let count = number as usize + 1;
+        // There is room for the marks before there are more rows.
+        self.present.reserve(count - self.present.len())?;
+        add_slots(&mut self.form, count)?;
+        self.present.resize(count, false)
     }
 
     // Takes the wide form.
@@ -168,6 +231,20 @@ impl Slots {
             self.form = Form::Wide(unpack(rows)?);
         }
         Ok(())
+    }
+}
+
+// Makes slots up to a count, with nothing in them.
+fn add_slots(form: &mut Form, count: usize) -> Result<(), AllocError>
+    requires past { length (slots_in form.old).rows ≤ count }
+    ensures rows { OnOk result ((slots_in form.new).rows
+        ≡ take count (slots_in form.old).rows ++ replicate (count - length (slots_in form.old).rows) None) }
+    ensures unchanged { OnErr result ((slots_in form.new).rows ≡ (slots_in form.old).rows) }
+    ensures wide { (slots_in form.new).wide ≡ (slots_in form.old).wide }
+{
+    match form {
+        Form::Compact(rows) => rows.resize(count, Compact::none()),
+        Form::Wide(rows) => rows.resize(count, None),
     }
 }
 
@@ -191,13 +268,23 @@ fn unpack(compact: &Vec<Compact>) -> Result<Vec<Option<Placed>>, AllocError>
     Ok(rows)
 }
 
-// Makes a list equal to another, in the memory that it has where there is room.
-fn overwrite<T: Copy>(list: &mut Vec<T>, other: &[T]) -> Result<(), AllocError>
-    ensures copied { OnOk result (list.new.items ≡ other.now) }
-    ensures unchanged { OnErr result (list.new.items ≡ list.old.items) }
+// Makes rows and their marks equal to others, in the memory that they have where there is room.
+fn overwrite<T: Copy>(
+    rows: &mut Vec<T>,
+    present: &mut Vec<bool>,
+    other_rows: &[T],
+    other_present: &[bool],
+) -> Result<(), AllocError>
+    ensures rows { OnOk result (rows.new.items ≡ other_rows.now) }
+    ensures marks { OnOk result (present.new.items ≡ other_present.now) }
+    ensures rows_unchanged { OnErr result (rows.new.items ≡ rows.old.items) }
+    ensures marks_unchanged { OnErr result (present.new.items ≡ present.old.items) }
 {
-    // There is room before anything is cleared.
-    list.reserve(other.len().saturating_sub(list.len()))?;
-    list.clear();
-    list.extend_from_slice(other)
+    // There is room for both before anything is cleared.
+    rows.reserve(other_rows.len().saturating_sub(rows.len()))?;
+    present.reserve(other_present.len().saturating_sub(present.len()))?;
+    rows.clear();
+    rows.extend_from_slice(other_rows)?;
+    present.clear();
+    present.extend_from_slice(other_present)
 }

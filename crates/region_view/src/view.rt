@@ -7,9 +7,9 @@ use std::marker::Model;
 /// Placed disks by number.
 ///
 /// Memory is taken for each number up to the greatest one that ever had a row, or for up to twice as many,
-/// and at the opening for those of all disks: 32 bytes a number. Where a row has a coordinate, a component of
+/// and at the opening for those of all disks: 33 bytes a number. Where a row has a coordinate, a component of
 /// its velocity or a size that doesn't fit 32 bits with a sign, a base tick from 2^43 on or a mark from 2^20
-/// on, it is 72 bytes a number from then on. No valid disk has such numbers.
+/// on, it is 73 bytes a number from then on. No valid disk has such numbers.
 #[derive(Drop)]
 pub struct View {
     slots: Slots,
@@ -30,7 +30,7 @@ impl Model for View {
     ghost view = { λ v. placed_in v.slots };
 }
 
-ghost use Rattle.std.specs.Prelude.{◌≡◌, ℕ, ◌<◌, ◌≤◌, [], ◌∷◌, length, slice_get, None, IfOk, OnOk, OnErr};
+ghost use Rattle.std.specs.Prelude.{◌≡◌, ◌↔◌, ℕ, ◌<◌, ◌≤◌, [], ◌∷◌, length, slice_get, None, is_some, option_copied, IsTrue, IfOk, OnOk, OnErr};
 ghost use Rattle.std.specs.FinMap as map;
 ghost use Rattle.cell_grid.specs.Grid.{IsRegion};
 ghost use Rattle.region_view.specs.Laws.{HasCells};
@@ -47,6 +47,22 @@ impl View {
         ensures { result ≡ map.get self.now disk }
     {
         self.slots.get(disk)
+    }
+
+    /// Whether a disk has a row.
+    #[inline(always)]
+    pub fn has(&self, disk: u32) -> bool
+        ensures { result ≡ is_some (map.get self.now disk) }
+    {
+        self.slots.has(disk)
+    }
+
+    /// Whether what stands at a number is this row, or none where none is given.
+    #[inline(always)]
+    pub fn is_row(&self, disk: u32, row: Option<&Placed>) -> bool
+        ensures { IsTrue result ↔ (map.get self.now disk ≡ option_copied row.entry) }
+    {
+        self.slots.is_row(disk, row)
     }
 
     /// The first disk from number `from` on that has a row: its number and the row. None says that no
@@ -90,7 +106,7 @@ impl View {
 
     /// Sets these rows, and takes away what stands at the numbers of those that have no disk. Afterwards
     /// `rows` holds what stood at these numbers before. Only a disk that had no row takes memory, and a row
-    /// that is the first with a number too great for 32 bytes.
+    /// that is the first whose numbers are too great for the narrow form.
     ///
     /// # Errors
     /// Out of memory: the view and the rows stay as they are.
