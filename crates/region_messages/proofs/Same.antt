@@ -3,12 +3,10 @@ use Rattle.std.proofs.Common.{◌≡◌, ◌==◌, inl, inr, ℕ, Bool, ◌&&◌
 use Rattle.std.specs.Prelude.{◌↔◌, IsTrue}
 use Rattle.std.specs.Coded.{Coded}
 use Rattle.std.specs.Option.{option_eq}
-use Rattle.std.specs.Ordering.{int_eq}
 use Rattle.std.specs.Cmp.Lexicographic.{pointwise}
-use Rattle.std.proofs.lemmas.Bool.Decides.{Decides-and, Decides-like, Decides-eqb, Decides-int_eq}
+use Rattle.std.proofs.lemmas.Bool.Decides.{Decides-and, Decides-like, Decides-eqb}
 use Rattle.std.proofs.lemmas.Slice.Eq.{slice_eq-Decides}
 use denote.Enum.Bare.{sameb}
-use Rattle.fixed_motion.specs.declared.disk.Disk.{Disk}
 use Rattle.event_stamps.specs.declared.Stamp.{Stamp}
 use Rattle.event_stamps.specs.declared.Kind.{Kind}
 use Rattle.event_stamps.specs.declared.Kind.TheVariants.{Cross, Wall, Pair}
@@ -18,6 +16,7 @@ use Rattle.event_stamps.proofs.Decision.{Decision, same_number}
 use Rattle.region_view.specs.declared.action.Placed.{Placed}
 use Rattle.region_view.specs.declared.rows.Message.{Message}
 use Rattle.region_view.specs.Setting.{RowList}
+use Rattle.region_view.proofs.SamePlaced.{placed_eq, placed_decides}
 use Rattle.region_view.specs.contracts.rows.Message as message
 
 same_code : (a b : Gv) → Decision (a ≡ b)
@@ -85,51 +84,6 @@ stamp_decides s t = Decides-like (stamp_eq s t)
     (Decides-and _ _ (Decides-eqb s.tick t.tick) (Decides-and _ _ (Decides-eqb s.round t.round)
     (Decides-and _ _ (kind_decides s.kind t.kind) (Decides-and _ _ (Decides-eqb s.first t.first)
     (Decides-eqb s.second t.second)))))
-
-abbrev disk_eq : Disk → Disk → Bool
-disk_eq a b = int_eq a.x b.x && (int_eq a.y b.y && (int_eq a.vx b.vx && (int_eq a.vy b.vy
-    && (int_eq a.size b.size && (a.base == b.base && a.mark == b.mark)))))
-
-disk_decides : (a b : Disk) → Decides (disk_eq a b) (a ≡ b)
-disk_decides a b = Decides-like (disk_eq a b)
-    (λ h i. record {
-      x = h.0 i;
-      y = h.1.0 i;
-      vx = h.1.1.0 i;
-      vy = h.1.1.1.0 i;
-      size = h.1.1.1.1.0 i;
-      base = h.1.1.1.1.1.0 i;
-      mark = h.1.1.1.1.1.1 i;
-    })
-    (λ e. (
-      ap (λ (v : Disk). v.x) e,
-      (
-        ap (λ (v : Disk). v.y) e,
-        (
-          ap (λ (v : Disk). v.vx) e,
-          (
-            ap (λ (v : Disk). v.vy) e,
-            (
-              ap (λ (v : Disk). v.size) e,
-              (ap (λ (v : Disk). v.base) e, ap (λ (v : Disk). v.mark) e),
-            ),
-          ),
-        ),
-      ),
-    ))
-    (Decides-and _ _ (Decides-int_eq a.x b.x) (Decides-and _ _ (Decides-int_eq a.y b.y)
-    (Decides-and _ _ (Decides-int_eq a.vx b.vx) (Decides-and _ _ (Decides-int_eq a.vy b.vy)
-    (Decides-and _ _ (Decides-int_eq a.size b.size)
-    (Decides-and _ _ (Decides-eqb a.base b.base) (Decides-eqb a.mark b.mark)))))))
-
-abbrev placed_eq : Placed → Placed → Bool
-placed_eq p q = disk_eq p.disk q.disk && p.cell == q.cell
-
-pub placed_decides : (p q : Placed) → Decides (placed_eq p q) (p ≡ q)
-placed_decides p q = Decides-like (placed_eq p q)
-    (λ h i. record { disk = h.0 i; cell = h.1 i })
-    (λ e. (ap (λ (v : Placed). v.disk) e, ap (λ (v : Placed). v.cell) e))
-    (Decides-and _ _ (disk_decides p.disk q.disk) (Decides-eqb p.cell q.cell))
 
 option_decides : (o p : Option Placed) → Decides (option_eq placed_eq o p) (o ≡ p)
 option_decides None None = (λ e. refl, λ e. refl)
