@@ -1,5 +1,5 @@
 -- The pairs of a disk with those in cells beside its own.
-use Rattle.std.proofs.Common.{◌≡◌, ◌↔◌, ℕ, ◌+◌, ◌*◌, ◌<◌, ◌≤◌, Bool, arith, sym, subst, ◌∙◌}
+use Rattle.std.proofs.Common.{◌≡◌, ◌⊎◌, ◌↔◌, inl, inr, ℕ, ◌+◌, ◌*◌, ◌<◌, ◌≤◌, Bool, arith, sym, subst, ◌∙◌}
 use Rattle.std.specs.Prelude.{Option, Some, None, IsTrue, MatchOption}
 use Rattle.std.proofs.Math.Nat.{mul-le-mul_right}
 use Rattle.std.proofs.lemmas.Nat.{div-mul-add, mod-mul-add}
@@ -15,7 +15,7 @@ use Rattle.region_view.specs.declared.action.Placed.{Placed}
 use Rattle.region_view.specs.Events.{IsNear}
 use Rattle.region_view.specs.Views.{ViewData, rows_in}
 use Rattle.region_queue.specs.declared.finder.Finder.{Finder}
-use Rattle.region_queue.specs.Finding.{IsReady, IsNativePair, IsPlacedBeside, IsBlockBeside, IsOfStrip, AreListed}
+use Rattle.region_queue.specs.Finding.{IsNativePair, IsPlacedBeside, IsNearby, IsBlockBeside, AreListed}
 use Rattle.region_queue.proofs.Candidates.{native_is, pair_low, pair_high, adjacent_back, listed_at}
 
 -- ---- cells
@@ -46,32 +46,25 @@ cell_within grid block at row column is beside low high left right = (cell, besi
     within = rw (in_column, in_row) ((left, right), (low, high))
 
 -- a disk that is listed in a cell stands in it
-pub placed_beside : (finder : Finder) (view : ViewData) (at cell other : ℕ) (home : Bool) → AreListed view finder.lists.cells →
-    IsListed finder.lists cell other → IsAdjacent finder.grid at cell → (IsTrue home ↔ Owns finder.grid finder.region cell) →
-    IsPlacedBeside finder view at other home
-placed_beside finder view at cell other home listed here beside owned q row =
-    subst (λ (n : ℕ). IsAdjacent finder.grid at n × (IsTrue home ↔ Owns finder.grid finder.region n)) same (beside, owned)
+pub nearby_in_cell : (finder : Finder) (view : ViewData) (at cell other : ℕ) (whole : Bool) → AreListed view finder.lists.cells →
+    IsListed finder.lists cell other → IsAdjacent finder.grid at cell → (IsTrue whole ↔ Owns finder.grid finder.region cell) →
+    IsNearby finder view at whole other
+nearby_in_cell finder view at cell other whole listed here beside owned q row =
+    subst (λ (n : ℕ). IsAdjacent finder.grid at n × (IsTrue whole → Owns finder.grid finder.region n)) same (beside, owned.0)
   where
     same : cell ≡ q.cell
     same = let e : Some cell ≡ Some q.cell = sym here ∙ listed_at view finder.lists other q listed row in cc
 
--- the region owns the cells of its columns
-pub column_owned : (finder : Finder) (view : ViewData) (cell column : ℕ) (home : Bool) → IsReady finder view →
-    column ≡ column_of finder.grid cell → (IsTrue home ↔ IsOfStrip finder.strip column) →
-    (IsTrue home ↔ Owns finder.grid finder.region cell)
-column_owned finder view cell column home ready at owns = (
-  λ yes.
-      let is = owns.0 yes in
-      let first = ready.strip.first in
-      let end = ready.strip.end in
-      (omega arith, omega arith),
-  λ is.
-      let least = is.0 in
-      let most = is.1 in
-      let first = ready.strip.first in
-      let end = ready.strip.end in
-      owns.1 (omega arith, omega arith),
-)
+-- whether the region owns the cell is known where it owns all, and else it was asked for
+pub placed_beside : (finder : Finder) (view : ViewData) (at other : ℕ) (q : Placed) (whole home : Bool) → rows_in view other ≡ Some q →
+    (IsTrue whole × IsTrue home) ⊎ (IsTrue home ↔ Owns finder.grid finder.region q.cell) → IsNearby finder view at whole other →
+    IsPlacedBeside finder view at other home
+placed_beside finder view at other q whole home row known near p there =
+    subst (λ (x : Placed). IsAdjacent finder.grid at x.cell × (IsTrue home ↔ Owns finder.grid finder.region x.cell)) same
+    ((near q row).0, elim known [ inl all ↦ (λ _. (near q row).1 all.0, λ _. all.1) | inr asked ↦ asked ])
+  where
+    same : q ≡ p
+    same = let e : Some q ≡ Some p = sym row ∙ there in cc
 
 -- ---- pairs
 -- of disks in adjacent cells

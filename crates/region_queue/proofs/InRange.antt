@@ -1,5 +1,5 @@
 -- The stamps of a region's events are in range.
-use Rattle.std.proofs.Common.{◌≡◌, inl, inr, ◌<◌, ℕ, max, arith, ap}
+use Rattle.std.proofs.Common.{◌≡◌, ◌⊎◌, inl, inr, ◌<◌, ℕ, max, arith, ap}
 use Rattle.std.specs.Prelude.{Option, Some, None, IfSome, MatchOption}
 use Rattle.fixed_motion.specs.declared.rules.Rules.{Rules}
 use Rattle.fixed_motion.specs.declared.disk.Disk.{Disk}
@@ -49,11 +49,21 @@ pair_range rules i j a b s checked first second low high event =
     let to : s.second ≡ j = ap (λ (v : Stamp). v.second) event.2 in
     (omega arith, omega arith, omega arith)
 
-pub pair_in_range : (rules : Rules) (i j : ℕ) (a b : Disk) (o : Option Stamp) → IsChecked rules → IsValidDisk rules a → IsValidDisk rules b →
+pair_in_range : (rules : Rules) (i j : ℕ) (a b : Disk) (o : Option Stamp) → IsChecked rules → IsValidDisk rules a → IsValidDisk rules b →
     i < 65536 → j < 65536 → MatchOption o ((s : Stamp) → IsPairEvent rules i a j b s → ⊥) (IsOnly (IsPairEvent rules i a j b)) → IfSome o IsInRange
 pair_in_range rules i j a b None checked first second low high event = tt
 pair_in_range rules i j a b (Some s) checked first second low high event =
     pair_range rules i j a b s checked first second low high event.0
+
+-- whichever is the lower one
+pub between_in_range : (rules : Rules) (i j : ℕ) (a b : Disk) (o : Option Stamp) → IsChecked rules → IsValidDisk rules a → IsValidDisk rules b →
+    i < 65536 → j < 65536 → (i < j) ⊎ (j < i) →
+    (i < j → MatchOption o ((s : Stamp) → IsPairEvent rules i a j b s → ⊥) (IsOnly (IsPairEvent rules i a j b))) →
+    (j < i → MatchOption o ((s : Stamp) → IsPairEvent rules j b i a s → ⊥) (IsOnly (IsPairEvent rules j b i a))) → IfSome o IsInRange
+between_in_range rules i j a b o checked first second low high (inl rising) up down =
+    pair_in_range rules i j a b o checked first second low high (up rising)
+between_in_range rules i j a b o checked first second low high (inr falling) up down =
+    pair_in_range rules j i b a o checked second first high low (down falling)
 
 -- those of native candidates of a valid placing
 pub native_in_range : (rules : Rules) (grid : GridData) (region : ℕ) (at : Placing) (s : Stamp) → IsChecked rules →

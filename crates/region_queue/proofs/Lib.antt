@@ -1,4 +1,5 @@
 mod Again
+mod Among
 mod Back
 mod Beside
 mod Candidates

@@ -12,7 +12,7 @@ use Rattle.region_view.specs.declared.action.Placed.{Placed}
 use Rattle.region_view.specs.Views.{ViewData, rows_in}
 use Rattle.region_queue.specs.declared.finder.Finder.{Finder}
 use Rattle.region_queue.specs.declared.parts.Parts.{Parts}
-use Rattle.region_queue.specs.Outside.{IsIn, IsPart, AreParts, IsListedOutside}
+use Rattle.region_queue.specs.Outside.{IsIn, IsPart, AreParts, IsListedOutside, IsListedInParts}
 use Rattle.region_queue.specs.Finding.{IsReady, IsNativeWith, IsPairedBeyond, IsBestBeyond, AreListed, cell_in}
 use Rattle.region_queue.proofs.Candidates.{IsAround, with_more, pair_found, pair_of, listed_beside}
 
@@ -37,14 +37,22 @@ part_outside lists block known part i of x =
     (x.0, x.1, in_block block known part column row of x.2, of.outside column row x.2)
 
 -- ---- all parts
-whole : (lists : ListsData) (block known : Block) (parts : Parts) (i : ℕ) → AreParts block known parts → IsListedOutside lists block known i →
-    ((IsListedWithin lists parts.left i ⊎ IsListedWithin lists parts.right i) ⊎ IsListedWithin lists parts.low i)
-    ⊎ IsListedWithin lists parts.high i
+pub whole : (lists : ListsData) (block known : Block) (parts : Parts) (i : ℕ) → AreParts block known parts →
+    IsListedOutside lists block known i → IsListedInParts lists parts i
 whole lists block known parts i are x = elim (are.whole (column_of lists.grid x.0) (row_of lists.grid x.0) x.2 x.3) [
   | inl (inl (inl left)) ↦ inl (inl (inl (x.0, x.1, left)))
   | inl (inl (inr right)) ↦ inl (inl (inr (x.0, x.1, right)))
   | inl (inr low) ↦ inl (inr (x.0, x.1, low))
   | inr high ↦ inr (x.0, x.1, high)
+]
+
+pub parts_outside : (lists : ListsData) (block known : Block) (parts : Parts) (i : ℕ) → AreParts block known parts →
+    IsListedInParts lists parts i → IsListedOutside lists block known i
+parts_outside lists block known parts i are x = elim x [
+  | inl (inl (inl left)) ↦ part_outside lists block known parts.left i are.left left
+  | inl (inl (inr right)) ↦ part_outside lists block known parts.right i are.right right
+  | inl (inr low) ↦ part_outside lists block known parts.low i are.low low
+  | inr high ↦ part_outside lists block known parts.high i are.high high
 ]
 
 either : (finder : Finder) (view : ViewData) (disk : ℕ) (P Q : ℕ → Type 0) (a b : Option Stamp) → IsLeastOf (IsNativeWith finder view disk P) a →
@@ -60,12 +68,8 @@ pub best_of_parts : (finder : Finder) (view : ViewData) (disk : ℕ) (block know
     IsLeastOf (IsNativeWith finder view disk (IsListedOutside finder.lists block known)) (earlier_of (earlier_of (earlier_of a b) c) d)
 best_of_parts finder view disk block known parts a b c d are ha hb hc hd =
     with_more finder view disk (λ i. (Left i ⊎ Right i) ⊎ Low i) High (IsListedOutside finder.lists block known) (earlier_of (earlier_of a b) c) d
-    (λ i x. elim x [
-      | inl (inl left) ↦ part_outside finder.lists block known parts.left i are.left left
-      | inl (inr right) ↦ part_outside finder.lists block known parts.right i are.right right
-      | inr low ↦ part_outside finder.lists block known parts.low i are.low low
-    ])
-    (λ i x. part_outside finder.lists block known parts.high i are.high x) (λ i x. whole finder.lists block known parts i are x)
+    (λ i x. parts_outside finder.lists block known parts i are (inl x)) (λ i x. parts_outside finder.lists block known parts i are (inr x))
+    (λ i x. whole finder.lists block known parts i are x)
     (either finder view disk (λ i. Left i ⊎ Right i) Low (earlier_of a b) c (either finder view disk Left Right a b ha hb) hc) hd
   where
     Left : ℕ → Type 0

@@ -12,7 +12,7 @@ use Rattle.cell_grid.specs.declared.grid.Strip.{Strip}
 use Rattle.cell_grid.specs.Grid.{GridData, IsGridOf, IsRegion, IsCell, IsAdjacent, IsStripOf, Owns}
 use Rattle.cell_lists.specs.declared.near.Block.{Block}
 use Rattle.cell_lists.specs.Listing.{ListsData, IsFree}
-use Rattle.cell_lists.specs.Nearby.{IsWithin}
+use Rattle.cell_lists.specs.Nearby.{IsWithin, IsListedWithin}
 use Rattle.region_view.specs.declared.action.Placed.{Placed}
 use Rattle.region_view.specs.Events.{IsAlone}
 use Rattle.region_view.specs.Placing.{IsNative, IsValidPlacing}
@@ -89,9 +89,18 @@ abbrev pub IsPlacedBeside : Finder → ViewData → ℕ → ℕ → Bool → Typ
 IsPlacedBeside finder view cell other home = (q : Placed) → rows_in view other ≡ Some q →
     IsAdjacent finder.grid cell q.cell × (IsTrue home ↔ Owns finder.grid finder.region q.cell)
 
+-- where the view has the disk, it is in an adjacent cell, and where `whole`, in a column that the region owns
+abbrev pub IsNearby : Finder → ViewData → ℕ → Bool → ℕ → Type 0
+IsNearby finder view cell whole other = (q : Placed) → rows_in view other ≡ Some q →
+    IsAdjacent finder.grid cell q.cell × (IsTrue whole → Owns finder.grid finder.region q.cell)
+
 -- the cells of the block are adjacent to a cell
 abbrev pub IsBlockBeside : GridData → ℕ → Block → Type 0
 IsBlockBeside grid cell block = (other : ℕ) → IsCell grid other → IsWithin grid block other → IsAdjacent grid cell other
+
+-- each of some disks is listed in the block
+abbrev pub AreAllWithin : ListsData → Block → List ℕ → Type 0
+AreAllWithin lists block disks = (i : ℕ) → Contains disks i → IsListedWithin lists block i
 
 -- a native event of a disk with one of some others
 abbrev pub IsNativeWith : Finder → ViewData → ℕ → (ℕ → Type 0) → Stamp → Type 0

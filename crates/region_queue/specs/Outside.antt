@@ -2,7 +2,7 @@
 use Rattle.std.specs.Prelude.{◌⊎◌, ℕ, ◌<◌, ◌≤◌}
 use Rattle.cell_lists.specs.declared.near.Block.{Block}
 use Rattle.cell_lists.specs.Listing.{ListsData, IsListed}
-use Rattle.cell_lists.specs.Nearby.{IsWithin}
+use Rattle.cell_lists.specs.Nearby.{IsWithin, IsListedWithin}
 use Rattle.region_queue.specs.declared.parts.Parts.{Parts}
 
 -- the cell of this column and row is in the block
@@ -32,3 +32,8 @@ pub record AreParts (block known : Block) (parts : Parts) : Type 0 where
 abbrev pub IsListedOutside : ListsData → Block → Block → ℕ → Type 0
 IsListedOutside lists block known disk = (cell : ℕ) × IsListed lists cell disk × IsWithin lists.grid block cell
     × ¬ IsWithin lists.grid known cell
+
+-- the disk is listed in a cell of one of the parts
+abbrev pub IsListedInParts : ListsData → Parts → ℕ → Type 0
+IsListedInParts lists parts disk = ((IsListedWithin lists parts.left disk ⊎ IsListedWithin lists parts.right disk)
+    ⊎ IsListedWithin lists parts.low disk) ⊎ IsListedWithin lists parts.high disk

@@ -1,20 +1,22 @@
 //! The native candidates of a region that name a disk.
 
-ghost use Rattle.std.specs.Prelude.{◌≡◌, ◌↔◌, ◌⊎◌, ◌+◌, ◌<◌, ◌≤◌, Some, IsTrue, MatchOption, false};
+ghost use Rattle.std.specs.Prelude.{◌≡◌, ◌↔◌, ◌⊎◌, ℕ, ◌<◌, ◌≤◌, Some, IsTrue, IfSome, MatchOption, false};
+ghost use Rattle.std.specs.List.{Contains};
 ghost use Rattle.std.specs.FinMap as map;
 ghost use Rattle.event_stamps.specs.declared.Kind.TheVariants.{Pair};
-ghost use Rattle.event_stamps.specs.Least.{IsLeastOf, HasNone, IsOnly};
-ghost use Rattle.cell_grid.specs.Grid.{IsCell, IsAdjacent, IsStripOf, Owns, column_of};
+ghost use Rattle.event_stamps.specs.Least.{IsLeastOf, HasNone, IsOnly, earlier_of};
+ghost use Rattle.event_stamps.specs.Order.{IsInRange};
+ghost use Rattle.cell_grid.specs.Grid.{IsCell, IsAdjacent, IsStripOf, Owns};
 ghost use Rattle.cell_lists.specs.Listing.{IsListed};
 ghost use Rattle.cell_lists.specs.Nearby.{IsBlock, IsListedWithin, columns_to};
-ghost use Rattle.region_queue.specs.Outside.{IsListedOutside};
+ghost use Rattle.region_queue.specs.Outside.{IsListedOutside, IsListedInParts};
 ghost use Rattle.region_view.specs.declared.action.Placed.{Placed};
-ghost use Rattle.region_queue.specs.Finding.{IsReady, IsFound, IsAloneAt, IsNativeOf, IsNativePair, IsNativeWith, IsBestSingle, IsBestPair, IsBestBeyond, IsBlockBeside, IsPlacedBeside, IsOfStrip, AreListed};
+ghost use Rattle.region_queue.specs.Finding.{IsReady, IsFound, IsAloneAt, IsNativeOf, IsNativePair, IsNativeWith, IsBestSingle, IsBestPair, IsBestBeyond, IsBlockBeside, IsNearby, AreAllWithin, IsOfStrip, AreListed};
 
-use crate::parts::parts_outside;
+use crate::parts::{Parts, parts_outside};
 use cell_grid::{Grid, Strip};
-use cell_lists::{Block, Lists, block_around};
-use event_rules::pair_event;
+use cell_lists::{Block, Gathered, Lists, block_around};
+use event_rules::event_between;
 use event_stamps::{Kind, Stamp};
 use event_tree::Packed;
 use fixed_motion::Rules;
@@ -121,6 +123,14 @@ impl Finder {
         self.strip.first <= column && column < self.strip.end
     }
 
+    // Whether the region owns all columns from one on, below another.
+    #[inline(always)]
+    fn owns_columns(&self, left: u32, right: u32) -> bool
+        ensures { IsTrue result ↔ ((self.now.strip.first ≤ left) × (right ≤ self.now.strip.end)) }
+    {
+        self.strip.first <= left && right <= self.strip.end
+    }
+
     // The least event of a disk by itself, if that is native. `own` tells whether the region owns its cell.
     fn best_alone(&self, view: &View, disk: u32, placed: &Placed, own: bool) -> Packed
         requires ready { IsReady self.now view.now }
@@ -152,11 +162,12 @@ impl Finder {
         ensures { AreListed view.now self.now.lists.cells → IsLeastOf (IsNativeWith self.now view.now disk
             (IsListedWithin self.now.lists block)) result }
     {
-        let mut best = Packed::new(None);
-        for row in block.low..block.high {
-            best = best.earlier(self.best_in_row(view, disk, placed, own, block, row));
+        let mut near = Gathered::new();
+        if self.lists.gather(block, &mut near) && have_rows(view, near.as_slice()) {
+            self.best_among(view, disk, placed, own, block, near.as_slice())
+        } else {
+            self.best_by_rows(view, disk, placed, own, block)
         }
-        best
     }
 
     // The same of the cells of the block that are in no second one.
@@ -179,10 +190,85 @@ impl Finder {
             (IsListedOutside self.now.lists block known)) result }
     {
         let parts = parts_outside(block, known);
-        self.best_within(view, disk, placed, own, parts.left)
-            .earlier(self.best_within(view, disk, placed, own, parts.right))
-            .earlier(self.best_within(view, disk, placed, own, parts.low))
-            .earlier(self.best_within(view, disk, placed, own, parts.high))
+        let mut near = Gathered::new();
+        if self.gather_parts(parts, &mut near) && have_rows(view, near.as_slice()) {
+            self.best_among(view, disk, placed, own, block, near.as_slice())
+        } else {
+            self.best_by_rows(view, disk, placed, own, parts.left)
+                .earlier(self.best_by_rows(view, disk, placed, own, parts.right))
+                .earlier(self.best_by_rows(view, disk, placed, own, parts.low))
+                .earlier(self.best_by_rows(view, disk, placed, own, parts.high))
+        }
+    }
+
+    // Gathers the disks that are listed in one of the parts, beside those that were gathered before, as
+    // `gather` does for one block.
+    fn gather_parts(&self, parts: Parts, near: &mut Gathered) -> bool
+        requires left { IsBlock self.now.lists.grid parts.left }
+        requires right { IsBlock self.now.lists.grid parts.right }
+        requires low { IsBlock self.now.lists.grid parts.low }
+        requires high { IsBlock self.now.lists.grid parts.high }
+        ensures { IsTrue result → (i : ℕ) →
+            Contains near.new i ↔ (Contains near.old i ⊎ IsListedInParts self.now.lists parts i) }
+    {
+        self.lists.gather(parts.left, near)
+            && self.lists.gather(parts.right, near)
+            && self.lists.gather(parts.low, near)
+            && self.lists.gather(parts.high, near)
+    }
+
+    // The least native event of a disk with one of some others, which are listed in a block of cells beside
+    // its own.
+    fn best_among(
+        &self,
+        view: &View,
+        disk: u32,
+        placed: &Placed,
+        own: bool,
+        block: Block,
+        others: &[u32],
+    ) -> Packed
+        requires ready { IsReady self.now view.now }
+        requires placed { map.get view.now disk ≡ Some placed.now }
+        requires own { IsTrue own ↔ Owns self.now.grid self.now.region placed.now.cell }
+        requires beside { IsBlockBeside self.now.grid placed.now.cell block }
+        ensures { AreListed view.now self.now.lists.cells → AreAllWithin self.now.lists block others.now →
+            IsLeastOf (IsNativeWith self.now view.now disk (λ i. Contains others.now i)) result }
+    {
+        let whole = self.owns_columns(block.left, block.right);
+        let mut best = Packed::new(None);
+        for other in others {
+            best = earlier_with(
+                best,
+                self.pair_beside(view, disk, placed, own, *other, whole),
+            );
+        }
+        best
+    }
+
+    // The same as `best_within`, cell by cell. It is for crowded cells, and for great grids whose cells share
+    // lists.
+    fn best_by_rows(
+        &self,
+        view: &View,
+        disk: u32,
+        placed: &Placed,
+        own: bool,
+        block: Block,
+    ) -> Packed
+        requires ready { IsReady self.now view.now }
+        requires placed { map.get view.now disk ≡ Some placed.now }
+        requires own { IsTrue own ↔ Owns self.now.grid self.now.region placed.now.cell }
+        requires block { IsBlock self.now.grid block }
+        requires beside { IsBlockBeside self.now.grid placed.now.cell block }
+        ensures { AreListed view.now self.now.lists.cells → IsLeastOf (IsNativeWith self.now view.now disk
+            (IsListedWithin self.now.lists block)) result }
+    {
+        let mut best = Packed::new(None);
+        for row in block.low..block.high {
+            best = best.earlier(self.best_in_row(view, disk, placed, own, block, row));
+        }
+        best
     }
 
     // The same of one row of the block.
@@ -208,68 +294,82 @@ impl Finder {
         let start = row * self.grid.columns();
         let mut best = Packed::new(None);
         for column in block.left..block.right {
-            best = best.earlier(self.best_in_cell(view, disk, placed, own, column, start + column));
+            best = best.earlier(self.best_in_cell(view, disk, placed, own, start + column));
         }
         best
     }
 
-    // The same of one cell beside the disk's own, in this column.
-    fn best_in_cell(
-        &self,
-        view: &View,
-        disk: u32,
-        placed: &Placed,
-        own: bool,
-        column: u32,
-        cell: u32,
-    ) -> Packed
+    // The same of one cell beside the disk's own.
+    fn best_in_cell(&self, view: &View, disk: u32, placed: &Placed, own: bool, cell: u32) -> Packed
         requires ready { IsReady self.now view.now }
         requires placed { map.get view.now disk ≡ Some placed.now }
         requires own { IsTrue own ↔ Owns self.now.grid self.now.region placed.now.cell }
         requires cell { IsCell self.now.grid cell }
-        requires column { column ≡ column_of self.now.grid cell }
         requires beside { IsAdjacent self.now.grid placed.now.cell cell }
         ensures { AreListed view.now self.now.lists.cells → IsLeastOf (IsNativeWith self.now view.now disk
             (IsListed self.now.lists cell)) result }
     {
-        let home = self.owns_column(column);
+        let whole = self.owns(cell);
         let mut best = Packed::new(None);
         let mut next = self.lists.first_in(cell);
         while let Some(other) = next {
-            best = best.earlier(self.pair(view, disk, placed, own, other, home));
+            best = earlier_with(
+                best,
+                self.pair_beside(view, disk, placed, own, other, whole),
+            );
             next = self.lists.next_in(other, cell);
         }
         best
     }
 
-    // The native event of a disk with another beside it. `home` tells whether the region owns the other's cell.
+    // The native event of a disk with another in a cell adjacent to its own. Where `whole`, the region owns the
+    // column of this cell.
     #[inline(always)]
-    fn pair(
+    fn pair_beside(
         &self,
         view: &View,
         disk: u32,
         placed: &Placed,
         own: bool,
         other: u32,
-        home: bool,
-    ) -> Packed
+        whole: bool,
+    ) -> Option<Stamp>
         requires ready { IsReady self.now view.now }
         requires placed { map.get view.now disk ≡ Some placed.now }
         requires own { IsTrue own ↔ Owns self.now.grid self.now.region placed.now.cell }
-        ensures { IsPlacedBeside self.now view.now placed.now.cell other home →
+        ensures range { IfSome result IsInRange }
+        ensures least { IsNearby self.now view.now placed.now.cell whole other →
             IsLeastOf (IsNativePair self.now view.now disk other) result }
     {
+        let near = view.get(other)?;
+        let home = whole || self.owns(near.cell);
         if !owns_lower(disk, own, other, home) {
-            return Packed::new(None);
+            return None;
         }
-        let Some(near) = view.get(other) else {
-            return Packed::new(None);
-        };
-        if disk < other {
-            Packed::new(pair_event(&self.rules, disk, &placed.disk, other, &near.disk))
-        } else {
-            Packed::new(pair_event(&self.rules, other, &near.disk, disk, &placed.disk))
-        }
+        event_between(&self.rules, disk, &placed.disk, other, &near.disk)
+    }
+}
+
+// Whether each of some disks has a row. All rows are asked for without a branch on any of the answers, so that
+// they come side by side from memory before the first is looked at. That is its only purpose: nothing need be
+// known of the answer, and no clause speaks of it.
+fn have_rows(view: &View, disks: &[u32]) -> bool {
+    let mut all = true;
+    for disk in disks {
+        all &= view.has(*disk);
+    }
+    all
+}
+
+// The earlier of a key and an event, where there is one.
+#[inline(always)]
+fn earlier_with(best: Packed, event: Option<Stamp>) -> Packed
+    requires { IfSome event IsInRange }
+    ensures { result ≡ earlier_of best event }
+{
+    match event {
+        Some(event) => best.earlier(Packed::new(Some(event))),
+        None => best,
     }
 }
 

@@ -8,7 +8,7 @@ use Rattle.cell_lists.specs.Firsts.{ascent}
 use Rattle.cell_lists.proofs.Firsts.{falls}
 use Rattle.region_queue.specs.Finding.{IsNativeWith}
 use Rattle.region_queue.proofs.Candidates.{ListedBelow, walk_begins, walk_more, walk_ends}
-use Rattle.region_queue.proofs.Beside.{placed_beside, column_owned}
+use Rattle.region_queue.proofs.Beside.{nearby_in_cell}
 use Rattle.region_queue.proofs.finder.Finder.best_in_cell.Goals as goal
 
 pub loop-next-init : goal.loop-next-init
@@ -39,13 +39,12 @@ loop-next-preserved c =
       c.in-Some.other + 1,
       c.next_in-next.ensures,
       λ listed. subst (λ (o : Option Stamp). IsLeastOf (IsNativeWith finder c.args.view.now c.args.disk (ListedBelow finder.lists c.args.cell (c.in-Some.other + 1))) o)
-          (sym c.earlier-best.ensures)
-          (walk_more finder c.args.view.now c.args.disk c.args.cell kept.0 c.in-Some.other c.loop-next.best c.pair.result
+          (sym c.earlier_with-best.ensures)
+          (walk_more finder c.args.view.now c.args.disk c.args.cell kept.0 c.in-Some.other c.loop-next.best c.pair_beside.result
           (subst (λ (o : Option ℕ). IsFirstIn finder.lists c.args.cell kept.0 o) c.in-Some.is kept.1) (kept.2 listed)
-          (c.pair.ensures (placed_beside finder c.args.view.now c.args.placed.now.cell c.args.cell c.in-Some.other c.owns_column-home.result listed
+          (c.pair_beside.ensures.least (nearby_in_cell finder c.args.view.now c.args.placed.now.cell c.args.cell c.in-Some.other c.owns-whole.result listed
           (subst (λ (o : Option ℕ). IsFirstIn finder.lists c.args.cell kept.0 o) c.in-Some.is kept.1).1 c.requires.beside
-          (column_owned finder c.args.view.now c.args.cell c.args.column c.owns_column-home.result c.requires.ready c.requires.column
-          c.owns_column-home.ensures)))),
+          c.owns-whole.ensures))),
     )
 
 pub returns : goal.returns

@@ -1,7 +1,6 @@
 -- One more cell of the row.
 use Rattle.std.proofs.Common.{◌≡◌, ℕ, ◌+◌, ◌*◌, ◌≤◌, arith, sym, subst, ap, ◌∙◌}
 use Rattle.std.specs.Prelude.{Option}
-use Rattle.std.proofs.lemmas.Nat.{mod-mul-add}
 use Rattle.event_stamps.specs.declared.Stamp.{Stamp}
 use Rattle.event_stamps.specs.Least.{IsLeastOf}
 use Rattle.cell_grid.specs.Grid.{GridData}
@@ -43,11 +42,6 @@ loop-column-preserved c = λ listed.
     c.loop-column.auto.column (omega arith) (c.loop-column.invariant listed)
     (subst (λ (n : ℕ). IsLeastOf (Found (IsListed finder.lists (c.args.row * n + column))) c.best_in_cell.result)
     (c.columns.ensures.value ∙ sym same) (c.best_in_cell.ensures listed)))
-
-pub best_in_cell-requires-clause-column : goal.best_in_cell-requires-clause-column
-best_in_cell-requires-clause-column c = rw c.columns.ensures.value
-    (sym (mod-mul-add c.args.row c.args.self.now.grid.columns c.loop-column.column
-    (let most = c.requires.block.most_columns in let lt = c.loop-column-test.true in omega arith)))
 
 pub returns : goal.returns
 returns c = λ listed.

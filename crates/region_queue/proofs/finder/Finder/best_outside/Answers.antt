@@ -3,17 +3,33 @@ use Rattle.std.proofs.Common.{sym, subst}
 use Rattle.std.specs.Prelude.{Option}
 use Rattle.event_stamps.specs.declared.Stamp.{Stamp}
 use Rattle.event_stamps.specs.Least.{IsLeastOf}
-use Rattle.region_queue.specs.Outside.{IsListedOutside}
+use Rattle.region_queue.specs.Outside.{IsListedOutside, IsListedInParts}
 use Rattle.region_queue.specs.Finding.{IsNativeWith}
-use Rattle.region_queue.proofs.Outside.{best_of_parts}
+use Rattle.region_queue.proofs.Among.{best_gathered}
+use Rattle.region_queue.proofs.Candidates.{with_same}
+use Rattle.region_queue.proofs.Outside.{best_of_parts, parts_outside, whole}
 use Rattle.region_queue.proofs.finder.Finder.best_outside.Goals as goal
 
-pub returns : goal.returns
-returns c = λ listed.
+pub returns-then-have_rows : goal.returns-then-have_rows
+returns-then-have_rows c = λ listed.
     let finder = c.args.self.now in
-    let all = best_of_parts finder c.args.view.now c.args.disk c.args.block c.args.known c.parts_outside-parts.result c.best_within.result
-    c.best_within-2.result c.best_within-3.result c.best_within-4.result c.parts_outside-parts.ensures (c.best_within.ensures listed)
-    (c.best_within-2.ensures listed) (c.best_within-3.ensures listed) (c.best_within-4.ensures listed) in
+    let block = c.args.block in
+    let known = c.args.known in
+    let parts = c.parts_outside-parts.result in
+    let are = c.parts_outside-parts.ensures in
+    with_same finder c.args.view.now c.args.disk (IsListedInParts finder.lists parts) (IsListedOutside finder.lists block known)
+    c.best_among.result (λ i x. parts_outside finder.lists block known parts i are x) (λ i x. whole finder.lists block known parts i are x)
+    (best_gathered finder c.args.view.now c.args.disk block (IsListedInParts finder.lists parts) c.new-near.result
+    c.gather_parts.new.near c.as_slice-then-have_rows.result.now c.best_among.result
+    (λ i x. let y = parts_outside finder.lists block known parts i are x in (y.0, y.1, y.2)) c.new-near.ensures
+    (c.gather_parts.ensures c.if-gather_parts.true) c.as_slice-then-have_rows.ensures (c.best_among.ensures listed))
+
+pub returns-else-gather_parts : goal.returns-else-gather_parts
+returns-else-gather_parts c = λ listed.
+    let finder = c.args.self.now in
+    let all = best_of_parts finder c.args.view.now c.args.disk c.args.block c.args.known c.parts_outside-parts.result c.best_by_rows.result
+    c.best_by_rows-else-gather_parts.result c.best_by_rows-else-gather_parts-2.result c.best_by_rows-else-gather_parts-3.result c.parts_outside-parts.ensures (c.best_by_rows.ensures listed)
+    (c.best_by_rows-else-gather_parts.ensures listed) (c.best_by_rows-else-gather_parts-2.ensures listed) (c.best_by_rows-else-gather_parts-3.ensures listed) in
     subst (λ (o : Option Stamp). IsLeastOf (IsNativeWith finder c.args.view.now c.args.disk
     (IsListedOutside finder.lists c.args.block c.args.known)) o)
-    (sym (rw c.earlier.ensures at (rw c.earlier-2.ensures at c.earlier-3.ensures))) all
+    (sym (rw c.earlier.ensures at (rw c.earlier-else-gather_parts.ensures at c.earlier-else-gather_parts-2.ensures))) all

@@ -2,7 +2,7 @@
 use Rattle.event_stamps.specs.Least.{IsLeastOf}
 use Rattle.cell_lists.specs.Nearby.{IsListedWithin, rows_to}
 use Rattle.region_queue.specs.Finding.{IsNativeWith, AreListed}
-use Rattle.region_queue.proofs.finder.Finder.best_within.Given as goal
+use Rattle.region_queue.proofs.finder.Finder.best_by_rows.Given as goal
 
 abbrev pub invariant-loop-row : goal.invariant-loop-row
 invariant-loop-row l =

@@ -1,0 +1,47 @@
+-- Of two disks either may be the lower one.
+use Rattle.std.proofs.Common.{◌⊎◌, ◌↔◌, inl, inr, ◌<◌, Bool, sym, subst, ◌∙◌}
+use Rattle.std.specs.Prelude.{IsTrue}
+use Rattle.cell_grid.specs.Grid.{Owns}
+use Rattle.region_queue.proofs.Beside.{pair_as_lower, pair_as_higher, placed_beside}
+use Rattle.region_queue.proofs.InRange.{between_in_range}
+use Rattle.region_queue.proofs.finder.Finder.pair_beside.Goals as goal
+use Rattle.region_queue.proofs.finder.Finder.pair_beside.Goals.{then-whole, else-whole}
+
+pub event_between-requires-clause-first_valid : goal.event_between-requires-clause-first_valid
+event_between-requires-clause-first_valid c = c.requires.ready.valid.disk c.args.disk c.args.placed.now c.requires.placed
+
+pub event_between-requires-clause-second_valid : goal.event_between-requires-clause-second_valid
+event_between-requires-clause-second_valid c = c.requires.ready.valid.disk c.args.other c.in_ok-near.near (sym c.in_ok-near.ensures)
+
+pub returns-clause-range : goal.returns-clause-range
+returns-clause-range c =
+    let valid = c.requires.ready.valid in
+    let here = c.requires.placed in
+    let there = sym c.in_ok-near.ensures in
+    let order : (c.args.disk < c.args.other) ⊎ (c.args.other < c.args.disk) =
+    elim (c.owns_lower.ensures.0 c.if-not-owns_lower.false) [ inl low ↦ inl low.0 | inr high ↦ inr high.0 ] in
+    between_in_range c.args.self.now.rules c.args.disk c.args.other c.args.placed.now.disk c.in_ok-near.near.disk c.event_between.result
+    c.requires.ready.checked (valid.disk c.args.disk c.args.placed.now here) (valid.disk c.args.other c.in_ok-near.near there)
+    (valid.number c.args.disk c.args.placed.now here) (valid.number c.args.other c.in_ok-near.near there) order
+    c.event_between.ensures.rising c.event_between.ensures.falling
+
+pub returns-clause-least : goal.returns-clause-least
+returns-clause-least c = λ nearby.
+    let finder = c.args.self.now in
+    let view = c.args.view.now in
+    let near = c.in_ok-near.near in
+    let here = c.requires.placed in
+    let there = sym c.in_ok-near.ensures in
+    let known : (IsTrue c.args.whole × IsTrue c.if-whole.home) ⊎ (IsTrue c.if-whole.home ↔ Owns finder.grid finder.region near.cell) =
+    elim c.if-whole.branch [
+      | then-whole w ↦ inl (w.if-whole.true, w.home-is ∙ w.if-whole.true)
+      | else-whole w ↦
+          inr (subst (λ (b : Bool). IsTrue b ↔ Owns finder.grid finder.region near.cell) (sym w.home-is) w.owns-home.ensures)
+    ] in
+    let beside = placed_beside finder view c.args.placed.now.cell c.args.other near c.args.whole c.if-whole.home there known nearby in
+    elim (c.owns_lower.ensures.0 c.if-not-owns_lower.false) [
+      | inl low ↦ pair_as_lower finder view c.args.disk c.args.other c.args.placed.now near c.if-whole.home c.event_between.result
+          low.0 here there (c.requires.own.0 low.1) beside (c.event_between.ensures.rising low.0)
+      | inr high ↦ pair_as_higher finder view c.args.disk c.args.other c.args.placed.now near c.if-whole.home c.event_between.result
+          high.0 here there high.1 beside (c.event_between.ensures.falling high.0)
+    ]
