@@ -13,7 +13,7 @@ use Rattle.commit_horizon.specs.Commits.{Adopts, IsAdopted, AllAdopted, region_i
 use Rattle.commit_horizon.proofs.Standing.{at_number}
 
 -- ---- one more at the end
-pub get_pushed : {A : Type 0} (xs : List A) (x y : A) (k : ℕ) → slice_get (xs ++ x ∷ []) k ≡ Some y →
+get_pushed : {A : Type 0} (xs : List A) (x y : A) (k : ℕ) → slice_get (xs ++ x ∷ []) k ≡ Some y →
     ((k ≡ length xs) × (y ≡ x)) ⊎ (slice_get xs k ≡ Some y)
 get_pushed [] x y zero at = inl (refl, sym (same_Some x y at))
 get_pushed [] x y (suc k) at = absurd (none-some y at)
@@ -24,7 +24,7 @@ get_pushed (z ∷ xs) x y (suc k) at = elim (get_pushed xs x y k at) [
 ]
 
 -- ---- one place written
-pub length_set : {A : Type 0} (xs : List A) (i : ℕ) (v : A) → length (slice_set xs i v) ≡ length xs
+length_set : {A : Type 0} (xs : List A) (i : ℕ) (v : A) → length (slice_set xs i v) ≡ length xs
 length_set [] i v = refl
 length_set (x ∷ xs) zero v = refl
 length_set (x ∷ xs) (suc i) v = ap suc (length_set xs i v)
@@ -107,25 +107,6 @@ one_more_adopted state given regions n old region so_far at is = record {
           subst (λ (m : ℕ). IsAdopted state m other region) (sym last)
               (subst (λ (v : RegionData). IsAdopted state n v region) (sym same) is),
         )
-
--- one that stands where it is stays
-pub one_more_kept : (state : CellStateData) (given regions : List RegionData) (n : ℕ) →
-    AdoptedUpTo state given n regions →
-    ((old : RegionData) → slice_get given n ≡ Some old → StandsOn state n old) →
-    AdoptedUpTo state given (n + 1) regions
-one_more_kept state given regions n so_far stands = record {
-  count = so_far.count;
-  done = λ k old lt at. elim (last_or_before k lt) [
-    | inl last ↦ let there = subst (λ (m : ℕ). slice_get given m ≡ Some old) last at in
-        subst (λ (m : ℕ). (region : RegionData) × (slice_get regions m ≡ Some region) × IsAdopted state m old region)
-        (sym last) (old, so_far.rest n (omega arith) ∙ there, (Kept old, (stands old there, refl), refl))
-    | inr before ↦ so_far.done k old before at
-  ];
-  rest = λ k le. so_far.rest k (omega (arith, le));
-}
-  where
-    last_or_before : (k : ℕ) → k < n + 1 → (k ≡ n) ⊎ (k < n)
-    last_or_before k lt = grind arith
 
 pub all_adopted : (state : CellStateData) (given regions : List RegionData) (n : ℕ) → n ≡ length given →
     AdoptedUpTo state given n regions → AllAdopted state given regions

@@ -14,4 +14,3 @@ pub mod Merges
 pub mod Raises
 pub mod Commit
 pub mod Adopting
-pub mod Marks

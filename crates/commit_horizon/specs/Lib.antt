@@ -4,4 +4,3 @@ pub mod Bounds
 pub mod Merging
 pub mod Raising
 pub mod Commits
-pub mod Comparing

@@ -7,7 +7,6 @@
 pub mod batch;
 mod bounding;
 pub mod committed;
-mod comparing;
 mod laws;
 mod merging;
 mod raising;

@@ -6,7 +6,6 @@ ghost use Rattle.cell_grid.specs.Grid.{IsRegion};
 ghost use Rattle.commit_horizon.specs.Commits.{IsAdopted, AllAdopted};
 
 use crate::Committed;
-use crate::comparing::standing;
 use region_core::Region;
 use std::alloc::{AllocError, Global};
 
@@ -46,12 +45,9 @@ impl Committed {
         ensures adopted { OnOk result (AllAdopted self.now regions.old regions.new) }
         ensures stand { OnOk result (AllStand self.now regions.new) }
     {
-        let state = self.state();
-        let stands = standing(alloc, state, regions)?;
+        let _state = self.state();
         for place in 0..regions.len() {
-            if !stands[place] {
-                self.renew(alloc, place as u32, &mut regions[place])?;
-            }
+            self.renew(alloc, place as u32, &mut regions[place])?;
         }
         Ok(())
     }

@@ -1,5 +1,5 @@
 -- Which regions stand on a cell state, and what else is the matter with the others.
-use Rattle.std.specs.Prelude.{◌≡◌, ◌≢◌, ◌↔◌, ℕ, ◌<◌, ◌≤◌, Option, Some, None, Result, Ok, Err, length, slice_get}
+use Rattle.std.specs.Prelude.{◌≡◌, ◌≢◌, ◌↔◌, ℕ, ◌<◌, Option, Some, None, Result, Ok, Err, slice_get}
 use Rattle.std.specs.FinMap as map
 use Rattle.cell_grid.specs.Grid.{GridData, Reaches}
 use Rattle.region_view.specs.declared.action.Placed.{Placed}
@@ -29,14 +29,6 @@ SeesRow grid k row found = (p : Placed) → (found ≡ Some p) ↔ ((row ≡ Som
 -- at a number, the view has exactly what the region sees of the state
 abbrev pub IsSeenAt : GridData → ℕ → Placing → ViewData → ℕ → Type 0
 IsSeenAt grid k at view i = SeesRow grid k (at i) (map.get view i)
-
--- at each number from one on, and below another
-abbrev pub IsSeenIn : GridData → ℕ → Placing → ViewData → ℕ → ℕ → Type 0
-IsSeenIn grid k at view from end = (i : ℕ) → from ≤ i → i < end → IsSeenAt grid k at view i
-
--- the least number from one on at which it hasn't, of placed disks
-abbrev pub IsUnseenFrom : GridData → ℕ → Placing → ViewData → ℕ → ℕ → Type 0
-IsUnseenFrom grid k at view from i = (¬ IsSeenAt grid k at view i) × IsSeenIn grid k at view from i
 
 -- the least number at which it hasn't, of placed disks
 abbrev pub IsUnseenFirst : GridData → ℕ → Placing → ViewData → ℕ → Type 0
@@ -69,24 +61,3 @@ DiffersBy state k region (Row i) = (region.home.number ≡ k)
 abbrev pub TellsStanding : CellStateData → ℕ → RegionData → Result (Unit {0}) Differs → Type 0
 TellsStanding state k region (Ok _) = StandsOn state k region
 TellsStanding state k region (Err differs) = DiffersBy state k region differs
-
--- ---- in parts
--- it is the region of this number of the state's rules and grid, and its floor is the state's
-pub record IsOf (state : CellStateData) (k : ℕ) (region : RegionData) : Type 0 where
-  pub number : region.home.number ≡ k
-  pub rules : region.home.rules ≡ state.rules
-  pub grid : region.home.grid ≡ state.grid
-  pub floor : region.floor ≡ state.floor
-
--- so it is, it isn't spent, and it begins in a view with no row past the state's last disk
-pub record Belongs (state : CellStateData) (k : ℕ) (region : RegionData) : Type 0 where
-  pub run : Local
-  pub alive : region.run ≡ Some run
-  pub is_of : IsOf state k region
-  pub none_past : (i : ℕ) → length state.placed ≤ i → map.get run.base i ≡ None
-
--- the view that it begins in has, of the state's disks from one number on and below another, exactly what it
--- sees of the state
-abbrev pub SeesRowsOf : CellStateData → RegionData → ℕ → ℕ → Type 0
-SeesRowsOf state region from end = (run : Local) (i : ℕ) → region.run ≡ Some run → from ≤ i → i < end →
-    i < length state.placed → IsSeenAt state.grid region.home.number (slice_get state.placed) run.base i

@@ -1,11 +1,11 @@
 //! Whether a region stands on a cell state.
 
-ghost use Rattle.std.specs.Prelude.{◌≡◌, ◌↔◌, ℕ, ◌<◌, ◌≤◌, length, slice_get, Some, IsTrue, MatchOption};
+ghost use Rattle.std.specs.Prelude.{◌≡◌, ◌↔◌, ℕ, ◌<◌, ◌≤◌, length, slice_get, option_copied, Some, IsTrue, MatchOption};
 ghost use Rattle.cell_grid.specs.Grid.{HasSizes, IsRegion, IsCell, IsStripOf, Reaches, column_of};
 ghost use Rattle.region_view.specs.Laws.{HasCells};
 ghost use Rattle.region_view.specs.Views.{IsViewOf};
 ghost use Rattle.region_core.specs.Keeping.{IsKept};
-ghost use Rattle.region_core.specs.Standing.{TellsStanding, SeesRow, IsSeenIn, IsUnseenFirst, IsUnseenFrom, IsOf, Belongs, SeesRowsOf};
+ghost use Rattle.region_core.specs.Standing.{TellsStanding, SeesRow, IsUnseenFirst};
 
 use crate::Differs;
 use crate::region::Region;
@@ -52,49 +52,6 @@ impl Region {
             None => Ok(()),
         }
     }
-
-    /// Whether all but the disks' rows lets it stand on a cell state with a number: it isn't spent, it is the
-    /// region of this number, with the rules, the grid and the floor of the state, and the view that it begins
-    /// in has no row past the state's last disk. With [`sees_rows`](Region::sees_rows) of all disks it stands
-    /// on the state.
-    pub fn belongs_to(&self, state: &CellState, number: u32) -> bool
-        ensures { IsTrue result → Belongs state.now number self.now }
-    {
-        match &self.live {
-            Some(live) => {
-                self.is_of(state, number)
-                    && live.base.next_row(state.placed().len() as u32).is_none()
-            }
-            None => false,
-        }
-    }
-
-    /// Whether the view that it begins in has, of the disks from number `from` on and below `end`, exactly what
-    /// it sees of a cell state.
-    pub fn sees_rows(&self, state: &CellState, from: usize, end: usize) -> bool
-        ensures { IsTrue result → SeesRowsOf state.now self.now from end }
-    {
-        let Some(live) = &self.live else {
-            return false;
-        };
-        let grid = state.grid();
-        if self.grid() != grid {
-            return false;
-        }
-        let placed = state.placed();
-        let end = end.min(placed.len());
-        first_apart_in(&live.base, placed, from, end, grid, self.number()).is_none()
-    }
-
-    // Whether it has a number, and the rules, the grid and the floor of a cell state.
-    fn is_of(&self, state: &CellState, number: u32) -> bool
-        ensures { IsTrue result → IsOf state.now number self.now }
-    {
-        self.number() == number
-            && self.rules() == state.rules()
-            && self.grid() == state.grid()
-            && self.floor() == state.floor()
-    }
 }
 
 // The least number at which a view isn't what a region sees of placed disks; none where it is that.
@@ -105,53 +62,30 @@ fn first_apart(view: &View, placed: &[Placed], grid: &Grid, number: u32) -> Opti
     ensures { MatchOption result (IsViewOf grid.now number (slice_get placed.now) view.now)
         (IsUnseenFirst grid.now number (slice_get placed.now) view.now) }
 {
-    match first_apart_in(view, placed, 0, placed.len(), grid, number) {
-        Some(disk) => Some(disk),
-        None => {
-            let (disk, _) = view.next_row(placed.len() as u32)?;
-            Some(disk)
-        }
-    }
-}
-
-// The least number from one on, and below another, at which a view isn't what a region sees of placed disks.
-fn first_apart_in(
-    view: &View,
-    placed: &[Placed],
-    from: usize,
-    end: usize,
-    grid: &Grid,
-    number: u32,
-) -> Option<u32>
-    requires region { IsRegion grid.now number }
-    requires cells { HasCells grid.now (slice_get placed.now) }
-    requires count { length placed.now ≤ 65536 }
-    requires end { end ≤ length placed.now }
-    ensures { MatchOption result (IsSeenIn grid.now number (slice_get placed.now) view.now from end)
-        (IsUnseenFrom grid.now number (slice_get placed.now) view.now from) }
-{
     // Once for all rows, since these take divisions and the rows are many.
     let strip = grid.strip(number);
     let factor = u32::MAX / grid.columns();
-    for i in from..end {
+    for (i, row) in placed.iter().enumerate() {
         let disk = i as u32;
-        if !sees_row(view.get(disk), &placed[i], grid, strip, factor) {
+        if !view.is_row(disk, seen_of(row, grid, strip, factor)) {
             return Some(disk);
         }
     }
-    None
+    let (disk, _) = view.next_row(placed.len() as u32)?;
+    Some(disk)
 }
 
-// Whether what a view has at a number is exactly what the region of a strip sees of the row there.
-fn sees_row(found: Option<Placed>, row: &Placed, grid: &Grid, strip: Strip, factor: u32) -> bool
+// What the region of a strip sees of a row: the row, or none where it doesn't reach its cell.
+fn seen_of<'a>(row: &'a Placed, grid: &Grid, strip: Strip, factor: u32) -> Option<&'a Placed>
     requires sizes { HasSizes grid.now }
     requires cell { IsCell grid.now row.now.cell }
     ensures { (k : ℕ) → IsStripOf grid.now k strip →
-        (IsTrue result ↔ SeesRow grid.now k (Some row.now) found) }
+        SeesRow grid.now k (Some row.now) (option_copied result) }
 {
-    match found {
-        Some(placed) => placed == *row && reaches(strip, grid, factor, row.cell),
-        None => !reaches(strip, grid, factor, row.cell),
+    if reaches(strip, grid, factor, row.cell) {
+        Some(row)
+    } else {
+        None
     }
 }
 
