@@ -5,7 +5,7 @@ ghost use Rattle.cell_grid.specs.Grid.{IsCell};
 
 use super::helpers::{Numbers, expect_none};
 use cell_grid::Grid;
-use cell_lists::{Lists, block_around};
+use cell_lists::{Gathered, Lists, block_around};
 use event_stamps::Stamp;
 use fixed_motion::{Disk, Rules};
 use std::test::Fail;
@@ -323,5 +323,18 @@ fn a_disk_is_listed_and_taken_off(rt: HostRuntime) -> Result<(), Fail> {
     assert_eq!(rt; lists.next_in(7, cell), None);
     lists.take(7, cell);
     assert_eq!(rt; lists.first_in(cell), None);
+    Ok(())
+}
+
+// No clause says that anything is ever gathered.
+#[test]
+fn the_disks_of_a_block_are_gathered(rt: HostRuntime) -> Result<(), Fail> {
+    let grid = Grid::new(&BLOCK, 1);
+    let cell = grid.cell_of(30, 30);
+    let mut lists = Lists::new(rt.alloc(), &grid)?;
+    lists.put(rt.alloc(), 7, cell)?;
+    let mut near = Gathered::new();
+    let done = lists.gather(block_around(&grid, cell), &mut near);
+    assert_eq!(rt; (done, near.as_slice().first()), (true, Some(&7)));
     Ok(())
 }
