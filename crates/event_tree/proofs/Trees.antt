@@ -1,10 +1,10 @@
 -- The least of the topmost keys of a tree is the least of its leaves.
-use Rattle.std.proofs.Common.{◌≡◌, ◌≢◌, ◌⊎◌, ℕ, zero, suc, ◌+◌, ◌-◌, ◌*◌, ◌/◌, ◌^◌, ◌<◌, ◌≤◌, List, length, drop, set, get_or, arith, refl, sym, ap, subst, ◌∙◌, inl, inr}
+use Rattle.std.proofs.Common.{◌≡◌, ◌≢◌, ◌⊎◌, ℕ, zero, suc, ◌+◌, ◌-◌, ◌*◌, ◌/◌, ◌^◌, ◌<◌, ◌≤◌, List, length, take, drop, set, get_or, arith, refl, sym, ap, subst, ◌∙◌, inl, inr}
 use Rattle.std.specs.Prelude.{Some, None, if◌then◌else◌}
 use Rattle.std.specs.Ordering.{is_lt}
 use Rattle.std.specs.declared.cmp.Ordering.{Ordering}
 use Rattle.std.specs.declared.cmp.Ordering.TheVariants.{Less, Equal, Greater}
-use Rattle.std.proofs.lemmas.List.{get_or-drop, get_or-set_same, get_or-set_other, get_or_past, get_or_default}
+use Rattle.std.proofs.lemmas.List.{get_or-take, get_or-drop, get_or-set_same, get_or-set_other, get_or_past, get_or_default}
 use Rattle.event_stamps.specs.declared.Stamp.{Stamp}
 use Rattle.event_stamps.specs.Order.{Before, stamp_cmp}
 use Rattle.event_stamps.specs.Least.{earlier_of}
@@ -113,6 +113,12 @@ least_of_four nodes start a b c d within ea eb ec ed =
     let right = both nodes (start + 2) 1 1 c d (alone nodes (start + 2) c (omega arith) ec)
     (alone nodes (start + 2 + 1) d (omega arith) last) in
     both nodes start 2 2 (earlier_of a b) (earlier_of c d) left right
+
+-- one of the four that were cut out
+pub one_of_four : (nodes : List Key) (start i place : ℕ) (a : Key) → i < 4 → start + i ≡ place →
+    a ≡ get_or (take (start + 4 - start) (drop start nodes)) i a → a ≡ get_or nodes place a
+one_of_four nodes start i place a lt at read = read ∙ get_or-take (start + 4 - start) (drop start nodes) i a (omega arith)
+    ∙ get_or-drop start nodes i a ∙ ap (λ (k : ℕ). get_or nodes k a) at
 
 -- ---- down the tree
 -- a node's key is not after its child's

@@ -164,8 +164,10 @@ fn least_of_four(nodes: &[Packed], start: usize) -> Packed
     requires { start + 4 ≤ length nodes.now }
     ensures { IsLeastFrom nodes.now start 4 result }
 {
-    let left = nodes[start].earlier(nodes[start + 1]);
-    let right = nodes[start + 2].earlier(nodes[start + 3]);
+    // One question for the bounds of all four.
+    let four = &nodes[start..start + 4];
+    let left = four[0].earlier(four[1]);
+    let right = four[2].earlier(four[3]);
     left.earlier(right)
 }
 
