@@ -7,6 +7,7 @@ use Rattle.std.proofs.lemmas.List.{append-nil, append_assoc, length-append, leng
 use Rattle.std.proofs.lemmas.List.Elements.{Contains-append_left, Contains-append_right, Contains-append_cases}
 use Rattle.cell_grid.specs.Grid.{GridData}
 use Rattle.cell_lists.specs.declared.near.Block.{Block}
+use Rattle.cell_lists.specs.declared.gathered.TheConstants.{MOST_GATHERED}
 use Rattle.cell_lists.specs.Firsts.{IsFirstOf}
 use Rattle.cell_lists.specs.Nearby.{IsWithin}
 use Rattle.cell_lists.specs.Chain.{ChainsData, IsIn, InBucket, IsFirst}
@@ -29,6 +30,10 @@ the_one x y h = at h.0 h.1 h.2
     at : (k : ℕ) → k < 1 → get_or (x ∷ []) k y ≡ y → y ≡ x
     at zero lt e = sym e
     at (suc k) lt e = absurd (omega arith)
+
+-- as many of the gathered disks as are asked for
+pub all_taken : (count : ℕ) (disks : List ℕ) → count ≤ MOST_GATHERED → length disks ≡ MOST_GATHERED → length (take count disks) ≡ count
+all_taken count disks most long = length-take-le count disks (subst (λ (n : ℕ). count ≤ n) (sym long) most)
 
 -- ---- a bucket of one cell
 -- the disks of the bucket are those of the cell

@@ -9,8 +9,8 @@ pub const MOST_GATHERED: usize = 32;
 /// Some disks, at most [`MOST_GATHERED`], so few that they need no memory of their own.
 #[derive(Drop)]
 pub struct Gathered {
-    disks: [u32; MOST_GATHERED],
-    count: usize,
+    pub(crate) disks: [u32; MOST_GATHERED],
+    pub(crate) count: usize,
 }
 
 impl Model for Gathered {
@@ -24,7 +24,7 @@ impl Model for Gathered {
     ghost invariant = { λ g. g.count ≤ MOST_GATHERED };
 }
 
-ghost use Rattle.std.specs.Prelude.{◌≡◌, ◌↔◌, ◌<◌, [], length, IsTrue};
+ghost use Rattle.std.specs.Prelude.{◌≡◌, ◌<◌, ◌≤◌, [], take};
 ghost use Rattle.cell_lists.specs.declared.gathered.TheConstants.{MOST_GATHERED};
 ghost use Rattle.cell_lists.specs.Gathering.{with_offered};
 
@@ -47,20 +47,18 @@ impl Gathered {
     {
         &self.disks[..self.count]
     }
+}
 
-    // Adds a number at the end, where the slot has one. False where there is no room for a number,
-    // whatever the slot has. What it has can't be foretold, so it is written in any case, and counted
-    // where it is a number.
-    #[inline(always)]
-    pub(crate) fn offer(&mut self, slot: Slot) -> bool
-        ensures room { IsTrue result ↔ length self.old < MOST_GATHERED }
-        ensures offered { IsTrue result → self.new ≡ with_offered self.old slot }
-    {
-        if self.count == MOST_GATHERED {
-            return false;
-        }
-        self.disks[self.count] = slot.number();
-        self.count += slot.is_some() as usize;
-        true
-    }
+// Writes a number behind so many disks, where the slot has one, and answers how many there are then. What it
+// has can't be foretold, so it is written in any case, and counted where it is a number. The count goes in and
+// out by value, so that it needn't be read from memory again after each write beside it.
+#[inline(always)]
+pub(crate) fn offer(disks: &mut [u32; MOST_GATHERED], count: usize, slot: Slot) -> usize
+    requires { count < MOST_GATHERED }
+    ensures room { result ≤ MOST_GATHERED }
+    ensures more { count ≤ result }
+    ensures offered { take result disks.new ≡ with_offered (take count disks.old) slot }
+{
+    disks[count] = slot.number();
+    count + slot.is_some() as usize
 }

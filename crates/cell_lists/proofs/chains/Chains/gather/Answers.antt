@@ -1,21 +1,27 @@
 -- The least disks of the cells, and then all that are after one of these.
-use Rattle.std.proofs.Common.{List, length, drop, refl, sym, subst}
+use Rattle.std.proofs.Common.{List, take, drop, sym, subst}
 use Rattle.std.specs.Prelude.{ℕ}
 use Rattle.cell_lists.specs.Nearby.{IsWithin}
-use Rattle.cell_lists.specs.Gathering.{AreListed, AreFollowed}
-use Rattle.cell_lists.proofs.Walks.{starts_behind, gathered_in}
+use Rattle.cell_lists.specs.Gathering.{AreListed, AreFollowed, AreGatheredIn}
+use Rattle.cell_lists.proofs.Walks.{starts_behind, gathered_in, all_taken}
 use Rattle.cell_lists.proofs.chains.Chains.gather.Goals as goal
 
 pub gather_nexts-requires-clause-listed : goal.gather_nexts-requires-clause-listed
 gather_nexts-requires-clause-listed c =
-    subst (λ (xs : List ℕ). AreListed c.args.self.now.cells (drop (length xs) c.gather_heads.new.gathered)) (sym c.as_slice-first.ensures)
-    (starts_behind c.args.self.now.cells (IsWithin c.args.grid.now c.args.block) c.args.gathered.now c.gather_heads.new.gathered
-    (c.if-not-gather_heads.ensures refl))
+    let cells = c.args.self.now.cells in
+    let heads = take c.in-Some.heads c.gather_heads.new.disks in
+    subst (λ (n : ℕ). AreListed cells (drop n heads))
+    (all_taken c.gathered.inside.count c.gathered.inside.disks c.gathered.invariant c.gathered.told)
+    (starts_behind cells (IsWithin c.args.grid.now c.args.block) (take c.gathered.inside.count c.gathered.inside.disks) heads c.in-Some.ensures.added)
 
 pub returns : goal.returns
 returns c = λ yes.
     let cells = c.args.self.now.cells in
-    gathered_in cells c.args.grid.now c.args.block c.args.gathered.now c.gather_heads.new.gathered c.gather_nexts.new.gathered
-    (c.if-not-gather_heads.ensures refl)
-    (subst (λ (xs : List ℕ). AreFollowed cells (length xs) c.gather_heads.new.gathered c.gather_nexts.new.gathered) c.as_slice-first.ensures
-    (c.gather_nexts.ensures yes))
+    let old = take c.gathered.inside.count c.gathered.inside.disks in
+    let heads = take c.in-Some.heads c.gather_heads.new.disks in
+    let new = take c.in-Some-gather_nexts.count c.gather_nexts.new.disks in
+    subst (λ (xs : List ℕ). AreGatheredIn cells c.args.grid.now c.args.block xs new) c.gathered.view_is
+    (gathered_in cells c.args.grid.now c.args.block old heads new c.in-Some.ensures.added
+    (subst (λ (n : ℕ). AreFollowed cells n heads new)
+    (sym (all_taken c.gathered.inside.count c.gathered.inside.disks c.gathered.invariant c.gathered.told))
+    c.in-Some-gather_nexts.ensures.followed))
