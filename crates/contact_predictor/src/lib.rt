@@ -134,6 +134,7 @@ fn are_all_three(first: bool, second: bool, third: bool) -> bool
 /// before they touch. None says nothing: a guess wasn't confirmed, which is seldom.
 ///
 /// The separation and the distance are at most 2^30 units, the velocity at most 2^21 units per tick.
+#[inline(always)]
 pub fn quick_contact(r: Vector, u: Vector, distance: i64) -> Option<u64>
     requires separation { IsWithin (2 ^ 30) r }
     requires velocity { IsWithin (2 ^ 21) u }

@@ -15,7 +15,7 @@ use Rattle.contact_predictor.specs.Contact.{IsApproaching, IsCrossing, IsContact
 use Rattle.event_stamps.specs.declared.Stamp.{Stamp}
 use Rattle.event_stamps.specs.declared.Kind.TheVariants.{Pair}
 use Rattle.event_stamps.specs.Least.{IsOnly}
-use Rattle.event_rules.specs.Events.{IsContactTick, IsPairEvent, pair_stamp}
+use Rattle.event_rules.specs.Events.{NeverHit, IsContactTick, IsPairEvent, pair_stamp}
 use Rattle.event_rules.specs.Predict.{IsMeeting}
 
 -- ---- vectors
@@ -85,6 +85,13 @@ contact_tick_swapped rules a b tick h = record {
 
 -- ---- events
 -- disks that have no contact tick before the end have none in the other order
+-- disks that never meet hit each other in neither order
+pub never_hit : (rules : Rules) (a b : Disk) → ((tick : ℕ) → IsContactTick rules a b tick → ⊥) → NeverHit rules a b
+never_hit rules a b never i j s event = never s.tick event.0
+
+pub never_hit_turned : (rules : Rules) (a b : Disk) → ((tick : ℕ) → IsContactTick rules a b tick → ⊥) → NeverHit rules b a
+never_hit_turned rules a b never i j s event = never s.tick (contact_tick_swapped rules b a s.tick event.0)
+
 pub no_event_falling : (rules : Rules) (i j : ℕ) (a b : Disk) → ((tick : ℕ) → tick < rules.end → IsContactTick rules a b tick → ⊥) →
     (s : Stamp) → IsPairEvent rules j b i a s → ⊥
 no_event_falling rules i j a b never s event = never s.tick event.1 (contact_tick_swapped rules b a s.tick event.0)

@@ -6,7 +6,7 @@ ghost use Rattle.fixed_motion.specs.Rules.{IsChecked};
 ghost use Rattle.fixed_motion.specs.Motion.{IsValidDisk};
 ghost use Rattle.event_stamps.specs.declared.Stamp.{Stamp};
 ghost use Rattle.event_stamps.specs.Least.{IsOnly, IsLeastOf};
-ghost use Rattle.event_rules.specs.Events.{IsWallEvent, IsWallBelow, IsPairEvent, IsContactTick, IsPast, IsLastInside, wall_stamp};
+ghost use Rattle.event_rules.specs.Events.{IsWallEvent, IsWallBelow, IsPairEvent, NeverHit, IsContactTick, IsPast, IsLastInside, wall_stamp};
 ghost use Rattle.event_rules.specs.Predict.{IsUpTo, IsFirstPast, IsLastTogether, IsOnlyContactTick, IsMeeting, IsSeparation, AreNear, PathsCross, PathsMeetAfter};
 
 use contact_predictor::{contact_between, may_meet, quick_contact, stay};
@@ -109,6 +109,20 @@ pub fn event_between(rules: &Rules, i: u32, a: &Disk, j: u32, b: &Disk) -> Optio
     })
 }
 
+/// Whether the courses of two disks may bring them together. Where not, they never hit each other, whatever
+/// their numbers. Most pairs are told by this, by products alone.
+#[inline(always)]
+pub fn may_hit(rules: &Rules, a: &Disk, b: &Disk) -> bool
+    requires checked { IsChecked rules.now }
+    requires first_valid { IsValidDisk rules.now a.now }
+    requires second_valid { IsValidDisk rules.now b.now }
+    ensures never { result ≡ false → NeverHit rules.now a.now b.now }
+    ensures never_turned { result ≡ false → NeverHit rules.now b.now a.now }
+{
+    let s = separate(rules, a, b);
+    is_near(s.places) && are_on_course(rules, a, b, &s)
+}
+
 // Where one disk is from another at the later of their base ticks, how fast that changes, and how far
 // apart they are where they touch.
 #[derive(Clone, Copy)]
@@ -136,25 +150,24 @@ fn meeting_tick(rules: &Rules, a: &Disk, b: &Disk) -> Option<u64>
     if !are_on_course(rules, a, b, &s) {
         return None;
     }
-    crossing_tick(rules, *a, *b, s)
+    crossing_tick(rules, a, b, &s)
 }
 
-// Where the paths cross. Kept apart, and told all by value, so that the tests before it, which most pairs fail,
-// are short and keep their numbers in registers.
-#[inline(never)]
-fn crossing_tick(rules: &Rules, a: Disk, b: Disk, s: Separation) -> Option<u64>
+// Where the paths cross.
+#[inline(always)]
+fn crossing_tick(rules: &Rules, a: &Disk, b: &Disk, s: &Separation) -> Option<u64>
     requires checked { IsChecked rules.now }
-    requires first_valid { IsValidDisk rules.now a }
-    requires second_valid { IsValidDisk rules.now b }
-    requires separation { IsSeparation a b s }
-    requires near { AreNear s }
-    requires paths { PathsCross s }
-    ensures { MatchOption result ((tick : ℕ) → tick < rules.now.end → IsContactTick rules.now a b tick → ⊥)
-        (IsMeeting rules.now a b) }
+    requires first_valid { IsValidDisk rules.now a.now }
+    requires second_valid { IsValidDisk rules.now b.now }
+    requires separation { IsSeparation a.now b.now s.now }
+    requires near { AreNear s.now }
+    requires paths { PathsCross s.now }
+    ensures { MatchOption result ((tick : ℕ) → tick < rules.now.end → IsContactTick rules.now a.now b.now tick → ⊥)
+        (IsMeeting rules.now a.now b.now) }
 {
-    match quick_ticks(rules, &a, &b, &s) {
-        Some(ticks) => tick_inside(rules, &a, &b, &s, ticks),
-        None => searched_tick(rules, &a, &b, &s),
+    match quick_ticks(rules, a, b, s) {
+        Some(ticks) => tick_inside(rules, a, b, s, ticks),
+        None => searched_tick(rules, a, b, s),
     }
 }
 

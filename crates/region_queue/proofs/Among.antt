@@ -16,7 +16,7 @@ use Rattle.region_queue.specs.declared.parts.Parts.{Parts}
 use Rattle.region_queue.specs.Outside.{IsListedInParts}
 use Rattle.region_queue.specs.Finding.{IsReady, IsNativePair, IsNativeWith, IsNearby, AreAllWithin, IsBlockBeside, AreListed}
 use Rattle.region_queue.proofs.Again.{none_among}
-use Rattle.region_queue.proofs.Candidates.{listed_at, with_none, with_more, with_same}
+use Rattle.region_queue.proofs.Candidates.{listed_at, with_more, with_same}
 
 -- ---- one after the other
 pub one_more : (finder : Finder) (view : ViewData) (disk other : ℕ) (done : List ℕ) (a b : Option Stamp) →
@@ -29,6 +29,10 @@ one_more finder view disk other done a b ha hb =
     (λ i h. Contains-push_cases done other i h) ha
     (least_same (IsNativePair finder view disk other) (IsNativeWith finder view disk (λ i. other ≡ i)) b
     (λ s x. (other, refl, x)) (λ s x. subst (λ (i : ℕ). IsNativePair finder view disk i s) (sym x.1) x.2) hb)
+
+pub earlier_none : (a : Option Stamp) → earlier_of a None ≡ a
+earlier_none None = refl
+earlier_none (Some s) = refl
 
 -- ---- where they are
 -- a disk that is listed in a block beside a cell is in a cell adjacent to it, and in a column of the block

@@ -6,7 +6,7 @@ use Rattle.std.proofs.lemmas.Nat.{div-mul-add, mod-mul-add}
 use Rattle.fixed_motion.specs.declared.rules.Rules.{Rules}
 use Rattle.event_stamps.specs.declared.Stamp.{Stamp}
 use Rattle.event_stamps.specs.Least.{IsLeastOf, HasNone, IsOnly}
-use Rattle.event_rules.specs.Events.{IsPairEvent}
+use Rattle.event_rules.specs.Events.{IsPairEvent, NeverHit}
 use Rattle.cell_grid.specs.Grid.{GridData, IsCell, IsAdjacent, Owns, column_of, row_of}
 use Rattle.cell_lists.specs.declared.near.Block.{Block}
 use Rattle.cell_lists.specs.Listing.{IsListed}
@@ -15,8 +15,8 @@ use Rattle.region_view.specs.declared.action.Placed.{Placed}
 use Rattle.region_view.specs.Events.{IsNear}
 use Rattle.region_view.specs.Views.{ViewData, rows_in}
 use Rattle.region_queue.specs.declared.finder.Finder.{Finder}
-use Rattle.region_queue.specs.Finding.{IsNativePair, IsPlacedBeside, IsNearby, IsBlockBeside, AreListed}
-use Rattle.region_queue.proofs.Candidates.{native_is, pair_low, pair_high, adjacent_back, listed_at}
+use Rattle.region_queue.specs.Finding.{IsNativeOf, IsNativePair, IsPlacedBeside, IsNearby, IsBlockBeside, AreListed}
+use Rattle.region_queue.proofs.Candidates.{same_row, near_pair, native_is, pair_low, pair_high, adjacent_back, listed_at}
 
 -- ---- cells
 -- a cell of the block, by its row and column
@@ -93,3 +93,18 @@ pub pair_as_higher : (finder : Finder) (view : ViewData) (disk other : ℕ) (p q
 pair_as_higher finder view disk other p q home o lt here there is_home beside h =
     pair_high finder view disk other o lt (native_is finder view other disk q p o lt there here ((beside q there).1.0 is_home)
     (near_only finder.rules finder.grid other disk q p o (adjacent_back finder.grid p.cell q.cell (beside q there).0) h))
+
+-- of disks that never hit each other, in either order
+native_never : (finder : Finder) (view : ViewData) (low high : ℕ) (p q : Placed) → rows_in view low ≡ Some p → rows_in view high ≡ Some q →
+    NeverHit finder.rules p.disk q.disk → HasNone (IsNativeOf finder view low high)
+native_never finder view low high p q at_low at_high never s n =
+    let near = near_pair finder.rules finder.grid finder.region view s n.0 n.1.0 in
+    let a = same_row view s.first low near.1.0 p near.1.1 at_low n.1.1.0 in
+    let b = same_row view s.second high near.1.2.0 q near.1.2.1 at_high n.1.1.1 in
+    never s.first s.second s (subst (λ (x : Placed). IsPairEvent finder.rules s.first p.disk s.second x.disk s) b
+    (subst (λ (x : Placed). IsPairEvent finder.rules s.first x.disk s.second near.1.2.0.disk s) a near.1.2.3))
+
+pub pair_never : (finder : Finder) (view : ViewData) (disk other : ℕ) (p q : Placed) → rows_in view disk ≡ Some p → rows_in view other ≡ Some q →
+    NeverHit finder.rules p.disk q.disk → NeverHit finder.rules q.disk p.disk → HasNone (IsNativePair finder view disk other)
+pair_never finder view disk other p q here there never turned s (inl low) = native_never finder view disk other p q here there never s low
+pair_never finder view disk other p q here there never turned s (inr high) = native_never finder view other disk q p there here turned s high

@@ -16,7 +16,7 @@ ghost use Rattle.region_queue.specs.Finding.{IsReady, IsFound, IsAloneAt, IsNati
 use crate::parts::{Parts, parts_outside};
 use cell_grid::{Grid, Strip};
 use cell_lists::{Block, Gathered, Lists, block_around};
-use event_rules::event_between;
+use event_rules::{event_between, may_hit};
 use event_stamps::{Kind, Stamp};
 use event_tree::Packed;
 use fixed_motion::Rules;
@@ -236,12 +236,13 @@ impl Finder {
             IsLeastOf (IsNativeWith self.now view.now disk (λ i. Contains others.now i)) result }
     {
         let whole = self.owns_columns(block.left, block.right);
+        // A copy, whose numbers are known to stay the same from one pair to the next.
+        let row = *placed;
         let mut best = Packed::new(None);
         for other in others {
-            best = earlier_with(
-                best,
-                self.pair_beside(view, disk, placed, own, *other, whole),
-            );
+            if self.may_pair(view, disk, &row, *other) {
+                best = best.earlier(self.key_beside(view, disk, placed, own, *other, whole));
+            }
         }
         best
     }
@@ -313,17 +314,50 @@ impl Finder {
         let mut best = Packed::new(None);
         let mut next = self.lists.first_in(cell);
         while let Some(other) = next {
-            best = earlier_with(
-                best,
-                self.pair_beside(view, disk, placed, own, other, whole),
-            );
+            best = best.earlier(self.key_beside(view, disk, placed, own, other, whole));
             next = self.lists.next_in(other, cell);
         }
         best
     }
 
+    // Whether a disk may have a native event with another one, by their courses alone. Nearly all pairs that are
+    // looked at are told by this.
+    #[inline(always)]
+    fn may_pair(&self, view: &View, disk: u32, placed: &Placed, other: u32) -> bool
+        requires ready { IsReady self.now view.now }
+        requires placed { map.get view.now disk ≡ Some placed.now }
+        ensures { result ≡ false → HasNone (IsNativePair self.now view.now disk other) }
+    {
+        let _disk = disk;
+        match view.get(other) {
+            Some(near) => may_hit(&self.rules, &placed.disk, &near.disk),
+            None => false,
+        }
+    }
+
     // The native event of a disk with another in a cell adjacent to its own. Where `whole`, the region owns the
-    // column of this cell.
+    // column of this cell. Kept apart, and told of the other disk by its number alone, so that the loop over the
+    // disks beside one, few of which come here, keeps its numbers in registers.
+    #[inline(never)]
+    fn key_beside(
+        &self,
+        view: &View,
+        disk: u32,
+        placed: &Placed,
+        own: bool,
+        other: u32,
+        whole: bool,
+    ) -> Packed
+        requires ready { IsReady self.now view.now }
+        requires placed { map.get view.now disk ≡ Some placed.now }
+        requires own { IsTrue own ↔ Owns self.now.grid self.now.region placed.now.cell }
+        ensures { IsNearby self.now view.now placed.now.cell whole other →
+            IsLeastOf (IsNativePair self.now view.now disk other) result }
+    {
+        Packed::new(self.pair_beside(view, disk, placed, own, other, whole))
+    }
+
+    // The stamp of this event.
     #[inline(always)]
     fn pair_beside(
         &self,
@@ -359,18 +393,6 @@ fn have_rows(view: &View, disks: &[u32]) -> bool {
         all &= view.has(*disk);
     }
     all
-}
-
-// The earlier of a key and an event, where there is one.
-#[inline(always)]
-fn earlier_with(best: Packed, event: Option<Stamp>) -> Packed
-    requires { IfSome event IsInRange }
-    ensures { result ≡ earlier_of best event }
-{
-    match event {
-        Some(event) => best.earlier(Packed::new(Some(event))),
-        None => best,
-    }
 }
 
 // Whether the cell of the lower of two different disks is owned, by whether each one's is.

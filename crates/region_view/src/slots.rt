@@ -84,7 +84,7 @@ impl Slots {
     {
         match &self.form {
             Form::Compact(rows) => rows.get(number as usize)?.get(),
-            Form::Wide(rows) => wide_row(rows, number),
+            Form::Wide(rows) => *rows.get(number as usize)?,
         }
     }
 

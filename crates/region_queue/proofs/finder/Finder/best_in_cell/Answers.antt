@@ -39,10 +39,10 @@ loop-next-preserved c =
       c.in-Some.other + 1,
       c.next_in-next.ensures,
       λ listed. subst (λ (o : Option Stamp). IsLeastOf (IsNativeWith finder c.args.view.now c.args.disk (ListedBelow finder.lists c.args.cell (c.in-Some.other + 1))) o)
-          (sym c.earlier_with-best.ensures)
-          (walk_more finder c.args.view.now c.args.disk c.args.cell kept.0 c.in-Some.other c.loop-next.best c.pair_beside.result
+          (sym c.earlier-best.ensures)
+          (walk_more finder c.args.view.now c.args.disk c.args.cell kept.0 c.in-Some.other c.loop-next.best c.key_beside.result
           (subst (λ (o : Option ℕ). IsFirstIn finder.lists c.args.cell kept.0 o) c.in-Some.is kept.1) (kept.2 listed)
-          (c.pair_beside.ensures.least (nearby_in_cell finder c.args.view.now c.args.placed.now.cell c.args.cell c.in-Some.other c.owns-whole.result listed
+          (c.key_beside.ensures (nearby_in_cell finder c.args.view.now c.args.placed.now.cell c.args.cell c.in-Some.other c.owns-whole.result listed
           (subst (λ (o : Option ℕ). IsFirstIn finder.lists c.args.cell kept.0 o) c.in-Some.is kept.1).1 c.requires.beside
           c.owns-whole.ensures))),
     )
