@@ -1,6 +1,6 @@
 //! When disks hit each other and the sides of the box next.
 
-ghost use Rattle.std.specs.Prelude.{◌≡◌, ◌↔◌, ℕ, ◌+◌, ◌^◌, ◌<◌, ◌≤◌, pos, IsTrue, false, IsNone, IfSome, MatchOption};
+ghost use Rattle.std.specs.Prelude.{◌≡◌, ◌↔◌, ℕ, ◌+◌, ◌^◌, ◌<◌, ◌≤◌, pos, nat_abs, IsTrue, false, IsNone, IfSome, MatchOption};
 ghost use Rattle.plane_vectors.specs.Vectors.{IsWithin};
 ghost use Rattle.fixed_motion.specs.Rules.{IsChecked};
 ghost use Rattle.fixed_motion.specs.Motion.{IsValidDisk};
@@ -19,7 +19,7 @@ use std::cmp::{max, min};
 const SIDES: u32 = 4;
 
 // The greatest difference of two places in a box, in units of length on each axis.
-const MAX_DIFFERENCE: u64 = 1 << 30;
+const MAX_DIFFERENCE: i64 = 1 << 30;
 
 /// The stamp at which a disk next hits a side of the box if it keeps its course, before the last tick of
 /// the run.
@@ -75,6 +75,7 @@ fn wall_at(disk: u32, a: &Disk, side: u32, tick: u64) -> Stamp
 /// the run.
 ///
 /// `first` and `second` are the numbers of the disks. None where they don't hit each other.
+#[inline(always)]
 pub fn pair_event(rules: &Rules, first: u32, a: &Disk, second: u32, b: &Disk) -> Option<Stamp>
     requires checked { IsChecked rules.now }
     requires first_valid { IsValidDisk rules.now a.now }
@@ -167,7 +168,7 @@ fn crossing_tick(rules: &Rules, a: &Disk, b: &Disk, s: &Separation) -> Option<u6
 {
     match quick_ticks(rules, a, b, s) {
         Some(ticks) => tick_inside(rules, a, b, s, ticks),
-        None => searched_tick(rules, a, b, s),
+        None => searched_tick(rules, *a, *b, *s),
     }
 }
 
@@ -192,7 +193,14 @@ fn separate(rules: &Rules, a: &Disk, b: &Disk) -> Separation
 fn is_near(places: Vector) -> bool
     ensures { IsTrue result ↔ IsWithin (2 ^ 30) places }
 {
-    places.x.unsigned_abs() <= MAX_DIFFERENCE && places.y.unsigned_abs() <= MAX_DIFFERENCE
+    is_small(places.x) && is_small(places.y)
+}
+
+// By two comparisons, which are compiled into one.
+fn is_small(difference: i64) -> bool
+    ensures { IsTrue result ↔ (nat_abs difference ≤ 2 ^ 30) }
+{
+    -MAX_DIFFERENCE <= difference && difference <= MAX_DIFFERENCE
 }
 
 // Most pairs are told by this, by products alone.
@@ -212,6 +220,7 @@ fn are_on_course(rules: &Rules, a: &Disk, b: &Disk, s: &Separation) -> bool
 
 // After how many ticks the paths bring the disks into contact, whatever the end and the walls; seldom
 // none.
+#[inline(always)]
 fn quick_ticks(rules: &Rules, a: &Disk, b: &Disk, s: &Separation) -> Option<u64>
     requires checked { IsChecked rules.now }
     requires first_valid { IsValidDisk rules.now a.now }
@@ -249,18 +258,20 @@ fn tick_inside(rules: &Rules, a: &Disk, b: &Disk, s: &Separation, ticks: u64) ->
     }
 }
 
-// The contact tick of any two disks, by the last tick at which both are inside.
-fn searched_tick(rules: &Rules, a: &Disk, b: &Disk, s: &Separation) -> Option<u64>
+// The contact tick of any two disks, by the last tick at which both are inside. Seldom asked, so it is kept apart,
+// and told all by value, so that the callers keep their numbers in registers.
+#[inline(never)]
+fn searched_tick(rules: &Rules, a: Disk, b: Disk, s: Separation) -> Option<u64>
     requires checked { IsChecked rules.now }
-    requires first_valid { IsValidDisk rules.now a.now }
-    requires second_valid { IsValidDisk rules.now b.now }
-    requires separation { IsSeparation a.now b.now s.now }
-    requires near { AreNear s.now }
-    ensures { MatchOption result ((tick : ℕ) → tick < rules.now.end → IsContactTick rules.now a.now b.now tick → ⊥)
-        (IsMeeting rules.now a.now b.now) }
+    requires first_valid { IsValidDisk rules.now a }
+    requires second_valid { IsValidDisk rules.now b }
+    requires separation { IsSeparation a b s }
+    requires near { AreNear s }
+    ensures { MatchOption result ((tick : ℕ) → tick < rules.now.end → IsContactTick rules.now a b tick → ⊥)
+        (IsMeeting rules.now a b) }
 {
-    let last = last_together(rules, a, b)?;
-    contact_tick(rules, a, b, s, last)
+    let last = last_together(rules, &a, &b)?;
+    contact_tick(rules, &a, &b, &s, last)
 }
 
 // The last tick at which a disk that keeps its course is inside the box; none where it stands still.

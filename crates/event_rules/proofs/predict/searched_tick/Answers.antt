@@ -4,4 +4,4 @@ use Rattle.event_rules.proofs.predict.searched_tick.Goals as goal
 
 pub returns : goal.returns
 returns c =
-    meeting_together c.args.rules.now c.args.a.now c.args.b.now c.in_ok-last.last c.contact_tick.result c.in_ok-last.ensures c.contact_tick.ensures
+    meeting_together c.args.rules.now c.args.a c.args.b c.in_ok-last.last c.contact_tick.result c.in_ok-last.ensures c.contact_tick.ensures
