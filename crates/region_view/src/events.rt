@@ -31,11 +31,7 @@ pub fn first_alone(rules: &Rules, grid: &Grid, number: u32, row: &Placed) -> Opt
     match grid.crossing(rules, number, &row.disk, row.cell) {
         // The disk is inside the box then, so it hits no side before.
         Some(crossing) => Some(crossing),
-        None => {
-            // Of a copy, since this is seldom asked: so the row itself can stay in registers.
-            let disk = row.disk;
-            first_wall(rules, number, &disk)
-        }
+        None => first_wall(rules, number, &row.disk),
     }
 }
 
