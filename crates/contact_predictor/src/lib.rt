@@ -201,6 +201,7 @@ fn newton_step(square: u64, inverse: u64) -> u64 {
 }
 
 // Of disks whose paths cross, whose separation is at most 2^30 in each component now and then.
+#[inline(always)]
 fn is_contact_after(r: Vector, u: Vector, distance: i64, ticks: u64) -> bool
     requires separation { IsWithin (2 ^ 30) r }
     requires velocity { IsWithin (2 ^ 21) u }
