@@ -1,6 +1,6 @@
 -- The first messages of the regions, one after another.
-use Rattle.std.proofs.Common.{◌≡◌, ◌⊎◌, inl, inr, ℕ, zero, suc, ◌+◌, ◌<◌, ◌≤◌, Bool, List, [], ◌∷◌, length, Option, Some, None, refl, sym, ap, subst, ◌∙◌, arith}
-use Rattle.std.specs.Prelude.{slice_get, if◌then◌else◌}
+use Rattle.std.proofs.Common.{Bor, ◌≡◌, ◌⊎◌, inl, inr, ℕ, zero, suc, ◌+◌, ◌<◌, ◌≤◌, Bool, false, List, [], ◌∷◌, length, Option, Some, None, refl, sym, ap, subst, ◌∙◌, arith}
+use Rattle.std.specs.Prelude.{slice_get, is_some, option_copied, if◌then◌else◌}
 use Rattle.std.proofs.lemmas.Option.{none-some, same_Some}
 use Rattle.event_stamps.specs.declared.Stamp.{Stamp}
 use Rattle.event_stamps.specs.Order.{Before}
@@ -10,6 +10,10 @@ use Rattle.region_messages.specs.Trails.{is_before}
 use Rattle.region_core.specs.LocalRun.{Trails, trail_of}
 use Rattle.region_core.specs.Inbox.{InboxData, next_from, taken_from, nearer_of, IsLeastBelow, IsLeastHead, IsSharedBelow}
 use Rattle.region_messages.proofs.Order.{is_before_true, is_before_false}
+
+pub none_there : {T : Type 0} (o : Option (Bor T)) → is_some o ≡ false → option_copied o ≡ None
+none_there None is = refl
+none_there (Some m) is = cc
 
 pub none_below : (inbox : InboxData) → IsLeastBelow inbox 0 None
 none_below inbox q lt = absurd (omega arith)

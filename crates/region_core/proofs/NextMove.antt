@@ -4,7 +4,7 @@ use Rattle.std.specs.Prelude.{◌↔◌, slice_get}
 use Rattle.std.proofs.lemmas.Option.{none-some, same_Some}
 use Rattle.event_stamps.specs.declared.Stamp.{Stamp}
 use Rattle.event_stamps.specs.Order.{Before}
-use Rattle.event_stamps.specs.Least.{IsLeast, IsLeastOf}
+use Rattle.event_stamps.specs.Least.{IsLeast, IsLeastOf, earlier_of}
 use Rattle.event_stamps.proofs.Least.{one_least}
 use Rattle.region_view.specs.declared.action.Action.{Action}
 use Rattle.region_view.specs.declared.rows.Message.{Message}
@@ -108,6 +108,11 @@ unfolding IsOwn
 own_least h queue view o of least =
     subst (λ (x : Home). IsLeastOf (IsNative x.rules x.grid x.number (rows_in view)) o)
     (λ i. record { number = of.region i; rules = of.rules i; grid = of.grid i }) least
+
+-- where no message waits
+pub alone_is_earlier : (own : Option Stamp) → earlier_of own None ≡ own
+alone_is_earlier None = refl
+alone_is_earlier (Some s) = refl
 
 -- a native candidate has the due stamp exactly where the least of them does
 pub own_at : (h : Home) (a : At) (own due : Stamp) → IsLeast (IsOwn h a.view) own → IsDue h a due →

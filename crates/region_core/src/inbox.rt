@@ -24,7 +24,7 @@ impl Model for Inbox {
     ghost invariant = { λ a. HasSizes a.regions (record { heard = a.heard.items; taken = a.taken.items }) };
 }
 
-ghost use Rattle.std.specs.Prelude.{◌≡◌, ◌↔◌, ◌<◌, [], replicate, option_copied, slice_get, IfOk, IsSome, IsTrue};
+ghost use Rattle.std.specs.Prelude.{◌≡◌, ◌↔◌, ◌<◌, [], replicate, None, false, option_copied, slice_get, IfOk, IsSome, IsTrue};
 ghost use Rattle.region_core.specs.Inbox.{empty_inbox, taken_from, next_from, with_taken, nearer_of, IsLeastHead, HasStamp, IsSharedHead};
 
 use crate::MAX_ENTRIES;
@@ -67,6 +67,31 @@ impl Inbox {
     /// least region.
     #[inline(always)]
     pub(crate) fn least(&self) -> Option<(u32, Stamp)>
+        ensures { IsLeastHead self.now result }
+    {
+        if self.has_next() {
+            self.least_of_all()
+        } else {
+            None
+        }
+    }
+
+    // Whether there is a first message of any region. There mostly is none.
+    #[inline(always)]
+    fn has_next(&self) -> bool
+        ensures { result ≡ false → IsLeastHead self.now None }
+    {
+        for from in 0..self.regions {
+            if self.next(from).is_some() {
+                return true;
+            }
+        }
+        false
+    }
+
+    // The same as `least`, by a look at each region.
+    #[inline(never)]
+    fn least_of_all(&self) -> Option<(u32, Stamp)>
         ensures { IsLeastHead self.now result }
     {
         let mut least = None;

@@ -63,12 +63,17 @@ impl Live {
     }
 
     // The same, where the least of the first messages is known.
+    #[inline(always)]
     fn due_beside(&self, home: &Home, head: Option<(u32, Stamp)>) -> Option<Stamp>
         requires live { HasRun home.now self.now }
         requires head { IsLeastHead self.now.inbox head }
         ensures { IsLeastOf (IsOffered home.now (now_in self.now)) result }
     {
-        earlier(self.least_own(home), stamp_of(head))
+        let own = self.least_own(home);
+        match head {
+            Some(_) => earlier(own, stamp_of(head)),
+            None => own,
+        }
     }
 
     /// The stamp that is due, or the end stamp where nothing is.

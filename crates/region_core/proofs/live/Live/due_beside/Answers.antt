@@ -1,21 +1,30 @@
-use Rattle.std.proofs.Common.{Option, sym, subst}
+use Rattle.std.proofs.Common.{Option, None, sym, subst}
 use Rattle.event_stamps.specs.declared.Stamp.{Stamp}
 use Rattle.event_stamps.specs.Least.{IsLeastOf, earlier_of}
 use Rattle.region_core.specs.LocalRun.{IsOffered}
-use Rattle.region_core.specs.Inbox.{head_stamp}
+use Rattle.region_core.specs.Inbox.{head_stamp, IsLeastHead}
 use Rattle.region_core.specs.Live.{now_in}
 use Rattle.region_core.proofs.Heads.{due_of_both}
-use Rattle.region_core.proofs.NextMove.{least_waiting}
+use Rattle.region_core.proofs.NextMove.{least_waiting, alone_is_earlier}
 use Rattle.region_core.proofs.live.Live.due_beside.Goals as goal
 
-pub returns : goal.returns
-returns c =
+pub returns-in-Some : goal.returns-in-Some
+returns-in-Some c =
     let home = c.args.home.now in
     let live = c.args.self.now in
     subst (IsLeastOf (IsOffered home (now_in live))) (sym c.earlier.ensures)
     (subst (λ (o : Option Stamp). IsLeastOf (IsOffered home (now_in live))
-    (earlier_of c.least_own.result o))
+    (earlier_of c.least_own-own.result o))
     (sym c.stamp_of.ensures)
-    (due_of_both home (now_in live) c.least_own.result (head_stamp c.args.head)
-    c.least_own.ensures
+    (due_of_both home (now_in live) c.least_own-own.result (head_stamp c.args.head)
+    c.least_own-own.ensures
     (least_waiting home c.requires.live.0 live c.args.head c.requires.live.1 c.requires.head)))
+
+pub returns-in-None : goal.returns-in-None
+returns-in-None c =
+    let home = c.args.home.now in
+    let live = c.args.self.now in
+    subst (IsLeastOf (IsOffered home (now_in live))) (alone_is_earlier c.least_own-own.result)
+    (due_of_both home (now_in live) c.least_own-own.result None c.least_own-own.ensures
+    (least_waiting home c.requires.live.0 live None c.requires.live.1
+    (subst (IsLeastHead live.inbox) c.in-None.is c.requires.head)))
