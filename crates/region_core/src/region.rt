@@ -114,7 +114,7 @@ impl Region {
         match live.step(alloc, &self.home, self.floor) {
             Ok(step) => Ok(step),
             Err(error) => {
-                self.live = None;
+                let_go(&mut self.live);
                 Err(error)
             }
         }
@@ -233,6 +233,15 @@ impl Region {
             None => &[],
         }
     }
+}
+
+// Lets a run go. Kept apart, since all of its room is filled here, and a step seldom comes here.
+#[cold]
+#[inline(never)]
+fn let_go(live: &mut Option<Live>)
+    ensures { live.new ≡ None }
+{
+    *live = None;
 }
 
 fn native_at(log: &[Entry], i: usize) -> Option<Action>
