@@ -1,5 +1,5 @@
 -- The logs of regions as they are merged: what is left of each before a stamp, by its head.
-use Rattle.std.specs.Prelude.{◌≡◌, ℕ, ◌+◌, ◌<◌, ◌≤◌, List, [], ◌∷◌, Option, Some, None, IfSome, length, drop, get_or, slice_get, if◌then◌else◌}
+use Rattle.std.specs.Prelude.{◌≡◌, ℕ, ◌+◌, ◌<◌, ◌≤◌, List, [], ◌∷◌, Option, Some, None, IfSome, option_map, length, drop, get_or, slice_get, if◌then◌else◌}
 use Rattle.event_stamps.specs.declared.Stamp.{Stamp}
 use Rattle.event_stamps.specs.Order.{Before}
 use Rattle.region_view.specs.declared.action.Action.{Action}
@@ -61,6 +61,11 @@ IsLeastHead heads None = (k : ℕ) → head_at heads k ≡ None
 IsLeastHead heads (Some least) = (least.0 < length heads) × (head_at heads least.0 ≡ Some least.1)
     × ((k : ℕ) (head : Head) → head_at heads k ≡ Some head →
     ¬ Before head.stamp least.1.stamp)
+
+-- the head of a number, with this number
+abbrev pub head_with : Heads → Option ℕ → Option (ℕ × Head)
+head_with heads None = None
+head_with heads (Some k) = option_map (λ head. (k, head)) (head_at heads k)
 
 -- the lesser of two heads; of one stamp, the one that was there
 abbrev pub nearer_of : Option (ℕ × Head) → ℕ → Option Head → Option (ℕ × Head)

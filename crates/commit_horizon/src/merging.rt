@@ -1,10 +1,10 @@
 //! Merging what the regions did.
 
-ghost use Rattle.std.specs.Prelude.{◌≡◌, length, Some, slice_get, IfOk};
+ghost use Rattle.std.specs.Prelude.{◌≡◌, ◌<◌, length, Some, slice_get, IfOk, IfSome};
 ghost use Rattle.std.specs.Option.{IsSome};
 ghost use Rattle.region_core.specs.Keeping.{entries_of, native_in};
 ghost use Rattle.commit_horizon.specs.Horizon.{runs_of, AllStand, AllKept, IsBound};
-ghost use Rattle.commit_horizon.specs.Merging.{IsHeadAfter, head_before, AreHeads, IsLeastHead, nearer_of, Merges};
+ghost use Rattle.commit_horizon.specs.Merging.{IsHeadAfter, head_before, head_at, head_with, AreHeads, IsLeastHead, nearer_of, Merges};
 
 use cell_sequence::CellState;
 use event_stamps::Stamp;
@@ -108,25 +108,39 @@ fn head_before(horizon: Stamp, stamp: Stamp, place: usize) -> Option<Head>
 fn least(heads: &[Option<Head>]) -> Option<(usize, Head)>
     ensures { IsLeastHead heads.now result }
 {
+    // Its number alone is kept on the way, as whole heads would be copied for each one that is asked.
     let mut least = None;
-    for (k, head) in heads.iter().enumerate() {
-        least = nearer(least, k, *head);
+    for k in 0..heads.len() {
+        least = nearer(heads, least, k);
     }
-    least
+    head_with(heads, least)
 }
 
-fn nearer(least: Option<(usize, Head)>, k: usize, head: Option<Head>) -> Option<(usize, Head)>
-    ensures { result ≡ nearer_of least k head }
+// The head of a number, with this number.
+fn head_with(heads: &[Option<Head>], number: Option<usize>) -> Option<(usize, Head)>
+    requires { IfSome number (λ k. k < length heads.now) }
+    ensures { result ≡ head_with heads.now number }
 {
-    match (least, head) {
-        (least, None) => least,
-        (None, Some(head)) => Some((k, head)),
-        (Some(first), Some(head)) => {
-            if head.stamp < first.1.stamp {
-                Some((k, head))
-            } else {
-                Some(first)
-            }
-        }
+    let k = number?;
+    let head = heads[k]?;
+    Some((k, head))
+}
+
+// The number of the lesser of two heads; of one stamp, of the one that was there.
+fn nearer(heads: &[Option<Head>], least: Option<usize>, k: usize) -> Option<usize>
+    requires within { k < length heads.now }
+    requires least { IfSome least (λ first. first < length heads.now) }
+    ensures within { IfSome result (λ first. first < length heads.now) }
+    ensures value { head_with heads.now result ≡ nearer_of (head_with heads.now least) k (head_at heads.now k) }
+{
+    let Some(head) = &heads[k] else {
+        return least;
+    };
+    let Some(first) = least else {
+        return Some(k);
+    };
+    match &heads[first] {
+        Some(other) if !(head.stamp < other.stamp) => least,
+        _ => Some(k),
     }
 }
