@@ -57,9 +57,9 @@ impl<'a, G: Gate> Job<'a, G> {
         while left > 0 {
             let steps = left.min(SLICE);
             self.run_each(rt, steps)?;
-            if attendance.end_slice(self.has_news()) {
+            if attendance.end_slice(rt, self.has_news()) {
                 self.hear_each(rt)?;
-                attendance.arrive();
+                attendance.arrive(rt);
             }
             left -= steps;
         }
