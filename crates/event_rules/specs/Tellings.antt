@@ -34,8 +34,8 @@ RunCutShort after torn scene Listener old new = RunBegun after torn scene old ne
 RunCutShort after torn scene NoMemory old new = RunBegunWhole after scene old new
 
 -- a listener's count of refusals before and after: it rose where the listener refused a change, and else is what it was
-abbrev pub CountsRun : ℕ → ℕ → Result Outcome RunFault → Type 0
-CountsRun before after (Ok outcome) = after ≡ before
+abbrev pub CountsRun : {T : Type 0} → ℕ → ℕ → Result T RunFault → Type 0
+CountsRun before after (Ok value) = after ≡ before
 CountsRun before after (Err Listener) = (before ≤ after) × Rose before after
 CountsRun before after (Err NoMemory) = after ≡ before
 

@@ -1,5 +1,6 @@
 use Rattle.std.proofs.Common.{◌≡◌, ◌≤◌, ◌∙◌, ap, sym, subst, inl, Some, Err, arith, rules}
 use Rattle.report_ports.specs.Ports.{Rose}
+use Rattle.event_rules.specs.declared.outcome.Outcome.{Outcome}
 use Rattle.event_rules.specs.declared.outcome.RunFault.{RunFault}
 use Rattle.event_rules.specs.Tellings.{RunCutShort}
 use Rattle.event_rules.proofs.Fits.{outcomes_fit}
@@ -105,7 +106,7 @@ returns-in-Err-Listener-clause-counts g c = let K = g.K.Sink in
     let here = begun r.sink.ghost_name c.args.format c.args.scene.now before cut.0 cut.1 m n c.count-count.ensures.valid cut.2 first cut.3 in
     let loan = here.kept ∙ e.loan in
     let last : c.in-Err-Listener.sink-in-Err-run-1-own.given.0 ≡ c.run.new.listener.sink.now = search (rules, loan) in
-    let counts = subst (λ (f : RunFault). CountsRun (K.faults r.sink.now) (K.faults l.sink.now) (Err f)) c.in-Err-Listener.field-0-is c.in-Err-Listener.ensures.counts in
+    let counts = subst (λ (f : RunFault). CountsRun {T = Outcome} (K.faults r.sink.now) (K.faults l.sink.now) (Err f)) c.in-Err-Listener.field-0-is c.in-Err-Listener.ensures.counts in
     subst (λ v. (K.faults c.args.sink.now ≤ K.faults v) × Rose (K.faults c.args.sink.now) (K.faults v)) (sym last)
     (failed_since _ _ _ (ap K.faults e.sink) counts)
 
@@ -135,6 +136,6 @@ returns-clause-counts g c = let K = g.K.Sink in
     let here = begun r.sink.ghost_name c.args.format c.args.scene.now before cut.0 cut.1 m n c.count-count.ensures.valid cut.2 first (cut.3.0, inl cut.3.1) in
     let loan = here.kept ∙ e.loan in
     let last : c.in-Err-NoMemory.sink-in-Err-run-1-own.given.0 ≡ c.run.new.listener.sink.now = search (rules, loan) in
-    let counts = subst (λ (f : RunFault). CountsRun (K.faults r.sink.now) (K.faults l.sink.now) (Err f)) c.in-Err-NoMemory.field-0-is c.in-Err-NoMemory.ensures.counts in
+    let counts = subst (λ (f : RunFault). CountsRun {T = Outcome} (K.faults r.sink.now) (K.faults l.sink.now) (Err f)) c.in-Err-NoMemory.field-0-is c.in-Err-NoMemory.ensures.counts in
     let same : K.faults c.in-Err-NoMemory.sink-in-Err-run-1-own.given.0 ≡ K.faults c.args.sink.now = ap K.faults last ∙ counts ∙ ap K.faults e.sink in
     omega (arith, same)
