@@ -17,6 +17,10 @@ impl Source for EndlessComment {
 
     ghost left = { λ _. None };
 
+    ghost Lasting = { Unit {0} };
+
+    ghost lasting = { λ _. tt };
+
     ghost faults = { λ _. 0 };
 
     fn faults(&self) -> u64 {
