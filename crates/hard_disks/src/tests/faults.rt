@@ -1,9 +1,10 @@
 //! Calls of the source and the sink that fail.
 
-use super::helpers::{AMPLE_ROOM, MEETING, MEETING_REPORT, PLAIN, RUN, comes_to};
+use super::helpers::{AMPLE_ROOM, MEETING, MEETING_REPORT, PLAIN, RUN, expect, output_between};
 use crate::status::Status;
 use report_ports::{MemorySink, MemorySource};
 use std::alloc::{AllocError, Global};
+use std::process::Abort;
 use std::sync::Wait;
 use std::test::Fail;
 use std::thread::Threads;
@@ -13,34 +14,37 @@ const BYTES: u64 = 125;
 
 #[test]
 fn writes_nothing_where_a_take_fails(rt: HostRuntime) -> Result<(), Fail> {
-    for call in 0..=BYTES + 1 {
-        let (status, written) = if call <= BYTES {
-            (Status::ReadFault, "")
-        } else {
-            (Status::Done, MEETING_REPORT)
-        };
-        for words in [PLAIN, RUN] {
-            assert!(rt;
-                takes_all_but(&rt, rt.alloc(), words, call, status, written)?,
-                "take {call}"
-            );
+    for words in [PLAIN, RUN] {
+        for call in 0..=BYTES {
+            expect_taken(&rt, rt.alloc(), words, call, Status::ReadFault, "")?;
         }
+        expect_taken(
+            &rt,
+            rt.alloc(),
+            words,
+            BYTES + 1,
+            Status::Done,
+            MEETING_REPORT,
+        )?;
     }
     Ok(())
 }
 
-// Whether the run of the meeting, of which this take fails, writes so much and ends so.
-fn takes_all_but(
-    rt: &(impl Threads + Wait + Sync),
+// Stops a test where the run of the meeting, of which this take fails, comes to something else.
+fn expect_taken(
+    rt: &(impl Threads + Wait + Sync + Abort),
     alloc: Global,
     words: &[&str],
     call: u64,
     status: Status,
-    written: &str,
-) -> Result<bool, AllocError> {
+    want: &str,
+) -> Result<(), AllocError> {
+    let case = format!(in alloc; "{words:?}, take {call}")?;
     let source = MemorySource::in_steps(alloc, MEETING.as_bytes(), &[call], 1)?;
     let sink = MemorySink::new(alloc, &[], AMPLE_ROOM)?;
-    Ok(comes_to(rt, alloc, words, source, sink, status, written))
+    let found = output_between(rt, alloc, words, source, sink);
+    expect(rt, case.as_str(), &found, status, want);
+    Ok(())
 }
 
 // The first lines of a text.
@@ -74,28 +78,27 @@ const GIVES: &[GiveRow] = &[
 
 #[test]
 fn writes_the_lines_before_the_give_that_fails(rt: HostRuntime) -> Result<(), Fail> {
-    for row in GIVES {
-        for words in [PLAIN, RUN] {
-            assert!(rt;
-                gives_all_before(&rt, rt.alloc(), words, row)?,
-                "room {}",
-                row.1
-            );
+    for words in [PLAIN, RUN] {
+        for row in GIVES {
+            expect_given(&rt, rt.alloc(), words, row)?;
         }
     }
     Ok(())
 }
 
-fn gives_all_before(
-    rt: &(impl Threads + Wait + Sync),
+fn expect_given(
+    rt: &(impl Threads + Wait + Sync + Abort),
     alloc: Global,
     words: &[&str],
     &(failing, room, status, lines): &GiveRow,
-) -> Result<bool, AllocError> {
+) -> Result<(), AllocError> {
+    let case = format!(in alloc; "{words:?}, gives {failing:?}, room {room}")?;
+    let want = first_lines(alloc, MEETING_REPORT, lines)?;
     let source = MemorySource::new(alloc, MEETING.as_bytes(), &[])?;
     let sink = MemorySink::new(alloc, failing, room)?;
-    let written = first_lines(alloc, MEETING_REPORT, lines)?;
-    Ok(comes_to(rt, alloc, words, source, sink, status, written.as_str()))
+    let found = output_between(rt, alloc, words, source, sink);
+    expect(rt, case.as_str(), &found, status, want.as_str());
+    Ok(())
 }
 
 // The words, the text, the calls of the source and of the sink that fail, and the status.
@@ -121,17 +124,20 @@ const UNTOLD: &[UntoldRow] = &[
 #[test]
 fn writes_no_line_where_the_first_call_fails(rt: HostRuntime) -> Result<(), Fail> {
     for row in UNTOLD {
-        assert!(rt; is_untold(&rt, rt.alloc(), row)?, "{}", row.1);
+        expect_untold(&rt, rt.alloc(), row)?;
     }
     Ok(())
 }
 
-fn is_untold(
-    rt: &(impl Threads + Wait + Sync),
+fn expect_untold(
+    rt: &(impl Threads + Wait + Sync + Abort),
     alloc: Global,
     &(words, text, takes, gives, status): &UntoldRow,
-) -> Result<bool, AllocError> {
+) -> Result<(), AllocError> {
+    let case = format!(in alloc; "{words:?}, takes {takes:?}, gives {gives:?}: {text}")?;
     let source = MemorySource::new(alloc, text.as_bytes(), takes)?;
     let sink = MemorySink::new(alloc, gives, AMPLE_ROOM)?;
-    Ok(comes_to(rt, alloc, words, source, sink, status, ""))
+    let found = output_between(rt, alloc, words, source, sink);
+    expect(rt, case.as_str(), &found, status, "");
+    Ok(())
 }

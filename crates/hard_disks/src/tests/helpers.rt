@@ -1,16 +1,16 @@
 //! Words, scenes and calls that several tests share.
 
-ghost use Rattle.std.specs.Prelude.{◌<◌};
-
 use crate::status::Status;
 use crate::top::top;
-use fixed_motion::Scene;
 use region_core::{Gate, OpenGate};
 use report_ports::{MemorySink, MemorySource};
-use scene_reader::read_scene;
 use std::alloc::{AllocError, Global};
+use std::process::Abort;
 use std::sync::Wait;
 use std::thread::Threads;
+pub use test_scenes::{
+    FOUR_IN_A_ROW, FOUR_IN_A_ROW_REPORT, LONG, Numbers, PAIR, USUAL, generated, scene, scene_of,
+};
 
 pub const RUN: &[&str] = &["--mode", "run"];
 
@@ -46,56 +46,11 @@ pub const MEETING_REPORT: &str = "3 0 pair 0 1 -1 0 1 0\n\
     disk 0 11 10 -1 0\n\
     disk 1 19 10 1 0\n";
 
-pub const USUAL: &str = "width = 40\nheight = 20\ndiameter = 4\n";
-
-pub const LONG: &str = "width = 400\nheight = 20\ndiameter = 4\n";
-
-pub const PAIR: &str = "[10, 10, 1, 0], [20, 10, -1, 0]";
-
 /// Three disks, of which the middle one hands on the first one's velocity.
 pub const CRADLE: &str = "[10, 10, 2, 0], [15, 10, 0, 0], [20, 10, 0, 0]";
 
-pub const FOUR_IN_A_ROW: &str = "[80, 10, 8, 0], [120, 10, 0, 0], [240, 10, 0, 0], [340, 10, 0, 0]";
-
-/// What they do in a long box up to tick 40.
-pub const FOUR_IN_A_ROW_REPORT: &str = "4 0 pair 0 1 0 0 8 0\n\
-    18 0 pair 1 2 0 0 8 0\n\
-    30 0 pair 2 3 0 0 8 0\n\
-    37 0 wall 3 1 -8 0\n\
-    done 40\n\
-    walls 1\n\
-    pairs 3\n\
-    momentum -8 0\n\
-    energy 64 64\n\
-    disk 0 112 10 0 0\n\
-    disk 1 232 10 0 0\n\
-    disk 2 336 10 0 0\n\
-    disk 3 372 10 -8 0\n";
-
 /// More bytes than each report of a test has.
 pub const AMPLE_ROOM: usize = 65_536;
-
-/// The text of a scene with the speed limit 8.
-pub fn scene(
-    alloc: Global,
-    sizes: &str,
-    rounds: u32,
-    end: u32,
-    rows: &str,
-) -> Result<String, AllocError> {
-    format!(in alloc;
-        "{sizes}speed_limit = 8\nround_limit = {rounds}\nend = {end}\ndisks = [{rows}]\n"
-    )
-}
-
-/// The scene of a text; none where it is refused.
-pub fn scene_of(alloc: Global, text: &str) -> Result<Option<Scene>, AllocError> {
-    let mut source = MemorySource::new(alloc, text.as_bytes(), &[])?;
-    match read_scene(alloc, &mut source) {
-        Ok(scene) => Ok(Some(scene)),
-        Err(_) => Ok(None),
-    }
-}
 
 /// What the top call writes to memory, where no call fails, and its status.
 pub fn output(
@@ -160,68 +115,47 @@ pub fn answers(
     Ok(found == status && sink.bytes() == want.as_bytes())
 }
 
-/// A linear congruential generator, of which the high bits are good enough for test data.
-#[derive(Drop)]
-pub struct Numbers {
-    pub state: u64,
+/// Stops a test where a call ended with another status than this, or wrote another text.
+pub fn expect(
+    rt: &impl Abort,
+    case: &str,
+    found: &(MemorySink, Status),
+    status: Status,
+    want: &str,
+) {
+    let written = str::from_utf8(found.0.bytes()).unwrap_or("no text");
+    assert_eq!(rt; found.1, status, "{case}, which wrote {written}");
+    assert_eq!(rt; written, want, "{case}");
 }
 
-impl Numbers {
-    /// One of the `count` numbers from `least` on.
-    pub fn next(&mut self, least: i64, count: u64) -> i64
-        requires { 0 < count }
-    {
-        self.state = self
-            .state
-            .wrapping_mul(6_364_136_223_846_793_005)
-            .wrapping_add(1_442_695_040_888_963_407);
-        least.wrapping_add(((self.state >> 33) % count) as i64)
-    }
-}
-
-/// The text of a scene of up to five disks in a box of up to eight columns and five rows.
-pub fn generated(alloc: Global, numbers: &mut Numbers) -> Result<String, AllocError> {
-    let width = numbers.next(20, 60);
-    let height = numbers.next(8, 40);
-    let speed = numbers.next(2, 3);
-    let rounds = numbers.next(1, 3);
-    let end = numbers.next(0, 40);
-    let rows = generated_rows(alloc, numbers, width, height)?;
-    format!(in alloc;
-        "width = {width}\nheight = {height}\ndiameter = 4\nspeed_limit = {speed}\nround_limit = {rounds}\nend = {end}\ndisks = [{rows}]\n"
-    )
-}
-
-fn generated_rows(
+/// The same of the top call with a text in memory, where no call fails.
+pub fn expect_output(
+    rt: &(impl Threads + Wait + Sync + Abort),
     alloc: Global,
-    numbers: &mut Numbers,
-    width: i64,
-    height: i64,
-) -> Result<String, AllocError> {
-    let mut rows = String::new(alloc);
-    for _ in 0..5 {
-        let row = generated_row(alloc, numbers, width, height)?;
-        if numbers.next(0, 3) > 0 {
-            rows.push_str(row.as_str())?;
-        }
-    }
-    Ok(rows)
+    words: &[&str],
+    text: &str,
+    status: Status,
+    want: &str,
+) -> Result<(), AllocError> {
+    let case = format!(in alloc; "{words:?}: {text}")?;
+    let found = output(rt, alloc, words, text.as_bytes())?;
+    expect(rt, case.as_str(), &found, status, want);
+    Ok(())
 }
 
-fn generated_row(
+/// What stands before the limits of a scene, its round limit, its end and its disks, the status and the output.
+pub type OutputRow = (&'static str, u32, u32, &'static str, Status, &'static str);
+
+/// The same of each scene of a table.
+pub fn expect_outputs(
+    rt: &(impl Threads + Wait + Sync + Abort),
     alloc: Global,
-    numbers: &mut Numbers,
-    width: i64,
-    height: i64,
-) -> Result<String, AllocError> {
-    let (x, y) = (across(numbers, width), across(numbers, height));
-    let (vx, vy) = (numbers.next(-2, 5), numbers.next(-2, 5));
-    let size = numbers.next(1, 2).wrapping_mul(2);
-    format!(in alloc; "[{x}, {y}, {vx}, {vy}, {size}],")
-}
-
-// A coordinate at which a disk of the greatest size is inside.
-fn across(numbers: &mut Numbers, length: i64) -> i64 {
-    let part = numbers.next(0, 1024);
-    (part.wrapping_mul(length.wrapping_sub(3)) / 1024).wrapping_add(2)
+    words: &[&str],
+    rows: &[OutputRow],
+) -> Result<(), AllocError> {
+    for &(sizes, rounds, end, disks, status, want) in rows {
+        let text = scene(alloc, sizes, rounds, end, disks)?;
+        expect_output(rt, alloc, words, text.as_str(), status, want)?;
+    }
+    Ok(())
 }

@@ -1,6 +1,6 @@
 //! Large inputs for which there is memory.
 
-use super::helpers::{AMPLE_ROOM, COUNT, PLAIN, SUMMARY, answers, scene};
+use super::helpers::{AMPLE_ROOM, COUNT, PLAIN, SUMMARY, expect, expect_output, scene};
 use crate::status::Status;
 use crate::top::top;
 use region_core::OpenGate;
@@ -44,8 +44,14 @@ fn a_text_without_an_end_is_too_long(rt: HostRuntime) -> Result<(), Fail> {
         &mut sink,
         &OpenGate,
     );
-    assert_eq!(rt; status, Status::SceneRefused);
-    assert_eq!(rt; sink.bytes(), "refused 1 too long\n".as_bytes());
+    let want = "refused 1 too long\n";
+    expect(
+        &rt,
+        "an endless comment",
+        &(sink, status),
+        Status::SceneRefused,
+        want,
+    );
     Ok(())
 }
 
@@ -81,10 +87,7 @@ fn four_hundred_disks_have_room(rt: HostRuntime) -> Result<(), Fail> {
     let rows = many_rows(rt.alloc())?;
     let text = scene(rt.alloc(), SQUARE, 8, 2, rows.as_str())?;
     for &(words, want) in OUTPUTS {
-        assert!(rt;
-            answers(&rt, rt.alloc(), words, text.as_str(), Status::Done, want)?,
-            "{want}"
-        );
+        expect_output(&rt, rt.alloc(), words, text.as_str(), Status::Done, want)?;
     }
     Ok(())
 }

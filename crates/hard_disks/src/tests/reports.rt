@@ -1,14 +1,11 @@
 //! Runs with their reports.
 
 use super::helpers::{
-    CRADLE, FOUR_IN_A_ROW, FOUR_IN_A_ROW_REPORT, LONG, MEETING_REPORT, PAIR, PLAIN, RUN,
-    RUN_SUMMARY, SUMMARY, USUAL, answers, scene,
+    CRADLE, FOUR_IN_A_ROW, FOUR_IN_A_ROW_REPORT, LONG, MEETING_REPORT, OutputRow, PAIR, PLAIN, RUN,
+    RUN_SUMMARY, SUMMARY, USUAL, expect_outputs,
 };
 use crate::status::Status;
-use std::alloc::{AllocError, Global};
-use std::sync::Wait;
 use std::test::Fail;
-use std::thread::Threads;
 
 const NARROW: &str = "width = 4\nheight = 20\ndiameter = 4\n";
 
@@ -24,11 +21,8 @@ const EVERY_THIRD: &str = "width = 40\nheight = 20\ndiameter = 4\nevery = 3\n";
 
 const EVERY_FIFTH: &str = "width = 40\nheight = 20\ndiameter = 4\nevery = 5\n";
 
-// The box, the diameter and the ticks of state blocks, the round limit and the end of a scene, its
-// disks, and the status and the report of its run.
-type ReportRow = (&'static str, u32, u32, &'static str, Status, &'static str);
-
-const REPORTS: &[ReportRow] = &[
+// Scenes and the reports of their runs.
+const REPORTS: &[OutputRow] = &[
     (USUAL, 8, 5, PAIR, Status::Done, MEETING_REPORT),
     (
         USUAL,
@@ -277,58 +271,66 @@ const REPORTS: &[ReportRow] = &[
     ),
 ];
 
-// A report without its lines of events, states and disks.
-fn without_lists(alloc: Global, report: &str) -> Result<String, AllocError> {
-    let mut sums = String::new(alloc);
-    for line in report.lines() {
-        let listed = line.starts_with("disk ")
-            || line.starts_with("state ")
-            || line.as_bytes().first().is_some_and(|b| b.is_ascii_digit());
-        if !listed {
-            sums.push_str(line)?;
-            sums.push_str("\n")?;
-        }
-    }
-    Ok(sums)
-}
-
 #[test]
 fn writes_each_report(rt: HostRuntime) -> Result<(), Fail> {
-    for row in REPORTS {
-        for words in [PLAIN, RUN] {
-            assert!(rt; is_reported(&rt, rt.alloc(), words, row)?, "{}", row.3);
-        }
+    for words in [PLAIN, RUN] {
+        expect_outputs(&rt, rt.alloc(), words, REPORTS)?;
     }
     Ok(())
 }
 
-fn is_reported(
-    rt: &(impl Threads + Wait + Sync),
-    alloc: Global,
-    words: &[&str],
-    &(sizes, rounds, end, disks, status, want): &ReportRow,
-) -> Result<bool, AllocError> {
-    let text = scene(alloc, sizes, rounds, end, disks)?;
-    answers(rt, alloc, words, text.as_str(), status, want)
-}
+// Some of the same runs, without what a report lists.
+const SUMMARIES: &[OutputRow] = &[
+    (
+        LONG,
+        8,
+        40,
+        FOUR_IN_A_ROW,
+        Status::Done,
+        "done 40\n\
+        walls 1\n\
+        pairs 3\n\
+        momentum -8 0\n\
+        energy 64 64\n",
+    ),
+    (
+        EVERY_SECOND,
+        8,
+        5,
+        PAIR,
+        Status::Done,
+        "done 5\n\
+        walls 0\n\
+        pairs 1\n\
+        momentum 0 0\n\
+        energy 2 2\n",
+    ),
+    (
+        USUAL,
+        1,
+        4,
+        CRADLE,
+        Status::RoundLimit,
+        "limit rounds 0 1 pair 1 2\n\
+        walls 0\n\
+        pairs 1\n",
+    ),
+    (
+        EVERY_TICK,
+        8,
+        5,
+        "[12, 9, 8, 1], [32, 12, -8, 1]",
+        Status::SpeedLimit,
+        "limit speed 1 0 pair 0 1\n\
+        walls 0\n\
+        pairs 0\n",
+    ),
+];
 
 #[test]
 fn a_summary_lists_nothing(rt: HostRuntime) -> Result<(), Fail> {
-    for row in REPORTS {
-        for words in [SUMMARY, RUN_SUMMARY] {
-            assert!(rt; is_summed_up(&rt, rt.alloc(), words, row)?, "{}", row.3);
-        }
+    for words in [SUMMARY, RUN_SUMMARY] {
+        expect_outputs(&rt, rt.alloc(), words, SUMMARIES)?;
     }
     Ok(())
-}
-
-fn is_summed_up(
-    rt: &(impl Threads + Wait + Sync),
-    alloc: Global,
-    words: &[&str],
-    &(sizes, rounds, end, disks, status, report): &ReportRow,
-) -> Result<bool, AllocError> {
-    let text = scene(alloc, sizes, rounds, end, disks)?;
-    let want = without_lists(alloc, report)?;
-    answers(rt, alloc, words, text.as_str(), status, want.as_str())
 }

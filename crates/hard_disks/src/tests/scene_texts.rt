@@ -1,30 +1,27 @@
 //! Scenes that are written as they were read.
 
 use super::helpers::{
-    CHECK, COUNT, FOUR_IN_A_ROW, LONG, MEETING, PAIR, USUAL, answers, output, scene,
+    CHECK, COUNT, FOUR_IN_A_ROW, LONG, MEETING, OutputRow, PAIR, USUAL, expect_outputs, output,
+    scene,
 };
 use crate::status::Status;
 use std::alloc::{AllocError, Global};
+use std::process::Abort;
 use std::sync::Wait;
 use std::test::Fail;
 use std::thread::Threads;
 
 const LARGEST_EVERY: &str = "every = 1099511627776\nwidth = 40\nheight = 20\ndiameter = 4\n";
 
-// The words, what stands before the limits of a scene, its disks, and the output.
-type TextRow = (
-    &'static [&'static str],
-    &'static str,
-    &'static str,
-    &'static str,
-);
-
-const TEXTS: &[TextRow] = &[
-    (CHECK, USUAL, PAIR, MEETING),
+// Scenes and their canonical texts.
+const TEXTS: &[OutputRow] = &[
+    (USUAL, 8, 5, PAIR, Status::Done, MEETING),
     (
-        CHECK,
         USUAL,
+        8,
+        5,
         "",
+        Status::Done,
         "width = 40\n\
         height = 20\n\
         diameter = 4\n\
@@ -36,9 +33,11 @@ const TEXTS: &[TextRow] = &[
     ),
     // A size is written where it isn't the diameter.
     (
-        CHECK,
         LARGEST_EVERY,
+        8,
+        5,
         "[10, 10, 1, 0, 2], [20, 10, -1, 0, 4]",
+        Status::Done,
         "width = 40\n\
         height = 20\n\
         diameter = 4\n\
@@ -51,25 +50,19 @@ const TEXTS: &[TextRow] = &[
         [20, 10, -1, 0],\n\
         ]\n",
     ),
-    (COUNT, USUAL, PAIR, "scene 2\n"),
-    (COUNT, LARGEST_EVERY, "", "scene 0\n"),
+];
+
+// Scenes and the numbers of their disks.
+const COUNTS: &[OutputRow] = &[
+    (USUAL, 8, 5, PAIR, Status::Done, "scene 2\n"),
+    (LARGEST_EVERY, 8, 5, "", Status::Done, "scene 0\n"),
 ];
 
 #[test]
 fn writes_the_canonical_text_or_the_number_of_disks(rt: HostRuntime) -> Result<(), Fail> {
-    for row in TEXTS {
-        assert!(rt; is_written(&rt, rt.alloc(), row)?, "{}", row.3);
-    }
+    expect_outputs(&rt, rt.alloc(), CHECK, TEXTS)?;
+    expect_outputs(&rt, rt.alloc(), COUNT, COUNTS)?;
     Ok(())
-}
-
-fn is_written(
-    rt: &(impl Threads + Wait + Sync),
-    alloc: Global,
-    &(words, sizes, disks, want): &TextRow,
-) -> Result<bool, AllocError> {
-    let text = scene(alloc, sizes, 8, 5, disks)?;
-    answers(rt, alloc, words, text.as_str(), Status::Done, want)
 }
 
 // What stands before the limits of a scene, its end, and its disks.
@@ -85,18 +78,20 @@ const SCENES: &[SceneRow] = &[
 #[test]
 fn reads_a_canonical_text_back_as_the_same_scene(rt: HostRuntime) -> Result<(), Fail> {
     for row in SCENES {
-        assert!(rt; is_read_back(&rt, rt.alloc(), row)?, "{}", row.2);
+        expect_read_back(&rt, rt.alloc(), row)?;
     }
     Ok(())
 }
 
-fn is_read_back(
-    rt: &(impl Threads + Wait + Sync),
+fn expect_read_back(
+    rt: &(impl Threads + Wait + Sync + Abort),
     alloc: Global,
     &(sizes, end, disks): &SceneRow,
-) -> Result<bool, AllocError> {
+) -> Result<(), AllocError> {
     let text = scene(alloc, sizes, 8, end, disks)?;
     let (first, _) = output(rt, alloc, CHECK, text.as_bytes())?;
     let (second, status) = output(rt, alloc, CHECK, first.bytes())?;
-    Ok(status == Status::Done && first.bytes() == second.bytes())
+    assert_eq!(rt; status, Status::Done, "{text}");
+    assert_eq!(rt; second.bytes(), first.bytes(), "{text}");
+    Ok(())
 }

@@ -1,12 +1,14 @@
 //! Runs by workers, whose numbers and gates make no difference to what is written.
 
 use super::helpers::{
-    AMPLE_ROOM, FOUR_IN_A_ROW, FOUR_IN_A_ROW_REPORT, LONG, answers, output_through, scene,
+    AMPLE_ROOM, FOUR_IN_A_ROW, FOUR_IN_A_ROW_REPORT, LONG, expect, expect_output, output_through,
+    scene,
 };
 use crate::status::Status;
 use region_core::Gate;
 use report_ports::{MemorySink, MemorySource};
 use std::alloc::{AllocError, Global};
+use std::process::Abort;
 use std::sync::Wait;
 use std::sync::atomic::{AtomicBool, AtomicU64, Ordering};
 use std::test::Fail;
@@ -22,126 +24,79 @@ fn any_numbers_of_regions_and_workers_write_the_report(rt: HostRuntime) -> Resul
     let text = scene(rt.alloc(), LONG, 8, 40, FOUR_IN_A_ROW)?;
     for regions in REGIONS {
         for workers in WORKERS {
-            assert!(rt;
-                writes_the_row(&rt, rt.alloc(), text.as_str(), regions, workers)?,
-                "{regions} regions, {workers} workers"
-            );
+            let words = ["--regions", regions, "--workers", workers];
+            let want = FOUR_IN_A_ROW_REPORT;
+            expect_output(&rt, rt.alloc(), &words, text.as_str(), Status::Done, want)?;
         }
     }
     Ok(())
 }
 
-fn writes_the_row(
-    rt: &(impl Threads + Wait + Sync),
-    alloc: Global,
-    text: &str,
-    regions: &str,
-    workers: &str,
-) -> Result<bool, AllocError> {
-    let words = ["--regions", regions, "--workers", workers];
-    answers(rt, alloc, &words, text, Status::Done, FOUR_IN_A_ROW_REPORT)
-}
-
-// The words of two runs of a scene that is made, and the output of both. The outputs are those of a simulator
-// that was written apart from this one.
-type LoadRow = (
-    &'static [&'static str],
-    &'static [&'static str],
-    &'static str,
-);
-
-const LOADS: &[LoadRow] = &[
+// The number of disks of a scene that is made, and the sums of its run, which are those of a simulator that was
+// written apart from this one.
+const LOADS: &[(&str, &str)] = &[
     (
-        &[
-            "--mode",
-            "load",
-            "--number",
-            "7",
-            "--disks",
-            "36",
-            "--format",
-            "summary",
-            "--regions",
-            "4",
-            "--workers",
-            "4",
-        ],
-        &[
-            "--mode",
-            "load",
-            "--number",
-            "7",
-            "--disks",
-            "36",
-            "--format",
-            "summary",
-            "--regions",
-            "1",
-            "--workers",
-            "1",
-        ],
+        "36",
         "done 1000\nwalls 338\npairs 953\nmomentum 149 -254\nenergy 117185 115633\n",
     ),
     (
-        &[
-            "--mode",
-            "load",
-            "--number",
-            "7",
-            "--disks",
-            "1000",
-            "--format",
-            "summary",
-            "--regions",
-            "4",
-            "--workers",
-            "4",
-        ],
-        &[
-            "--mode",
-            "load",
-            "--number",
-            "7",
-            "--disks",
-            "1000",
-            "--format",
-            "summary",
-            "--regions",
-            "1",
-            "--workers",
-            "1",
-        ],
+        "1000",
         "done 1000\nwalls 1451\npairs 22220\nmomentum -332 -1236\nenergy 2680548 2690350\n",
     ),
 ];
 
 #[test]
 fn made_scenes_write_the_same_however_they_are_run(rt: HostRuntime) -> Result<(), Fail> {
-    for &(many, one, want) in LOADS {
-        assert!(rt;
-            answers(&rt, rt.alloc(), many, "", Status::Done, want)?,
-            "{want}"
-        );
-        assert!(rt;
-            answers(&rt, rt.alloc(), one, "", Status::Done, want)?,
-            "{want}"
-        );
+    for &(disks, want) in LOADS {
+        for number in ["4", "1"] {
+            expect_made(&rt, rt.alloc(), disks, number, want)?;
+        }
     }
     Ok(())
 }
 
-// Whether the four disks write their report with these words and through this gate.
-fn writes_the_row_through<G: Gate>(
-    rt: &(impl Threads + Wait + Sync),
+// Runs the made scene over so many regions by as many workers.
+fn expect_made(
+    rt: &(impl Threads + Wait + Sync + Abort),
+    alloc: Global,
+    disks: &str,
+    number: &str,
+    want: &str,
+) -> Result<(), AllocError> {
+    let words = [
+        "--mode=load",
+        "--number=7",
+        "--format=summary",
+        "--disks",
+        disks,
+        "--regions",
+        number,
+        "--workers",
+        number,
+    ];
+    expect_output(rt, alloc, &words, "", Status::Done, want)
+}
+
+// Stops a test where the four disks don't write their report with these words and through this gate.
+fn expect_report_through<G: Gate>(
+    rt: &(impl Threads + Wait + Sync + Abort),
     alloc: Global,
     words: &[&str],
     gate: &G,
-) -> Result<bool, AllocError> {
+) -> Result<(), AllocError> {
+    let case = format!(in alloc; "{words:?}")?;
     let text = scene(alloc, LONG, 8, 40, FOUR_IN_A_ROW)?;
     let source = MemorySource::new(alloc, text.as_bytes(), &[])?;
     let sink = MemorySink::new(alloc, &[], AMPLE_ROOM)?;
-    let (sink, status) = output_through(rt, alloc, words, source, sink, gate);
-    Ok(status == Status::Done && sink.bytes() == FOUR_IN_A_ROW_REPORT.as_bytes())
+    let found = output_through(rt, alloc, words, source, sink, gate);
+    expect(
+        rt,
+        case.as_str(),
+        &found,
+        Status::Done,
+        FOUR_IN_A_ROW_REPORT,
+    );
+    Ok(())
 }
 
 // Worker 0 waits before its first turn until worker 1 has come to one of its own, and notes whether it has.
@@ -182,8 +137,15 @@ fn two_workers_work_at_once(rt: HostRuntime) -> Result<(), Fail> {
         met: AtomicBool::new(false),
     };
     let words = ["--regions", "4", "--workers", "2"];
-    assert!(rt; writes_the_row_through(&rt, rt.alloc(), &words, &gate)?);
-    assert!(rt; gate.met.load(Ordering::SeqCst));
+    expect_report_through(&rt, rt.alloc(), &words, &gate)?;
+    let (came, met) = (
+        gate.came.load(Ordering::SeqCst),
+        gate.met.load(Ordering::SeqCst),
+    );
+    assert!(rt;
+        met,
+        "worker 0 waited for worker 1 in vain, which came later: {came}"
+    );
     Ok(())
 }
 
@@ -208,35 +170,23 @@ fn bursts_do_the_work(rt: HostRuntime) -> Result<(), Fail> {
     for &(steps, least, most) in BURSTS {
         let turns = turns_with(&rt, rt.alloc(), steps)?;
         assert!(rt;
-            turns.is_some_and(|turns| least <= turns && turns <= most),
-            "{turns:?}"
+            least <= turns && turns <= most,
+            "{turns} bursts of {steps} steps, and not {least} to {most}"
         );
     }
     Ok(())
 }
 
-// How many bursts of one turn with so many steps there are; none where the report is another.
+// How many bursts of one turn with so many steps there are.
 fn turns_with(
-    rt: &(impl Threads + Wait + Sync),
+    rt: &(impl Threads + Wait + Sync + Abort),
     alloc: Global,
     steps: &str,
-) -> Result<Option<u64>, AllocError> {
+) -> Result<u64, AllocError> {
     let gate = Counting {
         turns: AtomicU64::new(0),
     };
-    let words = [
-        "--regions",
-        "1",
-        "--workers",
-        "1",
-        "--turns",
-        "1",
-        "--steps",
-        steps,
-    ];
-    if writes_the_row_through(rt, alloc, &words, &gate)? {
-        Ok(Some(gate.turns.load(Ordering::SeqCst)))
-    } else {
-        Ok(None)
-    }
+    let words = ["--regions=1", "--workers=1", "--turns=1", "--steps", steps];
+    expect_report_through(rt, alloc, &words, &gate)?;
+    Ok(gate.turns.load(Ordering::SeqCst))
 }

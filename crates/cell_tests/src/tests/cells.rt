@@ -1,0 +1,350 @@
+//! Grids, lists of the disks in cells, and when disks leave their cells: tables worked out by hand, and a body that
+//! tries each tick.
+
+use cell_grid::Grid;
+use cell_lists::{Gathered, Lists, block_around};
+use event_stamps::Stamp;
+use fixed_motion::{Disk, Rules};
+use std::test::Fail;
+use test_scenes::Numbers;
+
+// A box of 20 columns of 20 units, and of one row.
+const LONG: Rules = Rules {
+    width: 400,
+    height: 20,
+    diameter: 4,
+    speed_limit: 8,
+    round_limit: 8,
+    end: 20,
+};
+
+// A box of 3 columns of 21 units and 2 rows of 22, with 2 and 1 units left over.
+const BLOCK: Rules = Rules {
+    width: 65,
+    height: 45,
+    diameter: 4,
+    speed_limit: 8,
+    round_limit: 8,
+    end: 40,
+};
+
+// A place, a velocity, a base tick and a mark.
+type Record = (i64, i64, i64, i64, u64, u32);
+
+fn disk_of((x, y, vx, vy, base, mark): Record) -> Disk {
+    Disk {
+        x,
+        y,
+        vx,
+        vy,
+        size: 4,
+        base,
+        mark,
+    }
+}
+
+// The stamp at which the disk 7 leaves a cell; an error where the rules, the disk or the cell are not valid.
+fn crossing_of(rules: &Rules, a: &Disk, cell: u32) -> Result<Option<Stamp>, ()> {
+    match rules.check() {
+        Ok(()) => {
+            let grid = Grid::new(rules, 4);
+            if !a.is_valid(rules) || cell >= grid.rows() * grid.columns() {
+                return Err(());
+            }
+            Ok(grid.crossing(rules, 7, a, cell))
+        }
+        Err(_) => Err(()),
+    }
+}
+
+// Rules, a record, a cell, and the tick and round of the crossing.
+type CrossingRow = (Rules, Record, u32, Option<(u64, u32)>);
+
+const CROSSINGS: &[CrossingRow] = &[
+    // x = 100 is in the next column, and the disk is there at tick 4
+    (LONG, (96, 10, 1, 0, 0, 0), 4, Some((4, 0))),
+    (LONG, (100, 10, 1, 0, 4, 0), 5, None),
+    // the same backwards: 99 is in column 4
+    (LONG, (104, 10, -1, 0, 0, 0), 5, Some((5, 0))),
+    // up and down in one row
+    (LONG, (190, 10, 0, 8, 0, 0), 9, None),
+    // due at the end, and one tick before it
+    (Rules { end: 4, ..LONG }, (96, 10, 1, 0, 0, 0), 4, None),
+    (
+        Rules { end: 5, ..LONG },
+        (96, 10, 1, 0, 0, 0),
+        4,
+        Some((4, 0)),
+    ),
+    // at rest, in the cell and in another one, of which it has left the recorded cell at once
+    (LONG, (100, 10, 0, 0, 3, 2), 5, None),
+    (LONG, (100, 10, 0, 0, 3, 2), 4, Some((3, 2))),
+    // into the recorded cell at tick 4, and out of it at tick 24
+    (
+        Rules { end: 40, ..LONG },
+        (96, 10, 1, 0, 0, 0),
+        5,
+        Some((24, 0)),
+    ),
+    // away from the recorded cell, and past it
+    (LONG, (96, 10, -1, 0, 2, 1), 5, Some((2, 1))),
+    // through the recorded cell, and out of it where it is out of the box too
+    (BLOCK, (18, 14, 1, 8, 1, 1), 4, None),
+    // past the row of the recorded cell before it comes to its column
+    (BLOCK, (12, 14, 1, 8, 1, 1), 4, Some((1, 1))),
+    // column and row at one tick
+    (BLOCK, (18, 18, 2, 2, 0, 0), 0, Some((2, 0))),
+    // the last column has what is left over, and ends at the wall: no crossing
+    (BLOCK, (41, 10, 1, 0, 0, 0), 2, None),
+    (BLOCK, (59, 10, -1, 0, 0, 0), 2, Some((18, 0))),
+    // the top row likewise
+    (BLOCK, (10, 21, 0, 1, 0, 0), 3, None),
+];
+
+#[test]
+fn disks_leave_their_cells(rt: HostRuntime) {
+    for (row, &(rules, record, cell, want)) in CROSSINGS.iter().enumerate() {
+        let found = crossing_of(&rules, &disk_of(record), cell);
+        assert_eq!(rt; found.map(event_of), Ok(want), "row {row}");
+    }
+}
+
+fn event_of(found: Option<Stamp>) -> Option<(u64, u32)> {
+    let stamp = found?;
+    Some((stamp.tick, stamp.round))
+}
+
+// Generated disks, in boxes of a few cells; each leaves its box, and so its cell, within so many ticks, or stands still.
+const DISKS: u32 = 2_000;
+
+const LEAST_CROSSINGS: u32 = 1_000;
+
+const TICKS: u64 = 80;
+
+#[test]
+fn finds_what_trying_each_tick_finds(rt: HostRuntime) {
+    let mut numbers = Numbers { state: 1 };
+    let mut crossings: u32 = 0;
+    for number in 0..DISKS {
+        let (rules, disk) = generated(&mut numbers);
+        for cell in 0..9 {
+            if let Ok(found) = crossing_of(&rules, &disk, cell) {
+                let want = crossing_by_trying(&rules, &disk, cell);
+                assert_eq!(rt; found.map(tick_of), want, "disk {number}, cell {cell}");
+                crossings = crossings.wrapping_add(u32::from(found.is_some()));
+            }
+        }
+    }
+    assert!(rt; crossings >= LEAST_CROSSINGS, "only {crossings} crossings");
+}
+
+fn tick_of(stamp: Stamp) -> u64 {
+    stamp.tick
+}
+
+// A box and a disk, which may not be in it.
+fn generated(numbers: &mut Numbers) -> (Rules, Disk) {
+    let rules = Rules {
+        width: numbers.next(8, 70),
+        height: numbers.next(8, 70),
+        end: numbers.next(0, 60).unsigned_abs(),
+        ..BLOCK
+    };
+    let (x, y) = (numbers.next(2, 70), numbers.next(2, 70));
+    let (vx, vy) = (numbers.next(-8, 17), numbers.next(-8, 17));
+    let base = numbers.next(0, 5).unsigned_abs();
+    (rules, disk_of((x, y, vx, vy, base, 0)))
+}
+
+// The numbers are small, so nothing wraps, and nothing has to be proved of it.
+fn crossing_by_trying(rules: &Rules, disk: &Disk, cell: u32) -> Option<u64> {
+    let mut left = 0;
+    for ticks in 0..TICKS {
+        if cell_after(rules, disk, ticks) == Some(i64::from(cell)) {
+            left = ticks.wrapping_add(1);
+        }
+    }
+    let tick = disk.base.wrapping_add(left);
+    if tick < rules.end && cell_after(rules, disk, left).is_some() && left < TICKS {
+        Some(tick)
+    } else {
+        None
+    }
+}
+
+// The cell of the disk, in boxes whose cells are at least 20 units wide and high; none outside.
+fn cell_after(rules: &Rules, disk: &Disk, ticks: u64) -> Option<i64> {
+    let x = disk
+        .x
+        .wrapping_add(disk.vx.wrapping_mul(ticks.cast_signed()));
+    let y = disk
+        .y
+        .wrapping_add(disk.vy.wrapping_mul(ticks.cast_signed()));
+    if x < 2 || y < 2 || x.wrapping_add(2) > rules.width || y.wrapping_add(2) > rules.height {
+        return None;
+    }
+    let columns = cells_along(rules.width);
+    let column = index_of(x, rules.width, columns);
+    let row = index_of(y, rules.height, cells_along(rules.height));
+    Some(row.wrapping_mul(columns).wrapping_add(column))
+}
+
+fn cells_along(length: i64) -> i64 {
+    if length < 40 {
+        1
+    } else if length < 60 {
+        2
+    } else if length < 80 {
+        3
+    } else {
+        4
+    }
+}
+
+// By adding sides up, where `crossing` divides.
+fn index_of(n: i64, length: i64, count: i64) -> i64 {
+    let mut side: i64 = 0;
+    for tried in 1..=length {
+        if tried.wrapping_mul(count) <= length {
+            side = tried;
+        }
+    }
+    let mut index = 0;
+    for next in 1..count {
+        if next.wrapping_mul(side) <= n {
+            index = next;
+        }
+    }
+    index
+}
+
+// The cells of a row of 20 columns, the region of 4 that owns each, and those that reach it.
+type StripRow = (u32, u32, &'static [u32]);
+
+const STRIPS: &[StripRow] = &[
+    (0, 0, &[0]),
+    (3, 0, &[0]),
+    (4, 0, &[0, 1]),
+    (5, 1, &[0, 1]),
+    (6, 1, &[1]),
+    (9, 1, &[1, 2]),
+    (10, 2, &[1, 2]),
+    (14, 2, &[2, 3]),
+    (15, 3, &[2, 3]),
+    (19, 3, &[3]),
+];
+
+// Regions by 4, 20 and 64 that are asked for, two of them, and whether these are linked.
+type LinkRow = (u32, u32, u32, bool);
+
+const LINKS: &[LinkRow] = &[
+    (4, 0, 1, true),
+    (4, 1, 0, true),
+    (4, 2, 3, true),
+    (4, 0, 2, false),
+    (4, 3, 1, false),
+    (4, 1, 1, false),
+    // of one column each: 0 reaches the columns 0 and 1, and 2 the columns 1 to 3
+    (20, 0, 2, true),
+    (20, 0, 3, false),
+    (64, 19, 17, true),
+    (64, 19, 16, false),
+];
+
+#[test]
+fn strips_own_and_reach_cells(rt: HostRuntime) {
+    for &(cell, owner, reached) in STRIPS {
+        for region in 0..4 {
+            let want = (owner, reached.contains(&region));
+            assert_eq!(rt;
+                strip_of(cell, region),
+                Ok(want),
+                "cell {cell}, region {region}"
+            );
+        }
+    }
+}
+
+// The owner of a cell, and whether the region reaches it; an error where the grid has no such cell or region.
+fn strip_of(cell: u32, region: u32) -> Result<(u32, bool), ()> {
+    match LONG.check() {
+        Ok(()) => {
+            let grid = Grid::new(&LONG, 4);
+            if cell < grid.columns() * grid.rows() && region < grid.regions() {
+                Ok((grid.owner(cell), grid.in_reach(region, cell)))
+            } else {
+                Err(())
+            }
+        }
+        Err(_) => Err(()),
+    }
+}
+
+#[test]
+fn links_regions_that_reach_a_cell_in_common(rt: HostRuntime) {
+    for &(asked, a, b, want) in LINKS {
+        assert_eq!(rt;
+            link_of(asked, a, b),
+            Ok(want),
+            "regions {a} and {b} by {asked}"
+        );
+    }
+}
+
+// Whether two regions are linked; an error where the grid can't have so many, or not these.
+fn link_of(asked: u32, a: u32, b: u32) -> Result<bool, ()> {
+    match LONG.check() {
+        Ok(()) => {
+            if asked < 1 || asked > 64 {
+                return Err(());
+            }
+            let grid = Grid::new(&LONG, asked);
+            if a < grid.regions() && b < grid.regions() {
+                Ok(grid.linked(a, b))
+            } else {
+                Err(())
+            }
+        }
+        Err(_) => Err(()),
+    }
+}
+
+// No clause says that anything is ever gathered.
+#[test]
+fn a_disk_is_listed_and_gathered_and_taken_off(rt: HostRuntime) -> Result<(), Fail> {
+    let grid = Grid::new(&BLOCK, 1);
+    let cell = grid.cell_of(30, 30);
+    let mut lists = Lists::new(rt.alloc(), &grid)?;
+    lists.put(rt.alloc(), 7, cell)?;
+    assert_eq!(rt; lists.first_in(cell), Some(7), "the first that is listed");
+    assert_eq!(rt; lists.next_in(7, cell), None, "the one after it");
+    let mut near = Gathered::new();
+    let done = lists.gather(block_around(&grid, cell), &mut near);
+    assert_eq!(rt;
+        (done, near.as_slice()),
+        (true, [7].as_slice()),
+        "what is gathered"
+    );
+    lists.take(7, cell);
+    assert_eq!(rt; lists.first_in(cell), None, "once it is taken off");
+    Ok(())
+}
+
+#[test]
+fn a_block_ends_at_the_sides(rt: HostRuntime) {
+    // a box of 10 columns and 5 rows of 10 units
+    let rules = Rules {
+        width: 100,
+        height: 50,
+        speed_limit: 3,
+        ..BLOCK
+    };
+    let grid = Grid::new(&rules, 1);
+    let block = block_around(&grid, grid.cell_of(15, 5));
+    let found = (block.left, block.right, block.low, block.high);
+    assert_eq!(rt;
+        found,
+        (0, 3, 0, 2),
+        "around the cell in column 1 and row 0"
+    );
+}

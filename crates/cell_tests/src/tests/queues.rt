@@ -1,0 +1,133 @@
+//! Queues of regions that take in one change of a cell run after the other, against queues opened anew.
+
+ghost use Rattle.std.specs.Prelude.{◌≡◌};
+ghost use Rattle.cell_grid.specs.Grid.{IsRegion};
+ghost use Rattle.region_queue.specs.Queue.{IsOf};
+
+use super::helpers::view_of;
+use cell_sequence::CellState;
+use event_stamps::{Kind, Stamp};
+use fixed_motion::Scene;
+use region_queue::Queue;
+use region_view::View;
+use std::alloc::{AllocError, Global};
+use std::test::Fail;
+use test_scenes::scene_of;
+
+// A box of 6 columns and 3 rows, and disks that are far apart and slow.
+const CROWD: &str = "width = 124\n\
+    height = 64\n\
+    diameter = 4\n\
+    speed_limit = 8\n\
+    round_limit = 8\n\
+    end = 300\n\
+    disks = [\
+    [12, 8, 2, 1], [12, 32, 2, -2], [32, 20, 1, -2], [32, 44, -2, -2], [52, 8, 2, 3], [52, 56, -1, 1], \
+    [72, 20, 1, -2], [72, 44, -1, 1], [92, 8, -2, 2], [92, 32, -1, 2], [112, 20, -3, 2], [112, 44, 1, -2]]\n";
+
+const REGIONS: u32 = 4;
+
+// More actions than the run has.
+const MOST_ACTIONS: u32 = 10_000;
+
+const LEAST_CALLS: u32 = 2_000;
+
+const LEAST_FOUND: u32 = 200;
+
+// What a queue that was kept finds, and what one opened anew finds.
+type Found = (Option<Stamp>, Option<Stamp>);
+
+// How often a queue took in a change, how often it then found an event, and what was last found where the two
+// differed.
+#[derive(Clone, Copy, Drop)]
+struct Tally {
+    calls: u32,
+    found: u32,
+    wrong: Option<Found>,
+}
+
+impl Tally {
+    fn add(&mut self, (kept, anew): Found) {
+        self.calls = self.calls.wrapping_add(1);
+        self.found = self.found.wrapping_add(u32::from(kept.is_some()));
+        if kept != anew {
+            self.wrong = Some((kept, anew));
+        }
+    }
+}
+
+// Runs the next event; none where the run is at its end.
+fn run_next(state: &mut CellState) -> Option<Stamp>
+    ensures rules { state.new.rules ≡ state.old.rules }
+    ensures grid { state.new.grid ≡ state.old.grid }
+{
+    let event = state.next()?;
+    match state.run_next() {
+        Ok(_) => Some(event),
+        Err(_) => None,
+    }
+}
+
+// What a queue finds once it took in what the event changed, and what a queue opened anew finds.
+fn compare(
+    alloc: Global,
+    state: &CellState,
+    queue: &mut Queue,
+    region: u32,
+    event: &Stamp,
+) -> Result<Found, AllocError>
+    requires region { IsRegion state.now.grid region }
+    requires queue { IsOf queue.old state.now.rules state.now.grid region }
+    ensures { IsOf queue.new state.now.rules state.now.grid region }
+{
+    let view = view_of(alloc, state, region)?;
+    let both = [event.first, event.second];
+    let changed = if event.kind == Kind::Pair { 2 } else { 1 };
+    queue.touched(alloc, &view, &both[..changed])?;
+    let anew = Queue::open(alloc, &view, state.grid(), state.rules(), region)?;
+    Ok((queue.least(), anew.least()))
+}
+
+// Compares the queue of a region after each action of the cell run.
+fn follow(alloc: Global, scene: &Scene, region: u32) -> Result<Tally, AllocError> {
+    let mut tally = Tally {
+        calls: 0,
+        found: 0,
+        wrong: None,
+    };
+    let mut state = CellState::open(alloc, scene, REGIONS)?;
+    if region >= state.grid().regions() {
+        return Ok(tally);
+    }
+    let view = view_of(alloc, &state, region)?;
+    let mut queue = Queue::open(alloc, &view, state.grid(), state.rules(), region)?;
+    for _ in 0..MOST_ACTIONS {
+        let Some(event) = run_next(&mut state) else {
+            break;
+        };
+        tally.add(compare(alloc, &state, &mut queue, region, &event)?);
+    }
+    Ok(tally)
+}
+
+#[test]
+fn queues_that_are_kept_find_what_queues_opened_anew_find(rt: HostRuntime) -> Result<(), Fail> {
+    let read = scene_of(rt.alloc(), CROWD)?;
+    assert!(rt; read.is_some(), "the scene is refused");
+    if let Some(scene) = read {
+        let (mut calls, mut found): (u32, u32) = (0, 0);
+        for region in 0..REGIONS {
+            let tally = follow(rt.alloc(), &scene, region)?;
+            assert_eq!(rt;
+                tally.wrong,
+                None,
+                "region {region}: what was found, kept and anew"
+            );
+            calls = calls.wrapping_add(tally.calls);
+            found = found.wrapping_add(tally.found);
+        }
+        assert!(rt; calls >= LEAST_CALLS, "only {calls} calls");
+        assert!(rt; found >= LEAST_FOUND, "only {found} events");
+    }
+    Ok(())
+}

@@ -1,0 +1,6 @@
+//! By hand, and drawn.
+
+mod commits;
+mod horizons;
+mod opened;
+mod strangers;

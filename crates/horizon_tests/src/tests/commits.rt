@@ -1,0 +1,149 @@
+//! Commits between steps and hearings that are drawn, against the cell run.
+
+ghost use Rattle.std.specs.Prelude.{◌<◌};
+ghost use Rattle.cell_grid.specs.Grid.{IsAsked};
+
+use super::opened::act;
+use cell_grid::MAX_REGIONS;
+use cell_sequence::CellState;
+use commit_horizon::{Batch, Committed};
+use fixed_motion::Scene;
+use region_core::Region;
+use region_view::Action;
+use std::alloc::{AllocError, Global};
+use std::test::Fail;
+use test_scenes::{Numbers, scene_of, wide};
+
+// From which number on a scene and its calls are drawn, and how many regions are asked for: the last are more than
+// the columns of a scene.
+const DRAWN: &[(u64, u32)] = &[(1, 1), (2, 2), (3, 4), (4, MAX_REGIONS), (7, MAX_REGIONS)];
+
+const COMMITS: u32 = 6;
+
+// How many calls are made before each commit.
+const CALLS: u32 = 300;
+
+// How many actions the commits of a scene make final at least.
+const LEAST_COMMITTED: usize = 20;
+
+// How many actions the commits of a scene made final that the cell run does next as well; and, if there is one, the
+// first that it doesn't, with what it does in its place.
+#[derive(Clone, Copy, Debug)]
+struct Commits {
+    same: usize,
+    other: Option<(Action, Option<Action>)>,
+}
+
+impl Commits {
+    // Goes on by a batch, unless something else was found before.
+    fn add(&mut self, sequence: &mut CellState, batch: &Batch) {
+        for action in batch.as_slice() {
+            if self.other.is_none() {
+                self.add_one(*action, next_of(sequence));
+            }
+        }
+    }
+
+    fn add_one(&mut self, action: Action, next: Option<Action>) {
+        if next == Some(action) {
+            self.same = self.same.wrapping_add(1);
+        } else {
+            self.other = Some((action, next));
+        }
+    }
+}
+
+// What a cell run does next, if anything; it has then done it.
+fn next_of(sequence: &mut CellState) -> Option<Action> {
+    sequence.next()?;
+    sequence.run_next().ok()
+}
+
+// The commits of the scene that is drawn from a number on; none where it is refused.
+fn commits_of(alloc: Global, seed: u64, asked: u32) -> Result<Option<Commits>, AllocError> {
+    let mut numbers = Numbers { state: seed };
+    let text = wide(alloc, &mut numbers)?;
+    match scene_of(alloc, text.as_str())? {
+        Some(scene) if (1..=MAX_REGIONS).contains(&asked) => {
+            Ok(Some(commits_in(alloc, &scene, asked, &mut numbers)?))
+        }
+        _ => Ok(None),
+    }
+}
+
+fn commits_in(
+    alloc: Global,
+    scene: &Scene,
+    asked: u32,
+    numbers: &mut Numbers,
+) -> Result<Commits, AllocError>
+    requires { IsAsked asked }
+{
+    let mut sequence = CellState::open(alloc, scene, asked)?;
+    let mut committed = Committed::open(alloc, scene, asked)?;
+    let mut regions = committed.open_all(alloc)?;
+    let mut commits = Commits {
+        same: 0,
+        other: None,
+    };
+    for _ in 0..COMMITS {
+        make_calls(alloc, &mut regions, numbers)?;
+        let (worked, batch) = commit(alloc, &mut committed, regions)?;
+        regions = worked;
+        commits.add(&mut sequence, &batch);
+    }
+    Ok(commits)
+}
+
+// Lets the regions step, and hear others near them, in an order of no meaning; two of three calls are steps.
+fn make_calls(
+    alloc: Global,
+    regions: &mut [Region],
+    numbers: &mut Numbers,
+) -> Result<(), AllocError> {
+    for _ in 0..CALLS {
+        let place = place_below(numbers, regions.len());
+        let from = place
+            .saturating_add(place_below(numbers, 5))
+            .saturating_sub(2);
+        let is_step = numbers.next(0, 3) > 0;
+        act(
+            alloc,
+            regions,
+            place,
+            if is_step { None } else { Some(from) },
+        )?;
+    }
+    Ok(())
+}
+
+// One of so many places; 0 where there is none.
+fn place_below(numbers: &mut Numbers, count: usize) -> usize {
+    let number = numbers.next(0, 1_024).unsigned_abs() as usize;
+    number.checked_rem(count).unwrap_or(0)
+}
+
+// The regions after a commit, and what it made final.
+fn commit(
+    alloc: Global,
+    committed: &mut Committed,
+    given: Vec<Region>,
+) -> Result<(Vec<Region>, Batch), AllocError> {
+    if given.len() != committed.state().grid().regions() as usize {
+        return Ok((given, Batch::new(alloc)));
+    }
+    let mut regions = committed.adopt_all(alloc, given)?;
+    let batch = committed.commit(alloc, regions.as_mut_slice())?;
+    Ok((regions, batch))
+}
+
+#[test]
+fn commits_are_what_the_cell_run_does(rt: HostRuntime) -> Result<(), Fail> {
+    for &(seed, asked) in DRAWN {
+        let commits = commits_of(rt.alloc(), seed, asked)?;
+        let are_right = commits.is_some_and(|commits| commits.same >= LEAST_COMMITTED
+            && commits.other.is_none());
+        assert!(rt; are_right, "{asked} regions from {seed} on: {commits:?}");
+    }
+    Ok(())
+}

@@ -1,0 +1,138 @@
+//! The commit horizon of a script that was worked out by hand.
+
+ghost use Rattle.commit_horizon.specs.Horizon.{AllStand};
+
+use super::opened::{act, committed_of};
+use commit_horizon::Committed;
+use event_stamps::{Kind, Stamp};
+use region_core::Region;
+use std::alloc::{AllocError, Global};
+use std::test::Fail;
+use test_scenes::ROLLED_BACK;
+
+// A tick, a round, a kind and two numbers.
+type Key = (u64, u32, Kind, u32, u32);
+
+// How often a region, by number, steps or hears another one.
+type Call = (u32, usize, Option<usize>);
+
+// Disk 1 hits ten sides in region 1, region 2 hears of it, and disk 0 comes into region 0's last column.
+const UNHEARD: &[Call] = &[(10, 1, None), (1, 2, Some(1)), (10, 2, None), (1, 0, None)];
+
+// Then region 1 hears of disk 0, and region 2 of what region 1 takes back.
+const HEARD: &[Call] = &[
+    (10, 1, None),
+    (1, 2, Some(1)),
+    (10, 2, None),
+    (1, 0, None),
+    (1, 1, Some(0)),
+    (1, 2, Some(1)),
+];
+
+const CROSSING: Key = (4, 0, Kind::Cross, 0, 0);
+
+const END: Key = (20, 0, Kind::Cross, 0, 0);
+
+// What bounds the horizon, the calls, and what each of the four regions then has due.
+type Row = (&'static str, &'static [Call], &'static [Key]);
+
+const ROWS: &[Row] = &[
+    ("news that weren't heard", UNHEARD, &[END, END, END, END]),
+    ("news that wait", HEARD, &[END, CROSSING, END, END]),
+];
+
+// What is committed: the horizon is at the crossing.
+const COMMITTED: &[Key] = &[(1, 0, Kind::Wall, 1, 3), (3, 0, Kind::Wall, 1, 2)];
+
+// What the regions have due, the horizon, and what a commit makes final then.
+#[derive(Debug, Drop)]
+struct Found {
+    due: Vec<Key>,
+    horizon: Key,
+    committed: Vec<Key>,
+}
+
+impl Found {
+    fn is(&self, due: &[Key]) -> bool {
+        self.due.as_slice() == due
+            && self.horizon == CROSSING
+            && self.committed.as_slice() == COMMITTED
+    }
+}
+
+// What is found after some calls; none where the scene is refused.
+fn found_after(alloc: Global, calls: &[Call]) -> Result<Option<Found>, AllocError> {
+    let Some(committed) = committed_of(alloc, ROLLED_BACK, 20, 4)? else {
+        return Ok(None);
+    };
+    let mut regions = committed.open_all(alloc)?;
+    make_calls(alloc, &mut regions, calls)?;
+    let regions = committed.adopt_all(alloc, regions)?;
+    Ok(Some(found_in(alloc, committed, regions)?))
+}
+
+fn make_calls(alloc: Global, regions: &mut [Region], calls: &[Call]) -> Result<(), AllocError> {
+    for &(times, place, from) in calls {
+        for _ in 0..times {
+            act(alloc, regions, place, from)?;
+        }
+    }
+    Ok(())
+}
+
+fn found_in(alloc: Global, committed: Committed, regions: Vec<Region>) -> Result<Found, AllocError>
+    requires { AllStand committed regions.items }
+{
+    let due = due_of(alloc, &regions)?;
+    let horizon = key_of(&committed.horizon(&regions));
+    let committed = committed_by(alloc, committed, regions)?;
+    Ok(Found {
+        due,
+        horizon,
+        committed,
+    })
+}
+
+fn due_of(alloc: Global, regions: &[Region]) -> Result<Vec<Key>, AllocError> {
+    let mut due = Vec::new(alloc);
+    for region in regions {
+        due.push(key_of(&region.due()))?;
+    }
+    Ok(due)
+}
+
+// The stamps of what a commit makes final.
+fn committed_by(
+    alloc: Global,
+    mut committed: Committed,
+    mut regions: Vec<Region>,
+) -> Result<Vec<Key>, AllocError>
+    requires { AllStand committed regions.items }
+{
+    let batch = committed.commit(alloc, regions.as_mut_slice())?;
+    let mut keys = Vec::new(alloc);
+    for action in batch.as_slice() {
+        keys.push(key_of(&action.stamp()))?;
+    }
+    Ok(keys)
+}
+
+fn key_of(stamp: &Stamp) -> Key {
+    (
+        stamp.tick,
+        stamp.round,
+        stamp.kind,
+        stamp.first,
+        stamp.second,
+    )
+}
+
+#[test]
+fn what_isnt_heard_or_waits_bounds_the_horizon(rt: HostRuntime) -> Result<(), Fail> {
+    for &(bound, calls, due) in ROWS {
+        let found = found_after(rt.alloc(), calls)?;
+        let is_right = found.as_ref().is_some_and(|found| found.is(due));
+        assert!(rt; is_right, "{bound}: {found:?}");
+    }
+    Ok(())
+}

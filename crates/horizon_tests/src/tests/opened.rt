@@ -1,0 +1,65 @@
+//! Committed states at the start, and calls on regions.
+
+ghost use Rattle.cell_grid.specs.Grid.{IsAsked};
+
+use commit_horizon::Committed;
+use region_core::Region;
+use std::alloc::{AllocError, Global};
+use test_scenes::{LONG, scene, scene_of};
+
+/// The committed state with which the run of some disks begins in a box of 20 columns.
+pub fn committed_of(
+    alloc: Global,
+    disks: &str,
+    end: u32,
+    regions: u32,
+) -> Result<Option<Committed>, AllocError>
+    requires { IsAsked regions }
+{
+    let text = scene(alloc, LONG, 8, end, disks)?;
+    match scene_of(alloc, text.as_str())? {
+        Some(scene) => Ok(Some(Committed::open(alloc, &scene, regions)?)),
+        None => Ok(None),
+    }
+}
+
+/// Lets the region at a place hear the one at another, or step where there is no other.
+pub fn act(
+    alloc: Global,
+    regions: &mut [Region],
+    place: usize,
+    from: Option<usize>,
+) -> Result<(), AllocError> {
+    match from {
+        None => step(alloc, regions.get_mut(place)),
+        Some(from) => hear(alloc, regions, place, from),
+    }
+}
+
+fn step(alloc: Global, region: Option<&mut Region>) -> Result<(), AllocError> {
+    if let Some(region) = region {
+        region.step(alloc)?;
+    }
+    Ok(())
+}
+
+fn hear(
+    alloc: Global,
+    regions: &mut [Region],
+    place: usize,
+    from: usize,
+) -> Result<(), AllocError> {
+    let Some(between) = regions.get_mut(place.min(from)..=place.max(from)) else {
+        return Ok(());
+    };
+    match between {
+        [hearer, .., sender] if place < from => hear_one(alloc, hearer, sender),
+        [sender, .., hearer] => hear_one(alloc, hearer, sender),
+        _ => Ok(()),
+    }
+}
+
+fn hear_one(alloc: Global, hearer: &mut Region, sender: &Region) -> Result<(), AllocError> {
+    hearer.hear(alloc, sender)?;
+    Ok(())
+}

@@ -1,0 +1,153 @@
+//! What is taken over of regions of other scenes.
+
+use super::opened::committed_of;
+use cell_grid::MAX_REGIONS;
+use commit_horizon::{Adopted, Committed};
+use event_stamps::{Kind, Stamp};
+use region_core::{Differs, Region};
+use std::alloc::{AllocError, Global};
+use std::test::Fail;
+
+// A disk that goes up and down in region 1 of four, near the border.
+const LEFT: &str = "[190, 10, 0, 8]";
+
+// The same in region 2.
+const RIGHT: &str = "[210, 10, 0, 8]";
+
+const FIRST_OF_ALL: Stamp = Stamp {
+    tick: 0,
+    round: 0,
+    kind: Kind::Cross,
+    first: 0,
+    second: 0,
+};
+
+// The disk hits the upper side.
+const TOP: Stamp = Stamp {
+    tick: 1,
+    round: 0,
+    kind: Kind::Wall,
+    first: 0,
+    second: 3,
+};
+
+// What was done to a region.
+#[derive(Clone, Copy)]
+enum Form {
+    Opened,
+    Spent,
+    // A commit raised its floor.
+    Raised,
+}
+
+// A region in the place of number 1 of the four of `LEFT`, up to tick 20: its disks, the end of its scene, how many
+// regions there are, its number, and what was done to it.
+type Given = (&'static str, u32, u32, u32, Form);
+
+// In what it doesn't stand there, if it doesn't: the first of several.
+const GIVEN: &[(&str, Given, Option<Differs>)] = &[
+    ("it stands", (LEFT, 20, 4, 1, Form::Opened), None),
+    (
+        "spent",
+        (RIGHT, 21, 5, 2, Form::Spent),
+        Some(Differs::Spent),
+    ),
+    (
+        "number",
+        (RIGHT, 21, 5, 2, Form::Raised),
+        Some(Differs::Number { kept: 1, given: 2 }),
+    ),
+    (
+        "rules",
+        (RIGHT, 21, 5, 1, Form::Raised),
+        Some(Differs::Rules),
+    ),
+    ("grid", (RIGHT, 20, 5, 1, Form::Raised), Some(Differs::Grid)),
+    (
+        "floor",
+        (RIGHT, 20, 4, 1, Form::Raised),
+        Some(Differs::Floor {
+            kept: FIRST_OF_ALL,
+            given: TOP,
+        }),
+    ),
+    (
+        "row",
+        (RIGHT, 20, 4, 1, Form::Opened),
+        Some(Differs::Row(0)),
+    ),
+];
+
+// The region that is given; none where there is no such one.
+fn given_region(
+    alloc: Global,
+    &(disks, end, asked, number, form): &Given,
+) -> Result<Option<Region>, AllocError> {
+    if !(1..=MAX_REGIONS).contains(&asked) {
+        return Ok(None);
+    }
+    let Some(committed) = committed_of(alloc, disks, end, asked)? else {
+        return Ok(None);
+    };
+    let regions = regions_of(alloc, committed, matches!(form, Form::Raised))?;
+    let region = regions.into_iter().nth(number as usize);
+    match form {
+        Form::Spent => Ok(region.map(|region| spent(&region))),
+        Form::Opened | Form::Raised => Ok(region),
+    }
+}
+
+// The regions of a committed state, after a commit where their floors are to be raised.
+fn regions_of(
+    alloc: Global,
+    mut committed: Committed,
+    are_raised: bool,
+) -> Result<Vec<Region>, AllocError> {
+    let mut regions = committed.open_all(alloc)?;
+    if are_raised {
+        committed.commit(alloc, regions.as_mut_slice())?;
+    }
+    Ok(regions)
+}
+
+// The same region, spent.
+fn spent(region: &Region) -> Region {
+    Region::spent(
+        region.number(),
+        region.rules(),
+        region.grid(),
+        region.floor(),
+    )
+}
+
+// What is found where a region is to be adopted; none where there is no region or no such place.
+fn adopted(alloc: Global, given: &Given) -> Result<Option<Option<Differs>>, AllocError> {
+    match given_region(alloc, given)? {
+        Some(region) => adopted_in_place(alloc, region),
+        None => Ok(None),
+    }
+}
+
+fn adopted_in_place(alloc: Global, region: Region) -> Result<Option<Option<Differs>>, AllocError> {
+    match committed_of(alloc, LEFT, 20, 4)? {
+        Some(committed) if committed.state().grid().regions() > 1 => {
+            Ok(Some(differs(committed.adopt(alloc, 1, region)?)))
+        }
+        _ => Ok(None),
+    }
+}
+
+fn differs(adopted: Adopted) -> Option<Differs> {
+    match adopted {
+        Adopted::Kept(_) => None,
+        Adopted::Made(_, differs) => Some(differs),
+    }
+}
+
+#[test]
+fn exactly_a_region_that_stands_is_adopted(rt: HostRuntime) -> Result<(), Fail> {
+    for (shows, given, differs) in GIVEN {
+        assert_eq!(rt; adopted(rt.alloc(), given)?, Some(*differs), "{shows}");
+    }
+    Ok(())
+}

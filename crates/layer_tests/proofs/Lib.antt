@@ -1,3 +1,0 @@
--- The lemmas of the tests.
-mod Views
-mod Raisable

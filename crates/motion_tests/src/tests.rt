@@ -1,0 +1,8 @@
+//! One module for each part.
+
+mod contacts;
+mod impulses;
+mod motion;
+mod ports;
+mod predictions;
+mod stamps;

@@ -1,0 +1,73 @@
+//! Where disks are, and which places overlap.
+
+use fixed_motion::{Disk, Rules, overlap};
+
+const RULES: Rules = Rules {
+    width: 40,
+    height: 20,
+    diameter: 4,
+    speed_limit: 8,
+    round_limit: 8,
+    end: 5,
+};
+
+// A size, a tick, and the place of a disk of that size then.
+type PlaceRow = (i64, u64, Option<(i64, i64)>);
+
+const PLACES: &[PlaceRow] = &[
+    (4, 1, None),
+    (4, 2, Some((10, 5))),
+    (4, 4, Some((16, 3))),
+    (4, 5, Some((19, 2))),
+    (4, 6, None),
+    (2, 6, Some((22, 1))),
+    (2, 7, None),
+];
+
+#[test]
+fn a_disk_has_a_place_from_its_base_to_the_side(rt: HostRuntime) {
+    for &(size, tick, want) in PLACES {
+        assert_eq!(rt;
+            place_of(size, tick),
+            Ok(want),
+            "of the size {size} at tick {tick}"
+        );
+    }
+}
+
+// The place of a disk of that size that was at (10, 5) at tick 2; an error where it or the tick is not valid.
+fn place_of(size: i64, tick: u64) -> Result<Option<(i64, i64)>, ()> {
+    let rules = RULES;
+    let disk = Disk {
+        x: 10,
+        y: 5,
+        vx: 3,
+        vy: -1,
+        size,
+        base: 2,
+        mark: 1,
+    };
+    if rules.check().is_ok() && disk.is_valid(&rules) && tick <= 9 {
+        Ok(disk.place(&rules, tick))
+    } else {
+        Err(())
+    }
+}
+
+#[test]
+fn places_overlap_below_the_distance(rt: HostRuntime) {
+    let middle = (20, 10);
+    let cases = [
+        (overlap(4, middle, (24, 10)), false),
+        (overlap(4, middle, (23, 10)), true),
+        (overlap(4, middle, (20, 6)), false),
+        (overlap(4, middle, (20, 7)), true),
+        (overlap(4, middle, (23, 13)), false),
+        (overlap(5, middle, (23, 13)), true),
+        (overlap(5, middle, (17, 14)), false),
+        (overlap(2, middle, (19, 9)), true),
+    ];
+    for (case, (got, want)) in cases.iter().enumerate() {
+        assert_eq!(rt; got, want, "case {case}");
+    }
+}

@@ -1,0 +1,201 @@
+//! When disks hit each other and the sides of the box next, and what comes of it.
+
+use event_rules::{Change, Limit, apply, pair_event, wall_event};
+use event_stamps::{Kind, Stamp};
+use fixed_motion::{Disk, Rules};
+
+const RULES: Rules = Rules {
+    width: 40,
+    height: 20,
+    diameter: 4,
+    speed_limit: 8,
+    round_limit: 8,
+    end: 5,
+};
+
+// A tick and a round, where there is an event.
+type Event = Option<(u64, u32)>;
+
+fn event_of(found: Option<Stamp>) -> Event {
+    let stamp = found?;
+    Some((stamp.tick, stamp.round))
+}
+
+// A place, a velocity, a base tick and a mark.
+type Record = (i64, i64, i64, i64, u64, u32);
+
+fn disk_of((x, y, vx, vy, base, mark): Record) -> Disk {
+    Disk {
+        x,
+        y,
+        vx,
+        vy,
+        size: 4,
+        base,
+        mark,
+    }
+}
+
+const LEFT: Record = (10, 10, 1, 0, 0, 0);
+
+const RIGHT: Record = (20, 10, -1, 0, 0, 0);
+
+const NEAR: Record = (14, 10, -1, 0, 0, 0);
+
+const TANGENT: Record = (20, 14, -1, 0, 0, 0);
+
+const FAST: Record = (10, 10, 8, 0, 0, 0);
+
+const PASSING: Record = (18, 13, -8, 0, 0, 0);
+
+const MARKED: Record = (10, 10, 1, 0, 2, 3);
+
+const MARKED_TOO: Record = (14, 10, -1, 0, 2, 1);
+
+const MARKED_BEFORE: Record = (15, 10, -1, 0, 1, 5);
+
+const MARKED_LATER: Record = (20, 10, -1, 0, 2, 4);
+
+const STILL: Record = (10, 10, 0, 0, 0, 0);
+
+// The end of the run, two disks, and the tick and round at which they hit each other.
+type PairRow = (u64, Record, Record, Event);
+
+const PAIRS: &[PairRow] = &[
+    (5, LEFT, RIGHT, Some((3, 0))),
+    (4, LEFT, RIGHT, Some((3, 0))),
+    (3, LEFT, RIGHT, None),
+    (0, LEFT, NEAR, None),
+    (1, LEFT, NEAR, Some((0, 0))),
+    (10, LEFT, TANGENT, None),
+    (1, FAST, PASSING, Some((0, 0))),
+    (5, MARKED, MARKED_TOO, Some((2, 3))),
+    (5, MARKED, MARKED_BEFORE, Some((2, 3))),
+    (9, MARKED, MARKED_LATER, Some((5, 0))),
+    (9, STILL, STILL, None),
+];
+
+#[test]
+fn finds_when_two_disks_meet(rt: HostRuntime) {
+    for (row, &(end, first, second, want)) in PAIRS.iter().enumerate() {
+        let found = meeting(end, &disk_of(first), &disk_of(second));
+        assert_eq!(rt; found, Ok(want), "row {row}");
+    }
+}
+
+// An error where the rules or the disks are not valid.
+fn meeting(end: u64, a: &Disk, b: &Disk) -> Result<Event, ()> {
+    let rules = Rules { end, ..RULES };
+    if rules.check().is_ok() && a.is_valid(&rules) && b.is_valid(&rules) {
+        Ok(event_of(pair_event(&rules, 1, a, 2, b)))
+    } else {
+        Err(())
+    }
+}
+
+// The end of the run, a disk, a side (left, right, bottom, top) and when the disk hits it.
+type WallRow = (u64, Record, u32, Event);
+
+const CORNERED: Record = (3, 3, -2, -2, 0, 0);
+
+const BESIDE: Record = (3, 10, -2, 0, 2, 3);
+
+const COMING: Record = (5, 10, -2, 0, 2, 3);
+
+const RISING: Record = (10, 10, 0, 8, 0, 0);
+
+const LEAVING: Record = (10, 10, 7, 0, 0, 0);
+
+const WALLS: &[WallRow] = &[
+    (3, CORNERED, 0, Some((0, 0))),
+    (3, CORNERED, 1, None),
+    (3, CORNERED, 2, Some((0, 0))),
+    (3, CORNERED, 3, None),
+    (0, CORNERED, 0, None),
+    (0, CORNERED, 2, None),
+    (5, BESIDE, 0, Some((2, 3))),
+    (5, BESIDE, 1, None),
+    (5, BESIDE, 2, None),
+    (5, BESIDE, 3, None),
+    (5, COMING, 0, Some((3, 0))),
+    (3, COMING, 0, None),
+    (5, RISING, 3, Some((1, 0))),
+    (5, LEAVING, 1, Some((4, 0))),
+    (9, STILL, 0, None),
+    (9, STILL, 3, None),
+];
+
+#[test]
+fn finds_when_a_disk_hits_each_side(rt: HostRuntime) {
+    for (row, &(end, record, side, want)) in WALLS.iter().enumerate() {
+        assert_eq!(rt;
+            hit(end, &disk_of(record), side),
+            Ok(want),
+            "row {row}, side {side}"
+        );
+    }
+}
+
+// An error where the rules, the disk or the side are not valid.
+fn hit(end: u64, a: &Disk, side: u32) -> Result<Event, ()> {
+    let rules = Rules { end, ..RULES };
+    if rules.check().is_ok() && a.is_valid(&rules) && side < 4 {
+        Ok(event_of(wall_event(&rules, 1, a, side)))
+    } else {
+        Err(())
+    }
+}
+
+// In tick 0, after an event of round 0 that one of the disks took part in.
+const LATE: Stamp = Stamp {
+    tick: 0,
+    round: 1,
+    kind: Kind::Pair,
+    first: 0,
+    second: 1,
+};
+
+// A round limit, and the records of FAST, which was in an event of its base tick, and of PASSING after they hit
+// each other.
+type CollisionRow = (u32, Result<(Record, Record), Limit>);
+
+const FAST_AGAIN: Record = (10, 10, 8, 0, 0, 1);
+
+const COLLISIONS: &[CollisionRow] = &[
+    (2, Ok(((10, 10, -6, -5, 0, 2), (18, 13, 6, 5, 0, 2)))),
+    (1, Err(Limit::Rounds(LATE))),
+];
+
+#[test]
+fn changes_velocities_or_meets_a_limit(rt: HostRuntime) {
+    for &(round_limit, want) in COLLISIONS {
+        let found = collision(round_limit, &disk_of(FAST_AGAIN), &disk_of(PASSING));
+        assert_eq!(rt;
+            found,
+            Some(want.map(change_to)),
+            "with {round_limit} rounds"
+        );
+    }
+}
+
+fn change_to((first, second): (Record, Record)) -> Change {
+    Change {
+        stamp: LATE,
+        first: disk_of(first),
+        second: Some(disk_of(second)),
+    }
+}
+
+// What the disks 0 and 1 come to; none where the rules or the disks are not valid, or don't meet.
+fn collision(round_limit: u32, a: &Disk, b: &Disk) -> Option<Result<Change, Limit>> {
+    let rules = Rules {
+        round_limit,
+        ..RULES
+    };
+    if rules.check().is_ok() && a.is_valid(&rules) && b.is_valid(&rules) {
+        let stamp = pair_event(&rules, 0, a, 1, b)?;
+        Some(apply(&rules, &stamp, a, Some(b)))
+    } else {
+        None
+    }
+}

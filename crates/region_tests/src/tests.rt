@@ -1,0 +1,5 @@
+//! The scripts, and what plays them.
+
+mod news;
+mod regions;
+mod scripts;

@@ -1,0 +1,253 @@
+//! Scripts: what is asked of a few regions, call by call, and what each call has to answer.
+
+use cell_sequence::CellState;
+use event_rules::Limit;
+use event_stamps::{Kind, Stamp};
+use region_core::{Hearing, Region, Step};
+use std::alloc::{AllocError, Global};
+use test_scenes::{LONG, scene, scene_of};
+
+/// A tick, a round, a kind and two numbers: a stamp, in the room of a row.
+pub type Key = (u64, u32, Kind, u32, u32);
+
+/// A disk hits the upper side of the box.
+pub const UP: u32 = 3;
+
+/// A disk hits the lower side of the box.
+pub const DOWN: u32 = 2;
+
+/// One of the four regions of a box of 20 columns: the disks, the end, its number, and whether it is spent.
+pub type Member = (&'static str, u32, u32, bool);
+
+/// What is asked of a region. Other regions are named by their places among the members.
+#[derive(Clone, Copy)]
+pub enum Call {
+    /// A step.
+    Steps,
+    /// So many steps.
+    Runs(u32),
+    /// To hear another.
+    Hears(usize),
+    /// To hear what is new of another.
+    CatchesUp(usize),
+    /// To take back what it did from a stamp on.
+    Rewinds(Key),
+    /// Whether it has news for a region, by number.
+    HasNews(u32),
+}
+
+/// What a region answers, or how many entries its log has after a call that answers nothing.
+#[derive(Clone, Copy, Debug, PartialEq, Eq)]
+pub enum Answer {
+    Ran(Key),
+    Heard(Key),
+    PassedSpeed(Key),
+    Past(Key, Key),
+    Tied(Key),
+    Held,
+    Spent,
+    Rewound(Key),
+    Later(Key),
+    Same,
+    Apart,
+    Entries(usize),
+    News(bool),
+    Other,
+}
+
+/// The place of a region, what is asked of it, and what it has to answer.
+pub type Row = (usize, Call, Answer);
+
+/// What a script shows, its regions, and its rows.
+pub type Script = (&'static str, &'static [Member], &'static [Row]);
+
+/// Where a script goes wrong: what it shows, the number of the row, from 0 on, and what was answered.
+pub type Wrong = (&'static str, usize, Answer);
+
+/// The first row of some scripts that is answered otherwise.
+pub fn first_wrong(alloc: Global, scripts: &[Script]) -> Result<Option<Wrong>, AllocError> {
+    for &(shows, members, rows) in scripts {
+        if let Some((row, answer)) = first_wrong_row(alloc, members, rows)? {
+            return Ok(Some((shows, row, answer)));
+        }
+    }
+    Ok(None)
+}
+
+fn first_wrong_row(
+    alloc: Global,
+    members: &[Member],
+    rows: &[Row],
+) -> Result<Option<(usize, Answer)>, AllocError> {
+    let mut regions = opened(alloc, members)?;
+    for (i, &(place, call, expected)) in rows.iter().enumerate() {
+        let answer = answer_to(alloc, &mut regions, place, call)?;
+        if answer != expected {
+            return Ok(Some((i, answer)));
+        }
+    }
+    Ok(None)
+}
+
+// The regions that there are of the members.
+fn opened(alloc: Global, members: &[Member]) -> Result<Vec<Region>, AllocError> {
+    let mut regions = Vec::new(alloc);
+    for member in members {
+        if let Some(region) = region_of(alloc, member)? {
+            regions.push(region)?;
+        }
+    }
+    Ok(regions)
+}
+
+fn region_of(
+    alloc: Global,
+    &(disks, end, number, is_spent): &Member,
+) -> Result<Option<Region>, AllocError> {
+    match state_of(alloc, disks, end)? {
+        Some(state) if number < state.grid().regions() => {
+            let region = Region::open(alloc, &state, number)?;
+            Ok(Some(if is_spent { spent(&region) } else { region }))
+        }
+        _ => Ok(None),
+    }
+}
+
+// The state with which the run of some disks begins.
+fn state_of(alloc: Global, disks: &str, end: u32) -> Result<Option<CellState>, AllocError> {
+    let text = scene(alloc, LONG, 8, end, disks)?;
+    match scene_of(alloc, text.as_str())? {
+        Some(scene) => Ok(Some(CellState::open(alloc, &scene, 4)?)),
+        None => Ok(None),
+    }
+}
+
+// The same region, spent.
+fn spent(region: &Region) -> Region {
+    Region::spent(
+        region.number(),
+        region.rules(),
+        region.grid(),
+        region.floor(),
+    )
+}
+
+// What the region at a place answers.
+fn answer_to(
+    alloc: Global,
+    regions: &mut [Region],
+    place: usize,
+    call: Call,
+) -> Result<Answer, AllocError> {
+    match call {
+        Call::Hears(from) => hear(alloc, regions, place, from),
+        Call::CatchesUp(from) => catch_up(alloc, regions, place, from),
+        _ => match regions.get_mut(place) {
+            Some(region) => answer_alone(alloc, region, call),
+            None => Ok(Answer::Other),
+        },
+    }
+}
+
+// What a region answers to what is asked of it alone.
+fn answer_alone(alloc: Global, region: &mut Region, call: Call) -> Result<Answer, AllocError> {
+    match call {
+        Call::Steps => Ok(answer_of_step(&region.step(alloc)?)),
+        Call::Runs(steps) if steps > 0 => Ok(answer_of_step(&region.run(alloc, steps)?)),
+        Call::Rewinds(at) => rewind(alloc, region, stamp_of(at)),
+        Call::HasNews(to) => Ok(Answer::News(region.has_news(to))),
+        _ => Ok(Answer::Other),
+    }
+}
+
+fn rewind(alloc: Global, region: &mut Region, at: Stamp) -> Result<Answer, AllocError> {
+    region.rewind(alloc, at)?;
+    Ok(Answer::Entries(region.entries()))
+}
+
+fn hear(
+    alloc: Global,
+    regions: &mut [Region],
+    place: usize,
+    from: usize,
+) -> Result<Answer, AllocError> {
+    let Some(between) = regions.get_mut(place.min(from)..=place.max(from)) else {
+        return Ok(Answer::Other);
+    };
+    match between {
+        [hearer, .., teller] if place < from => hear_one(alloc, hearer, teller),
+        [teller, .., hearer] => hear_one(alloc, hearer, teller),
+        _ => Ok(Answer::Other),
+    }
+}
+
+fn hear_one(alloc: Global, hearer: &mut Region, teller: &Region) -> Result<Answer, AllocError> {
+    Ok(answer_of_hearing(hearer.hear(alloc, teller)?))
+}
+
+fn catch_up(
+    alloc: Global,
+    regions: &mut [Region],
+    place: usize,
+    from: usize,
+) -> Result<Answer, AllocError> {
+    let Some(between) = regions.get_mut(place.min(from)..=place.max(from)) else {
+        return Ok(Answer::Other);
+    };
+    match between {
+        [hearer, .., teller] if place < from => catch_up_with(alloc, hearer, teller),
+        [teller, .., hearer] => catch_up_with(alloc, hearer, teller),
+        _ => Ok(Answer::Other),
+    }
+}
+
+fn catch_up_with(
+    alloc: Global,
+    hearer: &mut Region,
+    teller: &mut Region,
+) -> Result<Answer, AllocError> {
+    hearer.catch_up(alloc, teller)?;
+    Ok(Answer::Entries(hearer.entries()))
+}
+
+fn answer_of_step(step: &Step) -> Answer {
+    match step {
+        Step::Ran(stamp) => Answer::Ran(key_of(stamp)),
+        Step::Heard(stamp) => Answer::Heard(key_of(stamp)),
+        Step::Halted(Limit::Speed(stamp)) => Answer::PassedSpeed(key_of(stamp)),
+        Step::Past { due, clock } => Answer::Past(key_of(due), key_of(clock)),
+        Step::Tied(stamp) => Answer::Tied(key_of(stamp)),
+        Step::Held => Answer::Held,
+        Step::Spent => Answer::Spent,
+        _ => Answer::Other,
+    }
+}
+
+fn answer_of_hearing(hearing: Hearing) -> Answer {
+    match hearing {
+        Hearing::Rewound(stamp) => Answer::Rewound(key_of(&stamp)),
+        Hearing::Later(stamp) => Answer::Later(key_of(&stamp)),
+        Hearing::Same => Answer::Same,
+        Hearing::Apart => Answer::Apart,
+    }
+}
+
+fn key_of(stamp: &Stamp) -> Key {
+    (
+        stamp.tick,
+        stamp.round,
+        stamp.kind,
+        stamp.first,
+        stamp.second,
+    )
+}
+
+fn stamp_of((tick, round, kind, first, second): Key) -> Stamp {
+    Stamp {
+        tick,
+        round,
+        kind,
+        first,
+        second,
+    }
+}

@@ -1,0 +1,7 @@
+//! One module for each kind of run.
+
+mod bursts;
+mod cell_runs;
+mod listeners;
+mod told;
+mod workers;

@@ -1,0 +1,385 @@
+//! Runs over regions, whatever works on these between two commits.
+
+ghost use Rattle.cell_grid.specs.Grid.{IsAsked};
+
+use super::told::{Keeping, Told, expect_same, told_plainly};
+use cell_grid::MAX_REGIONS;
+use cell_sequence::CellState;
+use fixed_motion::Scene;
+use region_core::{Burst, Region};
+use run_core::{CoreStep, Scripted, play, simulate};
+use std::alloc::{AllocError, Global};
+use std::process::Abort;
+use std::sync::Wait;
+use std::test::Fail;
+use std::thread::Threads;
+use test_scenes::{
+    BOUNCING, FOUR_IN_A_ROW, LONG, MISLED, Numbers, ROLLED_BACK, USUAL, generated, scene, scene_of,
+};
+
+// What is done to the regions in a burst.
+#[derive(Clone, Copy, Debug)]
+enum Deed {
+    // Nothing.
+    Rest,
+    // The first two change places.
+    Swap,
+    // They are given back in the other order.
+    Reverse,
+    // All are spent.
+    Spend,
+    // The last one makes as many steps as a log has entries.
+    OneAhead,
+    // The regions of another state come in their place.
+    Replace,
+    // Steps and hearings in an order of no meaning; now and then some are swapped, spent or replaced.
+    Hostile,
+}
+
+// Does a deed in each burst.
+#[derive(Drop)]
+struct Tampering {
+    deed: Deed,
+    numbers: Numbers,
+    other: CellState,
+}
+
+impl Burst for Tampering {
+    ghost ready = { λ _. Unit {0} };
+
+    fn burst<R: Threads + Wait + Sync>(
+        &mut self,
+        _rt: &R,
+        alloc: Global,
+        mut regions: Vec<Region>,
+    ) -> Result<Vec<Region>, AllocError> {
+        self.tamper(alloc, &mut regions)?;
+        Ok(regions)
+    }
+}
+
+// How many calls a hostile burst makes.
+const CALLS: u32 = 100;
+
+impl Tampering {
+    // Does a deed with the regions with which the run of the other scene begins.
+    fn new(alloc: Global, deed: Deed, other: &Scene, regions: u32) -> Result<Tampering, AllocError>
+        requires { IsAsked regions }
+    {
+        Ok(Tampering {
+            deed,
+            numbers: Numbers { state: 0 },
+            other: CellState::open(alloc, other, regions)?,
+        })
+    }
+
+    fn tamper(&mut self, alloc: Global, regions: &mut [Region]) -> Result<(), AllocError> {
+        match self.deed {
+            Deed::Rest => Ok(()),
+            Deed::Swap => Ok(swap(regions, 0, 1)),
+            Deed::Reverse => Ok(regions.reverse()),
+            Deed::Spend => Ok(spend_all(regions)),
+            Deed::OneAhead => run_last(alloc, regions),
+            Deed::Replace => replace_all(alloc, regions, &self.other),
+            Deed::Hostile => self.make_calls(alloc, regions),
+        }
+    }
+
+    fn make_calls(&mut self, alloc: Global, regions: &mut [Region]) -> Result<(), AllocError> {
+        for _ in 0..CALLS {
+            let number = self.place_below(regions.len());
+            let from = self.place_below(regions.len());
+            self.make_call(alloc, regions, number, from)?;
+        }
+        Ok(())
+    }
+
+    // One of so many places; 0 where there is none.
+    fn place_below(&mut self, count: usize) -> usize {
+        let number = self.numbers.next(0, 1_024).unsigned_abs() as usize;
+        number.checked_rem(count).unwrap_or(0)
+    }
+
+    fn make_call(
+        &mut self,
+        alloc: Global,
+        regions: &mut [Region],
+        number: usize,
+        from: usize,
+    ) -> Result<(), AllocError> {
+        match self.numbers.next(0, 40) {
+            0 => Ok(swap(regions, number, from)),
+            1 => Ok(spend_one(regions.get_mut(number))),
+            2 => replace(alloc, regions.get_mut(number), &self.other),
+            draw => play_one(alloc, regions, core_step(draw, number, from)),
+        }
+    }
+}
+
+// A hearing in a third of the cases, and else a step.
+fn core_step(draw: i64, number: usize, from: usize) -> CoreStep {
+    let (number, from) = (number_of(number), number_of(from));
+    if draw < 16 {
+        CoreStep::Hear {
+            hearer: number,
+            from,
+        }
+    } else {
+        CoreStep::Turn(number)
+    }
+}
+
+// The number of a place; all places of tests are small.
+fn number_of(place: usize) -> u32 {
+    u32::try_from(place).unwrap_or(u32::MAX)
+}
+
+fn play_one(alloc: Global, regions: &mut [Region], step: CoreStep) -> Result<(), AllocError> {
+    play(alloc, regions, &[step])?;
+    Ok(())
+}
+
+// Two of the regions change places, if there are so many.
+fn swap(regions: &mut [Region], first: usize, second: usize) {
+    if first < regions.len() && second < regions.len() {
+        regions.swap(first, second);
+    }
+}
+
+fn spend_all(regions: &mut [Region]) {
+    for region in regions {
+        spend_one(Some(region));
+    }
+}
+
+fn spend_one(region: Option<&mut Region>) {
+    if let Some(region) = region {
+        *region = Region::spent(
+            region.number(),
+            region.rules(),
+            region.grid(),
+            region.floor(),
+        );
+    }
+}
+
+fn run_last(alloc: Global, regions: &mut [Region]) -> Result<(), AllocError> {
+    match regions.last_mut() {
+        Some(region) => run_ahead(alloc, region),
+        None => Ok(()),
+    }
+}
+
+fn run_ahead(alloc: Global, region: &mut Region) -> Result<(), AllocError> {
+    for _ in 0..4_096 {
+        region.step(alloc)?;
+    }
+    Ok(())
+}
+
+fn replace_all(alloc: Global, regions: &mut [Region], other: &CellState) -> Result<(), AllocError> {
+    for region in regions {
+        replace(alloc, Some(region), other)?;
+    }
+    Ok(())
+}
+
+// Puts the region with this number that is opened in the other state in the place of one.
+fn replace(
+    alloc: Global,
+    region: Option<&mut Region>,
+    other: &CellState,
+) -> Result<(), AllocError> {
+    if let Some(region) = region {
+        let number = region.number();
+        if number < other.grid().regions() {
+            *region = Region::open(alloc, other, number)?;
+        }
+    }
+    Ok(())
+}
+
+// Stops a test where the run over so many regions, on which a burst works, comes to another report than that of the
+// engine that looks at all pairs.
+fn expect_report<B: Burst>(
+    rt: &(impl Threads + Wait + Sync + Abort),
+    alloc: Global,
+    case: &str,
+    scene: &Scene,
+    regions: u32,
+    burst: &mut B,
+) -> Result<(), AllocError>
+    requires asked { IsAsked regions }
+    requires ready { B.ready burst.old }
+{
+    let mut kept = Keeping::new(alloc);
+    let outcome = simulate(rt, alloc, scene, regions, burst, &mut kept);
+    let found = Told::new(alloc, kept, outcome)?;
+    expect_same(rt, case, &found, &told_plainly(alloc, scene)?);
+    Ok(())
+}
+
+// The scene of a text that is refused by no rule.
+fn valid_scene(rt: &impl Abort, alloc: Global, text: &str) -> Result<Scene, AllocError> {
+    let read = scene_of(alloc, text)?;
+    assert!(rt; read.is_some(), "refused: {text}");
+    match read {
+        Some(scene) => Ok(scene),
+        None => Err(AllocError),
+    }
+}
+
+// What stands before the limits of a scene, its end, its disks, how many regions there are, and what is done to them.
+type DeedRow = (&'static str, u32, &'static str, u32, Deed);
+
+fn expect_row(
+    rt: &(impl Threads + Wait + Sync + Abort),
+    alloc: Global,
+    &(sizes, end, disks, regions, deed): &DeedRow,
+) -> Result<(), AllocError> {
+    assert!(rt; 1 <= regions && regions <= MAX_REGIONS, "{regions} regions");
+    let case = format!(in alloc; "{deed:?} with {regions} regions of {disks}")?;
+    let text = scene(alloc, sizes, 8, end, disks)?;
+    let later = scene(alloc, sizes, 8, end.wrapping_add(1), disks)?;
+    let scene = valid_scene(rt, alloc, text.as_str())?;
+    let other = valid_scene(rt, alloc, later.as_str())?;
+    let mut burst = Tampering::new(alloc, deed, &other, regions)?;
+    expect_report(rt, alloc, case.as_str(), &scene, regions, &mut burst)
+}
+
+const RESTING: &[DeedRow] = &[
+    (LONG, 40, FOUR_IN_A_ROW, 1, Deed::Rest),
+    (LONG, 40, FOUR_IN_A_ROW, 2, Deed::Rest),
+    (LONG, 40, FOUR_IN_A_ROW, 4, Deed::Rest),
+    (LONG, 40, FOUR_IN_A_ROW, 20, Deed::Rest),
+];
+
+#[test]
+fn regions_that_rest_write_the_report(rt: HostRuntime) -> Result<(), Fail> {
+    for row in RESTING {
+        expect_row(&rt, rt.alloc(), row)?;
+    }
+    Ok(())
+}
+
+const MOVED_OR_LOST: &[DeedRow] = &[
+    (LONG, 40, FOUR_IN_A_ROW, 4, Deed::Swap),
+    (LONG, 40, FOUR_IN_A_ROW, 4, Deed::Reverse),
+    (LONG, 40, FOUR_IN_A_ROW, 4, Deed::Spend),
+    (LONG, 40, FOUR_IN_A_ROW, 4, Deed::OneAhead),
+];
+
+#[test]
+fn regions_that_are_moved_or_lost_write_the_report(rt: HostRuntime) -> Result<(), Fail> {
+    for row in MOVED_OR_LOST {
+        expect_row(&rt, rt.alloc(), row)?;
+    }
+    Ok(())
+}
+
+#[test]
+fn regions_of_another_scene_write_the_report(rt: HostRuntime) -> Result<(), Fail> {
+    expect_row(
+        &rt,
+        rt.alloc(),
+        &(LONG, 40, FOUR_IN_A_ROW, 4, Deed::Replace),
+    )?;
+    Ok(())
+}
+
+// The disk hits a side at every other tick.
+#[test]
+fn a_long_run_of_one_region_is_summed_up(rt: HostRuntime) -> Result<(), Fail> {
+    expect_row(&rt, rt.alloc(), &(USUAL, 10_000, BOUNCING, 1, Deed::Rest))?;
+    Ok(())
+}
+
+// The calls of a script: how often each one is made, one after the other.
+type Calls = (u32, CoreStep);
+
+fn script(alloc: Global, calls: &[Calls]) -> Result<Scripted, AllocError> {
+    let mut steps = Vec::new(alloc);
+    for &(times, call) in calls {
+        for _ in 0..times {
+            steps.push(call)?;
+        }
+    }
+    Scripted::new(alloc, &steps)
+}
+
+// Regions 1 and 2 run to the end before region 0 sends disk 0, and then take back what they did.
+const ROLLBACK: &[Calls] = &[
+    (10, CoreStep::Turn(1)),
+    (1, CoreStep::Hear { hearer: 2, from: 1 }),
+    (10, CoreStep::Turn(2)),
+    (1, CoreStep::Turn(0)),
+    (1, CoreStep::Hear { hearer: 1, from: 0 }),
+    (1, CoreStep::Hear { hearer: 2, from: 1 }),
+];
+
+// Region 1 passes the speed limit only until it is told of disk 1.
+const LIMIT_BY_MISTAKE: &[Calls] = &[
+    (2, CoreStep::Turn(1)),
+    (1, CoreStep::Turn(0)),
+    (1, CoreStep::Hear { hearer: 1, from: 0 }),
+    (3, CoreStep::Turn(1)),
+];
+
+// Disks, the end, and what four regions do in the first burst.
+type ScriptRow = (&'static str, u32, &'static [Calls]);
+
+const SCRIPTS: &[ScriptRow] = &[(ROLLED_BACK, 20, ROLLBACK), (MISLED, 3, LIMIT_BY_MISTAKE)];
+
+#[test]
+fn scripts_write_the_report(rt: HostRuntime) -> Result<(), Fail> {
+    for row in SCRIPTS {
+        expect_report_of_script(&rt, rt.alloc(), row)?;
+    }
+    Ok(())
+}
+
+fn expect_report_of_script(
+    rt: &(impl Threads + Wait + Sync + Abort),
+    alloc: Global,
+    &(disks, end, calls): &ScriptRow,
+) -> Result<(), AllocError> {
+    let text = scene(alloc, LONG, 8, end, disks)?;
+    let scene = valid_scene(rt, alloc, text.as_str())?;
+    let mut burst = script(alloc, calls)?;
+    expect_report(rt, alloc, disks, &scene, 4, &mut burst)
+}
+
+// How many generated scenes are run; others are refused.
+const GENERATED: u64 = 20;
+
+const MOST_TRIED: u32 = 100;
+
+#[test]
+fn hostile_bursts_write_the_report(rt: HostRuntime) -> Result<(), Fail> {
+    let mut numbers = Numbers { state: 5 };
+    let mut found: u64 = 0;
+    for _ in 0..MOST_TRIED {
+        let text = generated(rt.alloc(), &mut numbers)?;
+        if found < GENERATED && is_run(&rt, rt.alloc(), text.as_str(), found)? {
+            found = found.wrapping_add(1);
+        }
+    }
+    assert_eq!(rt; found, GENERATED);
+    Ok(())
+}
+
+// Runs the scene of a text under hostile bursts; says no where the text is refused.
+fn is_run(
+    rt: &(impl Threads + Wait + Sync + Abort),
+    alloc: Global,
+    text: &str,
+    number: u64,
+) -> Result<bool, AllocError> {
+    let Some(scene) = scene_of(alloc, text)? else {
+        return Ok(false);
+    };
+    let mut burst = Tampering::new(alloc, Deed::Hostile, &scene, 4)?;
+    burst.numbers.state = number.wrapping_add(1);
+    expect_report(rt, alloc, text, &scene, 4, &mut burst)?;
+    Ok(true)
+}

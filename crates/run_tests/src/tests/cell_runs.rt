@@ -1,0 +1,216 @@
+//! The cell run: its collisions and its end are those of the run.
+
+ghost use Rattle.cell_grid.specs.Grid.{IsAsked};
+
+use super::told::{Told, expect_same, told_plainly};
+use cell_sequence::CellState;
+use event_rules::{Change, Limit, Spot};
+use fixed_motion::{Disk, Scene};
+use region_view::{Action, Placed};
+use std::alloc::{AllocError, Global};
+use std::process::Abort;
+use std::test::Fail;
+use test_scenes::{FOUR_IN_A_ROW, LONG, Numbers, ROLLED_BACK, USUAL, generated, scene, scene_of};
+
+// More actions than the cell run of a test has.
+const MOST_ACTIONS: u32 = 10_000;
+
+// How many crossings a cell run has, and what else it comes to.
+#[derive(Drop)]
+struct CellRun {
+    crossings: u32,
+    told: Told,
+}
+
+fn cell_run(alloc: Global, scene: &Scene, regions: u32) -> Result<CellRun, AllocError>
+    requires { IsAsked regions }
+{
+    let mut crossings: u32 = 0;
+    let mut changes = Vec::new(alloc);
+    let mut state = CellState::open(alloc, scene, regions)?;
+    let mut limit = None;
+    for _ in 0..MOST_ACTIONS {
+        match next_action(&mut state) {
+            None => break,
+            Some(Ok(Action::Cross { .. })) => crossings = crossings.wrapping_add(1),
+            Some(Ok(Action::Hit(change))) => changes.push(change)?,
+            Some(Err(passed)) => {
+                limit = Some(passed);
+                break;
+            }
+        }
+    }
+    let spots = spots_of(alloc, &state, limit, scene.rules.end)?;
+    let told = Told {
+        changes,
+        limit,
+        spots,
+    };
+    Ok(CellRun { crossings, told })
+}
+
+// The next action, or the limit that it passes; none where nothing is left to be done.
+fn next_action(state: &mut CellState) -> Option<Result<Action, Limit>> {
+    match state.next() {
+        Some(_) => Some(state.run_next()),
+        None => None,
+    }
+}
+
+// Where all disks are in the end, of a run that came to it.
+fn spots_of(
+    alloc: Global,
+    state: &CellState,
+    limit: Option<Limit>,
+    end: u64,
+) -> Result<Vec<Spot>, AllocError> {
+    let mut spots = Vec::new(alloc);
+    if limit.is_none() {
+        for row in state.placed() {
+            spots.push(spot_at(&row.disk, end))?;
+        }
+    }
+    Ok(spots)
+}
+
+// The numbers are small, so nothing wraps, and nothing has to be proved of it.
+fn spot_at(disk: &Disk, tick: u64) -> Spot {
+    let ticks = tick.wrapping_sub(disk.base).cast_signed();
+    Spot {
+        x: disk.x.wrapping_add(disk.vx.wrapping_mul(ticks)),
+        y: disk.y.wrapping_add(disk.vy.wrapping_mul(ticks)),
+        vx: disk.vx,
+        vy: disk.vy,
+    }
+}
+
+const CORNER: &str = "[3, 3, -2, -2]";
+
+// What stands before the limits of a scene, its round limit, its end, its disks, and how many crossings
+// and collisions its cell run has.
+type RunRow = (&'static str, u32, u32, &'static str, (u32, usize));
+
+const RUNS: &[RunRow] = &[
+    (USUAL, 8, 3, CORNER, (0, 2)),
+    (USUAL, 1, 3, CORNER, (0, 1)),
+    (LONG, 8, 40, FOUR_IN_A_ROW, (12, 4)),
+    // Disk 0 comes into the next column at tick 4, and disk 1 goes up and down.
+    (LONG, 8, 20, ROLLED_BACK, (1, 10)),
+    (LONG, 8, 4, ROLLED_BACK, (0, 2)),
+];
+
+#[test]
+fn cell_runs_give_the_report(rt: HostRuntime) -> Result<(), Fail> {
+    for row in RUNS {
+        expect_counts(&rt, rt.alloc(), row)?;
+    }
+    Ok(())
+}
+
+fn expect_counts(
+    rt: &impl Abort,
+    alloc: Global,
+    &(sizes, rounds, end, disks, want): &RunRow,
+) -> Result<(), AllocError> {
+    let text = scene(alloc, sizes, rounds, end, disks)?;
+    let found = run_beside(rt, alloc, text.as_str(), 4)?;
+    assert_eq!(rt;
+        counts_of(&found),
+        Some(want),
+        "{disks}: crossings and collisions"
+    );
+    Ok(())
+}
+
+fn counts_of(run: &Option<CellRun>) -> Option<(u32, usize)> {
+    match run {
+        Some(run) => Some((run.crossings, run.told.changes.len())),
+        None => None,
+    }
+}
+
+// The cell run of a text, which has to come to what the engine that looks at all pairs tells; none where the text is
+// refused.
+fn run_beside(
+    rt: &impl Abort,
+    alloc: Global,
+    text: &str,
+    regions: u32,
+) -> Result<Option<CellRun>, AllocError>
+    requires { IsAsked regions }
+{
+    let Some(scene) = scene_of(alloc, text)? else {
+        return Ok(None);
+    };
+    let run = cell_run(alloc, &scene, regions)?;
+    expect_same(rt, text, &run.told, &told_plainly(alloc, &scene)?);
+    Ok(Some(run))
+}
+
+// How many generated scenes were run, and what their runs had.
+#[derive(Drop)]
+struct Tally {
+    scenes: u32,
+    crossings: u32,
+    pairs: usize,
+    limits: u32,
+}
+
+impl Tally {
+    fn add(&mut self, run: &CellRun) {
+        let pairs = run
+            .told
+            .changes
+            .iter()
+            .filter(|change| change.second.is_some())
+            .count();
+        self.scenes = self.scenes.wrapping_add(1);
+        self.crossings = self.crossings.wrapping_add(run.crossings);
+        self.pairs = self.pairs.wrapping_add(pairs);
+        self.limits = self
+            .limits
+            .wrapping_add(u32::from(run.told.limit.is_some()));
+    }
+}
+
+// Some of the scenes that are generated are refused, and enough of them have to be left.
+const SCENES: u32 = 400;
+
+const LEAST_SCENES: u32 = 200;
+
+const LEAST_CROSSINGS: u32 = 200;
+
+const LEAST_PAIRS: usize = 200;
+
+const LEAST_LIMITS: u32 = 20;
+
+#[test]
+fn cell_runs_of_generated_scenes_give_the_report(rt: HostRuntime) -> Result<(), Fail> {
+    let mut numbers = Numbers { state: 1 };
+    let mut tally = Tally {
+        scenes: 0,
+        crossings: 0,
+        pairs: 0,
+        limits: 0,
+    };
+    for _ in 0..SCENES {
+        let text = generated(rt.alloc(), &mut numbers)?;
+        if let Some(run) = run_beside(&rt, rt.alloc(), text.as_str(), 8)? {
+            tally.add(&run);
+        }
+    }
+    expect_enough(&rt, &tally);
+    Ok(())
+}
+
+fn expect_enough(rt: &impl Abort, tally: &Tally) {
+    let (scenes, crossings) = (tally.scenes, tally.crossings);
+    let (pairs, limits) = (tally.pairs, tally.limits);
+    assert!(rt; scenes >= LEAST_SCENES, "only {scenes} scenes");
+    assert!(rt; crossings >= LEAST_CROSSINGS, "only {crossings} crossings");
+    assert!(rt;
+        pairs >= LEAST_PAIRS,
+        "only {pairs} collisions of two disks"
+    );
+    assert!(rt; limits >= LEAST_LIMITS, "only {limits} limits");
+}

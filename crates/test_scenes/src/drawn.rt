@@ -1,0 +1,73 @@
+//! Texts of scenes that are drawn. Some of the scenes are refused, since disks may overlap.
+
+use crate::numbers::Numbers;
+use crate::texts::scene;
+use std::alloc::{AllocError, Global};
+
+/// The text of a scene of up to five disks in a box of up to eight columns and five rows, with sizes.
+pub fn generated(alloc: Global, numbers: &mut Numbers) -> Result<String, AllocError> {
+    let width = numbers.next(20, 60);
+    let height = numbers.next(8, 40);
+    let speed = numbers.next(2, 3);
+    let rounds = numbers.next(1, 3);
+    let end = numbers.next(0, 40);
+    let rows = generated_rows(alloc, numbers, width, height)?;
+    format!(in alloc;
+        "width = {width}\nheight = {height}\ndiameter = 4\nspeed_limit = {speed}\nround_limit = {rounds}\nend = {end}\ndisks = [{rows}]\n"
+    )
+}
+
+fn generated_rows(
+    alloc: Global,
+    numbers: &mut Numbers,
+    width: i64,
+    height: i64,
+) -> Result<String, AllocError> {
+    let mut rows = String::new(alloc);
+    for _ in 0..5 {
+        let row = generated_row(alloc, numbers, width, height)?;
+        if numbers.next(0, 3) > 0 {
+            rows.push_str(row.as_str())?;
+        }
+    }
+    Ok(rows)
+}
+
+fn generated_row(
+    alloc: Global,
+    numbers: &mut Numbers,
+    width: i64,
+    height: i64,
+) -> Result<String, AllocError> {
+    let (x, y) = (across(numbers, width), across(numbers, height));
+    let (vx, vy) = (numbers.next(-2, 5), numbers.next(-2, 5));
+    let size = numbers.next(1, 2).wrapping_mul(2);
+    format!(in alloc; "[{x}, {y}, {vx}, {vy}, {size}],")
+}
+
+// A coordinate at which a disk of the greatest size is inside.
+fn across(numbers: &mut Numbers, length: i64) -> i64 {
+    let part = numbers.next(0, 1024);
+    (part.wrapping_mul(length.wrapping_sub(3)) / 1024).wrapping_add(2)
+}
+
+/// The text of a scene of eight disks side by side in a box of ten columns or more; none is refused.
+pub fn wide(alloc: Global, numbers: &mut Numbers) -> Result<String, AllocError> {
+    let width = numbers.next(200, 20);
+    let height = numbers.next(20, 21);
+    let mut rows = String::new(alloc);
+    for column in 0u32..8 {
+        rows.push_str(wide_row(alloc, numbers, column)?.as_str())?;
+    }
+    let sizes = format!(in alloc; "width = {width}\nheight = {height}\ndiameter = 4\n")?;
+    scene(alloc, sizes.as_str(), 8, 60, rows.as_str())
+}
+
+fn wide_row(alloc: Global, numbers: &mut Numbers, column: u32) -> Result<String, AllocError> {
+    let x = i64::from(column)
+        .wrapping_mul(25)
+        .wrapping_add(numbers.next(2, 20));
+    let y = numbers.next(2, 17);
+    let (vx, vy) = (numbers.next(-4, 9), numbers.next(-4, 9));
+    format!(in alloc; "[{x}, {y}, {vx}, {vy}],")
+}
