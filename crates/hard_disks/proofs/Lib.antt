@@ -3,3 +3,5 @@ pub mod OneOutput
 pub mod Wrote
 pub mod Answered
 pub mod Reported
+pub mod Published
+pub mod Watched

@@ -1,0 +1,95 @@
+-- What a watched reporter has published and written that was told a run.
+use Rattle.std.proofs.Common.{◌≡◌, ◌≤◌, inl, ℕ, List, [], Option, Some, Result, Err, ap, subst}
+use Rattle.std.specs.Io.KnownBytes.{Appends}
+use Rattle.report_ports.specs.Ports.{AppendsPrefix, Rose}
+use Rattle.fixed_motion.specs.Scene.{SceneData, IsValidScene}
+use Rattle.event_rules.specs.declared.change.Change.{Change}
+use Rattle.event_rules.specs.declared.outcome.Outcome.{Outcome}
+use Rattle.event_rules.specs.declared.outcome.RunFault.{RunFault}
+use Rattle.event_rules.specs.declared.outcome.RunFault.TheVariants.{Listener, NoMemory}
+use Rattle.event_rules.specs.Run.{IsRun}
+use Rattle.event_rules.specs.Tellings.{RunTold, RunBegun, RunCutShort, CountsRun}
+use Rattle.collision_report.specs.declared.format.Format.{Format}
+use Rattle.collision_report.specs.Laws.{end_text}
+use Rattle.collision_report.specs.Meaning.{LentReport, IsSceneOf, nothing_yet, told_on_loan, IsTornOnLoan}
+use Rattle.live_progress.specs.Lists.{StartsWith}
+use Rattle.live_progress.specs.Watching.{SoFar, with_change, IsTorn, pairs_of}
+use Rattle.live_progress.proofs.Watches.{run_watched, cut_watched}
+use Rattle.hard_disks.specs.Output.{IsReport, status_of}
+use Rattle.hard_disks.specs.Answers.{Wrote, WrotePrefix}
+use Rattle.hard_disks.proofs.Reported.{told_on, serves_scene, wrote_report, wrote_part_of_end, begun}
+
+-- all changes were told: all pairs are published, and with the end the whole report is written
+pub record ToldAll (format : Format) (scene : SceneData) (outcome : Outcome) (taken : Option (List ℕ)) (m n : SoFar LentReport) : Type 0 where
+  pub changes : List Change
+  pub run : IsRun scene changes outcome
+  pub pen : n.loan ≡ m.loan
+  pub board : n.board ≡ m.board
+  pub list : n.list ≡ pairs_of changes
+  pub sink : n.inner.0 ≡ m.inner.0
+  pub table : IsSceneOf n.inner.1.table scene
+  pub whole : (after : Option (List ℕ)) → Appends n.inner.1.taken after (end_text n.inner.1 scene outcome) →
+      Wrote (IsReport format scene) taken after (status_of outcome)
+  pub part : (after : Option (List ℕ)) → AppendsPrefix n.inner.1.taken after (end_text n.inner.1 scene outcome) →
+      WrotePrefix (IsReport format scene) taken after
+
+pub told_all : (format : Format) (scene : SceneData) (outcome : Outcome) (taken : Option (List ℕ)) (m n : SoFar LentReport) →
+    RunTold (with_change told_on_loan) scene outcome (Some m) (Some n) → IsValidScene scene → m.list ≡ [] →
+    m.inner.1 ≡ nothing_yet format scene taken → ToldAll format scene outcome taken m n
+told_all format scene outcome taken m n told valid none first =
+    let changes = told.0 in let run = told.1 in
+    let seen = run_watched told_on_loan scene changes outcome m n valid run none told.2 in
+    let loan = m.inner.0 in let start = m.inner.1 in record {
+      changes = changes;
+      run = run;
+      pen = seen.loan;
+      board = seen.board;
+      list = seen.list;
+      sink = ap (λ (v : LentReport). v.0) (told_on loan start (nothing_yet format scene taken) changes n.inner first seen.inner);
+      table = serves_scene loan format scene taken changes start n.inner first seen.inner;
+      whole = (λ after ends. wrote_report loan format scene taken after changes outcome start n.inner valid run first seen.inner ends);
+      part = (λ after ends. wrote_part_of_end loan format scene taken after changes outcome start n.inner valid run first seen.inner ends);
+    }
+
+-- a prefix was told, and perhaps one change refused: a prefix of the pairs is published, and one of the report written
+pub record ToldPart (format : Format) (scene : SceneData) (taken : Option (List ℕ)) (m n : SoFar LentReport) : Type 0 where
+  pub changes : List Change
+  pub outcome : Outcome
+  pub run : IsRun scene changes outcome
+  pub pen : n.loan ≡ m.loan
+  pub board : n.board ≡ m.board
+  pub list : StartsWith (pairs_of changes) n.list
+  pub sink : n.inner.0 ≡ m.inner.0
+  pub prefix : WrotePrefix (IsReport format scene) taken n.inner.1.taken
+
+told_begun : (format : Format) (scene : SceneData) (taken : Option (List ℕ)) (m n : SoFar LentReport) →
+    RunBegun (with_change told_on_loan) (IsTorn IsTornOnLoan) scene (Some m) (Some n) → IsValidScene scene → m.list ≡ [] →
+    m.inner.1 ≡ nothing_yet format scene taken → ToldPart format scene taken m n
+told_begun format scene taken m n told valid none first =
+    let changes = told.0 in let outcome = told.1 in let run = told.2 in
+    let seen = cut_watched told_on_loan IsTornOnLoan scene changes outcome m n valid run none told.3 in
+    let here = begun m.inner.0 format scene taken changes outcome m.inner.1 n.inner valid run first seen.inner in record {
+      changes = changes;
+      outcome = outcome;
+      run = run;
+      pen = seen.loan;
+      board = seen.board;
+      list = seen.list;
+      sink = here.kept;
+      prefix = here.prefix;
+    }
+
+pub told_part : (format : Format) (scene : SceneData) (taken : Option (List ℕ)) (m n : SoFar LentReport) (fault : RunFault) →
+    RunCutShort (with_change told_on_loan) (IsTorn IsTornOnLoan) scene fault (Some m) (Some n) → IsValidScene scene → m.list ≡ [] →
+    m.inner.1 ≡ nothing_yet format scene taken → ToldPart format scene taken m n
+told_part format scene taken m n Listener told valid none first = told_begun format scene taken m n told valid none first
+told_part format scene taken m n NoMemory told valid none first =
+    told_begun format scene taken m n (told.0, told.1, told.2, (told.3.0, inl told.3.1)) valid none first
+
+-- the count of refusals after a run that broke off
+pub refused : (before after : ℕ) (fault : RunFault) → CountsRun {T = Outcome} before after (Err fault) → fault ≡ Listener →
+    (before ≤ after) × Rose before after
+refused before after fault h e = subst (λ (f : RunFault). CountsRun {T = Outcome} before after (Err f)) e h
+
+pub unrefused : (before after : ℕ) (fault : RunFault) → CountsRun {T = Outcome} before after (Err fault) → fault ≡ NoMemory → after ≡ before
+unrefused before after fault h e = subst (λ (f : RunFault). CountsRun {T = Outcome} before after (Err f)) e h

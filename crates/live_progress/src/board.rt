@@ -1,0 +1,149 @@
+//! The board, its pen, and the glasses that look at it.
+
+ghost use Rattle.std.specs.Prelude.{◌≡◌, [], ◌∷◌, ◌++◌, IfOk};
+ghost use Rattle.live_progress.specs.Lists.{last_of, IsNoLess, StartsWith};
+
+use crate::rule::{Cell, Checks, Copies, Leaves, Looks, Publishes, Token};
+use std::alloc::{AllocError, Global};
+use std::marker::Model;
+use std::sync::Wait;
+
+/// How far a run is.
+#[derive(Clone, Copy, Debug, PartialEq, Eq)]
+pub struct Progress {
+    /// How many events are final, at most `u64::MAX`.
+    pub events: u64,
+    /// The tick of the last of them; 0 before the first.
+    pub tick: u64,
+}
+
+/// A board, which shows the last pair that its pen published, and (0, 0) before the first.
+///
+/// Contracts see its name.
+#[derive(Drop)]
+pub struct Board {
+    cell: Cell,
+}
+
+impl Model for Board {
+    ghost use Rattle.atomic_table.specs.Seated.{TableId};
+
+    ghost Value = { TableId };
+
+    ghost view = { λ b. b.cell.table.shared.table_id };
+}
+
+/// The one that publishes on a board. A board has one pen.
+///
+/// Contracts see its board's name, and the list of what it published.
+#[derive(Drop)]
+pub struct Pen {
+    token: Token,
+    last: Progress,
+}
+
+impl Model for Pen {
+    ghost use Rattle.std.specs.Prelude.{◌≡◌, true};
+    ghost use Rattle.crossbeam_utils.specs.Seq.{cell_view};
+    ghost use Rattle.live_progress.specs.Lists.{Known, last_of};
+
+    ghost Value = { Known };
+
+    ghost view = { λ p. record { board = p.token.table_id; list = (cell_view p.token).list } };
+
+    ghost invariant = { λ p. ((cell_view p.token).writes ≡ true) × (p.last ≡ last_of (cell_view p.token).list) };
+}
+
+/// One that looks at a board.
+///
+/// Contracts see its board's name, and a list of published pairs, which goes up to the one that it saw last.
+#[derive(Drop)]
+pub struct Glass {
+    token: Token,
+}
+
+impl Model for Glass {
+    ghost use Rattle.std.specs.Prelude.{◌≡◌, false};
+    ghost use Rattle.crossbeam_utils.specs.Seq.{cell_view};
+    ghost use Rattle.live_progress.specs.Lists.{Known};
+
+    ghost Value = { Known };
+
+    ghost view = { λ g. record { board = g.token.table_id; list = (cell_view g.token).list } };
+
+    ghost invariant = { λ g. (cell_view g.token).writes ≡ false };
+}
+
+impl Board {
+    /// A new board and its pen, which has published nothing.
+    ///
+    /// # Errors
+    /// Out of memory.
+    pub fn open(alloc: Global) -> Result<(Board, Pen), AllocError>
+        ensures { IfOk result (λ opened. opened.1 ≡ record { board = opened.0; list = [] }) }
+    {
+        let (cell, token) = Cell::ruled(alloc, [0, 0])?;
+        let last = Progress { events: 0, tick: 0 };
+        Ok((Board { cell }, Pen { token, last }))
+    }
+
+    /// A glass that has seen what the pen has published.
+    pub fn glass<R: Wait>(&self, _rt: &R, pen: &mut Pen) -> Glass
+        requires { pen.old.board ≡ self.now }
+        ensures pen { pen.new ≡ pen.old }
+        ensures glass { result ≡ pen.old }
+    {
+        Glass {
+            token: self.cell.split_pass::<Copies>(&mut pen.token),
+        }
+    }
+
+    /// Publishes a pair, whose numbers are no less than those that the pen published before.
+    pub fn publish<R: Wait>(&self, rt: &R, pen: &mut Pen, to: Progress)
+        requires board { pen.old.board ≡ self.now }
+        requires rises { IsNoLess (last_of pen.old.list) to }
+        ensures board { pen.new.board ≡ pen.old.board }
+        ensures list { pen.new.list ≡ pen.old.list ++ to ∷ [] }
+    {
+        self.cell
+            .swap_as::<Publishes, R>(rt, &mut pen.token, [to.events, to.tick]);
+        pen.last = to;
+    }
+
+    /// The pair that the board shows. Neither number is less than in any pair that the glass saw before.
+    pub fn look<R: Wait>(&self, rt: &R, glass: &mut Glass) -> Progress
+        requires { glass.old.board ≡ self.now }
+        ensures board { glass.new.board ≡ glass.old.board }
+        ensures more { StartsWith glass.new.list glass.old.list }
+        ensures last { result ≡ last_of glass.new.list }
+        ensures rises { IsNoLess (last_of glass.old.list) result }
+    {
+        let words = self.cell.load_as::<Looks, R>(rt, &mut glass.token);
+        Progress {
+            events: words[0],
+            tick: words[1],
+        }
+    }
+
+    /// Takes a glass back: all that it saw was published by the pen, in this order.
+    pub fn retire<R: Wait>(&self, rt: &R, pen: &mut Pen, glass: Glass)
+        requires pen { pen.old.board ≡ self.now }
+        requires glass { glass.board ≡ self.now }
+        ensures pen { pen.new ≡ pen.old }
+        ensures seen { StartsWith pen.old.list glass.list }
+    {
+        let Glass { token: mut left } = glass;
+        let token = self.cell.split_pass::<Leaves>(&mut left);
+        self.cell.join_pass::<Leaves>(&mut pen.token, token);
+        self.cell.load_as::<Checks, R>(rt, &mut pen.token);
+    }
+}
+
+impl Pen {
+    /// The last pair that the pen published, and (0, 0) before the first.
+    pub fn last(&self) -> Progress
+        ensures { result ≡ last_of self.now.list }
+    {
+        self.last
+    }
+}

@@ -1,0 +1,63 @@
+//! A listener that publishes what it is told.
+
+ghost use Rattle.std.specs.Prelude.{◌≡◌, Option, option_map};
+ghost use Rattle.live_progress.specs.Watching.{SoFar, next_of, with_change, IsTorn};
+
+use crate::{Board, Pen, Progress};
+use event_rules::{Change, Deaf, Listener};
+use std::sync::Wait;
+
+/// A listener that publishes each event and then tells it on.
+///
+/// Publishing takes a runtime, which telling a listener doesn't bring along: so it is kept here, and to tell this
+/// listener may wait, as [`Board::publish`] may. What it means is what the pen has published, beside the loan of the pen, its board, and
+/// what the listener within means.
+#[derive(Drop)]
+pub struct Watched<'p, R: Wait, L: Listener> {
+    /// The runtime.
+    pub rt: &'p R,
+    /// Where each event is shown.
+    pub board: &'p Board,
+    /// The pen of the board.
+    pub pen: &'p mut Pen,
+    /// Who is told of each event after it was published.
+    pub inner: L,
+    /// The pen is of the board.
+    pub ghost of_board: { pen.now.board ≡ board.now },
+}
+
+impl<'p, R: Wait, L: Listener> Listener for Watched<'p, R, L> {
+    ghost Meaning = { SoFar L.Meaning };
+
+    ghost after = { with_change L.after };
+
+    ghost torn = { IsTorn L.torn };
+
+    ghost meaning = { λ w. option_map
+        (λ m. record { loan = w.pen.ghost_name; board = w.pen.now.board; list = w.pen.now.list; inner = m })
+        (L.meaning w.inner) };
+
+    ghost faults = { λ w. L.faults w.inner };
+
+    /// The count of the listener within.
+    fn faults(&self) -> u64 {
+        self.inner.faults()
+    }
+
+    /// Publishes one more event, at the change's tick, and then tells the listener within.
+    fn event(&mut self, change: &Change) -> Result<(), Deaf> {
+        let next = next(self.pen.last(), change);
+        self.board.publish(self.rt, self.pen, next);
+        self.inner.event(change)
+    }
+}
+
+// One more event, of this change.
+fn next(last: Progress, change: &Change) -> Progress
+    ensures { result ≡ next_of last change.now }
+{
+    Progress {
+        events: last.events.saturating_add(1),
+        tick: last.tick.max(change.stamp.tick),
+    }
+}
