@@ -34,7 +34,7 @@ number_option name least most default =
     record (named_option name default) { parser = Some (value_parser.Unsigned least most) }
 
 abbrev pub mode_names : List Text
-mode_names = codes "run" ∷ codes "plain" ∷ codes "check" ∷ codes "load" ∷ []
+mode_names = codes "run" ∷ codes "plain" ∷ codes "check" ∷ codes "load" ∷ codes "cut" ∷ []
 
 abbrev pub format_names : List Text
 format_names = codes "lines" ∷ codes "summary" ∷ []
@@ -49,6 +49,7 @@ options_of modes formats =
     ∷ number_option (codes "steps") 1 4096 (codes "64")
     ∷ number_option (codes "number") 0 18446744073709551615 (codes "1")
     ∷ number_option (codes "disks") 0 65536 (codes "100")
+    ∷ number_option (codes "at") 0 1099511627776 (codes "0")
     ∷ []
 
 -- the command has these options alone: neither `--help` nor `--version`, and no word before them

@@ -8,7 +8,7 @@ use Rattle.clap.specs.ValueTests.{is_unsigned_in}
 use Rattle.command_words.specs.Options.{command}
 use Rattle.command_words.specs.declared.settings.Settings.{Settings}
 use Rattle.command_words.specs.declared.settings.Mode.{Mode}
-use Rattle.command_words.specs.declared.settings.Mode.TheVariants.{Run, Plain, Check, Load}
+use Rattle.command_words.specs.declared.settings.Mode.TheVariants.{Run, Plain, Check, Load, Cut}
 use Rattle.command_words.specs.declared.settings.OutputFormat.{OutputFormat}
 use Rattle.command_words.specs.declared.settings.OutputFormat.TheVariants.{Lines, Summary}
 
@@ -23,6 +23,7 @@ mode_of text =
     else if bytes_eq text (codes "plain") then Some Plain
     else if bytes_eq text (codes "check") then Some Check
     else if bytes_eq text (codes "load") then Some Load
+    else if bytes_eq text (codes "cut") then Some Cut
     else None
 
 abbrev pub format_of : Text → Option OutputFormat
@@ -54,6 +55,7 @@ settings_in rows = do
   steps ← one_of (codes "steps") rows >>= short_number
   number ← one_of (codes "number") rows >>= long_number
   disks ← one_of (codes "disks") rows >>= short_number
+  at ← one_of (codes "at") rows >>= long_number
   Some (record {
     mode = mode;
     format = format;
@@ -63,6 +65,7 @@ settings_in rows = do
     steps = steps;
     number = number;
     disks = disks;
+    at = at;
   })
 
 -- the settings of the words, where clap has matches of the options for them

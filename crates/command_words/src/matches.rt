@@ -16,6 +16,7 @@ fn mode_of(text: &str) -> Option<Mode>
         "plain" => Some(Mode::Plain),
         "check" => Some(Mode::Check),
         "load" => Some(Mode::Load),
+        "cut" => Some(Mode::Cut),
         _ => None,
     }
 }
@@ -71,5 +72,6 @@ pub(crate) fn settings_in(matches: &ArgMatches<'_>) -> Option<Settings>
         steps: short_number_in(matches, "steps")?,
         number: long_number_in(matches, "number")?,
         disks: short_number_in(matches, "disks")?,
+        at: long_number_in(matches, "at")?,
     })
 }

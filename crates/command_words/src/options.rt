@@ -9,7 +9,7 @@ use clap::builder::ValueParser;
 use clap::{Arg, Command};
 use std::alloc::{AllocError, Global};
 
-static MODES: [&str; 4] = ["run", "plain", "check", "load"];
+static MODES: [&str; 5] = ["run", "plain", "check", "load", "cut"];
 
 static FORMATS: [&str; 2] = ["lines", "summary"];
 
@@ -75,5 +75,6 @@ pub(crate) fn command<'a>(alloc: Global) -> Result<Command<'a>, AllocError>
         .arg(number_option(alloc, "turns", 1, 65_536, "16"))?
         .arg(number_option(alloc, "steps", 1, 4_096, "64"))?
         .arg(number_option(alloc, "number", 0, u64::MAX, "1"))?
-        .arg(number_option(alloc, "disks", 0, 65_536, "100"))
+        .arg(number_option(alloc, "disks", 0, 65_536, "100"))?
+        .arg(number_option(alloc, "at", 0, 1_099_511_627_776, "0"))
 }

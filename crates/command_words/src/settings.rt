@@ -11,6 +11,8 @@ pub enum Mode {
     Check,
     /// Makes a scene in place of reading one, runs it over regions, and writes the report.
     Load,
+    /// Runs the scene over regions up to a tick, and writes what is left of it as a scene.
+    Cut,
 }
 
 /// The form of what is written.
@@ -41,6 +43,8 @@ pub struct Settings {
     pub number: u64,
     /// How many disks it has, `--disks`, 0 to 65,536; 100 by default.
     pub disks: u32,
+    /// The tick at which a run is cut, `--at`, 0 to 1,099,511,627,776; 0 by default.
+    pub at: u64,
 }
 
 /// Why there are no settings.

@@ -5,3 +5,5 @@ pub mod Answered
 pub mod Reported
 pub mod Published
 pub mod Watched
+pub mod Cuts
+pub mod Left

@@ -87,9 +87,9 @@ told_part format scene taken m n NoMemory told valid none first =
     told_begun format scene taken m n (told.0, told.1, told.2, (told.3.0, inl told.3.1)) valid none first
 
 -- the count of refusals after a run that broke off
-pub refused : (before after : ℕ) (fault : RunFault) → CountsRun {T = Outcome} before after (Err fault) → fault ≡ Listener →
+pub refused : (T : Type 0) (before after : ℕ) (fault : RunFault) → CountsRun {T = T} before after (Err fault) → fault ≡ Listener →
     (before ≤ after) × Rose before after
-refused before after fault h e = subst (λ (f : RunFault). CountsRun {T = Outcome} before after (Err f)) e h
+refused T before after fault h e = subst (λ (f : RunFault). CountsRun {T = T} before after (Err f)) e h
 
-pub unrefused : (before after : ℕ) (fault : RunFault) → CountsRun {T = Outcome} before after (Err fault) → fault ≡ NoMemory → after ≡ before
-unrefused before after fault h e = subst (λ (f : RunFault). CountsRun {T = Outcome} before after (Err f)) e h
+pub unrefused : (T : Type 0) (before after : ℕ) (fault : RunFault) → CountsRun {T = T} before after (Err fault) → fault ≡ NoMemory → after ≡ before
+unrefused T before after fault h e = subst (λ (f : RunFault). CountsRun {T = T} before after (Err f)) e h

@@ -1,5 +1,6 @@
 use Rattle.std.proofs.Common.{◌≡◌, ◌≤◌, ◌∙◌, ap, sym, subst, arith, rules}
 use Rattle.report_ports.specs.Ports.{Rose}
+use Rattle.event_rules.specs.declared.outcome.Outcome.{Outcome}
 use Rattle.event_rules.proofs.Fits.{outcomes_fit}
 use Rattle.collision_report.specs.Meaning.{TableData, so_far}
 use Rattle.live_progress.specs.Lists.{Known, StartsWith}
@@ -152,7 +153,7 @@ returns-in-Err-Listener-clause-counts g c =
     let kept = told.sink ∙ c.new-reporter.ensures.loan in
     let last : c.in-Err-Listener.sink-in-Err-run-1-own.given.0 ≡ c.run.new.listener.inner.sink.now = search (rules, kept) in
     subst (λ v. (K.faults c.args.sink.now ≤ K.faults v) × Rose (K.faults c.args.sink.now) (K.faults v)) (sym last)
-    (failed_since _ _ _ (ap K.faults c.new-reporter.ensures.sink) (refused _ _ _ c.in-Err-Listener.ensures.counts c.in-Err-Listener.field-0-is))
+    (failed_since _ _ _ (ap K.faults c.new-reporter.ensures.sink) (refused Outcome _ _ _ c.in-Err-Listener.ensures.counts c.in-Err-Listener.field-0-is))
 
 pub returns-in-Err-Listener-clause-board_kept : goal.returns-in-Err-Listener-clause-board_kept
 returns-in-Err-Listener-clause-board_kept g c =
@@ -192,7 +193,7 @@ returns-clause-counts g c =
     c.count-count.ensures.valid c.requires.unwritten first in
     let kept = told.sink ∙ c.new-reporter.ensures.loan in
     let last : c.in-Err-NoMemory.sink-in-Err-run-1-own.given.0 ≡ c.run.new.listener.inner.sink.now = search (rules, kept) in
-    let same = ap K.faults last ∙ unrefused _ _ _ c.in-Err-NoMemory.ensures.counts c.in-Err-NoMemory.field-0-is
+    let same = ap K.faults last ∙ unrefused Outcome _ _ _ c.in-Err-NoMemory.ensures.counts c.in-Err-NoMemory.field-0-is
     ∙ ap K.faults c.new-reporter.ensures.sink in
     omega (arith, same)
 

@@ -1,0 +1,12 @@
+use Rattle.std.proofs.Common.{◌<◌, inl, subst, refl, ◌∙◌}
+use Rattle.fixed_motion.specs.Scene.{SceneData}
+use Rattle.hard_disks.specs.declared.status.Status.TheVariants.{SceneRefused}
+use Rattle.hard_disks.specs.Output.{IsCutText}
+use Rattle.hard_disks.proofs.Wrote.{wrote_text}
+use Rattle.hard_disks.proofs.rest.write_cut.Goals as goal
+
+pub returns-then-at-scene-clause-wrote : goal.returns-then-at-scene-clause-wrote
+returns-then-at-scene-clause-wrote g c = let K = g.K.Sink in
+    let late = subst (λ (v : SceneData). v.rules.end < c.args.at) c.scene.view_is c.if-at-scene.true in
+    wrote_text (IsCutText c.args.format c.args.at c.args.scene.now) c.as_bytes.result.now SceneRefused (K.taken c.args.sink.now) (K.taken c.write_text.new.sink)
+    c.write_text.result tt (inl (late, (c.as_bytes.ensures ∙ c.late_cut_line.ensures, refl))) c.write_text.ensures.text

@@ -1,0 +1,149 @@
+use Rattle.std.proofs.Common.{◌≡◌, ◌≤◌, ◌∙◌, ℕ, codes, ap, sym, subst, arith, rules}
+use Rattle.report_ports.specs.Ports.{Rose}
+use Rattle.collision_report.specs.declared.format.Format.TheVariants.{Summary}
+use Rattle.collision_report.specs.Meaning.{TableData, so_far}
+use Rattle.event_rules.specs.declared.outcome.Outcome.TheVariants.{Limit as Passes}
+use Rattle.hard_disks.specs.declared.status.Status.{Status}
+use Rattle.hard_disks.specs.declared.cut.Cut.{Cut}
+use Rattle.hard_disks.specs.Output.{IsSceneText, IsCutText, status_of}
+use Rattle.hard_disks.specs.Answers.{Wrote, WrotePrefix, CountsWrites}
+use Rattle.hard_disks.proofs.Wrote.{kept, own_counts}
+use Rattle.hard_disks.proofs.Reported.{own, failed_since}
+use Rattle.hard_disks.proofs.Watched.{refused, unrefused}
+use Rattle.hard_disks.proofs.Left.{unwritten, cut_part, cut_rest, cut_limit}
+use Rattle.hard_disks.proofs.rest.write_rest.Goals as goal
+
+pub returns-in_default-clause-wrote : goal.returns-in_default-clause-wrote
+returns-in_default-clause-wrote g c =
+    let taken = g.K.Sink.taken c.args.sink.now in
+    unwritten c.args.format c.args.at c.args.scene.now taken taken c.requires.at c.count-count.ensures.valid (kept taken)
+
+pub returns-in-Ok-Rest-clause-wrote : goal.returns-in-Ok-Rest-clause-wrote
+returns-in-Ok-Rest-clause-wrote g c =
+    let K = g.K.Sink in let scene = c.args.scene.now in
+    let first = c.new-reporter.ensures.meaning ∙ ap (λ (t : TableData). so_far Summary t (K.taken c.args.sink.now) 0 0) c.in-Ok.ensures in
+    let told = cut_rest c.args.format c.args.at scene c.in-Ok-Rest.rest (K.taken c.args.sink.now) _ _ c.in-Ok-Rest.field-0
+    c.in-Ok-Rest.field-0-is c.in-Ok-Rest.ensures.cut c.requires.at first in
+    let loan = told.sink ∙ c.new-reporter.ensures.loan in
+    let last : c.in-Ok-Rest.sink-1-own.given.0 ≡ c.cut_at.new.listener.sink.now = search (rules, loan) in
+    told.wrote _ _ (subst (λ v. Wrote (IsSceneText (codes "rest") c.args.format c.in-Ok-Rest.rest) (K.taken v) (K.taken c.write_scene.new.sink) c.write_scene.result)
+    last c.write_scene.ensures.wrote)
+
+pub returns-in-Ok-Rest-clause-counts : goal.returns-in-Ok-Rest-clause-counts
+returns-in-Ok-Rest-clause-counts g c =
+    let K = g.K.Sink in let scene = c.args.scene.now in
+    let first = c.new-reporter.ensures.meaning ∙ ap (λ (t : TableData). so_far Summary t (K.taken c.args.sink.now) 0 0) c.in-Ok.ensures in
+    let told = cut_rest c.args.format c.args.at scene c.in-Ok-Rest.rest (K.taken c.args.sink.now) _ _ c.in-Ok-Rest.field-0
+    c.in-Ok-Rest.field-0-is c.in-Ok-Rest.ensures.cut c.requires.at first in
+    let loan = told.sink ∙ c.new-reporter.ensures.loan in
+    let last : c.in-Ok-Rest.sink-1-own.given.0 ≡ c.cut_at.new.listener.sink.now = search (rules, loan) in
+    let same = ap K.faults last ∙ c.in-Ok-Rest.ensures.counts ∙ ap K.faults c.new-reporter.ensures.sink in
+    subst (λ (n : ℕ). CountsWrites n (K.faults c.write_scene.new.sink) c.write_scene.result) same c.write_scene.ensures.counts
+
+pub finish-requires-clause-outcome : goal.finish-requires-clause-outcome
+finish-requires-clause-outcome g c =
+    let K = g.K.Sink in let scene = c.args.scene.now in
+    let first = c.new-reporter.ensures.meaning ∙ ap (λ (t : TableData). so_far Summary t (K.taken c.args.sink.now) 0 0) c.in-Ok.ensures in
+    let told = cut_limit c.args.format c.args.at scene c.in-Ok-Limit.limit (K.taken c.args.sink.now) _ _ c.in-Ok-Limit.field-0
+    c.in-Ok-Limit.field-0-is c.in-Ok-Limit.ensures.cut c.requires.at c.count-count.ensures.valid first in
+    told.outcome
+
+pub finish-requires-clause-scene : goal.finish-requires-clause-scene
+finish-requires-clause-scene g c =
+    let K = g.K.Sink in let scene = c.args.scene.now in
+    let first = c.new-reporter.ensures.meaning ∙ ap (λ (t : TableData). so_far Summary t (K.taken c.args.sink.now) 0 0) c.in-Ok.ensures in
+    let told = cut_limit c.args.format c.args.at scene c.in-Ok-Limit.limit (K.taken c.args.sink.now) _ _ c.in-Ok-Limit.field-0
+    c.in-Ok-Limit.field-0-is c.in-Ok-Limit.ensures.cut c.requires.at c.count-count.ensures.valid first in
+    told.table
+
+pub returns-in-Ok-finish-clause-wrote : goal.returns-in-Ok-finish-clause-wrote
+returns-in-Ok-finish-clause-wrote g c =
+    let K = g.K.Sink in let scene = c.args.scene.now in
+    let first = c.new-reporter.ensures.meaning ∙ ap (λ (t : TableData). so_far Summary t (K.taken c.args.sink.now) 0 0) c.in-Ok.ensures in
+    let told = cut_limit c.args.format c.args.at scene c.in-Ok-Limit.limit (K.taken c.args.sink.now) _ _ c.in-Ok-Limit.field-0
+    c.in-Ok-Limit.field-0-is c.in-Ok-Limit.ensures.cut c.requires.at c.count-count.ensures.valid first in
+    let loan = told.sink ∙ c.new-reporter.ensures.loan in
+    let last : c.sink-in-Ok-Limit-1.given.0 ≡ c.finish.new.self.0 = search (rules, loan) in
+    subst (λ (s : Status). Wrote (IsCutText c.args.format c.args.at scene) (K.taken c.args.sink.now) (K.taken c.sink-in-Ok-Limit-1.given.0) s)
+    (sym c.status_of.ensures)
+    (subst (λ v. Wrote (IsCutText c.args.format c.args.at scene) (K.taken c.args.sink.now) (K.taken v) (status_of (Passes c.in-Ok-Limit.limit)))
+    (sym last) (told.whole _ c.in-Ok-finish.ensures.whole))
+
+pub returns-in-Ok-finish-clause-counts : goal.returns-in-Ok-finish-clause-counts
+returns-in-Ok-finish-clause-counts g c =
+    let K = g.K.Sink in let scene = c.args.scene.now in
+    let first = c.new-reporter.ensures.meaning ∙ ap (λ (t : TableData). so_far Summary t (K.taken c.args.sink.now) 0 0) c.in-Ok.ensures in
+    let told = cut_limit c.args.format c.args.at scene c.in-Ok-Limit.limit (K.taken c.args.sink.now) _ _ c.in-Ok-Limit.field-0
+    c.in-Ok-Limit.field-0-is c.in-Ok-Limit.ensures.cut c.requires.at c.count-count.ensures.valid first in
+    let loan = told.sink ∙ c.new-reporter.ensures.loan in
+    let last : c.sink-in-Ok-Limit-1.given.0 ≡ c.finish.new.self.0 = search (rules, loan) in
+    subst (λ (s : Status). CountsWrites (K.faults c.args.sink.now) (K.faults c.sink-in-Ok-Limit-1.given.0) s) (sym c.status_of.ensures)
+    (own_counts _ _ _ (own (Passes c.in-Ok-Limit.limit))
+    (ap K.faults last ∙ c.in-Ok-finish.ensures.counts ∙ c.in-Ok-Limit.ensures.counts ∙ ap K.faults c.new-reporter.ensures.sink))
+
+pub returns-in-Ok-Limit-clause-wrote : goal.returns-in-Ok-Limit-clause-wrote
+returns-in-Ok-Limit-clause-wrote g c =
+    let K = g.K.Sink in let scene = c.args.scene.now in
+    let first = c.new-reporter.ensures.meaning ∙ ap (λ (t : TableData). so_far Summary t (K.taken c.args.sink.now) 0 0) c.in-Ok.ensures in
+    let told = cut_limit c.args.format c.args.at scene c.in-Ok-Limit.limit (K.taken c.args.sink.now) _ _ c.in-Ok-Limit.field-0
+    c.in-Ok-Limit.field-0-is c.in-Ok-Limit.ensures.cut c.requires.at c.count-count.ensures.valid first in
+    let loan = told.sink ∙ c.new-reporter.ensures.loan in
+    let last : c.sink-in-Ok-Limit-1.given.0 ≡ c.finish.new.self.0 = search (rules, loan) in
+    subst (λ v. WrotePrefix (IsCutText c.args.format c.args.at scene) (K.taken c.args.sink.now) (K.taken v)) (sym last)
+    (told.part _ c.in-Err.ensures.prefix)
+
+pub returns-in-Ok-Limit-clause-counts : goal.returns-in-Ok-Limit-clause-counts
+returns-in-Ok-Limit-clause-counts g c =
+    let K = g.K.Sink in let scene = c.args.scene.now in
+    let first = c.new-reporter.ensures.meaning ∙ ap (λ (t : TableData). so_far Summary t (K.taken c.args.sink.now) 0 0) c.in-Ok.ensures in
+    let told = cut_limit c.args.format c.args.at scene c.in-Ok-Limit.limit (K.taken c.args.sink.now) _ _ c.in-Ok-Limit.field-0
+    c.in-Ok-Limit.field-0-is c.in-Ok-Limit.ensures.cut c.requires.at c.count-count.ensures.valid first in
+    let loan = told.sink ∙ c.new-reporter.ensures.loan in
+    let last : c.sink-in-Ok-Limit-1.given.0 ≡ c.finish.new.self.0 = search (rules, loan) in
+    subst (λ v. (K.faults c.args.sink.now ≤ K.faults v) × Rose (K.faults c.args.sink.now) (K.faults v)) (sym last)
+    (failed_since _ _ _ (c.in-Ok-Limit.ensures.counts ∙ ap K.faults c.new-reporter.ensures.sink) c.in-Err.ensures.counts)
+
+pub returns-in-Err-Listener-clause-wrote : goal.returns-in-Err-Listener-clause-wrote
+returns-in-Err-Listener-clause-wrote g c =
+    let K = g.K.Sink in let scene = c.args.scene.now in
+    let first = c.new-reporter.ensures.meaning ∙ ap (λ (t : TableData). so_far Summary t (K.taken c.args.sink.now) 0 0) c.in-Ok.ensures in
+    let told = cut_part c.args.format c.args.at scene (K.taken c.args.sink.now) _ _ c.in-Err-Listener.field-0
+    c.in-Err-Listener.ensures.cut_short c.requires.at c.count-count.ensures.valid first in
+    let loan = told.sink ∙ c.new-reporter.ensures.loan in
+    let last : c.in-Err-Listener.sink-in-Err-cut_at-1-own.given.0 ≡ c.cut_at.new.listener.sink.now = search (rules, loan) in
+    subst (λ v. WrotePrefix (IsCutText c.args.format c.args.at scene) (K.taken c.args.sink.now) (K.taken v)) (sym last) told.prefix
+
+pub returns-in-Err-Listener-clause-counts : goal.returns-in-Err-Listener-clause-counts
+returns-in-Err-Listener-clause-counts g c =
+    let K = g.K.Sink in let scene = c.args.scene.now in
+    let first = c.new-reporter.ensures.meaning ∙ ap (λ (t : TableData). so_far Summary t (K.taken c.args.sink.now) 0 0) c.in-Ok.ensures in
+    let told = cut_part c.args.format c.args.at scene (K.taken c.args.sink.now) _ _ c.in-Err-Listener.field-0
+    c.in-Err-Listener.ensures.cut_short c.requires.at c.count-count.ensures.valid first in
+    let loan = told.sink ∙ c.new-reporter.ensures.loan in
+    let last : c.in-Err-Listener.sink-in-Err-cut_at-1-own.given.0 ≡ c.cut_at.new.listener.sink.now = search (rules, loan) in
+    let counts = refused Cut _ _ c.in-Err-Listener.field-0 c.in-Err-Listener.ensures.counts c.in-Err-Listener.field-0-is in
+    subst (λ v. (K.faults c.args.sink.now ≤ K.faults v) × Rose (K.faults c.args.sink.now) (K.faults v)) (sym last)
+    (failed_since _ _ _ (ap K.faults c.new-reporter.ensures.sink) counts)
+
+pub returns-clause-wrote : goal.returns-clause-wrote
+returns-clause-wrote g c =
+    let K = g.K.Sink in let scene = c.args.scene.now in
+    let first = c.new-reporter.ensures.meaning ∙ ap (λ (t : TableData). so_far Summary t (K.taken c.args.sink.now) 0 0) c.in-Ok.ensures in
+    let told = cut_part c.args.format c.args.at scene (K.taken c.args.sink.now) _ _ c.in-Err-NoMemory.field-0
+    c.in-Err-NoMemory.ensures.cut_short c.requires.at c.count-count.ensures.valid first in
+    let loan = told.sink ∙ c.new-reporter.ensures.loan in
+    let last : c.in-Err-NoMemory.sink-in-Err-cut_at-1-own.given.0 ≡ c.cut_at.new.listener.sink.now = search (rules, loan) in
+    subst (λ v. WrotePrefix (IsCutText c.args.format c.args.at scene) (K.taken c.args.sink.now) (K.taken v)) (sym last) told.prefix
+
+pub returns-clause-counts : goal.returns-clause-counts
+returns-clause-counts g c =
+    let K = g.K.Sink in let scene = c.args.scene.now in
+    let first = c.new-reporter.ensures.meaning ∙ ap (λ (t : TableData). so_far Summary t (K.taken c.args.sink.now) 0 0) c.in-Ok.ensures in
+    let told = cut_part c.args.format c.args.at scene (K.taken c.args.sink.now) _ _ c.in-Err-NoMemory.field-0
+    c.in-Err-NoMemory.ensures.cut_short c.requires.at c.count-count.ensures.valid first in
+    let loan = told.sink ∙ c.new-reporter.ensures.loan in
+    let last : c.in-Err-NoMemory.sink-in-Err-cut_at-1-own.given.0 ≡ c.cut_at.new.listener.sink.now = search (rules, loan) in
+    let counts = unrefused Cut _ _ c.in-Err-NoMemory.field-0 c.in-Err-NoMemory.ensures.counts c.in-Err-NoMemory.field-0-is in
+    let same : K.faults c.in-Err-NoMemory.sink-in-Err-cut_at-1-own.given.0 ≡ K.faults c.args.sink.now =
+    ap K.faults last ∙ counts ∙ ap K.faults c.new-reporter.ensures.sink in
+    omega (arith, same)

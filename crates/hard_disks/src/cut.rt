@@ -1,0 +1,54 @@
+//! A run up to a tick, and what is left of it.
+
+ghost use Rattle.std.specs.Prelude.{◌≤◌, IfOk, IfErr};
+ghost use Rattle.event_rules.specs.Tellings.{RunCutShort, CountsRun};
+ghost use Rattle.resume.specs.Parts.{before_scene};
+ghost use Rattle.hard_disks.specs.Cut.{CutTold};
+
+use crate::engines::Engine;
+use event_rules::{Limit, Listener, Outcome, RunFault};
+use fixed_motion::Scene;
+use resume::{before, rest};
+use std::alloc::Global;
+use std::sync::Wait;
+use std::thread::Threads;
+
+/// How a run up to a tick ends.
+#[derive(Drop)]
+pub enum Cut {
+    /// The tick is reached; this is what is left.
+    Rest(Scene),
+    /// An event before the tick fails.
+    Limit(Limit),
+}
+
+/// Runs a scene up to a tick, which is at most its last one, tells each change before it in the order
+/// of the stamps, and answers the rest as a scene of its own.
+///
+/// # Errors
+/// The listener refused a change, and its count of refusals rose; or out of memory.
+pub fn cut_at<E: Engine, R: Threads + Wait + Sync, L: Listener>(
+    rt: &R,
+    alloc: Global,
+    scene: &Scene,
+    at: u64,
+    engine: &mut E,
+    listener: &mut L,
+) -> Result<Cut, RunFault>
+    requires at { at ≤ scene.now.rules.end }
+    requires ready { E.ready engine.old }
+    ensures cut { IfOk result (λ cut.
+        CutTold L.after scene.now at cut (L.meaning listener.old) (L.meaning listener.new)) }
+    ensures cut_short { IfErr result (λ fault.
+        RunCutShort L.after L.torn (before_scene scene.now at) fault
+        (L.meaning listener.old) (L.meaning listener.new)) }
+    ensures counts { CountsRun (L.faults listener.old) (L.faults listener.new) result }
+{
+    // A scene that is read is known to be valid.
+    let _end = scene.rules.end;
+    let first = before(alloc, scene, at)?;
+    match engine.run(rt, alloc, &first, listener)? {
+        Outcome::Done(state) => Ok(Cut::Rest(rest(alloc, scene, at, &state)?)),
+        Outcome::Limit(limit) => Ok(Cut::Limit(limit)),
+    }
+}

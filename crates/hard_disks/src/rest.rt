@@ -1,0 +1,137 @@
+//! What mode `cut` writes: what is left of a scene after a tick, as a scene of its own.
+
+ghost use Rattle.std.specs.Prelude.{◌≡◌, ◌≤◌, length, IfOk};
+ghost use Rattle.cell_grid.specs.Grid.{IsAsked};
+ghost use Rattle.region_core.specs.Bursts.{AreTogether};
+ghost use Rattle.command_words.specs.Ranges.{AreInRange};
+ghost use Rattle.hard_disks.specs.Output.{format_of, IsCutText};
+ghost use Rattle.hard_disks.specs.Answers.{Wrote, CountsWrites};
+ghost use Rattle.hard_disks.specs.Shows.{IsOfScene};
+
+use crate::cut::{Cut, cut_at};
+use crate::engines::{Engine, Regions};
+use crate::refusals::late_cut_line;
+use crate::show::{format_of, status_of, write_scene, write_text};
+use crate::status::Status;
+use collision_report::{Format, Reporter, StateTable};
+use command_words::Settings;
+use event_rules::{Outcome, RunFault};
+use fixed_motion::Scene;
+use region_core::{Gate, Region};
+use region_workers::{ByCall, Workers};
+use report_ports::Sink;
+use std::alloc::{AllocError, Global};
+use std::sync::Wait;
+use std::thread::Threads;
+
+/// Runs the scene over regions up to the tick of the settings, and writes what is left of it.
+pub fn cut_regions<R: Threads + Wait + Sync, K: Sink, G: Gate>(
+    rt: &R,
+    alloc: Global,
+    settings: &Settings,
+    scene: &Scene,
+    sink: &mut K,
+    gate: &G,
+) -> Status
+    requires { AreInRange settings.now }
+    ensures wrote { Wrote (IsCutText (format_of settings.now.format) settings.now.at scene.now)
+        (K.taken sink.old) (K.taken sink.new) result }
+    ensures of_scene { IsOfScene result }
+    ensures counts { CountsWrites (K.faults sink.old) (K.faults sink.new) result }
+{
+    let workers = Workers {
+        workers: settings.workers,
+        turns: settings.turns,
+        steps: settings.steps,
+        gate,
+    };
+    let format = format_of(settings.format);
+    let (regions, at) = (settings.regions, settings.at);
+    cut_by_workers(rt, alloc, &workers, regions, format, at, scene, sink)
+}
+
+// Runs the scene over so many regions, on which workers work between two commits.
+fn cut_by_workers<R: Threads + Wait + Sync, K: Sink, G: Gate>(
+    rt: &R,
+    alloc: Global,
+    workers: &Workers<'_, G>,
+    regions: u32,
+    format: Format,
+    at: u64,
+    scene: &Scene,
+    sink: &mut K,
+) -> Status
+    requires { IsAsked regions }
+    ensures wrote { Wrote (IsCutText format at scene.now) (K.taken sink.old) (K.taken sink.new) result }
+    ensures of_scene { IsOfScene result }
+    ensures counts { CountsWrites (K.faults sink.old) (K.faults sink.new) result }
+{
+    let burst = ByCall {
+        call: |regions: Vec<Region>| -> Result<Vec<Region>, AllocError>
+            requires { AreTogether regions.items }
+            ensures { IfOk result (λ worked. length worked.items ≡ length regions.items) }
+        { workers.burst(rt, alloc, regions) },
+    };
+    let mut engine = Regions { regions, burst };
+    write_cut(rt, alloc, &mut engine, format, at, scene, sink)
+}
+
+/// Runs the scene by an engine up to a tick, and writes what is left of it. A tick after its last one is
+/// refused.
+pub fn write_cut<R: Threads + Wait + Sync, E: Engine, K: Sink>(
+    rt: &R,
+    alloc: Global,
+    engine: &mut E,
+    format: Format,
+    at: u64,
+    scene: &Scene,
+    sink: &mut K,
+) -> Status
+    requires { E.ready engine.old }
+    ensures wrote { Wrote (IsCutText format at scene.now) (K.taken sink.old) (K.taken sink.new) result }
+    ensures of_scene { IsOfScene result }
+    ensures counts { CountsWrites (K.faults sink.old) (K.faults sink.new) result }
+{
+    if at > scene.rules.end {
+        write_text(sink, late_cut_line().as_bytes(), Status::SceneRefused)
+    } else {
+        write_rest(rt, alloc, engine, format, at, scene, sink)
+    }
+}
+
+// The same up to a tick of the scene. Where the run passes a limit before it, its report is written, in
+// the short form, which has the end alone.
+fn write_rest<R: Threads + Wait + Sync, E: Engine, K: Sink>(
+    rt: &R,
+    alloc: Global,
+    engine: &mut E,
+    format: Format,
+    at: u64,
+    scene: &Scene,
+    sink: &mut K,
+) -> Status
+    requires ready { E.ready engine.old }
+    requires at { at ≤ scene.now.rules.end }
+    ensures wrote { Wrote (IsCutText format at scene.now) (K.taken sink.old) (K.taken sink.new) result }
+    ensures of_scene { IsOfScene result }
+    ensures counts { CountsWrites (K.faults sink.old) (K.faults sink.new) result }
+{
+    // The clause of this call says that the scene is valid, so it has a run.
+    let _count = scene.count();
+    let Ok(mut table) = StateTable::new(alloc, scene) else {
+        return Status::NoMemory;
+    };
+    let mut reporter = Reporter::new(&mut table, sink, Format::Summary);
+    match cut_at(rt, alloc, scene, at, engine, &mut reporter) {
+        Ok(Cut::Rest(rest)) => write_scene(alloc, "rest", format, &rest, sink),
+        Ok(Cut::Limit(limit)) => {
+            let outcome = Outcome::Limit(limit);
+            match reporter.finish(scene, &outcome) {
+                Ok(()) => status_of(&outcome),
+                Err(_) => Status::WriteFault,
+            }
+        }
+        Err(RunFault::Listener) => Status::WriteFault,
+        Err(RunFault::NoMemory) => Status::NoMemory,
+    }
+}
