@@ -1,6 +1,7 @@
 //! What reports are made of, for those who read the definitions alone.
 
 ghost use Rattle.collision_report.specs.Laws.{ReportsJoin, ReportsBegin, ReportsBreakOff, BlocksShowStates, BlocksStandOnce, TablesServe};
+ghost use Rattle.collision_report.specs.ShortLines.{ReportsHaveShortLines};
 
 /// What a reporter is told of a run and what it writes at the end make the report of the run.
 pub fn reports_join()
@@ -33,4 +34,9 @@ pub fn blocks_stand_once()
 /// The table of a reporter that was told changes of a run is one for the scene of the run.
 pub fn tables_serve()
     ensures { TablesServe }
+{}
+
+/// The report of a run is made of lines of at most 128 bytes, with a newline behind each.
+pub fn reports_have_short_lines()
+    ensures { ReportsHaveShortLines }
 {}

@@ -34,7 +34,7 @@ number_option name least most default =
     record (named_option name default) { parser = Some (value_parser.Unsigned least most) }
 
 abbrev pub mode_names : List Text
-mode_names = codes "run" ∷ codes "plain" ∷ codes "check" ∷ codes "load" ∷ codes "cut" ∷ []
+mode_names = codes "run" ∷ codes "plain" ∷ codes "check" ∷ codes "load" ∷ codes "cut" ∷ codes "audit" ∷ []
 
 abbrev pub format_names : List Text
 format_names = codes "lines" ∷ codes "summary" ∷ []

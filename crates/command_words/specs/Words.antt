@@ -8,7 +8,7 @@ use Rattle.clap.specs.ValueTests.{is_unsigned_in}
 use Rattle.command_words.specs.Options.{command}
 use Rattle.command_words.specs.declared.settings.Settings.{Settings}
 use Rattle.command_words.specs.declared.settings.Mode.{Mode}
-use Rattle.command_words.specs.declared.settings.Mode.TheVariants.{Run, Plain, Check, Load, Cut}
+use Rattle.command_words.specs.declared.settings.Mode.TheVariants.{Run, Plain, Check, Load, Cut, Audit}
 use Rattle.command_words.specs.declared.settings.OutputFormat.{OutputFormat}
 use Rattle.command_words.specs.declared.settings.OutputFormat.TheVariants.{Lines, Summary}
 
@@ -24,6 +24,7 @@ mode_of text =
     else if bytes_eq text (codes "check") then Some Check
     else if bytes_eq text (codes "load") then Some Load
     else if bytes_eq text (codes "cut") then Some Cut
+    else if bytes_eq text (codes "audit") then Some Audit
     else None
 
 abbrev pub format_of : Text → Option OutputFormat

@@ -17,6 +17,7 @@ fn mode_of(text: &str) -> Option<Mode>
         "check" => Some(Mode::Check),
         "load" => Some(Mode::Load),
         "cut" => Some(Mode::Cut),
+        "audit" => Some(Mode::Audit),
         _ => None,
     }
 }

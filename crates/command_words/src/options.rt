@@ -9,7 +9,7 @@ use clap::builder::ValueParser;
 use clap::{Arg, Command};
 use std::alloc::{AllocError, Global};
 
-static MODES: [&str; 5] = ["run", "plain", "check", "load", "cut"];
+static MODES: [&str; 6] = ["run", "plain", "check", "load", "cut", "audit"];
 
 static FORMATS: [&str; 2] = ["lines", "summary"];
 

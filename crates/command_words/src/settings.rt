@@ -13,6 +13,8 @@ pub enum Mode {
     Load,
     /// Runs the scene over regions up to a tick, and writes what is left of it as a scene.
     Cut,
+    /// Runs the scene over regions, and compares the report with a claimed one, which follows the scene.
+    Audit,
 }
 
 /// The form of what is written.

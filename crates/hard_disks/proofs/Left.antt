@@ -27,8 +27,9 @@ use Rattle.collision_report.specs.Meaning.{ReportSoFar, LentReport, IsSceneOf, n
 use Rattle.hard_disks.specs.declared.cut.Cut.{Cut}
 use Rattle.hard_disks.specs.declared.cut.Cut.TheVariants.{Rest, Limit as PassesLimit}
 use Rattle.hard_disks.specs.declared.status.Status.{Status}
-use Rattle.hard_disks.specs.declared.status.Status.TheVariants.{Done, BadWords, SceneRefused, SpeedLimit, RoundLimit, ReadFault, WriteFault, NoMemory}
-use Rattle.hard_disks.specs.Output.{IsReport, IsSceneText, IsCutText, scene_text_of, status_of}
+use Rattle.hard_disks.specs.declared.status.Status.TheVariants.{Done, BadWords, SceneRefused, SpeedLimit, RoundLimit, ReadFault, WriteFault, NoMemory, Wrong}
+use Rattle.hard_disks.specs.Output.{IsSceneText, IsCutText, scene_text_of}
+use Rattle.hard_disks.specs.Reports.{IsReport, status_of}
 use Rattle.hard_disks.specs.Answers.{Wrote, WrotePrefix}
 use Rattle.hard_disks.specs.Cut.{CutTold}
 use Rattle.hard_disks.proofs.OneOutput.{one_left}
@@ -64,6 +65,7 @@ wrote_from output a b c RoundLimit k h = (h.0, h.1, appends_from a b c h.0 k h.2
 wrote_from output a b c ReadFault k h = keeps_on a b c k h
 wrote_from output a b c WriteFault k h = (h.0, h.1, h.2, (h.3.0, h.3.1, h.3.2, appends_from a b c h.3.0 k h.3.3))
 wrote_from output a b c NoMemory k h = (h.0, h.1, h.2, (h.3.0, h.3.1, h.3.2, appends_from a b c h.3.0 k h.3.3))
+wrote_from output a b c Wrong k h = (h.0, h.1, appends_from a b c h.0 k h.2)
 
 -- ---- the short form, which has nothing of changes
 listed_none : (format : Format) (text : List ℕ) → format ≡ Summary → listed format text ≡ []

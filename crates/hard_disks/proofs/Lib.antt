@@ -7,3 +7,5 @@ pub mod Published
 pub mod Watched
 pub mod Cuts
 pub mod Left
+pub mod Kept
+pub mod Audited

@@ -15,7 +15,7 @@ use Rattle.collision_report.specs.Meaning.{LentReport, IsSceneOf, nothing_yet, t
 use Rattle.live_progress.specs.Lists.{StartsWith}
 use Rattle.live_progress.specs.Watching.{SoFar, with_change, IsTorn, pairs_of}
 use Rattle.live_progress.proofs.Watches.{run_watched, cut_watched}
-use Rattle.hard_disks.specs.Output.{IsReport, status_of}
+use Rattle.hard_disks.specs.Reports.{IsReport, status_of}
 use Rattle.hard_disks.specs.Answers.{Wrote, WrotePrefix}
 use Rattle.hard_disks.proofs.Reported.{told_on, serves_scene, wrote_report, wrote_part_of_end, begun}
 

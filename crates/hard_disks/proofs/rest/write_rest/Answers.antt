@@ -5,7 +5,8 @@ use Rattle.collision_report.specs.Meaning.{TableData, so_far}
 use Rattle.event_rules.specs.declared.outcome.Outcome.TheVariants.{Limit as Passes}
 use Rattle.hard_disks.specs.declared.status.Status.{Status}
 use Rattle.hard_disks.specs.declared.cut.Cut.{Cut}
-use Rattle.hard_disks.specs.Output.{IsSceneText, IsCutText, status_of}
+use Rattle.hard_disks.specs.Output.{IsSceneText, IsCutText}
+use Rattle.hard_disks.specs.Reports.{status_of}
 use Rattle.hard_disks.specs.Answers.{Wrote, WrotePrefix, CountsWrites}
 use Rattle.hard_disks.proofs.Wrote.{kept, own_counts}
 use Rattle.hard_disks.proofs.Reported.{own, failed_since}

@@ -7,7 +7,7 @@ use Rattle.live_progress.specs.Lists.{Known, StartsWith}
 use Rattle.live_progress.specs.Watching.{pairs_of}
 use Rattle.hard_disks.specs.declared.status.Status.{Status}
 use Rattle.hard_disks.specs.declared.status.Status.TheVariants.{NoMemory}
-use Rattle.hard_disks.specs.Output.{IsReport, status_of}
+use Rattle.hard_disks.specs.Reports.{IsReport, status_of}
 use Rattle.hard_disks.specs.Answers.{Wrote, WrotePrefix, CountsWrites}
 use Rattle.hard_disks.specs.Publishes.{PublishesPairs}
 use Rattle.hard_disks.proofs.Wrote.{own_counts}

@@ -1,0 +1,79 @@
+-- What an audit says.
+use Rattle.std.specs.Prelude.{◌≡◌, ◌≢◌, ℕ, ◌≤◌, List, [], ⊤, Option, Some, None, Result, Ok, Err}
+use Rattle.report_ports.specs.Ports.{Rose}
+use Rattle.fixed_motion.specs.Scene.{SceneData}
+use Rattle.scene_reader.specs.declared.fault.SceneFault.{SceneFault}
+use Rattle.scene_reader.specs.declared.fault.SceneFault.TheVariants as reading
+use Rattle.collision_report.specs.declared.format.Format.TheVariants.{Lines}
+use Rattle.report_audit.specs.Parting.{rest_of, front_of_known}
+use Rattle.report_audit.specs.Kept.{KeptData}
+use Rattle.report_audit.specs.Compared.{IsVerdict, HasShortLines}
+use Rattle.report_audit.specs.declared.verdict.Verdict.{Verdict}
+use Rattle.report_audit.specs.declared.verdict.Verdict.TheVariants.{Same, Line}
+use Rattle.hard_disks.specs.declared.status.Status.{Status}
+use Rattle.hard_disks.specs.declared.audit.AuditFault.{AuditFault}
+use Rattle.hard_disks.specs.declared.audit.AuditFault.TheVariants.{Scene, ReadFault, NoMemory}
+use Rattle.hard_disks.specs.Reports.{IsReport, IsReadingOf}
+
+-- ---- what an audit says
+-- the claimed report: the bytes after the parting line; where the source doesn't know its bytes, any
+abbrev pub IsClaimedOf : Option (List ℕ) → List ℕ → Type 0
+IsClaimedOf None claimed = ⊤
+IsClaimedOf (Some bytes) claimed = claimed ≡ rest_of bytes
+
+-- the text is the report of the scene's run
+abbrev pub KeepsReport : SceneData → List ℕ → Type 0
+KeepsReport scene text = (own : Status) × IsReport Lines scene text own
+
+-- the bytes before the parting line state a scene, and the verdict is right about the report of its run and the claimed one
+abbrev pub IsAudited : Option (List ℕ) → Verdict → Type 0
+IsAudited left verdict =
+    (scene : SceneData) × (text : List ℕ) × (claimed : List ℕ) × IsReadingOf (front_of_known left) (Ok scene)
+    × KeepsReport scene text × IsClaimedOf left claimed × IsVerdict text claimed verdict
+
+-- a refusal of the bytes before the parting line themselves
+abbrev pub IsRefusal : Option (List ℕ) → SceneFault → Type 0
+IsRefusal left fault = IsReadingOf left (Err fault) × (fault ≢ reading.ReadFault) × (fault ≢ reading.NoMemory)
+
+-- what the source had left, and the answer
+abbrev pub IsAudit : Option (List ℕ) → Result Verdict AuditFault → Type 0
+IsAudit left (Ok verdict) = IsAudited left verdict
+IsAudit left (Err (Scene fault)) = IsRefusal (front_of_known left) fault
+IsAudit left (Err ReadFault) = ⊤
+IsAudit left (Err NoMemory) = ⊤
+
+-- where the texts are the same, nothing is left of known bytes
+abbrev pub IsRead : Verdict → Option (List ℕ) → Type 0
+IsRead (Same lines) after = after ≡ Some []
+IsRead (Line number expected) after = ⊤
+
+abbrev pub Empties : Option (List ℕ) → Option (List ℕ) → Result Verdict AuditFault → Type 0
+Empties None after result = ⊤
+Empties (Some bytes) after (Ok verdict) = IsRead verdict after
+Empties (Some bytes) after (Err fault) = ⊤
+
+-- the source's count of faults before and after
+abbrev pub CountsAudit : {A : Type 0} → ℕ → ℕ → Result A AuditFault → Type 0
+CountsAudit before after (Ok a) = after ≡ before
+CountsAudit before after (Err (Scene fault)) = after ≡ before
+CountsAudit before after (Err ReadFault) = (before ≤ after) × Rose before after
+CountsAudit before after (Err NoMemory) = after ≡ before
+
+-- ---- its parts
+-- a scene was read to the end of its source, and the report of its run was kept
+abbrev pub HasKept : Option (List ℕ) → Option (List ℕ) → KeptData → Type 0
+HasKept left left' kept =
+    (scene : SceneData) × IsReadingOf left (Ok scene) × KeepsReport scene kept.taken × HasShortLines kept.taken
+    × ((bytes : List ℕ) → left ≡ Some bytes → left' ≡ Some [])
+
+abbrev pub ReadsReport : Option (List ℕ) → Option (List ℕ) → Result KeptData AuditFault → Type 0
+ReadsReport left left' (Ok kept) = HasKept left left' kept
+ReadsReport left left' (Err (Scene fault)) = IsRefusal left fault
+ReadsReport left left' (Err ReadFault) = ⊤
+ReadsReport left left' (Err NoMemory) = ⊤
+
+-- what a fault of the reading is to an audit
+abbrev pub IsAuditFaultOf : SceneFault → AuditFault → Type 0
+IsAuditFaultOf fault (Scene other) = (other ≡ fault) × (fault ≢ reading.ReadFault) × (fault ≢ reading.NoMemory)
+IsAuditFaultOf fault ReadFault = fault ≡ reading.ReadFault
+IsAuditFaultOf fault NoMemory = fault ≡ reading.NoMemory

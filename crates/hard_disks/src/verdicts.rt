@@ -1,0 +1,176 @@
+//! What mode `audit` writes: the verdict on a claimed report.
+
+ghost use Rattle.std.specs.Prelude.{◌≡◌, ◌≢◌, ◌≤◌, ◌++◌, ◌∷◌, [], Some, length, codes, decimal, IfOk};
+ghost use Rattle.cell_grid.specs.Grid.{IsAsked};
+ghost use Rattle.region_core.specs.Bursts.{AreTogether};
+ghost use Rattle.command_words.specs.Ranges.{AreInRange};
+ghost use Rattle.command_words.specs.declared.settings.Settings.{Settings};
+ghost use Rattle.command_words.specs.declared.settings.Mode.TheVariants.{Audit};
+ghost use Rattle.text_lines.specs.Lines.{line_of};
+ghost use Rattle.hard_disks.specs.Answers.{Answers, LeavesNothing, CountsReads, CountsWrites};
+ghost use Rattle.hard_disks.specs.Verdicts.{expected_line, verdict_text, verdict_status};
+
+use crate::audit::{AuditFault, audit};
+use crate::engines::{Engine, Regions};
+use crate::refusals::refusal_line;
+use crate::show::write_text;
+use crate::status::Status;
+use command_words::{Mode, Settings};
+use region_core::{Gate, Region};
+use region_workers::{ByCall, Workers};
+use report_audit::Verdict;
+use report_ports::{Sink, Source};
+use std::alloc::{AllocError, Global};
+use std::sync::Wait;
+use std::thread::Threads;
+use text_lines::Line;
+
+/// Audits the claimed report of a source by a run over regions, with the numbers of the settings, and writes the
+/// verdict, or the line of a refused scene.
+pub fn audit_regions<R: Threads + Wait + Sync, S: Source, K: Sink, G: Gate>(
+    rt: &R,
+    alloc: Global,
+    settings: &Settings,
+    source: &mut S,
+    sink: &mut K,
+    gate: &G,
+) -> Status
+    requires ranges { AreInRange settings.now }
+    requires mode { settings.now.mode ≡ Mode.Audit }
+    ensures answers { Answers (Some settings.now) (S.left source.old)
+        (K.taken sink.old) (K.taken sink.new) result }
+    ensures emptied { LeavesNothing (S.left source.old) (S.left source.new) result }
+    ensures reads { CountsReads (S.faults source.old) (S.faults source.new) result }
+    ensures writes { CountsWrites (K.faults sink.old) (K.faults sink.new) result }
+{
+    let workers = Workers {
+        workers: settings.workers,
+        turns: settings.turns,
+        steps: settings.steps,
+        gate,
+    };
+    audit_by_workers(rt, alloc, &workers, settings.regions, source, sink)
+}
+
+// The same over so many regions, on which workers work between two commits.
+fn audit_by_workers<R: Threads + Wait + Sync, S: Source, K: Sink, G: Gate>(
+    rt: &R,
+    alloc: Global,
+    workers: &Workers<'_, G>,
+    regions: u32,
+    source: &mut S,
+    sink: &mut K,
+) -> Status
+    requires { IsAsked regions }
+    ensures answers { (settings : Settings) → settings.mode ≡ Audit →
+        Answers (Some settings) (S.left source.old) (K.taken sink.old) (K.taken sink.new) result }
+    ensures emptied { LeavesNothing (S.left source.old) (S.left source.new) result }
+    ensures reads { CountsReads (S.faults source.old) (S.faults source.new) result }
+    ensures writes { CountsWrites (K.faults sink.old) (K.faults sink.new) result }
+{
+    let burst = ByCall {
+        call: |regions: Vec<Region>| -> Result<Vec<Region>, AllocError>
+            requires { AreTogether regions.items }
+            ensures { IfOk result (λ worked. length worked.items ≡ length regions.items) }
+        { workers.burst(rt, alloc, regions) },
+    };
+    let mut engine = Regions { regions, burst };
+    show_audit(rt, alloc, &mut engine, source, sink)
+}
+
+/// Audits the claimed report of a source, and writes the verdict, or the line of a refused scene.
+pub fn show_audit<R: Threads + Wait + Sync, E: Engine, S: Source, K: Sink>(
+    rt: &R,
+    alloc: Global,
+    engine: &mut E,
+    source: &mut S,
+    sink: &mut K,
+) -> Status
+    requires { E.ready engine.old }
+    ensures answers { (settings : Settings) → settings.mode ≡ Audit →
+        Answers (Some settings) (S.left source.old) (K.taken sink.old) (K.taken sink.new) result }
+    ensures emptied { LeavesNothing (S.left source.old) (S.left source.new) result }
+    ensures reads { CountsReads (S.faults source.old) (S.faults source.new) result }
+    ensures writes { CountsWrites (K.faults sink.old) (K.faults sink.new) result }
+{
+    match audit(rt, alloc, source, engine) {
+        Ok(verdict) => {
+            let text = verdict_text(&verdict);
+            write_text(sink, text.as_bytes(), verdict_status(&verdict))
+        }
+        Err(AuditFault::Scene(fault)) => {
+            write_text(sink, refusal_line(&fault).as_bytes(), Status::SceneRefused)
+        }
+        Err(AuditFault::ReadFault) => Status::ReadFault,
+        Err(AuditFault::NoMemory) => Status::NoMemory,
+    }
+}
+
+fn verdict_status(verdict: &Verdict) -> Status
+    ensures status { result ≡ verdict_status verdict.now }
+    ensures own { result ≢ Status.WriteFault }
+{
+    match verdict {
+        Verdict::Same { .. } => Status::Done,
+        Verdict::Line { .. } => Status::Wrong,
+    }
+}
+
+/// The lines of a verdict.
+pub fn verdict_text(verdict: &Verdict) -> Line
+    ensures { result ≡ verdict_text verdict.now }
+{
+    match verdict {
+        Verdict::Same { lines } => ok_line(*lines),
+        Verdict::Line { number, expected } => {
+            let mut text = wrong_line(*number);
+            match expected {
+                Some(line) => push_expected(&mut text, line.as_slice()),
+                None => push_nothing(&mut text),
+            }
+            text
+        }
+    }
+}
+
+fn ok_line(lines: u128) -> Line
+    ensures { result ≡ line_of (codes "audit ok" ∷ decimal lines ∷ []) }
+{
+    let mut line = Line::new();
+    line.push_text("audit ok");
+    line.push_text(" ");
+    line.push_wide(lines);
+    line.push_newline();
+    line
+}
+
+fn wrong_line(number: u128) -> Line
+    ensures text { result ≡ line_of (codes "audit line" ∷ decimal number ∷ []) }
+    ensures len { length result ≤ 51 }
+{
+    let mut line = Line::new();
+    line.push_text("audit line");
+    line.push_text(" ");
+    line.push_wide(number);
+    line.push_newline();
+    line
+}
+
+fn push_expected(text: &mut Line, line: &[u8])
+    requires room { length text.old ≤ 51 }
+    requires short { length line.now ≤ 128 }
+    ensures { text.new ≡ text.old ++ line_of (codes "expected" ∷ line.now ∷ []) }
+{
+    text.push_text("expected");
+    text.push_text(" ");
+    text.push_bytes(line);
+    text.push_newline();
+}
+
+fn push_nothing(text: &mut Line)
+    requires { length text.old ≤ 51 }
+    ensures { text.new ≡ text.old ++ line_of (codes "expected nothing" ∷ []) }
+{
+    text.push_text("expected nothing");
+    text.push_newline();
+}
