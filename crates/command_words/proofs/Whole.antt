@@ -9,14 +9,16 @@ use Rattle.clap.specs.ValueTests.{accepts, is_unsigned_in}
 use Rattle.clap.specs.declared.builder.value_parser.ValueParser.TheVariants as value_parser
 use Rattle.clap.proofs.ValueTestLemmas.{Accepts-accepts, accepts-Accepts}
 use Rattle.command_words.proofs.InRange.{together}
-use Rattle.command_words.proofs.Numbers.{HasName, HasNumber, at_passed, disks_passed, format_passed, mode_passed, number_passed, regions_passed, steps_passed, turns_passed, workers_passed}
+use Rattle.command_words.proofs.Numbers.{HasName, HasNumber, at_passed, burst_passed, disks_passed, format_passed, mode_passed, number_passed, regions_passed, steps_passed, turns_passed, workers_passed}
 use Rattle.command_words.specs.Laws.{MatchesHaveSettings}
-use Rattle.command_words.specs.Options.{command, format_names, mode_names, names_of}
-use Rattle.command_words.specs.Words.{format_of, mode_of, number_up_to, settings_in, settings_of}
+use Rattle.command_words.specs.Options.{burst_names, command, format_names, mode_names, names_of}
+use Rattle.command_words.specs.Words.{burst_of, format_of, mode_of, number_up_to, settings_in, settings_of}
 use Rattle.command_words.specs.declared.settings.Mode.{Mode}
 use Rattle.command_words.specs.declared.settings.Mode.TheVariants.{Run, Plain, Check, Load, Cut, Audit}
 use Rattle.command_words.specs.declared.settings.OutputFormat.TheVariants.{Lines, Summary}
 use Rattle.command_words.specs.declared.settings.OutputFormat.{OutputFormat}
+use Rattle.command_words.specs.declared.settings.BurstKind.{BurstKind}
+use Rattle.command_words.specs.declared.settings.BurstKind.TheVariants.{Locks, Table}
 
 -- a number that passed the parser of its option is read
 number_there : (least most greatest : ℕ) (o : Option Text) → most ≤ greatest → HasNumber least most o → (n : ℕ) × (option_and_then (number_up_to greatest) o ≡ Some n)
@@ -27,10 +29,10 @@ number_there least most greatest o below has =
     let read : number_up_to greatest has.0 ≡ Some (digits_value 10 (without_leading_plus has.0)) = rw wide refl in
     (digits_value 10 (without_leading_plus has.0), ap (option_and_then (number_up_to greatest)) has.1 ∙ read)
 
-together_there : (mode : Option Mode) (format : Option OutputFormat) (regions workers turns steps number disks at : Option ℕ) (m : Mode) (f : OutputFormat) (r w t s n d a : ℕ)
-    → mode ≡ Some m → format ≡ Some f → regions ≡ Some r → workers ≡ Some w → turns ≡ Some t → steps ≡ Some s → number ≡ Some n → disks ≡ Some d → at ≡ Some a
-    → is_some (together mode format regions workers turns steps number disks at) ≡ true
-together_there mode format regions workers turns steps number disks at m f r w t s n d a e0 e1 e2 e3 e4 e5 e6 e7 e8 = rw (e0, e1, e2, e3, e4, e5, e6, e7, e8) refl
+together_there : (mode : Option Mode) (format : Option OutputFormat) (regions workers turns steps number disks at : Option ℕ) (burst : Option BurstKind) (m : Mode) (f : OutputFormat) (r w t s n d a : ℕ) (b : BurstKind)
+    → mode ≡ Some m → format ≡ Some f → regions ≡ Some r → workers ≡ Some w → turns ≡ Some t → steps ≡ Some s → number ≡ Some n → disks ≡ Some d → at ≡ Some a → burst ≡ Some b
+    → is_some (together mode format regions workers turns steps number disks at burst) ≡ true
+together_there mode format regions workers turns steps number disks at burst m f r w t s n d a b e0 e1 e2 e3 e4 e5 e6 e7 e8 e9 = rw (e0, e1, e2, e3, e4, e5, e6, e7, e8, e9) refl
 
 -- of names that each say something, one says something
 abbrev EachSays : {X : Type 0} → (Text → Option X) → List Text → Type 0
@@ -63,7 +65,8 @@ matches_have_settings words none =
     let number = number_there 0 18446744073709551615 18446744073709551615 (one_of (codes "number") (matches_of command words)) (omega arith) (number_passed words none) in
     let disks = number_there 0 65536 4294967295 (one_of (codes "disks") (matches_of command words)) (omega arith) (disks_passed words none) in
     let at = number_there 0 1099511627776 18446744073709551615 (one_of (codes "at") (matches_of command words)) (omega arith) (at_passed words none) in
+    let burst = choice_there burst_of burst_names (first_of (codes "burst") (matches_of command words)) ((Locks, refl), ((Table, refl), tt)) (burst_passed words none) in
     let there : is_some (settings_in (matches_of command words)) ≡ true =
-    together_there _ _ _ _ _ _ _ _ _ mode.0 format.0 regions.0 workers.0 turns.0 steps.0 number.0 disks.0 at.0 mode.1 format.1 regions.1 workers.1 turns.1 steps.1 number.1
-    disks.1 at.1 in
+    together_there _ _ _ _ _ _ _ _ _ _ mode.0 format.0 regions.0 workers.0 turns.0 steps.0 number.0 disks.0 at.0 burst.0 mode.1 format.1 regions.1 workers.1 turns.1 steps.1 number.1
+    disks.1 at.1 burst.1 in
     rw none there

@@ -39,8 +39,11 @@ mode_names = codes "run" ∷ codes "plain" ∷ codes "check" ∷ codes "load" �
 abbrev pub format_names : List Text
 format_names = codes "lines" ∷ codes "summary" ∷ []
 
-abbrev pub options_of : Names → Names → List Rule
-options_of modes formats =
+abbrev pub burst_names : List Text
+burst_names = codes "locks" ∷ codes "table" ∷ []
+
+abbrev pub options_of : Names → Names → Names → List Rule
+options_of modes formats bursts =
     choice_option (codes "mode") modes (codes "run")
     ∷ choice_option (codes "format") formats (codes "lines")
     ∷ number_option (codes "regions") 1 64 (codes "4")
@@ -50,13 +53,14 @@ options_of modes formats =
     ∷ number_option (codes "number") 0 18446744073709551615 (codes "1")
     ∷ number_option (codes "disks") 0 65536 (codes "100")
     ∷ number_option (codes "at") 0 1099511627776 (codes "0")
+    ∷ choice_option (codes "burst") bursts (codes "locks")
     ∷ []
 
 -- the command has these options alone: neither `--help` nor `--version`, and no word before them
-abbrev pub command_of : Names → Names → App
-command_of modes formats = record {
+abbrev pub command_of : Names → Names → Names → App
+command_of modes formats bursts = record {
   top = record (new_app (codes "hard_disks")).top {
-    rules = options_of modes formats;
+    rules = options_of modes formats bursts;
     no_binary_name = true;
     disable_help_flag = true;
     disable_version_flag = true;
@@ -65,9 +69,10 @@ command_of modes formats = record {
 }
 
 abbrev pub command : App
-command = command_of (names_of mode_names) (names_of format_names)
+command = command_of (names_of mode_names) (names_of format_names) (names_of burst_names)
 
 -- the command has these options and names, wherever its references point
 abbrev pub IsCommand : App → Type 0
-IsCommand made = (modes : Names) × (formats : Names) × (made ≡ command_of modes formats)
-    × (texts_of modes ≡ mode_names) × (texts_of formats ≡ format_names)
+IsCommand made = (modes : Names) × (formats : Names) × (bursts : Names)
+    × (made ≡ command_of modes formats bursts)
+    × (texts_of modes ≡ mode_names) × (texts_of formats ≡ format_names) × (texts_of bursts ≡ burst_names)

@@ -11,6 +11,8 @@ use Rattle.command_words.specs.declared.settings.Mode.{Mode}
 use Rattle.command_words.specs.declared.settings.Mode.TheVariants.{Run, Plain, Check, Load, Cut, Audit}
 use Rattle.command_words.specs.declared.settings.OutputFormat.{OutputFormat}
 use Rattle.command_words.specs.declared.settings.OutputFormat.TheVariants.{Lines, Summary}
+use Rattle.command_words.specs.declared.settings.BurstKind.{BurstKind}
+use Rattle.command_words.specs.declared.settings.BurstKind.TheVariants.{Locks, Table}
 
 -- a value, and then what follows from it
 infixl 10 ◌>>=◌
@@ -31,6 +33,12 @@ abbrev pub format_of : Text → Option OutputFormat
 format_of text =
     if bytes_eq text (codes "lines") then Some Lines
     else if bytes_eq text (codes "summary") then Some Summary
+    else None
+
+abbrev pub burst_of : Text → Option BurstKind
+burst_of text =
+    if bytes_eq text (codes "locks") then Some Locks
+    else if bytes_eq text (codes "table") then Some Table
     else None
 
 -- the number that a text writes, where it is at most `most`
@@ -57,6 +65,7 @@ settings_in rows = do
   number ← one_of (codes "number") rows >>= long_number
   disks ← one_of (codes "disks") rows >>= short_number
   at ← one_of (codes "at") rows >>= long_number
+  burst ← first_of (codes "burst") rows >>= burst_of
   Some (record {
     mode = mode;
     format = format;
@@ -67,6 +76,7 @@ settings_in rows = do
     number = number;
     disks = disks;
     at = at;
+    burst = burst;
   })
 
 -- the settings of the words, where clap has matches of the options for them

@@ -2,10 +2,10 @@
 
 ghost use Rattle.std.specs.Prelude.{◌≡◌, codes, option_and_then};
 ghost use Rattle.clap.specs.Words.{first_of, found_of, one_of, rows_of};
-ghost use Rattle.command_words.specs.Words.{format_of, long_number, mode_of};
+ghost use Rattle.command_words.specs.Words.{burst_of, format_of, long_number, mode_of};
 ghost use Rattle.command_words.specs.Words.{settings_in, short_number};
 
-use crate::{Mode, OutputFormat, Settings};
+use crate::{BurstKind, Mode, OutputFormat, Settings};
 use clap::ArgMatches;
 
 fn mode_of(text: &str) -> Option<Mode>
@@ -32,6 +32,16 @@ fn format_of(text: &str) -> Option<OutputFormat>
     }
 }
 
+fn burst_of(text: &str) -> Option<BurstKind>
+    ensures { result ≡ burst_of text.now }
+{
+    match text {
+        "locks" => Some(BurstKind::Locks),
+        "table" => Some(BurstKind::Table),
+        _ => None,
+    }
+}
+
 fn mode_in(matches: &ArgMatches<'_>) -> Option<Mode>
     ensures { result
         ≡ option_and_then mode_of (first_of (codes "mode") (rows_of (found_of matches.now))) }
@@ -44,6 +54,13 @@ fn format_in(matches: &ArgMatches<'_>) -> Option<OutputFormat>
         ≡ option_and_then format_of (first_of (codes "format") (rows_of (found_of matches.now))) }
 {
     format_of(matches.get_str("format")?)
+}
+
+fn burst_in(matches: &ArgMatches<'_>) -> Option<BurstKind>
+    ensures { result
+        ≡ option_and_then burst_of (first_of (codes "burst") (rows_of (found_of matches.now))) }
+{
+    burst_of(matches.get_str("burst")?)
 }
 
 fn short_number_in(matches: &ArgMatches<'_>, name: &str) -> Option<u32>
@@ -74,5 +91,6 @@ pub(crate) fn settings_in(matches: &ArgMatches<'_>) -> Option<Settings>
         number: long_number_in(matches, "number")?,
         disks: short_number_in(matches, "disks")?,
         at: long_number_in(matches, "at")?,
+        burst: burst_in(matches)?,
     })
 }

@@ -2,7 +2,7 @@
 
 ghost use Rattle.std.specs.Prelude.{◌≡◌, IfOk, false};
 ghost use Rattle.clap.specs.Words.{app_of, rule_of};
-ghost use Rattle.command_words.specs.Options.{IsCommand, choice_option, format_names, mode_names};
+ghost use Rattle.command_words.specs.Options.{IsCommand, burst_names, choice_option, format_names, mode_names};
 ghost use Rattle.command_words.specs.Options.{named_option, number_option, texts_of};
 
 use clap::builder::ValueParser;
@@ -12,6 +12,8 @@ use std::alloc::{AllocError, Global};
 static MODES: [&str; 6] = ["run", "plain", "check", "load", "cut", "audit"];
 
 static FORMATS: [&str; 2] = ["lines", "summary"];
+
+static BURSTS: [&str; 2] = ["locks", "table"];
 
 fn mode_names<'a>() -> &'a [&'a str]
     ensures { texts_of result ≡ mode_names }
@@ -23,6 +25,12 @@ fn format_names<'a>() -> &'a [&'a str]
     ensures { texts_of result ≡ format_names }
 {
     FORMATS.as_slice()
+}
+
+fn burst_names<'a>() -> &'a [&'a str]
+    ensures { texts_of result ≡ burst_names }
+{
+    BURSTS.as_slice()
 }
 
 /// An option with the value that stands where the words don't name it.
@@ -76,5 +84,6 @@ pub(crate) fn command<'a>(alloc: Global) -> Result<Command<'a>, AllocError>
         .arg(number_option(alloc, "steps", 1, 4_096, "64"))?
         .arg(number_option(alloc, "number", 0, u64::MAX, "1"))?
         .arg(number_option(alloc, "disks", 0, 65_536, "100"))?
-        .arg(number_option(alloc, "at", 0, 1_099_511_627_776, "0"))
+        .arg(number_option(alloc, "at", 0, 1_099_511_627_776, "0"))?
+        .arg(choice_option(alloc, "burst", burst_names(), "locks"))
 }

@@ -26,6 +26,15 @@ pub enum OutputFormat {
     Summary,
 }
 
+/// Where the regions lie while workers run them, between two commits.
+#[derive(Clone, Copy, Debug, PartialEq, Eq)]
+pub enum BurstKind {
+    /// Each under a lock of its own; each worker has regions of its own.
+    Locks,
+    /// In the slots of one table; each worker takes any region that is at home.
+    Table,
+}
+
 /// What the words ask for; what they don't name has its default.
 #[derive(Clone, Copy, Debug, PartialEq, Eq)]
 pub struct Settings {
@@ -47,6 +56,8 @@ pub struct Settings {
     pub disks: u32,
     /// The tick at which a run is cut, `--at`, 0 to 1,099,511,627,776; 0 by default.
     pub at: u64,
+    /// Where the regions lie while workers run them, `--burst`; [`BurstKind::Locks`] by default.
+    pub burst: BurstKind,
 }
 
 /// Why there are no settings.

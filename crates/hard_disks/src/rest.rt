@@ -8,6 +8,7 @@ ghost use Rattle.hard_disks.specs.Output.{format_of, IsCutText};
 ghost use Rattle.hard_disks.specs.Answers.{Wrote, CountsWrites};
 ghost use Rattle.hard_disks.specs.Shows.{IsOfScene};
 
+use crate::crew::Crew;
 use crate::cut::{Cut, cut_at};
 use crate::engines::{Engine, Regions};
 use crate::refusals::late_cut_line;
@@ -18,7 +19,7 @@ use command_words::Settings;
 use event_rules::{Outcome, RunFault};
 use fixed_motion::Scene;
 use region_core::{Gate, Region};
-use region_workers::{ByCall, Workers};
+use region_workers::ByCall;
 use report_ports::Sink;
 use std::alloc::{AllocError, Global};
 use std::sync::Wait;
@@ -39,22 +40,17 @@ pub fn cut_regions<R: Threads + Wait + Sync, K: Sink, G: Gate>(
     ensures of_scene { IsOfScene result }
     ensures counts { CountsWrites (K.faults sink.old) (K.faults sink.new) result }
 {
-    let workers = Workers {
-        workers: settings.workers,
-        turns: settings.turns,
-        steps: settings.steps,
-        gate,
-    };
+    let crew = Crew::new(settings, gate);
     let format = format_of(settings.format);
     let (regions, at) = (settings.regions, settings.at);
-    cut_by_workers(rt, alloc, &workers, regions, format, at, scene, sink)
+    cut_by_workers(rt, alloc, &crew, regions, format, at, scene, sink)
 }
 
 // Runs the scene over so many regions, on which workers work between two commits.
 fn cut_by_workers<R: Threads + Wait + Sync, K: Sink, G: Gate>(
     rt: &R,
     alloc: Global,
-    workers: &Workers<'_, G>,
+    crew: &Crew<'_, G>,
     regions: u32,
     format: Format,
     at: u64,
@@ -70,7 +66,7 @@ fn cut_by_workers<R: Threads + Wait + Sync, K: Sink, G: Gate>(
         call: |regions: Vec<Region>| -> Result<Vec<Region>, AllocError>
             requires { AreTogether regions.items }
             ensures { IfOk result (λ worked. length worked.items ≡ length regions.items) }
-        { workers.burst(rt, alloc, regions) },
+        { crew.burst(rt, alloc, regions) },
     };
     let mut engine = Regions { regions, burst };
     write_cut(rt, alloc, &mut engine, format, at, scene, sink)

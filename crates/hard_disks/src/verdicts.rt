@@ -11,13 +11,14 @@ ghost use Rattle.hard_disks.specs.Answers.{Answers, LeavesNothing, CountsReads, 
 ghost use Rattle.hard_disks.specs.Verdicts.{expected_line, verdict_text, verdict_status};
 
 use crate::audit::{AuditFault, audit};
+use crate::crew::Crew;
 use crate::engines::{Engine, Regions};
 use crate::refusals::refusal_line;
 use crate::show::write_text;
 use crate::status::Status;
 use command_words::{Mode, Settings};
 use region_core::{Gate, Region};
-use region_workers::{ByCall, Workers};
+use region_workers::ByCall;
 use report_audit::Verdict;
 use report_ports::{Sink, Source};
 use std::alloc::{AllocError, Global};
@@ -43,20 +44,15 @@ pub fn audit_regions<R: Threads + Wait + Sync, S: Source, K: Sink, G: Gate>(
     ensures reads { CountsReads (S.faults source.old) (S.faults source.new) result }
     ensures writes { CountsWrites (K.faults sink.old) (K.faults sink.new) result }
 {
-    let workers = Workers {
-        workers: settings.workers,
-        turns: settings.turns,
-        steps: settings.steps,
-        gate,
-    };
-    audit_by_workers(rt, alloc, &workers, settings.regions, source, sink)
+    let crew = Crew::new(settings, gate);
+    audit_by_workers(rt, alloc, &crew, settings.regions, source, sink)
 }
 
 // The same over so many regions, on which workers work between two commits.
 fn audit_by_workers<R: Threads + Wait + Sync, S: Source, K: Sink, G: Gate>(
     rt: &R,
     alloc: Global,
-    workers: &Workers<'_, G>,
+    crew: &Crew<'_, G>,
     regions: u32,
     source: &mut S,
     sink: &mut K,
@@ -72,7 +68,7 @@ fn audit_by_workers<R: Threads + Wait + Sync, S: Source, K: Sink, G: Gate>(
         call: |regions: Vec<Region>| -> Result<Vec<Region>, AllocError>
             requires { AreTogether regions.items }
             ensures { IfOk result (λ worked. length worked.items ≡ length regions.items) }
-        { workers.burst(rt, alloc, regions) },
+        { crew.burst(rt, alloc, regions) },
     };
     let mut engine = Regions { regions, burst };
     show_audit(rt, alloc, &mut engine, source, sink)

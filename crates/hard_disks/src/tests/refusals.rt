@@ -40,10 +40,21 @@ const REFUSALS: &[RefusalRow<'static>] = &[
     ),
     ("width = 40", "width = 40.0", "refused 5 wrong type width\n"),
     (DISKS, "[disks]\n", "refused 5 wrong type disks\n"),
+    ("width = 40", "width = 1", "refused 6 out of range width\n"),
+    (
+        "height = 20",
+        "height = 1073741825",
+        "refused 6 out of range height\n",
+    ),
     (
         "diameter = 4",
         "diameter = 5",
         "refused 6 out of range diameter\n",
+    ),
+    (
+        "speed_limit = 8",
+        "speed_limit = 1048577",
+        "refused 6 out of range speed_limit\n",
     ),
     (
         "round_limit = 8",

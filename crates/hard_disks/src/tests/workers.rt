@@ -19,37 +19,49 @@ const REGIONS: &[&str] = &["1", "2", "4", "20"];
 
 const WORKERS: &[&str] = &["1", "2", "8"];
 
+// Where regions lie while workers run them.
+const BURST_KINDS: &[&str] = &["locks", "table"];
+
 #[test]
 fn any_numbers_of_regions_and_workers_write_the_report(rt: HostRuntime) -> Result<(), Fail> {
     let text = scene(rt.alloc(), LONG, 8, 40, FOUR_IN_A_ROW)?;
     for regions in REGIONS {
         for workers in WORKERS {
-            let words = ["--regions", regions, "--workers", workers];
-            let want = FOUR_IN_A_ROW_REPORT;
-            expect_output(&rt, rt.alloc(), &words, text.as_str(), Status::Done, want)?;
+            for burst in BURST_KINDS {
+                let words = ["--regions", regions, "--workers", workers, "--burst", burst];
+                let want = FOUR_IN_A_ROW_REPORT;
+                expect_output(&rt, rt.alloc(), &words, text.as_str(), Status::Done, want)?;
+            }
         }
     }
     Ok(())
 }
 
-// The number of disks of a scene that is made, and the sums of its run, which are those of a simulator that was
-// written apart from this one.
-const LOADS: &[(&str, &str)] = &[
+// The number of disks of a scene that is made, where its regions lie, and the sums of its run, which are those of a
+// simulator that was written apart from this one.
+const LOADS: &[(&str, &str, &str)] = &[
     (
         "36",
+        "locks",
         "done 1000\nwalls 338\npairs 953\nmomentum 149 -254\nenergy 117185 115633\n",
     ),
     (
         "1000",
+        "locks",
+        "done 1000\nwalls 1451\npairs 22220\nmomentum -332 -1236\nenergy 2680548 2690350\n",
+    ),
+    (
+        "1000",
+        "table",
         "done 1000\nwalls 1451\npairs 22220\nmomentum -332 -1236\nenergy 2680548 2690350\n",
     ),
 ];
 
 #[test]
 fn made_scenes_write_the_same_however_they_are_run(rt: HostRuntime) -> Result<(), Fail> {
-    for &(disks, want) in LOADS {
+    for &(disks, burst, want) in LOADS {
         for number in ["4", "1"] {
-            expect_made(&rt, rt.alloc(), disks, number, want)?;
+            expect_made(&rt, rt.alloc(), disks, burst, number, want)?;
         }
     }
     Ok(())
@@ -60,6 +72,7 @@ fn expect_made(
     rt: &(impl Threads + Wait + Sync + Abort),
     alloc: Global,
     disks: &str,
+    burst: &str,
     number: &str,
     want: &str,
 ) -> Result<(), AllocError> {
@@ -69,6 +82,8 @@ fn expect_made(
         "--format=summary",
         "--disks",
         disks,
+        "--burst",
+        burst,
         "--regions",
         number,
         "--workers",

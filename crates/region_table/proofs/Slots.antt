@@ -1,0 +1,49 @@
+-- Slots that are held, one or two.
+use Rattle.std.proofs.Common.{◌≡◌, ◌≢◌, ℕ, List, [], ◌∷◌, eqb, not, true, false, true≢false, refl, sym, ap, ◌∙◌}
+use Rattle.std.specs.Prelude.{Bool, ◌==◌}
+use Rattle.std.specs.List.{filter, list_any}
+use Rattle.std.proofs.lemmas.Bool.{eq-eqb, ne_eqb}
+use Rattle.region_table.specs.declared.rule.Hold.{Hold}
+use Rattle.region_table.specs.Rule.{slots_of, without}
+
+slots_step : (k : ℕ) (h : Hold) (hs : List Hold) → slots_of (without k hs) ≡ filter (λ (s : ℕ). not (k == s)) (slots_of hs) → (b : Bool) → eqb k h.slot ≡ b
+    → slots_of (without k (h ∷ hs)) ≡ filter (λ (s : ℕ). not (k == s)) (slots_of (h ∷ hs))
+slots_step k h hs rest true e = rw e rest
+slots_step k h hs rest false e = rw e (ap (λ (z : List ℕ). h.slot ∷ z) rest)
+
+pub slots_without : (k : ℕ) (held : List Hold) → slots_of (without k held) ≡ filter (λ (s : ℕ). not (k == s)) (slots_of held)
+slots_without k [] = refl
+slots_without k (h ∷ hs) = slots_step k h hs (slots_without k hs) (eqb k h.slot) refl
+
+abbrev is_empty : List ℕ → Bool
+is_empty [] = true
+is_empty (x ∷ xs) = false
+
+cons_isnt : (x : ℕ) (xs : List ℕ) → x ∷ xs ≡ [] → ⊥
+cons_isnt x xs p = true≢false (sym (ap is_empty p))
+
+pub nothing_held : (held : List Hold) → slots_of held ≡ [] → held ≡ []
+nothing_held [] e = refl
+nothing_held (h ∷ hs) e = absurd (cons_isnt h.slot (slots_of hs) e)
+
+pub none_held : (k : ℕ) (slots : List ℕ) → slots ≡ [] → list_any (λ (s : ℕ). k == s) slots ≡ false
+none_held k slots e = ap (list_any (λ (s : ℕ). k == s)) e
+
+pub other_held : (k j : ℕ) (slots rest : List ℕ) → slots ≡ j ∷ rest → rest ≡ [] → k ≢ j → list_any (λ (s : ℕ). k == s) slots ≡ false
+other_held k j slots rest e f other = ap (list_any (λ (s : ℕ). k == s)) (e ∙ ap (λ (z : List ℕ). j ∷ z) f) ∙ rw (ne_eqb k j other) refl
+
+pub one_held : (k : ℕ) (slots rest : List ℕ) → slots ≡ k ∷ rest → list_any (λ (s : ℕ). k == s) slots ≡ true
+one_held k slots rest e = ap (list_any (λ (s : ℕ). k == s)) e ∙ rw (eq-eqb k k refl) refl
+
+pub one_left : (k : ℕ) (slots rest : List ℕ) → slots ≡ k ∷ rest → rest ≡ [] → filter (λ (s : ℕ). not (k == s)) slots ≡ []
+one_left k slots rest e f = ap (filter (λ (s : ℕ). not (k == s))) (e ∙ ap (λ (z : List ℕ). k ∷ z) f) ∙ rw (eq-eqb k k refl) refl
+
+-- without the lower of two
+pub second_left : (a b : ℕ) (slots : List ℕ) → slots ≡ b ∷ a ∷ [] → a ≢ b → filter (λ (s : ℕ). not (a == s)) slots ≡ b ∷ []
+second_left a b slots e other = ap (filter (λ (s : ℕ). not (a == s))) e ∙ rw (ne_eqb a b other, eq-eqb a a refl) refl
+
+pub first_left : (a b : ℕ) (slots : List ℕ) → slots ≡ a ∷ b ∷ [] → a ≢ b → filter (λ (s : ℕ). not (a == s)) slots ≡ b ∷ []
+first_left a b slots e other = ap (filter (λ (s : ℕ). not (a == s))) e ∙ rw (ne_eqb a b other, eq-eqb a a refl) refl
+
+pub second_held : (a b : ℕ) (slots : List ℕ) → slots ≡ b ∷ a ∷ [] → a ≢ b → list_any (λ (s : ℕ). a == s) slots ≡ true
+second_held a b slots e other = ap (list_any (λ (s : ℕ). a == s)) e ∙ rw (ne_eqb a b other, eq-eqb a a refl) refl

@@ -1,0 +1,44 @@
+-- What stays the same of a region while it runs, and how many entries it counts as.
+use Rattle.std.specs.Prelude.{◌≡◌, ◌⊎◌, ℕ, ◌+◌, List, length, slice_get, Option, Some, None, option_map}
+use Rattle.region_core.specs.declared.entry.TheConstants.{MAX_ENTRIES}
+use Rattle.region_core.specs.LocalRun.{Local}
+use Rattle.region_core.specs.Opening.{RegionData, spent}
+
+-- the number, the rules, the grid and the floor are the same, and so is the view at the floor
+pub record HasBaseOf (first region : RegionData) : Type 0 where
+  pub home : region.home ≡ first.home
+  pub floor : region.floor ≡ first.floor
+  pub base : option_map (λ (run : Local). run.base) region.run ≡ option_map (λ (run : Local). run.base) first.run
+
+pub record IsSpent (number : ℕ) (region : RegionData) : Type 0 where
+  pub run : region.run ≡ None
+  pub number_is : region.home.number ≡ number
+
+-- what may lie where the first lay
+abbrev pub MayReplace : RegionData → RegionData → Type 0
+MayReplace first region = HasBaseOf first region ⊎ IsSpent first.home.number region
+
+-- the same of the region that a slot was opened with
+abbrev pub MayLieIn : List RegionData → ℕ → RegionData → Type 0
+MayLieIn opened k region = (first : RegionData) × (slice_get opened k ≡ Some first) × MayReplace first region
+
+abbrev pub count_in : Option Local → ℕ
+count_in None = MAX_ENTRIES + 1
+count_in (Some run) = length run.log
+
+-- the number of entries of the log, where a spent region counts as more than any log has
+abbrev pub count_of : RegionData → ℕ
+count_of region = count_in region.run
+
+-- it has as many as the region that the slot was opened with
+abbrev pub CountsAsOpened : List RegionData → ℕ → RegionData → Type 0
+CountsAsOpened opened k region = (first : RegionData) → slice_get opened k ≡ Some first → count_of region ≡ count_of first
+
+-- at each place lies what may replace the first
+pub record AreReplaced (opened regions : List RegionData) : Type 0 where
+  pub count : length regions ≡ length opened
+  pub each : (k : ℕ) (region : RegionData) → slice_get regions k ≡ Some region → MayLieIn opened k region
+
+-- it has the base that it had, or is spent
+abbrev pub StaysOrSpent : RegionData → RegionData → Type 0
+StaysOrSpent old new = HasBaseOf old new ⊎ (new ≡ spent old)

@@ -1,0 +1,18 @@
+//! Regions in the slots of one table: any worker takes out any region that is at home, and puts it back.
+//!
+//! A worker that finds a region away doesn't wait for it: it goes on with the next.
+#![tactic(auto)]
+
+mod closing;
+mod job;
+mod order;
+pub mod rule;
+pub mod seat;
+pub mod table;
+pub mod take_out;
+pub mod workers;
+
+pub use seat::TableSeat;
+pub use table::RegionTable;
+pub use take_out::TakeOut;
+pub use workers::TableWorkers;

@@ -1,0 +1,89 @@
+//! What a seat knows, and the steps that it makes.
+
+ghost use Rattle.std.specs.Prelude.{[]};
+ghost use Rattle.region_table.specs.Rule.{Kept, first_view, Taken, Put, Undone, halved, copied, joined, no_view};
+
+use atomic_table::{Join, Play, Seat, Split, Table, TableRule};
+use region_core::Region;
+use std::alloc::Global;
+use std::collections::LinkedList;
+use std::snapshot::Snapshot;
+
+/// A word that a take found in a slot. No value of it is made.
+pub struct Sight {
+    pub slot: u64,
+    pub word: u64,
+}
+
+/// A slot that is held, and the version at which it was taken. No value of it is made.
+pub struct Hold {
+    pub slot: u64,
+    pub version: u64,
+}
+
+/// A put: the slot, the version that it made, and how many entries the region had. No value of it is made.
+pub struct Note {
+    pub slot: u64,
+    pub version: u64,
+    pub entries: u64,
+}
+
+/// What a seat knows. No value of it is made.
+pub struct View {
+    /// The regions that the table was opened with.
+    pub opened: LinkedList<Region>,
+    /// What its takes found, the latest first.
+    pub seen: LinkedList<Sight>,
+    /// The slots that it holds.
+    pub held: LinkedList<Hold>,
+    /// Its puts, the latest first.
+    pub notes: LinkedList<Note>,
+    /// Its parts of the table. Who has all of them is the only one with a seat.
+    pub parts: u128,
+}
+
+pub struct Law;
+
+impl TableRule<Option<Region>, View, Snapshot<Vec<Region>>> for Law {
+    ghost holds = { λ key. Kept key.value.items };
+
+    ghost first = { λ key. first_view key.value.items };
+}
+
+pub struct Takes;
+
+impl Play<Option<Region>, View> for Takes {
+    ghost then = { Taken };
+}
+
+pub struct Puts;
+
+impl Play<Option<Region>, View> for Puts {
+    ghost then = { Put };
+}
+
+pub struct Undoes;
+
+impl Play<Option<Region>, View> for Undoes {
+    ghost then = { Undone };
+}
+
+pub struct Copies;
+
+impl Split<View> for Copies {
+    ghost left = { halved };
+
+    ghost right = { copied };
+}
+
+pub struct Joins;
+
+impl Join<View> for Joins {
+    ghost both = { joined };
+
+    ghost spent = { no_view };
+}
+
+pub type Slots = Table<Option<Region>, View, Snapshot<Vec<Region>>, Law, Global>;
+
+pub type Token = Seat<Option<Region>, View>;

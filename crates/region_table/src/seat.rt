@@ -1,0 +1,29 @@
+//! What a worker takes regions out with.
+
+use crate::rule::Token;
+use arrayvec::ArrayVec;
+use cell_grid::MAX_REGIONS;
+use std::marker::Model;
+
+/// The most slots that a seat holds: those of all regions of a grid.
+pub(crate) const MAX_HELD: usize = MAX_REGIONS as usize;
+
+/// What a worker takes regions out with. Contracts see the table's name, and what the seat knows of it.
+#[derive(Drop)]
+pub struct TableSeat {
+    pub(crate) token: Token,
+    // The slots that it holds, the latest first.
+    pub(crate) order: ArrayVec<u32, MAX_HELD>,
+}
+
+impl Model for TableSeat {
+    ghost use Rattle.region_table.specs.Tables.{SeatData, seat_code, IsKeptSeat};
+
+    ghost Value = { SeatData };
+
+    ghost coded = { seat_code };
+
+    ghost view = { λ s. record { table = s.token.table_id; view = s.token.me.0 } };
+
+    ghost invariant = { λ s. IsKeptSeat s.token.me s.order.items };
+}

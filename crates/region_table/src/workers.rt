@@ -1,0 +1,120 @@
+//! Workers on regions in one table.
+
+ghost use Rattle.std.specs.Prelude.{◌≡◌, ◌<◌, ◌≤◌, ◌^◌, [], length, All, IfOk};
+ghost use Rattle.region_core.specs.Bursts.{AreTogether};
+ghost use Rattle.region_workers.specs.declared.workers.TheConstants.{MAX_WORKERS};
+ghost use Rattle.region_table.specs.Bases.{AreReplaced};
+ghost use Rattle.region_table.specs.Rule.{slots_of};
+ghost use Rattle.region_table.specs.Tables.{IsSeatOf};
+
+use crate::job::Job;
+use crate::{RegionTable, TableSeat};
+use cell_grid::Grid;
+use region_core::{Gate, Region};
+use std::alloc::{AllocError, Global};
+use std::sync::Wait;
+use std::thread;
+use std::thread::Threads;
+
+/// What works on the regions between two commits: threads, each of which makes some turns. In a turn it goes
+/// through all regions: it takes one out, lets it run, puts it back, and lets it hear those that it is linked with.
+/// What another worker has out, it passes over.
+#[derive(Drop)]
+pub struct TableWorkers<'g, G: Gate> {
+    /// How many threads there are, 1 to [`MAX_WORKERS`](region_workers::MAX_WORKERS); no more than there are regions are started.
+    pub workers: u32,
+    /// How many turns each makes in a burst, at least 1.
+    pub turns: u32,
+    /// How many steps a region runs in a turn, at least 1.
+    pub steps: u32,
+    /// What each worker passes before each turn.
+    pub gate: &'g G,
+    ghost some_workers: { 0 < workers },
+    ghost few_workers: { workers ≤ MAX_WORKERS },
+    ghost some_turns: { 0 < turns },
+    ghost some_steps: { 0 < steps },
+}
+
+impl<'g, G: Gate> TableWorkers<'g, G> {
+    /// Works on the regions of a grid, as a burst does: in the place of each it gives one with its base, or a
+    /// spent one.
+    ///
+    /// # Errors
+    /// Out of memory.
+    pub fn burst<R: Threads + Wait + Sync>(
+        &self,
+        rt: &R,
+        alloc: Global,
+        regions: Vec<Region>,
+    ) -> Result<Vec<Region>, AllocError>
+        requires together { AreTogether regions.items }
+        ensures bases { IfOk result (λ worked. AreReplaced regions.items worked.items) }
+    {
+        let Some(first) = regions.first() else {
+            return Ok(regions);
+        };
+        let grid = *first.grid();
+        let jobs = self.workers.min(grid.regions());
+        let (table, mut seat) = RegionTable::open(alloc, regions)?;
+        self.run_jobs(rt, alloc, &table, &grid, jobs, &mut seat)?;
+        table.close(alloc, seat)
+    }
+
+    // Runs so many jobs side by side. Each takes a seat along that is split off this one, and brings it back.
+    fn run_jobs<R: Threads + Wait + Sync>(
+        &self,
+        rt: &R,
+        alloc: Global,
+        table: &RegionTable,
+        grid: &Grid,
+        jobs: u32,
+        seat: &mut TableSeat,
+    ) -> Result<(), AllocError>
+        requires each { length table.now.opened ≡ grid.now.regions }
+        requires seat { IsSeatOf table.now seat.old }
+        requires idle { seat.old.view.held ≡ [] }
+        ensures seat { IsSeatOf table.now seat.new }
+        ensures idle { seat.new.view.held ≡ [] }
+    {
+        let run_one = |start: (u32, TableSeat)| -> Result<TableSeat, AllocError>
+            requires { IsSeatOf table.now start.1 × (slots_of start.1.view.held ≡ []) × (length table.now.opened ≡ grid.now.regions) }
+            ensures { IfOk result (λ seat. IsSeatOf table.entry.now seat × (seat.view.held ≡ [])) }
+        {
+            let (worker, mut seat) = start;
+            let job = Job {
+                alloc,
+                table,
+                grid,
+                gate: self.gate,
+                worker,
+                steps: self.steps,
+            };
+            job.run(&mut seat, self.turns)?;
+            Ok(seat)
+        };
+        let starts = starts_of(alloc, table, jobs, seat)?;
+        for done in thread::map_vec(rt, starts, &run_one)? {
+            table.join(seat, done?);
+        }
+        Ok(())
+    }
+}
+
+// As many seats as there are jobs, each with the number of its worker.
+fn starts_of(
+    alloc: Global,
+    table: &RegionTable,
+    jobs: u32,
+    seat: &mut TableSeat,
+) -> Result<Vec<(u32, TableSeat)>, AllocError>
+    requires seat { IsSeatOf table.now seat.old }
+    ensures seat { IsSeatOf table.now seat.new }
+    ensures held { seat.new.view.held ≡ seat.old.view.held }
+    ensures each { IfOk result (λ starts. All (λ start. IsSeatOf table.now start.1 × (slots_of start.1.view.held ≡ [])) starts.items) }
+{
+    let mut starts = Vec::with_capacity(alloc, jobs as usize)?;
+    for worker in 0..jobs {
+        starts.push((worker, table.split(seat)))?;
+    }
+    Ok(starts)
+}

@@ -1,0 +1,5 @@
+//! One module for each part.
+
+mod scenes;
+mod seats;
+mod workers;
