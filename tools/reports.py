@@ -34,6 +34,7 @@ class Scene:
 
     width: int
     height: int
+    speed_limit: int
     end: int
     disks: list
 
@@ -80,10 +81,15 @@ class Sums:
 
 def read_scene(path):
     """The scene of a file."""
-    with open(path, "rb") as file:
-        said = tomllib.load(file)
+    with open(path, encoding="utf-8") as file:
+        return parse_scene(file.read())
+
+
+def parse_scene(text):
+    """The scene that a text says."""
+    said = tomllib.loads(text)
     disks = [Disk(*row[:4], size=row[4] if len(row) > 4 else said["diameter"]) for row in said["disks"]]
-    return Scene(said["width"], said["height"], said["end"], disks)
+    return Scene(said["width"], said["height"], said["speed_limit"], said["end"], disks)
 
 
 def read_report(lines):

@@ -5,14 +5,17 @@
 import contextlib
 import io
 import os
+import tempfile
 import unittest
+from pathlib import Path
 from unittest import mock
 
 import check_conservation
+import check_docs
 import collisions_to_csv
 import pressure
 import report_to_xyz
-from reports import Event, Limit, State, Sums, Unreadable, read_report, read_scene
+from reports import Event, Limit, State, Sums, Unreadable, parse_scene, read_report, read_scene
 
 SCENES = os.path.join(os.path.dirname(os.path.abspath(__file__)), "..", "scenes")
 NAMES = sorted(it[: -len(".toml")] for it in os.listdir(SCENES) if it.endswith(".toml"))
@@ -52,6 +55,31 @@ class Reports(unittest.TestCase):
         wrong = report_of("row").replace("energy 64 64", "energy 64 65")
         with self.assertRaisesRegex(Unreadable, "energy"):
             written(check_conservation, [scene_file("row")], wrong)
+
+    def test_what_a_side_turned_is_in_the_momentum(self):
+        wrong = report_of("row").replace("momentum -8 0", "momentum 8 0")
+        with self.assertRaisesRegex(Unreadable, r"momentum \(8, 0\), and it is \(-8, 0\)"):
+            written(check_conservation, [scene_file("row")], wrong)
+
+    def test_drawn_scenes_are_valid_and_move(self):
+        for seed in range(20):
+            with self.subTest(seed):
+                scene = parse_scene(check_conservation.draw(seed))
+                for i, a in enumerate(scene.disks):
+                    self.assertTrue(a.size // 2 <= a.x <= scene.width - a.size // 2)
+                    self.assertTrue(a.size // 2 <= a.y <= scene.height - a.size // 2)
+                    self.assertLessEqual(max(abs(a.vx), abs(a.vy)), scene.speed_limit)
+                    for b in scene.disks[:i]:
+                        self.assertGreaterEqual((a.x - b.x) ** 2 + (a.y - b.y) ** 2, (a.size + b.size) ** 2 // 4)
+
+    def test_drawn_scenes_keep_momentum_and_energy(self):
+        program = os.path.join(SCENES, "..", "crates", "hard_disks", "out", "hard_disks")
+        if not os.access(program, os.X_OK):
+            self.skipTest("the program isn't built, so no drawn scene was run")
+        self.assertEqual(written(check_conservation, ["--drawn", "20", program], "").count("changed by"), 20)
+
+    def test_without_a_program_no_scene_is_run(self):
+        self.assertIn("weren't run", written(check_conservation, ["--drawn", "20"], ""))
 
     def test_a_report_that_breaks_off_is_refused(self):
         with self.assertRaisesRegex(Unreadable, "breaks off"):
@@ -123,6 +151,43 @@ class Pressure(unittest.TestCase):
     def test_a_made_scene_is_one_of_this_program(self):
         text = written(pressure, ["scene", "3", "0.2", "100"], "")
         self.assertEqual(text.count("  ["), 9)
+
+
+class Documents(unittest.TestCase):
+    """Over a small repository of one crate, and one document with a table."""
+
+    def faults(self, document):
+        with tempfile.TemporaryDirectory() as folder:
+            top = Path(folder).resolve()
+            for name, text in {
+                "crates.txt": "# crates\nshapes:\n",
+                "crates/shapes/src/lib.rt": "pub fn area(a: &Square) -> u64\n    ensures value { result ≡ area_of a }\n{\n}\n",
+                "crates/shapes/specs/Shapes.antt": "abbrev pub area_of : Square → ℕ\n",
+                "README.md": document,
+            }.items():
+                (top / name).parent.mkdir(parents=True, exist_ok=True)
+                (top / name).write_text(text)
+            return [it.split(": ", 1)[1] for it in check_docs.check(top, top / "README.md", check_docs.Sources(top))]
+
+    def test_what_is_there_is_no_fault(self):
+        table = "| Rule | Contract |\n|---|---|\n| all | `area`: `value` in `shapes/lib.rt`; `area_of` in `shapes/Shapes` |\n"
+        self.assertEqual(self.faults("# A `b` c\n[a](crates.txt) [b](#a-b-c) `crates/shapes/src/lib.rt`\n" + table), [])
+
+    def test_each_fault_is_told(self):
+        row = "| Contract |\n|---|\n| {} |\n"
+        for text, fault in [
+            ("[a](gone.md)", "the link gone.md: there is no gone.md"),
+            ("# a\n[a](#b)", "the link #b: README.md has no such heading"),
+            ("`crates/gone/src`", "the path crates/gone/src isn't there"),
+            (row.format("`gone`"), "no crate defines gone"),
+            (row.format("`area`: `gone`"), "area has no clause gone"),
+            (row.format("`area` in `shapes/Shapes`"), "area isn't defined in shapes/Shapes"),
+            (row.format("`area` in `shapes/gone.rt`"), "no file shapes/gone.rt that defines anything"),
+            ("| Crate |\n|---|\n| `gone` |\n", "no crate gone"),
+            ("TODO", "something is left to do"),
+        ]:
+            with self.subTest(fault):
+                self.assertIn(fault, self.faults(text))
 
 
 if __name__ == "__main__":
