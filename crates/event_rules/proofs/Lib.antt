@@ -4,6 +4,7 @@ pub mod Decided
 pub mod Effects
 pub mod Exists
 pub mod Fits
+pub mod MayHit
 pub mod OneRun
 pub mod OneTick
 pub mod Ran

@@ -15,7 +15,7 @@ use Rattle.plane_vectors.proofs.Products.{distributes}
 use Rattle.event_rules.specs.declared.predict.Separation.{Separation}
 use Rattle.event_rules.specs.Events.{IsContactTick, MeetAt}
 use Rattle.event_rules.proofs.Courses.{inside_until}
-use Rattle.event_rules.specs.Predict.{HaveBegun, AreInside, IsLastTogether, MeetAfter, IsMeeting, IsOnlyContactTick, IsSeparation, AreNear, PathsMeetAfter}
+use Rattle.event_rules.specs.Predict.{HaveBegun, AreInside, IsLastTogether, IsMeeting, IsOnlyContactTick, IsSeparation, AreNear, PathsMeetAfter}
 
 -- ---- sizes
 way_size : (x v : ℤ) (t : ℕ) → nat_abs x ≤ 2 ^ 30 → nat_abs v ≤ 2 ^ 20 → t ≤ 2 ^ 40 → nat_abs (coordinate_after x v t) ≤ 2 ^ 62 - 1
@@ -150,6 +150,10 @@ separation_later a b start s begun =
     let x = coordinates_apart (place_of a start).x (place_of b start).x a.vx b.vx s in
     let y = coordinates_apart (place_of a start).y (place_of b start).y a.vy b.vy s in
     (λ i. difference (first i) (second i)) ∙ (λ i. vector (x i) (y i))
+
+-- two disks at these places now, with the velocities of their records, are in contact after s ticks
+abbrev MeetAfter : Disk → Vector → Disk → Vector → ℕ → Type 0
+MeetAfter a p b q s = IsContactAfter (difference p q) (difference (velocity_of a) (velocity_of b)) (contact_distance a b) s
 
 -- to meet at a tick is to meet so many ticks after the start
 meet_after : (a b : Disk) (start s : ℕ) → HaveBegun a b start →

@@ -7,7 +7,7 @@ ghost use Rattle.fixed_motion.specs.Motion.{IsValidDisk};
 ghost use Rattle.event_stamps.specs.declared.Stamp.{Stamp};
 ghost use Rattle.event_stamps.specs.Least.{IsOnly, IsLeastOf};
 ghost use Rattle.event_rules.specs.Events.{IsWallEvent, IsWallBelow, IsPairEvent, NeverHit, IsContactTick, IsPast, IsLastInside, wall_stamp};
-ghost use Rattle.event_rules.specs.Predict.{IsUpTo, IsFirstPast, IsLastTogether, IsOnlyContactTick, IsMeeting, IsSeparation, AreNear, PathsCross, PathsMeetAfter};
+ghost use Rattle.event_rules.specs.Predict.{IsUpTo, IsFirstPast, IsLastTogether, IsOnlyContactTick, IsMeeting, IsSeparation, AreNear, AreOnCourse, MayHit, PathsCross, PathsMeetAfter};
 
 use contact_predictor::{contact_between, may_meet, quick_contact, stay};
 use event_stamps::{Kind, Stamp};
@@ -110,13 +110,15 @@ pub fn event_between(rules: &Rules, i: u32, a: &Disk, j: u32, b: &Disk) -> Optio
     })
 }
 
-/// Whether the courses of two disks may bring them together. Where not, they never hit each other, whatever
-/// their numbers. Most pairs are told by this, by products alone.
+/// Whether the courses of two disks may bring them together: at the later of their base ticks they are no
+/// farther apart than two places in a box can be, and approach each other on paths that cross. Where not, they
+/// never hit each other, whatever their numbers. Most pairs are told by this, by products alone.
 #[inline(always)]
 pub fn may_hit(rules: &Rules, a: &Disk, b: &Disk) -> bool
     requires checked { IsChecked rules.now }
     requires first_valid { IsValidDisk rules.now a.now }
     requires second_valid { IsValidDisk rules.now b.now }
+    ensures exact { IsTrue result ↔ MayHit a.now b.now }
     ensures never { result ≡ false → NeverHit rules.now a.now b.now }
     ensures never_turned { result ≡ false → NeverHit rules.now b.now a.now }
 {
@@ -210,6 +212,7 @@ fn are_on_course(rules: &Rules, a: &Disk, b: &Disk, s: &Separation) -> bool
     requires second_valid { IsValidDisk rules.now b.now }
     requires separation { IsSeparation a.now b.now s.now }
     requires near { AreNear s.now }
+    ensures fact { IsTrue result ↔ AreOnCourse s.now }
     ensures yes { IsTrue result → PathsCross s.now }
     ensures no { result ≡ false → (tick : ℕ) → IsContactTick rules.now a.now b.now tick → ⊥ }
 {

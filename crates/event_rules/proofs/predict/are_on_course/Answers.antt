@@ -1,6 +1,6 @@
 -- The numbers are small enough for the test of the paths.
 use Rattle.std.proofs.Common.{ℕ, sym, subst}
-use Rattle.std.specs.Prelude.{ℤ, nat_abs, ◌≤◌, ◌^◌}
+use Rattle.std.specs.Prelude.{ℤ, nat_abs, ◌≤◌, ◌^◌, ◌↔◌, IsTrue}
 use Rattle.contact_predictor.specs.Contact.{MayMeet, IsContactAfter}
 use Rattle.event_rules.proofs.Separations.{are_small, never_from}
 use Rattle.event_rules.proofs.predict.are_on_course.Goals as goal
@@ -28,3 +28,8 @@ returns-clause-no c =
     let small = are_small c.args.rules.now c.args.a.now c.args.b.now c.args.s.now c.requires.checked c.requires.first_valid c.requires.second_valid c.requires.separation c.requires.near in
     λ no. never_from c.args.rules.now c.args.a.now c.args.b.now c.args.s.now c.requires.separation
     (subst (λ (d : ℤ). (n : ℕ) → IsContactAfter c.args.s.now.places c.args.s.now.velocities d n → ⊥) small.same (c.may_meet.ensures.never no))
+
+pub returns-clause-fact : goal.returns-clause-fact
+returns-clause-fact c =
+    let small = are_small c.args.rules.now c.args.a.now c.args.b.now c.args.s.now c.requires.checked c.requires.first_valid c.requires.second_valid c.requires.separation c.requires.near in
+    subst (λ (d : ℤ). IsTrue c.may_meet.result ↔ MayMeet c.args.s.now.places c.args.s.now.velocities d) small.same c.may_meet.ensures.fact

@@ -1,12 +1,13 @@
 -- Disks that aren't near are never both inside, and those that are off course never touch.
 use Rattle.std.proofs.Common.{◌≡◌, true}
+use Rattle.event_rules.proofs.MayHit.{may_hit_from, near_from, course_from}
 use Rattle.event_rules.proofs.Separations.{never_far}
 use Rattle.event_rules.proofs.Swapped.{never_hit, never_hit_turned}
 use Rattle.event_rules.proofs.predict.may_hit.Goals as goal
 
 pub returns-then-is_near-clause-never_turned : goal.returns-then-is_near-clause-never_turned
 returns-then-is_near-clause-never_turned c =
-    λ no. never_hit_turned c.args.rules.now c.args.a.now c.args.b.now (c.are_on_course.ensures.no no)
+    λ no. never_hit_turned c.args.rules.now c.args.a.now c.args.b.now (c.are_on_course.ensures.no (cc))
 
 pub returns-else-is_near-clause-never : goal.returns-else-is_near-clause-never
 returns-else-is_near-clause-never c = λ far. never_hit c.args.rules.now c.args.a.now c.args.b.now
@@ -17,3 +18,17 @@ pub returns-else-is_near-clause-never_turned : goal.returns-else-is_near-clause-
 returns-else-is_near-clause-never_turned c = λ far. never_hit_turned c.args.rules.now c.args.a.now c.args.b.now
     (never_far c.args.rules.now c.args.a.now c.args.b.now c.separate-s.result c.requires.checked c.requires.first_valid c.requires.second_valid c.separate-s.ensures
     (λ near. let yes : c.is_near.result ≡ true = c.is_near.ensures.1 near in let no = c.if-is_near.false in cc))
+
+pub returns-then-is_near-clause-exact : goal.returns-then-is_near-clause-exact
+returns-then-is_near-clause-exact c =
+    let near = c.is_near.ensures.0 c.if-is_near.true in (
+      λ yes. may_hit_from c.args.a.now c.args.b.now c.separate-s.result c.separate-s.ensures near (c.are_on_course.ensures.fact.0 yes),
+      λ may. c.are_on_course.ensures.fact.1 (course_from c.args.a.now c.args.b.now c.separate-s.result c.separate-s.ensures may),
+    )
+
+pub returns-else-is_near-clause-exact : goal.returns-else-is_near-clause-exact
+returns-else-is_near-clause-exact c = (
+  λ yes. cc,
+  λ may. let yes : c.is_near.result ≡ true = c.is_near.ensures.1 (near_from c.args.a.now c.args.b.now c.separate-s.result c.separate-s.ensures may) in
+      let no = c.if-is_near.false in cc,
+)
