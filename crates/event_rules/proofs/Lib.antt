@@ -1,4 +1,5 @@
 pub mod Apart
+pub mod Conserved
 pub mod Courses
 pub mod Decided
 pub mod Effects
