@@ -43,8 +43,6 @@ impl Scripted {
 }
 
 impl Burst for Scripted {
-    ghost ready = { λ _. Unit {0} };
-
     fn burst<R: Threads + Wait + Sync>(
         &mut self,
         _rt: &R,

@@ -1,6 +1,6 @@
 //! The run of a scene over regions.
 
-ghost use Rattle.std.specs.Prelude.{◌≡◌, IfOk, IfErr, OnOk};
+ghost use Rattle.std.specs.Prelude.{◌≡◌, length, IfOk, IfErr, IsTrue};
 ghost use Rattle.fixed_motion.specs.Rules.{IsChecked};
 ghost use Rattle.event_rules.specs.Run.{IsValidState, spots_of};
 ghost use Rattle.event_rules.specs.Tellings.{RunTold, RunCutShort, CountsRun};
@@ -35,7 +35,6 @@ pub fn simulate<B: Burst, R: Threads + Wait + Sync, L: Listener>(
     listener: &mut L,
 ) -> Result<Outcome, RunFault>
     requires asked { IsAsked regions }
-    requires ready { B.ready burst.old }
     ensures run { IfOk result (λ outcome.
         RunTold L.after scene.now outcome (L.meaning listener.old) (L.meaning listener.new)) }
     ensures cut_short { IfErr result (λ fault.
@@ -61,7 +60,7 @@ pub fn simulate<B: Burst, R: Threads + Wait + Sync, L: Listener>(
 }
 
 // Lets a burst work on the regions of the committed state, and advances by those of its regions that stand
-// on that state.
+// on that state: all of them, where the burst keeps them.
 fn work<R: Threads + Wait + Sync, B: Burst>(
     rt: &R,
     alloc: Global,
@@ -70,15 +69,33 @@ fn work<R: Threads + Wait + Sync, B: Burst>(
     burst: &mut B,
 ) -> Result<(Advance, Vec<Region>), AllocError>
     requires stand { AllStand committed.old regions.items }
-    requires ready { B.ready burst.old }
     ensures answer { IfOk result (λ worked. Advances committed.old worked.0 committed.new) }
     ensures stand { IfOk result (λ worked. AllStand committed.new worked.1.items) }
-    ensures ready { OnOk result (B.ready burst.new) }
 {
+    let kept = burst.keeps();
     let worked = burst.burst(rt, alloc, regions)?;
-    let mut standing = committed.adopt_all(alloc, worked)?;
+    let mut standing = take_over(alloc, committed, worked, kept)?;
     let answer = advance(alloc, committed, &mut standing)?;
     Ok((answer, standing))
+}
+
+// The regions of a burst that stand on the committed state, and others opened anew. Where it kept them, all stand on
+// it, and nothing is compared.
+fn take_over(
+    alloc: Global,
+    committed: &Committed,
+    worked: Vec<Region>,
+    kept: bool,
+) -> Result<Vec<Region>, AllocError>
+    requires count { length worked.items ≡ committed.now.grid.regions }
+    requires stand { IsTrue kept → AllStand committed.now worked.items }
+    ensures { IfOk result (λ standing. AllStand committed.now standing.items) }
+{
+    if kept {
+        Ok(worked)
+    } else {
+        committed.adopt_all(alloc, worked)
+    }
 }
 
 // Where all disks are in the end.

@@ -33,7 +33,6 @@ bursts-init g c =
       cell = cell_at_start c.args.scene.now c.args.regions start valid c.requires.asked
           c.in_ok-committed.ensures;
       stand = c.in_ok-standing.ensures;
-      ready = c.requires.ready;
       told = at_start L.torn c.args.regions valid c.requires.asked (L.meaning c.args.listener.now) start
           c.in_ok-committed.ensures;
       count = refl;
@@ -123,7 +122,6 @@ bursts-preserved-in-Raised g c =
     record {
       cell = cell_after c.in_ok-answer.ensures.answer;
       stand = c.in_ok-answer.ensures.stand;
-      ready = c.in_ok-answer.ensures.ready;
       told = told_on L.torn c.args.regions valid c.requires.asked c.bursts.invariant.told
           c.in_ok-answer.ensures.answer (c.as_slice.ensures ∙ c.batch.ensures)
           (L.meaning c.tell.new.listener) c.in_ok-tell.ensures.told;

@@ -9,7 +9,6 @@ abbrev pub invariant-bursts : goal.invariant-bursts
 invariant-bursts g l = let L = g.L.Listener in record {
   cell : IsCellState l.committed;
   stand : AllStand l.committed l.standing.items;
-  ready : g.B.Burst.ready l.burst;
   told : IsTold L.after l.fn.scene l.fn.regions l.committed (L.meaning l.fn.listener)
       (L.meaning l.listener);
   count : L.faults l.listener ≡ L.faults l.fn.listener;

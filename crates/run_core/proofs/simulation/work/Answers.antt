@@ -1,6 +1,17 @@
+use Rattle.std.proofs.Common.{◌∙◌}
+use Rattle.commit_horizon.proofs.Keeping.{run_on_still_stand}
 use Rattle.run_core.proofs.SoFar.{stand_together}
 use Rattle.run_core.proofs.simulation.work.Goals as goal
 
-pub burst-requires-clause-together : goal.burst-requires-clause-together
-burst-requires-clause-together g c =
-    stand_together c.args.committed.now c.args.regions.items c.requires.stand
+pub burst-requires : goal.burst-requires
+burst-requires g c = record {
+  together = stand_together c.args.committed.now c.args.regions.items c.requires.stand;
+}
+
+pub take_over-requires-clause-count : goal.take_over-requires-clause-count
+take_over-requires-clause-count g c = c.in_ok-worked.ensures.count ∙ c.requires.stand.count
+
+pub take_over-requires-clause-stand : goal.take_over-requires-clause-stand
+take_over-requires-clause-stand g c = λ kept.
+    run_on_still_stand c.args.committed.now c.args.regions.items c.in_ok-worked.worked.items c.requires.stand
+    c.in_ok-worked.ensures.count (c.in_ok-worked.ensures.kept (c.keeps-kept.ensures kept))
