@@ -1,28 +1,46 @@
 //! A burst by a call.
 
-ghost use Rattle.std.specs.Prelude.{◌≡◌, length, IfOk};
-ghost use Rattle.region_core.specs.Bursts.{AreTogether};
+use crate::call::Call;
+use std::marker::Model;
+
+/// A burst that hands the regions to a call, which gives back each at its place, run on.
+///
+/// What a trait's method sends to another thread has to be known to allow that, and of a gate that the method
+/// doesn't name it isn't known. So whoever knows the gate makes the call, and this makes a burst of it.
+#[derive(Drop)]
+pub struct ByCall<C: Call> {
+    call: C,
+}
+
+// What is known of the call; contracts see nothing else of it.
+impl<C: Call> Model for ByCall<C> {
+    ghost Value = { Unit {0} };
+
+    ghost view = { λ _. tt };
+
+    ghost invariant = { λ s. C.keeping s.call };
+}
 
 use region_core::{Burst, Region};
 use std::alloc::{AllocError, Global};
 use std::sync::Wait;
 use std::thread::Threads;
 
-/// A burst that hands the regions to a call.
-///
-/// What a trait's method sends to another thread has to be known to allow that, and of a gate that the method
-/// doesn't name it isn't known. So whoever knows the gate makes the call, and this makes a burst of it.
-#[derive(Drop)]
-pub struct ByCall<F> {
-    /// What is called.
-    pub call: F,
+impl<C: Call> ByCall<C> {
+    /// The burst by this call.
+    pub fn new(call: C) -> ByCall<C>
+        requires { C.keeping call }
+    {
+        ByCall { call }
+    }
 }
 
-impl<F: Fn(Vec<Region>) -> Result<Vec<Region>, AllocError>> Burst for ByCall<F> {
-    ghost ready = { λ burst.
-        ((regions : _) → AreTogether regions.items → F.pre burst.call regions)
-        × ((regions : _) (worked : _) → F.post burst.call regions worked →
-        IfOk worked (λ found. length found.items ≡ length regions.items)) };
+impl<C: Call> Burst for ByCall<C> {
+    ghost keeping = { λ _. Unit {0} };
+
+    fn keeps(&self) -> bool {
+        true
+    }
 
     fn burst<R: Threads + Wait + Sync>(
         &mut self,
@@ -30,6 +48,6 @@ impl<F: Fn(Vec<Region>) -> Result<Vec<Region>, AllocError>> Burst for ByCall<F> 
         _alloc: Global,
         regions: Vec<Region>,
     ) -> Result<Vec<Region>, AllocError> {
-        (self.call)(regions)
+        self.call.work(regions)
     }
 }

@@ -2,11 +2,13 @@
 #![tactic(auto)]
 
 pub mod by_call;
+pub mod call;
 mod job;
 mod meeting;
 pub mod workers;
 
 pub use by_call::ByCall;
+pub use call::Call;
 pub use workers::{MAX_WORKERS, Workers};
 
 #[cfg(test)]

@@ -1,7 +1,8 @@
 ghost use Rattle.std.specs.Prelude.{◌≡◌, length, IfOk};
 ghost use Rattle.region_core.specs.Bursts.{AreTogether};
+ghost use Rattle.region_core.specs.RunOn.{AreRunOn};
 
-use crate::{ByCall, Workers};
+use crate::{ByCall, Call, Workers};
 use cell_sequence::CellState;
 use fixed_motion::{Rules, Scene};
 use region_core::{Burst, Gate, Region};
@@ -65,17 +66,18 @@ impl Gate for Meeting {
     }
 }
 
-// Has some burst work on regions, as a run does.
-fn work_by<B: Burst, R: Threads + Wait + Sync>(
+// Has a burst by a call work on regions, as a run does.
+fn work_by<C: Call + Drop, R: Threads + Wait + Sync>(
     rt: &R,
     alloc: Global,
     regions: Vec<Region>,
-    burst: &mut B,
+    call: C,
 ) -> Result<Vec<Region>, AllocError>
-    requires ready { B.ready burst.old }
+    requires keeping { C.keeping call }
     requires together { AreTogether regions.items }
-    ensures { IfOk result (λ worked. length worked.items ≡ length regions.items) }
+    ensures { IfOk result (λ worked. AreRunOn regions.items worked.items) }
 {
+    let mut burst = ByCall::new(call);
     burst.burst(rt, alloc, regions)
 }
 
@@ -87,15 +89,18 @@ fn work_by_workers<G: Gate, R: Threads + Wait + Sync>(
     workers: &Workers<'_, G>,
 ) -> Result<Vec<Region>, AllocError>
     requires { AreTogether regions.items }
-    ensures { IfOk result (λ worked. length worked.items ≡ length regions.items) }
+    ensures { IfOk result (λ worked. AreRunOn regions.items worked.items) }
 {
-    let mut burst = ByCall {
-        call: |regions: Vec<Region>| -> Result<Vec<Region>, AllocError>
+    work_by(
+        rt,
+        alloc,
+        regions,
+        |regions: Vec<Region>| -> Result<Vec<Region>, AllocError>
             requires { AreTogether regions.items }
-            ensures { IfOk result (λ worked. length worked.items ≡ length regions.items) }
+            ensures { IfOk result (λ worked. (length worked.items ≡ length regions.items)
+                × AreRunOn regions.items worked.items) }
         { workers.burst(rt, alloc, regions) },
-    };
-    work_by(rt, alloc, regions, &mut burst)
+    )
 }
 
 #[test]
