@@ -2,7 +2,7 @@
 #![tactic(auto)]
 
 ghost use Rattle.std.specs.Prelude.{◌≡◌, ◌+◌, ◌-◌, ◌*◌, ◌^◌, ◌≤◌, nat_abs};
-ghost use Rattle.plane_vectors.specs.Vectors.{vector, sum, difference, dot, after, IsWithin};
+ghost use Rattle.plane_vectors.specs.Vectors.{sum, difference, dot, after, IsWithin};
 
 /// A vector in the plane: a place in units of length, or a velocity in units of length per tick.
 #[derive(Clone, Copy, Debug, PartialEq, Eq)]
