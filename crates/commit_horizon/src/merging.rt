@@ -59,16 +59,19 @@ fn entries_of_all(regions: &[Region]) -> usize {
     count
 }
 
-// The action at a place of a region's log, which has one there.
-fn action_at(region: &Region, place: usize) -> Action
+/// The action at a place of a region's log, which has one there.
+pub(crate) fn action_at(region: &Region, place: usize) -> Action
     requires { IsSome (native_in (slice_get (entries_of region.now) place)) }
     ensures { native_in (slice_get (entries_of region.now) place) ≡ Some result }
 {
     region.native(place).unwrap()
 }
 
-// The head of each region.
-fn first_heads(
+/// The head of each region.
+///
+/// # Errors
+/// Out of memory.
+pub(crate) fn first_heads(
     alloc: Global,
     regions: &[Region],
     horizon: Stamp,
@@ -82,8 +85,8 @@ fn first_heads(
     Ok(heads)
 }
 
-// The first action of a region after so many entries; none where it isn't before the horizon.
-fn head_after(region: &Region, done: usize, horizon: Stamp) -> Option<Head>
+/// The first action of a region after so many entries; none where it isn't before the horizon.
+pub(crate) fn head_after(region: &Region, done: usize, horizon: Stamp) -> Option<Head>
     ensures { IsHeadAfter horizon (entries_of region.now) done result }
 {
     for place in done..region.entries() {
@@ -116,8 +119,8 @@ fn least(heads: &[Option<Head>]) -> Option<(usize, Head)>
     head_with(heads, least)
 }
 
-// The head of a number, with this number.
-fn head_with(heads: &[Option<Head>], number: Option<usize>) -> Option<(usize, Head)>
+/// The head of a number, with this number.
+pub(crate) fn head_with(heads: &[Option<Head>], number: Option<usize>) -> Option<(usize, Head)>
     requires { IfSome number (λ k. k < length heads.now) }
     ensures { result ≡ head_with heads.now number }
 {

@@ -1,4 +1,4 @@
-use Rattle.std.proofs.Common.{◌+◌, ◌≤◌, length, get_or, sym, subst, refl, None, arith}
+use Rattle.std.proofs.Common.{◌+◌, get_or, sym, subst, refl, None, arith}
 use Rattle.commit_horizon.specs.Merging.{IsLeastHead, head_with}
 use Rattle.commit_horizon.proofs.Heads.{IsLeastOfFirst, nearer_is, least_of_all}
 use Rattle.commit_horizon.proofs.merging.least.Goals as goal

@@ -1,0 +1,192 @@
+-- What was told of actions as they are merged.
+use Rattle.std.proofs.Common.{◌≡◌, ◌≢◌, ℕ, ◌+◌, ◌<◌, ◌≤◌, Bool, true, false, List, [], ◌∷◌, ◌++◌, length, map, set}
+use Rattle.std.proofs.Common.{sym, ap, ◌∙◌, subst, refl, arith, Option, Some, None}
+use Rattle.std.specs.Prelude.{slice_get, MatchBool}
+use Rattle.std.specs.Option.{IsSome}
+use Rattle.std.specs.List.{sum_by}
+use Rattle.event_stamps.specs.declared.Stamp.{Stamp}
+use Rattle.event_rules.specs.declared.change.Change.{Change}
+use Rattle.event_rules.specs.declared.outcome.RunFault.{RunFault}
+use Rattle.event_rules.specs.declared.outcome.RunFault.TheVariants.{Listener, NoMemory}
+use Rattle.event_rules.specs.Told.{told, Told, PrefixTold}
+use Rattle.event_rules.proofs.Ran.{ran, ran_tellable}
+use Rattle.event_rules.proofs.Telling.{told_none, torn_next, all_told, prefix_longer}
+use Rattle.region_view.specs.declared.action.Action.{Action}
+use Rattle.region_view.specs.declared.action.Action.TheVariants.{Cross, Hit}
+use Rattle.cell_sequence.specs.Run.{hits, disks_of}
+use Rattle.cell_sequence.specs.State.{CellStateData, IsCellState, followed}
+use Rattle.cell_sequence.specs.State.{raised as raised_state}
+use Rattle.cell_sequence.specs.Laws.{IsNextAction}
+use Rattle.cell_sequence.proofs.Joins.{hits_join}
+use Rattle.cell_sequence.proofs.Hits.{turn}
+use Rattle.cell_sequence.proofs.Orderly.{known}
+use Rattle.region_core.specs.declared.entry.TheConstants.{MAX_ENTRIES}
+use Rattle.region_core.specs.Opening.{RegionData}
+use Rattle.region_core.specs.Keeping.{entries_of, native_in}
+use Rattle.region_core.specs.Raising.{raised as raised_region}
+use Rattle.commit_horizon.specs.declared.merging.Head.{Head}
+use Rattle.commit_horizon.specs.Horizon.{runs_of, AllStand, AllKept, IsBound, IsHorizon}
+use Rattle.commit_horizon.specs.Merging.{IsHeadAfter, Heads, AreHeads, IsLeastHead}
+use Rattle.commit_horizon.specs.Telling.{MayBeTold, HitRefused, MergeTold, MergeCutShort, CommitTold, CommitCutShort}
+use Rattle.commit_horizon.proofs.Commit.{commits}
+use Rattle.commit_horizon.proofs.Heads.{cost_of}
+use Rattle.commit_horizon.proofs.Merges.{KeepsMerging, keeps_begin, has_action, costs_less, keeps_on, keeps_end, next_of_heads}
+use Rattle.commit_horizon.proofs.Whole.{some_head, merge_ends, merge_whole}
+
+-- ---- tellings, one after the other
+told_joined : {M C : Type 0} (after : M → C → M) (m : M) (xs ys : List C) →
+    told after m (xs ++ ys) ≡ told after (told after m xs) ys
+told_joined after m [] ys = refl
+told_joined after m (x ∷ xs) ys = told_joined after (after m x) xs ys
+
+pub told_in_turn : {M C : Type 0} (after : M → C → M) (old mid new : Option M) (xs ys : List C) →
+    Told after old xs mid → Told after mid ys new → Told after old (xs ++ ys) new
+told_in_turn after None mid new xs ys h k = tt
+told_in_turn after (Some m) None new xs ys h k = absurd h
+told_in_turn after (Some m) (Some n) None xs ys h k = absurd k
+told_in_turn after (Some m) (Some n) (Some p) xs ys h k =
+    k ∙ ap (λ v. told after v ys) h ∙ sym (told_joined after m xs ys)
+
+-- the next action of a cell state, where it is a collision, can be told
+pub next_tellable : (state : CellStateData) (x : Action) → IsCellState state → IsNextAction state x → MayBeTold x
+next_tellable state (Cross s cell) is next = tt
+next_tellable state (Hit change) is next =
+    let k = known state is in
+    let disks = disks_of state.placed in
+    let turned = turn state.rules state.grid state.placed k.from (Hit change) k.checked k.of k.settled next.0 next.1 in
+    ran_tellable state.rules disks change (ran state.rules disks change turned.0.0 turned.1)
+
+-- ---- as logs are merged
+-- the state has followed some actions, exactly whose collisions were told; this says whether there are any
+pub record KeepsTelling {M : Type 0} (after : M → Change → M) (old : CellStateData) (regions : List RegionData)
+    (h : Stamp) (heads : Heads) (any : Bool) (now : CellStateData) (before later : Option M) : Type 0 where
+  pub done : List Action
+  pub keeps : KeepsMerging old regions h heads done now
+  pub told : Told after before (hits done) later
+  pub says : MatchBool any (done ≢ []) (done ≡ [])
+
+some_more : {A : Type 0} (xs : List A) (x : A) → xs ++ x ∷ [] ≢ []
+some_more [] x e = cc
+some_more (y ∷ xs) x e = cc
+
+module _ {M : Type 0} (after : M → Change → M) (torn : M → Change → M → Type 0) (old : CellStateData)
+    (regions : List RegionData) (h : Stamp) (is : IsCellState old) (stand : AllStand old regions)
+    (kept : AllKept regions) (bound : IsBound old (runs_of regions) h) (before : Option M) where
+  pub nothing_told : MergeCutShort after torn old regions h NoMemory before before
+  nothing_told =
+      let whole = merge_whole old regions h is stand kept bound in
+      (whole.0, whole.2.merged, (0, told_none after before))
+
+  pub telling_begins : (heads : Heads) → AreHeads h regions (length regions) heads →
+      KeepsTelling after old regions h heads false old before before
+  telling_begins heads first = record {
+    done = [];
+    keeps = keeps_begin old regions h heads is stand kept bound first;
+    told = told_none after before;
+    says = refl;
+  }
+
+  module _ (heads : Heads) (any : Bool) (now : CellStateData) (mid : Option M)
+      (so_far : KeepsTelling after old regions h heads any now before mid) where
+    pub telling_ends : IsLeastHead heads None → MergeTold after old regions h any now before mid
+    telling_ends none = record {
+      actions = so_far.done;
+      merges = keeps_end old regions h heads so_far.done now so_far.keeps is stand kept bound none;
+      told = so_far.told;
+      says = so_far.says;
+    }
+
+    module _ (k : ℕ) (head : Head) (least : IsLeastHead heads (Some (k, head))) where
+      -- the place of a head is that of an entry
+      pub few_more : head.place + 1 ≤ MAX_ENTRIES
+      few_more = let fit = so_far.keeps.fit k head least.1 in omega (arith, fit)
+
+      -- its region is one of those that are merged
+      pub of_region : k < length regions
+      of_region = subst (λ n. k < n) so_far.keeps.count least.0
+
+      module _ (region : RegionData) (at : slice_get regions k ≡ Some region) where
+        pub reads_action : IsSome (native_in (slice_get (entries_of region) head.place))
+        reads_action = has_action old regions h heads so_far.done now so_far.keeps stand kept k head least region at
+
+        pub tells_less : (new : Option Head) → IsHeadAfter h (entries_of region) (head.place + 1) new →
+            sum_by cost_of (set heads k new) < sum_by cost_of heads
+        tells_less new next =
+            costs_less old regions h heads so_far.done now so_far.keeps stand kept k head least region at new next
+
+    module _ (k : ℕ) (head : Head) (least : IsLeastHead heads (Some (k, head))) (region : RegionData)
+        (at : slice_get regions k ≡ Some region) (x : Action)
+        (found : native_in (slice_get (entries_of region) head.place) ≡ Some x) where
+      pub goes_on_next : IsNextAction now x
+      goes_on_next =
+          next_of_heads old regions h heads so_far.done now so_far.keeps stand kept k head least region at x found
+
+      pub may_be_told : MayBeTold x
+      may_be_told = next_tellable now x so_far.keeps.merging.is goes_on_next
+
+      goes_on : (new : Option Head) → IsHeadAfter h (entries_of region) (head.place + 1) new →
+          KeepsMerging old regions h (set heads k new) (so_far.done ++ x ∷ []) (followed now x)
+      goes_on new next = keeps_on old regions h heads so_far.done now so_far.keeps stand kept k head least region at
+          x found new next
+
+      -- one more action was told
+      pub telling_goes_on : (new : Option Head) (later : Option M) →
+          IsHeadAfter h (entries_of region) (head.place + 1) new → Told after mid (hits (x ∷ [])) later →
+          KeepsTelling after old regions h (set heads k new) true (followed now x) before later
+      telling_goes_on new later next told = record {
+        done = so_far.done ++ x ∷ [];
+        keeps = goes_on new next;
+        told = subst (λ (v : List Change). Told after before v later) (sym (hits_join so_far.done (x ∷ [])))
+            (told_in_turn after before mid later (hits so_far.done) (hits (x ∷ [])) so_far.told told);
+        says = some_more so_far.done x;
+      }
+
+      -- it was refused
+      refused_next : (y : Action) (later : Option M) → HitRefused torn mid y later →
+          PrefixTold after torn before (hits (so_far.done ++ y ∷ [])) later
+      refused_next (Cross s cell) later none = absurd none
+      refused_next (Hit change) later refused = subst (λ (v : List Change). PrefixTold after torn before v later)
+          (sym (hits_join so_far.done (Hit change ∷ [])))
+          (torn_next after torn before mid later (hits so_far.done) change so_far.told refused)
+
+      pub telling_refused : (later : Option M) → HitRefused torn mid x later →
+          MergeCutShort after torn old regions h Listener before later
+      telling_refused later refused =
+          let next = some_head h (entries_of region) (head.place + 1) in
+          let done = so_far.done ++ x ∷ [] in
+          let rest = merge_ends old regions h is stand kept bound (set heads k next.0) done (followed now x)
+          (goes_on next.0 next.1) in (
+            done ++ rest.0,
+            rest.2.merged,
+            subst (λ (v : List Change). PrefixTold after torn before v later) (sym (hits_join done rest.0))
+                (prefix_longer after torn before later (hits done) (hits rest.0) (refused_next x later refused)),
+          )
+
+-- ---- a commit
+module _ {M : Type 0} (after : M → Change → M) (torn : M → Change → M → Type 0) (old : CellStateData)
+    (regions : List RegionData) (h : Stamp) (stand : AllStand old regions)
+    (horizon : IsHorizon old (runs_of regions) h) (before later : Option M) where
+  pub commit_told : (any : Bool) (mid new : CellStateData) (left : List RegionData) →
+      MergeTold after old regions h any mid before later → new ≡ raised_state h mid →
+      left ≡ map (raised_region h) regions → CommitTold after old regions any new left before later
+  commit_told any mid new left telling is_new is_left = record {
+    batch = telling.actions;
+    commits = commits old regions h telling.actions mid new left stand horizon telling.merges is_new is_left;
+    told = telling.told;
+    says = telling.says;
+  }
+
+  -- the merge broke off
+  pub merge_cut : (fault : RunFault) → MergeCutShort after torn old regions h fault before later →
+      CommitCutShort after torn old regions fault before later
+  merge_cut fault cut =
+      (cut.0, record { horizon = h; is_horizon = horizon; merged = cut.1 }, cut.2)
+
+  -- all was told, and then memory was wanting
+  pub told_and_cut : (any : Bool) (mid : CellStateData) → MergeTold after old regions h any mid before later →
+      CommitCutShort after torn old regions NoMemory before later
+  told_and_cut any mid telling = (
+    telling.actions,
+    record { horizon = h; is_horizon = horizon; merged = telling.merges.merged },
+    all_told after before later (hits telling.actions) telling.told,
+  )
