@@ -1,17 +1,18 @@
 -- What holds of all right local runs.
-use Rattle.std.specs.Prelude.{◌≡◌, ℕ, ◌≤◌, List, ◌∷◌, ◌++◌, length, take}
+use Rattle.std.specs.Prelude.{◌≡◌, ◌↔◌, ℕ, ◌≤◌, List, ◌∷◌, ◌++◌, length, take}
 use Rattle.event_stamps.specs.declared.Stamp.{Stamp}
 use Rattle.event_stamps.specs.Order.{Before, end_stamp}
 use Rattle.cell_grid.specs.Grid.{AreLinked}
 use Rattle.region_view.specs.Placing.{IsValidPlacing}
 use Rattle.region_view.specs.Views.{rows_in}
 use Rattle.region_view.specs.declared.rows.Message.{Message}
-use Rattle.region_messages.specs.Trails.{below}
+use Rattle.region_messages.specs.Trails.{IsAmong, below}
 use Rattle.region_core.specs.declared.home.Home.{Home}
 use Rattle.region_core.specs.declared.entry.Entry.{Entry}
+use Rattle.region_core.specs.declared.entry.Entry.TheVariants.{Heard}
 use Rattle.region_core.specs.declared.answers.Step.{Step}
 use Rattle.region_core.specs.declared.answers.Hearing.{Hearing}
-use Rattle.region_core.specs.LocalRun.{IsInPlace, Local, start_of, now_of, after_log, entry_stamp}
+use Rattle.region_core.specs.LocalRun.{IsInPlace, Local, trail_of, start_of, now_of, after_log, entry_stamp}
 use Rattle.region_core.specs.LocalRun.{entries_below, IsWaiting, IsDue, IsHearable, IsRight}
 use Rattle.region_core.specs.LocalRun.{sent_to}
 use Rattle.region_core.specs.Answers.{IsInTurn, StepsTo, HearsFrom}
@@ -27,6 +28,12 @@ EntriesWereDue = (h : Home) (r : Local) (before after : List Entry) (e : Entry) 
 abbrev pub ViewsAreValid : Type 0
 ViewsAreValid = (h : Home) (r : Local) (i : ℕ) → IsInPlace h → IsRight h r →
     IsValidPlacing h.rules h.grid (rows_in (after_log (start_of r) (take i r.log)).view)
+
+-- what waits after some entries is what was heard and isn't among them
+abbrev pub WaitsIfNotTaken : Type 0
+WaitsIfNotTaken = (h : Home) (r : Local) (i q : ℕ) (m : Message) → IsRight h r →
+    (IsAmong m (trail_of (after_log (start_of r) (take i r.log)).waiting q)
+    ↔ (IsAmong m (trail_of r.heard q) × ¬ IsAmong (Heard q m) (take i r.log)))
 
 -- what waits may come next: it is from the floor on, and after the last entry
 abbrev pub MessagesAreInTurn : Type 0

@@ -1,6 +1,6 @@
 //! Laws of local runs, for those who read the definitions alone.
 
-ghost use Rattle.region_core.specs.Laws.{EntriesWereDue, MessagesAreInTurn, LogsGoOneWay, StepsGoOneWay, HearingsHaveOneAnswer, StepsKeepRight, HearingsKeepRight, RollbacksKeepRight, ViewsAreValid, SentMayBeHeard, RaisingKeepsRight};
+ghost use Rattle.region_core.specs.Laws.{EntriesWereDue, WaitsIfNotTaken, MessagesAreInTurn, LogsGoOneWay, StepsGoOneWay, HearingsHaveOneAnswer, StepsKeepRight, HearingsKeepRight, RollbacksKeepRight, ViewsAreValid, SentMayBeHeard, RaisingKeepsRight};
 
 /// Each entry of a right log was due at its place: nothing that was offered there came before it.
 pub fn entries_were_due()
@@ -11,6 +11,12 @@ pub fn entries_were_due()
 /// cells of the grid.
 pub fn views_are_valid()
     ensures { ViewsAreValid }
+{}
+
+/// What waits after some entries of a right log is what was heard and isn't among them: the first message of a
+/// trail, which an entry takes away, is the one that it names.
+pub fn waits_if_not_taken()
+    ensures { WaitsIfNotTaken }
 {}
 
 /// What waits comes after the last entry, and not before the floor: only an event of the region's own columns
