@@ -1,5 +1,5 @@
 -- The first messages of the regions, one after another.
-use Rattle.std.proofs.Common.{Bor, ◌≡◌, ◌⊎◌, inl, inr, ℕ, zero, suc, ◌+◌, ◌<◌, ◌≤◌, Bool, false, List, [], ◌∷◌, length, Option, Some, None, refl, sym, ap, subst, ◌∙◌, arith}
+use Rattle.std.proofs.Common.{Bor, ◌≡◌, ◌≢◌, ◌⊎◌, inl, inr, ℕ, zero, suc, ◌+◌, ◌<◌, ◌≤◌, Bool, false, List, [], ◌∷◌, length, Option, Some, None, refl, sym, ap, subst, ◌∙◌, arith}
 use Rattle.std.specs.Prelude.{slice_get, is_some, option_copied, if◌then◌else◌}
 use Rattle.std.proofs.lemmas.Option.{none-some, same_Some}
 use Rattle.event_stamps.specs.declared.Stamp.{Stamp}
@@ -8,8 +8,15 @@ use Rattle.event_stamps.proofs.StampOrder.{before_decides, before_trans, not_bef
 use Rattle.region_view.specs.declared.rows.Message.{Message}
 use Rattle.region_messages.specs.Trails.{is_before}
 use Rattle.region_core.specs.LocalRun.{Trails, trail_of}
-use Rattle.region_core.specs.Inbox.{InboxData, next_from, taken_from, nearer_of, IsLeastBelow, IsLeastHead, IsSharedBelow}
+use Rattle.region_core.specs.Inbox.{InboxData, next_from, taken_from, nearer_of, IsFirstOf, IsLeastHead}
 use Rattle.region_messages.proofs.Order.{is_before_true, is_before_false}
+
+-- ---- the least of them
+-- of the first messages of the regions below a number, none is before it; or there are none
+abbrev pub IsLeastBelow : InboxData → ℕ → Option (ℕ × Stamp) → Type 0
+IsLeastBelow inbox n None = (q : ℕ) → q < n → next_from inbox q ≡ None
+IsLeastBelow inbox n (Some head) = IsFirstOf inbox head.0 head.1
+    × ((q : ℕ) (m : Message) → q < n → next_from inbox q ≡ Some m → ¬ Before m.stamp head.1)
 
 pub none_there : {T : Type 0} (o : Option (Bor T)) → is_some o ≡ false → option_copied o ≡ None
 none_there None is = refl
@@ -109,5 +116,10 @@ least_of_all inbox n (Some head) len below = (
 )
 
 -- ---- shared stamps
+-- the first message of another region below a number has this stamp
+abbrev pub IsSharedBelow : InboxData → ℕ → ℕ → Stamp → Type 0
+IsSharedBelow inbox n from s = (q : ℕ) × (m : Message) × (q < n) × (q ≢ from)
+    × (next_from inbox q ≡ Some m) × (m.stamp ≡ s)
+
 pub not_shared_below : (inbox : InboxData) (from : ℕ) (s : Stamp) → ¬ IsSharedBelow inbox 0 from s
 not_shared_below inbox from s (q, m, lt, other, next, is) = omega arith

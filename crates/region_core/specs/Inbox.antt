@@ -1,5 +1,5 @@
 -- What a region heard from the others, and how much of it was taken in.
-use Rattle.std.specs.Prelude.{◌≡◌, ◌≢◌, ℕ, ◌+◌, ◌<◌, List, [], Option, Some, None, length, replicate, get_or, slice_get, slice_set, if◌then◌else◌}
+use Rattle.std.specs.Prelude.{◌≡◌, ◌≢◌, ℕ, ◌+◌, List, [], Option, Some, None, length, replicate, get_or, slice_get, slice_set, if◌then◌else◌}
 use Rattle.event_stamps.specs.declared.Stamp.{Stamp}
 use Rattle.event_stamps.specs.Order.{Before}
 use Rattle.region_view.specs.declared.rows.Message.{Message}
@@ -29,12 +29,6 @@ next_from inbox q = slice_get (trail_of inbox.heard q) (taken_from inbox q)
 abbrev pub IsFirstOf : InboxData → ℕ → Stamp → Type 0
 IsFirstOf inbox q s = (m : Message) × (next_from inbox q ≡ Some m) × (m.stamp ≡ s)
 
--- of the first messages of the regions below a number, none is before it; or there are none
-abbrev pub IsLeastBelow : InboxData → ℕ → Option (ℕ × Stamp) → Type 0
-IsLeastBelow inbox n None = (q : ℕ) → q < n → next_from inbox q ≡ None
-IsLeastBelow inbox n (Some head) = IsFirstOf inbox head.0 head.1
-    × ((q : ℕ) (m : Message) → q < n → next_from inbox q ≡ Some m → ¬ Before m.stamp head.1)
-
 -- the lesser of two first messages; of one stamp, the one that was there
 abbrev pub nearer_of : Option (ℕ × Stamp) → ℕ → Option Message → Option (ℕ × Stamp)
 nearer_of least from None = least
@@ -46,16 +40,11 @@ abbrev pub HasStamp : Option Message → Stamp → Type 0
 HasStamp None s = ⊥
 HasStamp (Some m) s = m.stamp ≡ s
 
--- the same of all regions
+-- of the first messages of all regions, none is before it; or there are none
 abbrev pub IsLeastHead : InboxData → Option (ℕ × Stamp) → Type 0
 IsLeastHead inbox None = (q : ℕ) → next_from inbox q ≡ None
 IsLeastHead inbox (Some head) = IsFirstOf inbox head.0 head.1
     × ((q : ℕ) (m : Message) → next_from inbox q ≡ Some m → ¬ Before m.stamp head.1)
-
--- the first message of another region below a number has this stamp
-abbrev pub IsSharedBelow : InboxData → ℕ → ℕ → Stamp → Type 0
-IsSharedBelow inbox n from s = (q : ℕ) × (m : Message) × (q < n) × (q ≢ from)
-    × (next_from inbox q ≡ Some m) × (m.stamp ≡ s)
 
 -- the first message of another region has this stamp
 abbrev pub IsSharedHead : InboxData → ℕ → Stamp → Type 0

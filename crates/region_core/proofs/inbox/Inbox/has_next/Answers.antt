@@ -1,6 +1,6 @@
 use Rattle.std.proofs.Common.{◌≡◌, ℕ, length, None, sym, ap, subst, ◌∙◌, arith}
-use Rattle.region_core.specs.Inbox.{InboxData, IsLeastBelow}
-use Rattle.region_core.proofs.Firsts.{none_below, nearer_is, none_there, least_of_all}
+use Rattle.region_core.specs.Inbox.{InboxData}
+use Rattle.region_core.proofs.Firsts.{IsLeastBelow, none_below, nearer_is, none_there, least_of_all}
 use Rattle.region_core.proofs.inbox.Inbox.has_next.Goals as goal
 
 pub loop-from-init : goal.loop-from-init

@@ -1,4 +1,4 @@
-use Rattle.region_core.specs.Inbox.{IsSharedBelow}
+use Rattle.region_core.proofs.Firsts.{IsSharedBelow}
 use Rattle.region_core.proofs.inbox.Inbox.is_shared.Given as goal
 
 abbrev pub invariant-loop-other : goal.invariant-loop-other

@@ -1,6 +1,6 @@
 use Rattle.std.proofs.Common.{◌≡◌, ℕ, ◌+◌, length, sym, ap, subst, ◌∙◌, arith}
-use Rattle.region_core.specs.Inbox.{InboxData, IsLeastBelow}
-use Rattle.region_core.proofs.Firsts.{nearer_is, least_of_all}
+use Rattle.region_core.specs.Inbox.{InboxData}
+use Rattle.region_core.proofs.Firsts.{IsLeastBelow, nearer_is, least_of_all}
 use Rattle.region_core.proofs.inbox.Inbox.least_of_all.Goals as goal
 
 pub loop-from-preserved : goal.loop-from-preserved

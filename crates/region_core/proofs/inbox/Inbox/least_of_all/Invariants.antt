@@ -1,4 +1,4 @@
-use Rattle.region_core.specs.Inbox.{IsLeastBelow}
+use Rattle.region_core.proofs.Firsts.{IsLeastBelow}
 use Rattle.region_core.proofs.inbox.Inbox.least_of_all.Given as goal
 
 abbrev pub invariant-loop-from : goal.invariant-loop-from
