@@ -1,0 +1,122 @@
+#!/usr/bin/env python3
+"""Tests of how a run ends from outside: by a signal, by Ctrl-C at a terminal, or by a reader that goes away.
+
+    python3 tools/test_signals.py [PROGRAM]
+
+PROGRAM is the built one, crates/hard_disks/out/hard_disks, where none is named."""
+import os
+import pty
+import signal
+import subprocess
+import sys
+import tempfile
+import time
+import unittest
+
+TOP = os.path.join(os.path.dirname(os.path.abspath(__file__)), "..")
+PROGRAM = os.path.join(TOP, "crates", "hard_disks", "out", "hard_disks")
+# Runs for about a second, and writes some megabytes from its beginning on.
+WORDS = ["--mode", "load", "--disks", "10000"]
+# What a pipe holds is less, so a run that wrote so much into a file, or has a reader that read so much and no
+# more, is in the midst of its report.
+SOME = 200_000
+# How long, in seconds, a program may take to end that ends at once, on a busy machine.
+SOON = 5
+WRITE_FAULT = 7
+
+
+def start(**streams):
+    return subprocess.Popen([PROGRAM, *WORDS], stdin=subprocess.DEVNULL, **streams)
+
+
+def ended(child):
+    """The status of a program that ends soon; it is killed, and the test fails, where it doesn't."""
+    try:
+        return child.wait(SOON)
+    except subprocess.TimeoutExpired:
+        child.kill()
+        child.wait()
+        raise AssertionError(f"it hadn't ended {SOON} seconds later") from None
+
+
+class Signals(unittest.TestCase):
+    @classmethod
+    def setUpClass(cls):
+        cls.report = subprocess.run([PROGRAM, *WORDS], stdin=subprocess.DEVNULL, capture_output=True, check=True).stdout
+
+    def assert_begun(self, text):
+        self.assertGreaterEqual(len(text), SOME)
+        self.assertLess(len(text), len(self.report))
+        self.assertTrue(self.report.startswith(text), "it is no prefix of the report")
+
+    def stops_a_pipe(self, number):
+        with start(stdout=subprocess.PIPE) as child:
+            text = child.stdout.read(SOME)
+            child.send_signal(number)
+            self.assertEqual(ended(child), -number)
+            # What it wrote before stays in the pipe.
+            self.assert_begun(text + child.stdout.read())
+
+    def test_a_request_to_end_leaves_what_a_pipe_got(self):
+        self.stops_a_pipe(signal.SIGTERM)
+
+    def test_an_interrupt_leaves_what_a_pipe_got(self):
+        self.stops_a_pipe(signal.SIGINT)
+
+    def test_a_request_to_end_leaves_what_a_file_got(self):
+        with tempfile.TemporaryFile() as file:
+            with start(stdout=file) as child:
+                while os.fstat(file.fileno()).st_size < SOME and child.poll() is None:
+                    time.sleep(0.001)
+                child.send_signal(signal.SIGTERM)
+                self.assertEqual(ended(child), -signal.SIGTERM)
+            file.seek(0)
+            self.assert_begun(file.read())
+
+    def test_a_reader_that_goes_away_is_a_write_fault(self):
+        with start(stdout=subprocess.PIPE) as child:
+            text = child.stdout.read(SOME)
+            child.stdout.close()
+            self.assertEqual(ended(child), WRITE_FAULT)
+            self.assert_begun(text)
+
+    def test_two_interrupts_at_a_terminal_end_it(self):
+        with tempfile.TemporaryFile() as file:
+            pid, terminal = pty.fork()
+            if pid == 0:
+                os.dup2(file.fileno(), 1)
+                os.execv(PROGRAM, [PROGRAM, *WORDS])
+            try:
+                while os.fstat(file.fileno()).st_size < SOME:
+                    time.sleep(0.001)
+                os.write(terminal, b"\x03")
+                os.write(terminal, b"\x03")
+                self.assertEqual(os.waitstatus_to_exitcode(self.status_of(pid)), -signal.SIGINT)
+            finally:
+                os.close(terminal)
+            file.seek(0)
+            self.assert_begun(file.read())
+
+    def status_of(self, pid):
+        end = time.monotonic() + SOON
+        while time.monotonic() < end:
+            found, status = os.waitpid(pid, os.WNOHANG)
+            if found:
+                return status
+            time.sleep(0.01)
+        os.kill(pid, signal.SIGKILL)
+        os.waitpid(pid, 0)
+        raise AssertionError(f"it hadn't ended {SOON} seconds later")
+
+
+def main():
+    global PROGRAM
+    if len(sys.argv) > 1:
+        PROGRAM = os.path.abspath(sys.argv.pop(1))
+    if not os.access(PROGRAM, os.X_OK):
+        sys.exit(f"{PROGRAM} isn't there: ./hard_disks builds it")
+    unittest.main()
+
+
+if __name__ == "__main__":
+    main()
