@@ -5,6 +5,7 @@ pub mod by_call;
 pub mod call;
 mod job;
 mod meeting;
+mod roll;
 pub mod workers;
 
 pub use by_call::ByCall;

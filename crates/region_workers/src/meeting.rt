@@ -1,10 +1,14 @@
 //! Where workers wait for each other between slices.
 //!
+//! A worker waits for those alone that have begun, since a thread may not be there yet, and where none can be started
+//! the others begin when it has ended.
+//!
 //! Three ways to wait are tried in turn, the quickest first: to look, to give way to other threads, and to sleep
 //! until one is woken. Where each worker has a processor of its own, the others mostly come while it looks or gives
 //! way, and to be woken would take longer than a slice. Where other programs want the processors too, whoever gives
 //! way gets none back for some milliseconds, though the others come much sooner, and it is better to sleep.
 
+use crate::roll::{Notice, Roll};
 use std::sync::Wait;
 use std::sync::atomic::{AtomicU64, Ordering};
 use std::thread;
@@ -31,54 +35,65 @@ const SLEEPS: u32 = 100;
 // How long it sleeps at most; mostly it is woken before.
 const SLEEP_MILLIS: u64 = 1;
 
-// The system compares the low 32 bits of a number before it puts a thread to sleep.
-const WORDS: u64 = 1 << 32;
-
-// More arrivals than any burst has, and far from the greatest number, so that those that follow don't wrap.
-const ENDED: u64 = 1 << 63;
-
-/// Counts how often the workers of a burst have come to the end of a slice or of its hearing.
+/// Where the workers of a burst meet at the end of each slice and of its hearing.
 #[derive(Drop)]
 pub(crate) struct Meeting {
-    arrivals: AtomicU64,
-    // The last slice that brought news, counted from 1 on.
-    news: AtomicU64,
+    // The word of the roll.
+    roll: AtomicU64,
     sleepers: AtomicU64,
-    workers: u32,
 }
 
 impl Meeting {
-    /// A meeting of so many workers.
-    pub(crate) fn new(workers: u32) -> Meeting {
+    /// A meeting to which nobody has come.
+    pub(crate) fn new() -> Meeting {
         Meeting {
-            arrivals: AtomicU64::new(0),
-            news: AtomicU64::new(0),
+            roll: AtomicU64::new(0),
             sleepers: AtomicU64::new(0),
-            workers,
         }
     }
 
-    /// One worker's part in it.
+    /// The part in it of one worker, which begins.
     pub(crate) fn attend(&self) -> Attendance<'_> {
+        let before = self.note(Notice::Begins);
         Attendance {
             meeting: self,
-            due: 0,
-            slices: 0,
-            waits: true,
+            rank: before.begun,
+            roll: before.after(Notice::Begins),
             asleep: 0,
             spell: 0,
         }
     }
 
-    fn arrivals(&self) -> u64 {
-        self.arrivals.load(Ordering::SeqCst)
+    fn roll(&self) -> Roll {
+        Roll::of(self.roll.load(Ordering::SeqCst))
     }
 
-    // Whether there were so many arrivals while it looked.
-    fn is_seen_to_come_to(&self, due: u64) -> bool {
+    fn is_past(&self, phase: u32) -> bool {
+        self.roll().phase != phase
+    }
+
+    // Takes a notice, and gives the roll as it was before. Whoever sleeps is woken where it ends the phase.
+    fn note(&self, notice: Notice) -> Roll {
+        let noted = self
+            .roll
+            .fetch_update(Ordering::SeqCst, Ordering::SeqCst, |word: u64| {
+                Some(Roll::of(word).after(notice).word())
+            });
+        let before = match noted {
+            Ok(word) => Roll::of(word),
+            Err(word) => Roll::of(word),
+        };
+        if before.after(notice).phase != before.phase && self.sleepers.load(Ordering::SeqCst) > 0 {
+            self.roll.wake_all();
+        }
+        before
+    }
+
+    // Whether all came to the end of the phase while it looked.
+    fn is_seen_to_pass(&self, phase: u32) -> bool {
         let own = AtomicU64::new(0);
         for _ in 0..LOOKS {
-            if self.arrivals() >= due {
+            if self.is_past(phase) {
                 return true;
             }
             for _ in 0..READS {
@@ -88,46 +103,36 @@ impl Meeting {
         false
     }
 
-    // Sleeps until there were so many arrivals, and says whether they came in time. The wait has a bound, since a
-    // worker whose thread couldn't be started, or is held up, mustn't stop the others: the locks keep right who
-    // comes late.
-    fn sleep_until<R: Wait>(&self, rt: &R, due: u64) -> bool {
+    // Sleeps until all came to the end of the phase, and says whether they came in time. The wait has a bound,
+    // since a worker that is held up mustn't stop the others: the locks keep right who comes late.
+    fn sleep_through<R: Wait>(&self, rt: &R, phase: u32) -> bool {
         for _ in 0..SLEEPS {
-            self.sleep(rt, due);
-            if self.arrivals() >= due {
+            self.sleep(rt, phase);
+            if self.is_past(phase) {
                 return true;
             }
         }
         false
     }
 
-    // Sleeps for a while at most, where there weren't so many arrivals before.
-    fn sleep<R: Wait>(&self, rt: &R, due: u64) {
+    // Sleeps for a while at most, where the phase wasn't past before.
+    fn sleep<R: Wait>(&self, rt: &R, phase: u32) {
         self.sleepers.fetch_add(1, Ordering::SeqCst);
-        let seen = self.arrivals();
-        if seen < due {
+        if !self.is_past(phase) {
             let most = Duration::from_millis(SLEEP_MILLIS);
-            self.arrivals.park_timeout(rt, (seen % WORDS) as u32, most);
+            self.roll.park_timeout(rt, phase, most);
         }
         self.sleepers.fetch_sub(1, Ordering::SeqCst);
     }
-
-    fn wake_all(&self) {
-        if self.sleepers.load(Ordering::SeqCst) > 0 {
-            self.arrivals.wake_all();
-        }
-    }
 }
 
-/// One worker's part in a meeting. When it is dropped, the others wait for nobody any more.
+/// One worker's part in a meeting. When it is dropped, the burst is over for all.
 pub(crate) struct Attendance<'m> {
     meeting: &'m Meeting,
-    // How many arrivals there are once all have come as often as this worker.
-    due: u64,
-    // How many slices the worker has made.
-    slices: u64,
-    // Whether the worker waits still: one that waited in vain doesn't wait again.
-    waits: bool,
+    // How many had begun before it.
+    rank: u32,
+    // The roll as it was when the phase began that it is at.
+    roll: Roll,
     // For how many waits more it doesn't give way.
     asleep: u32,
     // For how many waits it won't give way after the next time that another program had the processor.
@@ -135,47 +140,70 @@ pub(crate) struct Attendance<'m> {
 }
 
 impl Attendance<'_> {
-    /// Arrives at the end of a slice, with news or without, and waits as [`Attendance::arrive`] does. Whether
-    /// any worker came with news: all that came in time are told the same, since none begins the next slice
-    /// with news before all have left a meeting to which one came with some.
-    pub(crate) fn end_slice<R: Wait>(&mut self, rt: &R, has_news: bool) -> bool {
-        self.slices = self.slices.saturating_add(1);
-        if has_news {
-            self.meeting.news.store(self.slices, Ordering::SeqCst);
-        }
-        self.arrive(rt);
-        self.meeting.news.load(Ordering::SeqCst) == self.slices
+    /// Whether nothing is to be done any more: a worker has left, or nothing would ever change.
+    pub(crate) fn is_over(&self) -> bool {
+        self.roll.is_over()
     }
 
-    /// Arrives, and waits until all have arrived as often, or for a while.
-    pub(crate) fn arrive<R: Wait>(&mut self, rt: &R) {
-        self.due = self.due.saturating_add(self.meeting.workers as u64);
-        let before = self.meeting.arrivals.fetch_add(1, Ordering::SeqCst);
-        if before.saturating_add(1) >= self.due {
-            self.meeting.wake_all();
-        } else if self.waits {
-            self.waits = self.wait(rt);
+    /// Whether all have their regions hear the others now.
+    pub(crate) fn is_hearing(&self) -> bool {
+        self.roll.hears
+    }
+
+    /// Whether a region, by number, is the worker's own in this phase. Each is somebody's, but for those of a
+    /// worker without which the others went on.
+    pub(crate) fn is_own(&self, region: u32) -> bool {
+        region.checked_rem(self.roll.shares) == Some(self.rank)
+    }
+
+    /// Comes to the end of a slice, and waits until all have come, or for a while. The next phase is a hearing
+    /// if any of them has news; if none has, and none of their regions could go on, the burst is over.
+    pub(crate) fn end_slice<R: Wait>(&mut self, rt: &R, moved: bool, news: bool) {
+        self.arrive(
+            rt,
+            Notice::Comes {
+                at: self.roll.phase,
+                moved,
+                news,
+            },
+        );
+    }
+
+    /// Comes to the end of a hearing, after which regions can go on, and waits as at the end of a slice.
+    pub(crate) fn end_hearing<R: Wait>(&mut self, rt: &R) {
+        self.end_slice(rt, true, false);
+    }
+
+    fn arrive<R: Wait>(&mut self, rt: &R, notice: Notice) {
+        let before = self.meeting.note(notice);
+        self.roll = before.after(notice);
+        let phase = before.phase;
+        if self.roll.phase == phase && !self.roll.is_over() {
+            if !self.wait(rt, phase) {
+                self.meeting.note(Notice::Misses { at: phase });
+            }
+            self.roll = self.meeting.roll();
         }
     }
 
-    // Waits until all have arrived as often, and says whether they came in time.
-    fn wait<R: Wait>(&mut self, rt: &R) -> bool {
-        self.meeting.is_seen_to_come_to(self.due)
-            || self.gives_way()
-            || self.meeting.sleep_until(rt, self.due)
+    // Waits until all have come to the end of a phase, and says whether they came in time.
+    fn wait<R: Wait>(&mut self, rt: &R, phase: u32) -> bool {
+        self.meeting.is_seen_to_pass(phase)
+            || self.gives_way(phase)
+            || self.meeting.sleep_through(rt, phase)
     }
 
     // Whether the others came while it gave way to other threads. Where one of them was even at the next meeting
     // before it had its processor back, it gave way to another program.
-    fn gives_way(&mut self) -> bool {
+    fn gives_way(&mut self, phase: u32) -> bool {
         if self.asleep > 0 {
             self.asleep -= 1;
             return false;
         }
         for _ in 0..YIELDS {
-            let arrivals = self.meeting.arrivals();
-            if arrivals >= self.due {
-                self.note(arrivals > self.due);
+            let roll = self.meeting.roll();
+            if roll.phase != phase {
+                self.note(roll.arrived > 0);
                 return true;
             }
             thread::yield_now();
@@ -195,15 +223,13 @@ impl Attendance<'_> {
 }
 
 impl Drop for Attendance<'_> {
-    // A worker leaves when its turns are made, as all the others have arrived as often, or for want of memory.
+    // A worker leaves when its turns are made, and so all regions' turns, or for want of memory.
     fn drop(self) {
-        self.meeting.arrivals.store(ENDED, Ordering::SeqCst);
-        self.meeting.wake_all();
+        self.meeting.note(Notice::Leaves);
         let Attendance {
             meeting: _,
-            due: _,
-            slices: _,
-            waits: _,
+            rank: _,
+            roll: _,
             asleep: _,
             spell: _,
         } = self;

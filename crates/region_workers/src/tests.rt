@@ -2,6 +2,7 @@ ghost use Rattle.std.specs.Prelude.{◌≡◌, length, IfOk};
 ghost use Rattle.region_core.specs.Bursts.{AreTogether};
 ghost use Rattle.region_core.specs.RunOn.{AreRunOn};
 
+use crate::roll::{Notice, Roll};
 use crate::{ByCall, Call, Workers};
 use cell_sequence::CellState;
 use fixed_motion::{Rules, Scene};
@@ -115,10 +116,11 @@ fn two_workers_meet(rt: HostRuntime) -> Result<(), AllocError> {
         met: AtomicBool::new(false),
         turns: AtomicU32::new(0),
     };
+    // With no disk there is nothing to do, so these turns would take minutes if they did more than pass the gate.
     let workers = Workers {
         workers: 2,
-        turns: 3,
-        steps: 5,
+        turns: 65_536,
+        steps: 4096,
         gate: &gate,
     };
     let state = CellState::open(alloc, &scene, 4)?;
@@ -126,6 +128,62 @@ fn two_workers_meet(rt: HostRuntime) -> Result<(), AllocError> {
     let worked = work_by_workers(&rt, alloc, regions, &workers)?;
     assert_eq!(rt; worked.len(), 4);
     assert!(rt; gate.met.load(Ordering::SeqCst));
-    assert_eq!(rt; gate.turns.load(Ordering::SeqCst), 6);
+    assert_eq!(rt; gate.turns.load(Ordering::SeqCst), 131_072);
     Ok(())
+}
+
+// A worker that comes to the end of a phase with something to do, and with news or none.
+const fn comes(at: u32, news: bool) -> Notice {
+    Notice::Comes {
+        at,
+        moved: true,
+        news,
+    }
+}
+
+const COMES_IDLE: Notice = Notice::Comes {
+    at: 5,
+    moved: false,
+    news: false,
+};
+
+// Notices to one meeting, each with the phase after it, how many have come to its end and are waited for, how many
+// share the regions, and whether they hear.
+const NOTICES: &[(Notice, u32, u32, u32, u32, bool)] = &[
+    // The first has all regions, and waits for nobody.
+    (Notice::Begins, 0, 0, 1, 1, false),
+    (comes(0, false), 1, 0, 1, 1, false),
+    // The second has its share after the phase in which it began.
+    (Notice::Begins, 1, 0, 2, 1, false),
+    (comes(1, true), 1, 1, 2, 1, false),
+    (comes(1, false), 2, 0, 2, 2, true),
+    (comes(2, false), 2, 1, 2, 2, true),
+    // One goes on without the other, which is there again when it comes, and then isn't gone without again.
+    (Notice::Misses { at: 2 }, 3, 0, 1, 2, false),
+    (comes(3, false), 4, 0, 1, 2, false),
+    (comes(2, false), 4, 1, 2, 2, false),
+    (Notice::Misses { at: 3 }, 4, 1, 2, 2, false),
+    (comes(4, false), 5, 0, 2, 2, false),
+    // Neither has anything to do.
+    (COMES_IDLE, 5, 1, 2, 2, false),
+    (COMES_IDLE, u32::MAX, 0, 2, 2, false),
+    (Notice::Begins, u32::MAX, 0, 2, 2, false),
+];
+
+// What a word keeps of a roll after a notice.
+fn kept(roll: Roll, notice: Notice) -> Roll {
+    Roll::of(roll.after(notice).word())
+}
+
+#[test]
+fn who_has_begun_is_waited_for(rt: HostRuntime) {
+    let mut roll = Roll::of(0);
+    for &(notice, phase, arrived, present, shares, hears) in NOTICES {
+        roll = kept(roll, notice);
+        assert_eq!(rt; roll.phase, phase);
+        assert_eq!(rt; roll.arrived, arrived);
+        assert_eq!(rt; roll.present, present);
+        assert_eq!(rt; roll.shares, shares);
+        assert_eq!(rt; roll.hears, hears);
+    }
 }
