@@ -1,14 +1,9 @@
--- What stays the same of a region while it runs, and how many entries it counts as.
-use Rattle.std.specs.Prelude.{◌≡◌, ◌⊎◌, ℕ, ◌+◌, List, length, slice_get, Option, Some, None, option_map}
+-- What may lie where a region lay, and how many entries it counts as.
+use Rattle.std.specs.Prelude.{◌≡◌, ◌≢◌, ◌⊎◌, ℕ, ◌+◌, List, length, slice_get, Option, Some, None}
 use Rattle.region_core.specs.declared.entry.TheConstants.{MAX_ENTRIES}
 use Rattle.region_core.specs.LocalRun.{Local}
 use Rattle.region_core.specs.Opening.{RegionData, spent}
-
--- the number, the rules, the grid and the floor are the same, and so is the view at the floor
-pub record HasBaseOf (first region : RegionData) : Type 0 where
-  pub home : region.home ≡ first.home
-  pub floor : region.floor ≡ first.floor
-  pub base : option_map (λ (run : Local). run.base) region.run ≡ option_map (λ (run : Local). run.base) first.run
+use Rattle.region_core.specs.RunOn.{BeginsAs}
 
 pub record IsSpent (number : ℕ) (region : RegionData) : Type 0 where
   pub run : region.run ≡ None
@@ -16,7 +11,7 @@ pub record IsSpent (number : ℕ) (region : RegionData) : Type 0 where
 
 -- what may lie where the first lay
 abbrev pub MayReplace : RegionData → RegionData → Type 0
-MayReplace first region = HasBaseOf first region ⊎ IsSpent first.home.number region
+MayReplace first region = BeginsAs first region ⊎ IsSpent first.home.number region
 
 -- the same of the region that a slot was opened with
 abbrev pub MayLieIn : List RegionData → ℕ → RegionData → Type 0
@@ -41,4 +36,8 @@ pub record AreReplaced (opened regions : List RegionData) : Type 0 where
 
 -- it has the base that it had, or is spent
 abbrev pub StaysOrSpent : RegionData → RegionData → Type 0
-StaysOrSpent old new = HasBaseOf old new ⊎ (new ≡ spent old)
+StaysOrSpent old new = BeginsAs old new ⊎ (new ≡ spent old)
+
+-- none of them is spent
+abbrev pub AreAlive : List RegionData → Type 0
+AreAlive regions = (k : ℕ) (region : RegionData) → slice_get regions k ≡ Some region → region.run ≢ None

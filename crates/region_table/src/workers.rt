@@ -1,9 +1,10 @@
 //! Workers on regions in one table.
 
-ghost use Rattle.std.specs.Prelude.{◌≡◌, ◌<◌, ◌≤◌, ◌^◌, [], length, All, IfOk};
+ghost use Rattle.std.specs.Prelude.{◌≡◌, ◌<◌, ◌≤◌, ◌^◌, [], length, All, IfOk, IsFalse};
 ghost use Rattle.region_core.specs.Bursts.{AreTogether};
+ghost use Rattle.region_core.specs.RunOn.{AreRunOn};
 ghost use Rattle.region_workers.specs.declared.workers.TheConstants.{MAX_WORKERS};
-ghost use Rattle.region_table.specs.Bases.{AreReplaced};
+ghost use Rattle.region_table.specs.Bases.{AreAlive};
 ghost use Rattle.region_table.specs.Rule.{slots_of};
 ghost use Rattle.region_table.specs.Tables.{IsSeatOf};
 
@@ -36,8 +37,7 @@ pub struct TableWorkers<'g, G: Gate> {
 }
 
 impl<'g, G: Gate> TableWorkers<'g, G> {
-    /// Works on the regions of a grid, as a burst does: in the place of each it gives one with its base, or a
-    /// spent one.
+    /// Works on the regions of a grid, as a burst does that keeps them: gives back each at its place, run on.
     ///
     /// # Errors
     /// Out of memory.
@@ -48,7 +48,8 @@ impl<'g, G: Gate> TableWorkers<'g, G> {
         regions: Vec<Region>,
     ) -> Result<Vec<Region>, AllocError>
         requires together { AreTogether regions.items }
-        ensures bases { IfOk result (λ worked. AreReplaced regions.items worked.items) }
+        ensures count { IfOk result (λ worked. length worked.items ≡ length regions.items) }
+        ensures kept { IfOk result (λ worked. AreRunOn regions.items worked.items) }
     {
         let Some(first) = regions.first() else {
             return Ok(regions);
@@ -57,7 +58,12 @@ impl<'g, G: Gate> TableWorkers<'g, G> {
         let jobs = self.workers.min(grid.regions());
         let (table, mut seat) = RegionTable::open(alloc, regions)?;
         self.run_jobs(rt, alloc, &table, &grid, jobs, &mut seat)?;
-        table.close(alloc, seat)
+        let worked = table.close(alloc, seat)?;
+        // A region is spent only for want of memory, and then a worker said so; but no slot tells.
+        if has_spent(&worked) {
+            return Err(AllocError);
+        }
+        Ok(worked)
     }
 
     // Runs so many jobs side by side. Each takes a seat along that is split off this one, and brings it back.
@@ -98,6 +104,18 @@ impl<'g, G: Gate> TableWorkers<'g, G> {
         }
         Ok(())
     }
+}
+
+// Whether one of them is spent.
+fn has_spent(regions: &[Region]) -> bool
+    ensures { IsFalse result → AreAlive regions.now }
+{
+    for region in regions {
+        if region.is_spent() {
+            return true;
+        }
+    }
+    false
 }
 
 // As many seats as there are jobs, each with the number of its worker.
