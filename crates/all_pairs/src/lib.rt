@@ -2,7 +2,7 @@
 //! does.
 #![tactic(auto)]
 
-pub mod search;
-pub mod simulate;
+mod search;
+mod simulate;
 
 pub use simulate::simulate_plain;

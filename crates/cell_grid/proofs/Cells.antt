@@ -15,7 +15,7 @@ use Rattle.fixed_motion.proofs.Sizes.{inside_in_box, contact_least, contact_most
 use Rattle.contact_predictor.proofs.FarApart.{far_apart, far_above}
 use Rattle.cell_grid.specs.declared.grid.TheConstants.{MAX_CELLS_ALONG, MAX_REGIONS}
 use Rattle.cell_grid.specs.Grid.{GridData, HasSizes, IsGridOf, grid_of, columns_of, rows_of, cells_along, least_side, along, cell_at, column_of, row_of, IsAdjacent, IsBeside}
-use Rattle.cell_grid.specs.Laws.{GridsHaveSizes, PlacesHaveCells, FarUnlessAdjacent, MeetInAdjacent}
+use Rattle.cell_grid.specs.Laws.{GridsHaveSizes, PlacesHaveCells, FarUnlessAdjacent, TouchInAdjacent}
 use Rattle.cell_grid.proofs.Along as columns
 
 -- what is known of the grid of checked rules
@@ -196,8 +196,8 @@ within_least_side : (rules : Rules) (distance u v : ℤ) → pos 2 ≤ℤ distan
     nat_abs u ≤ nat_abs rules.speed_limit → nat_abs v ≤ nat_abs rules.speed_limit → nat_abs distance + nat_abs (u -ℤ v) ≤ least_side rules
 within_least_side rules distance u v some most h k = omega (arith, ints)
 
-pub meet_in_adjacent : MeetInAdjacent
-meet_in_adjacent rules grid a b p q checked of va vb hp hq contact =
+pub touch_in_adjacent : TouchInAdjacent
+touch_in_adjacent rules grid a b p q checked of va vb hp hq contact =
     let r = difference p q in
     let u = difference (velocity_of a) (velocity_of b) in
     let d = contact_distance a b in

@@ -60,8 +60,8 @@ FarUnlessAdjacent = (rules : Rules) (grid : GridData) (p q : Vector) → IsCheck
     IsInBox p → IsInBox q → ¬ IsAdjacent grid (cell_at grid p) (cell_at grid q) → AreApart rules p q
 
 -- two disks that are at their last whole tick before they touch are in adjacent cells
-abbrev pub MeetInAdjacent : Type 0
-MeetInAdjacent = (rules : Rules) (grid : GridData) (a b : Disk) (p q : Vector) → IsChecked rules → IsGridOf rules grid →
+abbrev pub TouchInAdjacent : Type 0
+TouchInAdjacent = (rules : Rules) (grid : GridData) (a b : Disk) (p q : Vector) → IsChecked rules → IsGridOf rules grid →
     IsValidDisk rules a → IsValidDisk rules b → IsInside rules a p → IsInside rules b q →
     IsContact (difference p q) (difference (velocity_of a) (velocity_of b)) (contact_distance a b) →
     IsAdjacent grid (cell_at grid p) (cell_at grid q)

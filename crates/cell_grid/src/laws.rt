@@ -1,6 +1,6 @@
 //! Laws of grids, for those who read the definitions alone.
 
-ghost use Rattle.cell_grid.specs.Laws.{GridsHaveSizes, EachCellHasOneOwner, ReachIsBesideOwn, NeighboursAreInReach, OwnIsInReach, LinksAreMutual, PlacesHaveCells, MovesToAdjacent, FarUnlessAdjacent, MeetInAdjacent, LeavesAfterLast, CrossesLater, OneCrossing};
+ghost use Rattle.cell_grid.specs.Laws.{GridsHaveSizes, EachCellHasOneOwner, ReachIsBesideOwn, NeighboursAreInReach, OwnIsInReach, LinksAreMutual, PlacesHaveCells, MovesToAdjacent, FarUnlessAdjacent, TouchInAdjacent, LeavesAfterLast, CrossesLater, OneCrossing};
 
 /// The grid of checked rules has columns and rows, sides and regions in their ranges.
 pub fn grids_have_sizes()
@@ -49,8 +49,8 @@ pub fn far_unless_adjacent()
 {}
 
 /// Two disks that are at their last whole tick before they touch are in adjacent cells.
-pub fn meet_in_adjacent()
-    ensures { MeetInAdjacent }
+pub fn touch_in_adjacent()
+    ensures { TouchInAdjacent }
 {}
 
 /// A disk that is in a cell at a tick, and inside the box but not in the cell one tick later, crosses

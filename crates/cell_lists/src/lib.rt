@@ -2,7 +2,7 @@
 #![tactic(auto)]
 
 mod chains;
-pub mod gathered;
+mod gathered;
 mod gathering;
 mod lists;
 mod near;

@@ -19,7 +19,7 @@ use Rattle.event_rules.proofs.Decided.{inside}
 use Rattle.event_rules.proofs.Rise.{candidate_before_end}
 use Rattle.cell_grid.specs.Grid.{GridData, IsGridOf, cell_at, IsAdjacent}
 use Rattle.cell_grid.specs.Crossing.{IsIn, IsCrossTick, cross_stamp}
-use Rattle.cell_grid.proofs.Cells.{meet_in_adjacent}
+use Rattle.cell_grid.proofs.Cells.{touch_in_adjacent}
 use Rattle.cell_grid.proofs.Leaving.{leaves_after_last}
 use Rattle.region_view.specs.declared.action.Placed.{Placed}
 use Rattle.cell_sequence.specs.Run.{disks_of, IsStateCandidate}
@@ -167,7 +167,7 @@ event_is_candidate rules grid placed t checked of valid here h = elim h [
       let q = placed_at_disk placed t.second b pair.1.2.1 in
       let va = valid.valid t.first a pair.1.1 in
       let vb = valid.valid t.second b pair.1.2.1 in
-      let near = meet_in_adjacent rules grid a b (place_of a t.tick)
+      let near = touch_in_adjacent rules grid a b (place_of a t.tick)
       (place_of b t.tick) checked of va vb
       event.0.first_inside event.0.second_inside event.0.contact in
       let cp : cell_at grid (place_of a t.tick) ≡ p.0.cell =

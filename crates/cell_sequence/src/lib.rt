@@ -4,7 +4,7 @@
 
 mod laws;
 mod search;
-pub mod state;
+mod state;
 
 pub use laws::{
     actions_rise, cell_states_are_orderly, cell_steps_begin, each_scene_cell_runs,

@@ -8,7 +8,7 @@ use Rattle.std.proofs.Math.Nat.{mul-le-mul, mul-le-mul_left}
 use Rattle.plane_vectors.specs.declared.Vector.{Vector}
 use Rattle.plane_vectors.specs.Vectors.{vector, sum, dot}
 use Rattle.plane_vectors.proofs.Directions.{forward, against, sides, closing, square_is, length_is}
-use Rattle.contact_predictor.specs.Contact.{gap, IsApproaching, IsCrossing, IsContact}
+use Rattle.contact_predictor.specs.Contact.{gap, IsApproaching, IsCollisionCourse, IsContact}
 use Rattle.contact_predictor.proofs.Approaching.{dot_next}
 
 -- ---- natural numbers
@@ -95,7 +95,7 @@ far_gap r distance far =
 -- ---- vectors
 -- the disks come nearest within the tick, and don't overlap then
 never_within : (r u : Vector) (distance : ℤ) → nat_abs distance + nat_abs u.x ≤ nat_abs r.x →
-    IsApproaching r u distance → IsCrossing r u distance → ¬ (pos 0 ≤ℤ (dot r u +ℤ dot u u))
+    IsApproaching r u distance → IsCollisionCourse r u distance → ¬ (pos 0 ≤ℤ (dot r u +ℤ dot u u))
 never_within r u distance far now crossing recede =
     let x = nat_abs r.x in
     let y = nat_abs r.y in
@@ -143,7 +143,7 @@ approaching_swapped r u distance h = record {
   approaching = subst (λ (n : ℤ). n <ℤ pos 0) (dot_swapped r u) h.approaching;
 }
 
-crossing_swapped : (r u : Vector) (distance : ℤ) → IsCrossing r u distance → IsCrossing (swapped r) (swapped u) distance
+crossing_swapped : (r u : Vector) (distance : ℤ) → IsCollisionCourse r u distance → IsCollisionCourse (swapped r) (swapped u) distance
 crossing_swapped r u distance h =
     let b = dot (swapped r) (swapped u) in
     subst (λ (n : ℤ). (dot (swapped u) (swapped u) *ℤ (n -ℤ (distance *ℤ distance))) <ℤ (b *ℤ b)) (dot_swapped r r)

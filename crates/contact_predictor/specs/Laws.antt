@@ -8,5 +8,5 @@ abbrev pub AreFarApart : Vector → Vector → ℤ → Type 0
 AreFarApart r u distance = (nat_abs distance + nat_abs u.x ≤ nat_abs r.x) ⊎ (nat_abs distance + nat_abs u.y ≤ nat_abs r.y)
 
 -- such disks have no contact now
-abbrev pub FarPairsDontMeet : Type 0
-FarPairsDontMeet = (r u : Vector) (distance : ℤ) → AreFarApart r u distance → ¬ IsContact r u distance
+abbrev pub FarPairsDontTouch : Type 0
+FarPairsDontTouch = (r u : Vector) (distance : ℤ) → AreFarApart r u distance → ¬ IsContact r u distance

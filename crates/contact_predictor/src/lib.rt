@@ -9,8 +9,8 @@
 
 ghost use Rattle.std.specs.Prelude.{◌≡◌, ◌↔◌, ◌^◌, ◌+◌, ◌≤◌, ℕ, pos, ◌≤ℤ◌, ◌<ℤ◌, ◌*ℤ◌, ◌-ℤ◌, nat_abs, IsTrue, false, MatchOption, IfSome, IsNone};
 ghost use Rattle.plane_vectors.specs.Vectors.{vector, after, IsWithin};
-ghost use Rattle.contact_predictor.specs.Contact.{coordinate_after, gap, IsApproaching, IsApproachingAfter, IsCrossing, MayMeet, IsContactAfter, IsOnlyContactAfter, StaysUntil};
-ghost use Rattle.contact_predictor.specs.Laws.{FarPairsDontMeet};
+ghost use Rattle.contact_predictor.specs.Contact.{coordinate_after, gap, IsApproaching, IsApproachingAfter, IsCollisionCourse, MayTouch, IsContactAfter, IsOnlyContactAfter, StaysUntil};
+ghost use Rattle.contact_predictor.specs.Laws.{FarPairsDontTouch};
 
 use plane_vectors::Vector;
 
@@ -96,7 +96,7 @@ pub fn contact_between(r: Vector, u: Vector, distance: i64, span: u64) -> Option
         (λ s. (s ≤ span) × IsContactAfter r u distance s) }
     ensures only { IfSome result (λ s. (t : ℕ) → IsContactAfter r u distance t → t ≡ s) }
 {
-    if !may_meet(r, u, distance) {
+    if !may_touch(r, u, distance) {
         return None;
     }
     if let Some(ticks) = quick_contact(r, u, distance) {
@@ -109,11 +109,11 @@ pub fn contact_between(r: Vector, u: Vector, distance: i64, span: u64) -> Option
 /// now on is the last before a contact.
 ///
 /// The separation and the distance are at most 2^30 units, the velocity at most 2^21 units per tick.
-pub fn may_meet(r: Vector, u: Vector, distance: i64) -> bool
+pub fn may_touch(r: Vector, u: Vector, distance: i64) -> bool
     requires separation { IsWithin (2 ^ 30) r }
     requires velocity { IsWithin (2 ^ 21) u }
     requires distance { nat_abs distance ≤ 2 ^ 30 }
-    ensures fact { IsTrue result ↔ MayMeet r u distance }
+    ensures fact { IsTrue result ↔ MayTouch r u distance }
     ensures never { result ≡ false → (s : ℕ) → ¬ IsContactAfter r u distance s }
 {
     let gap = squared_gap(r, distance);
@@ -139,12 +139,15 @@ pub fn quick_contact(r: Vector, u: Vector, distance: i64) -> Option<u64>
     requires separation { IsWithin (2 ^ 30) r }
     requires velocity { IsWithin (2 ^ 21) u }
     requires distance { nat_abs distance ≤ 2 ^ 30 }
-    requires crossing { IsCrossing r u distance }
+    requires crossing { IsCollisionCourse r u distance }
     ensures found { IfSome result (IsOnlyContactAfter r u distance) }
     ensures near { IfSome result (λ s. s ≤ 2 ^ 30) }
 {
     let ticks = guess(r, u, distance);
-    if ticks <= MAX_TICKS && is_near(r.after(u, ticks)) && is_contact_after(r, u, distance, ticks) {
+    if ticks <= MAX_TICKS
+        && is_small(r.after(u, ticks))
+        && is_contact_after(r, u, distance, ticks)
+    {
         Some(ticks)
     } else {
         None
@@ -153,8 +156,8 @@ pub fn quick_contact(r: Vector, u: Vector, distance: i64) -> Option<u64>
 
 /// Two disks have no contact now where their separation on an axis is at least the distance at which
 /// they touch and the way of one tick on that axis together.
-pub fn far_pairs_dont_meet()
-    ensures { FarPairsDontMeet }
+pub fn far_pairs_dont_touch()
+    ensures { FarPairsDontTouch }
 {}
 
 // The smaller root of the quadratic, but for rounding: nothing need be known of it.
@@ -208,13 +211,13 @@ fn is_contact_after(r: Vector, u: Vector, distance: i64, ticks: u64) -> bool
     requires distance { nat_abs distance ≤ 2 ^ 30 }
     requires ticks { ticks ≤ 2 ^ 30 }
     requires later { IsWithin (2 ^ 30) (after r u ticks) }
-    requires crossing { IsCrossing r u distance }
+    requires crossing { IsCollisionCourse r u distance }
     ensures { IsTrue result → IsOnlyContactAfter r u distance ticks }
 {
     is_approaching_after(r, u, distance, ticks) && !is_approaching_after(r, u, distance, ticks + 1)
 }
 
-fn is_near(place: Vector) -> bool
+fn is_small(place: Vector) -> bool
     ensures { IsTrue result ↔ IsWithin (2 ^ 30) place }
 {
     place.x.unsigned_abs() <= MAX_SEPARATION && place.y.unsigned_abs() <= MAX_SEPARATION
@@ -227,7 +230,7 @@ fn contact_by_halving(r: Vector, u: Vector, distance: i64, span: u64) -> Option<
     requires distance { nat_abs distance ≤ 2 ^ 30 }
     requires span { span ≤ 2 ^ 30 }
     requires later { IsWithin (2 ^ 30) (after r u span) }
-    requires may_meet { MayMeet r u distance }
+    requires may_touch { MayTouch r u distance }
     ensures found { MatchOption result ((s : ℕ) → s ≤ span → ¬ IsContactAfter r u distance s)
         (λ s. (s ≤ span) × IsContactAfter r u distance s) }
     ensures only { IfSome result (λ s. (t : ℕ) → IsContactAfter r u distance t → t ≡ s) }

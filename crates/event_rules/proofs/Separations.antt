@@ -13,9 +13,9 @@ use Rattle.fixed_motion.proofs.Sizes.{inside_in_box, in_box_size, difference_siz
 use Rattle.contact_predictor.specs.Contact.{coordinate_after, IsContact, IsContactAfter}
 use Rattle.plane_vectors.proofs.Products.{distributes}
 use Rattle.event_rules.specs.declared.predict.Separation.{Separation}
-use Rattle.event_rules.specs.Events.{IsContactTick, MeetAt}
+use Rattle.event_rules.specs.Events.{IsContactTick, TouchAt}
 use Rattle.event_rules.proofs.Courses.{inside_until}
-use Rattle.event_rules.specs.Predict.{HaveBegun, AreInside, IsLastTogether, IsMeeting, IsOnlyContactTick, IsSeparation, AreNear, PathsMeetAfter}
+use Rattle.event_rules.specs.Predict.{HaveBegun, AreInside, IsLastTogether, IsTouch, IsOnlyContactTick, IsSeparation, FitInABox, PathsTouchAfter}
 
 -- ---- sizes
 way_size : (x v : ℤ) (t : ℕ) → nat_abs x ≤ 2 ^ 30 → nat_abs v ≤ 2 ^ 20 → t ≤ 2 ^ 40 → nat_abs (coordinate_after x v t) ≤ 2 ^ 62 - 1
@@ -81,7 +81,7 @@ pub record AreSmall (s : Separation) : Type 0 where
   pub same : sent s.distance ≡ s.distance
 
 pub are_small : (rules : Rules) (a b : Disk) (s : Separation) → IsChecked rules → IsValidDisk rules a → IsValidDisk rules b →
-    IsSeparation a b s → AreNear s → AreSmall s
+    IsSeparation a b s → FitInABox s → AreSmall s
 are_small rules a b s checked va vb h near =
     let velocities = relative_size (velocity_of a) (velocity_of b)
     (slow_size rules (velocity_of a) checked va.velocity) (slow_size rules (velocity_of b) checked vb.velocity) in
@@ -109,7 +109,7 @@ separated rules a b start p q v w r u d checked va vb e ep eq ev ew er eu ed =
 
 -- disks that aren't near at the later base tick don't meet, since one of them is outside then
 pub never_far : (rules : Rules) (a b : Disk) (s : Separation) → IsChecked rules → IsValidDisk rules a → IsValidDisk rules b →
-    IsSeparation a b s → ¬ AreNear s → (tick : ℕ) → IsContactTick rules a b tick → ⊥
+    IsSeparation a b s → ¬ FitInABox s → (tick : ℕ) → IsContactTick rules a b tick → ⊥
 never_far rules a b s checked va vb h far tick contact =
     let x : a.base ≤ tick = contact.first_base in
     let y : b.base ≤ tick = contact.second_base in
@@ -152,13 +152,13 @@ separation_later a b start s begun =
     (λ i. difference (first i) (second i)) ∙ (λ i. vector (x i) (y i))
 
 -- two disks at these places now, with the velocities of their records, are in contact after s ticks
-abbrev MeetAfter : Disk → Vector → Disk → Vector → ℕ → Type 0
-MeetAfter a p b q s = IsContactAfter (difference p q) (difference (velocity_of a) (velocity_of b)) (contact_distance a b) s
+abbrev TouchAfter : Disk → Vector → Disk → Vector → ℕ → Type 0
+TouchAfter a p b q s = IsContactAfter (difference p q) (difference (velocity_of a) (velocity_of b)) (contact_distance a b) s
 
 -- to meet at a tick is to meet so many ticks after the start
-meet_after : (a b : Disk) (start s : ℕ) → HaveBegun a b start →
-    MeetAt a (place_of a (start + s)) b (place_of b (start + s)) ↔ MeetAfter a (place_of a start) b (place_of b start) s
-meet_after a b start s begun =
+touch_after : (a b : Disk) (start s : ℕ) → HaveBegun a b start →
+    TouchAt a (place_of a (start + s)) b (place_of b (start + s)) ↔ TouchAfter a (place_of a start) b (place_of b start) s
+touch_after a b start s begun =
     let e = separation_later a b start s begun in
     let u = difference (velocity_of a) (velocity_of b) in (
       λ h. subst (λ (r : Vector). IsContact r u (contact_distance a b)) e h,
@@ -186,7 +186,7 @@ later_small rules a b s last checked va vb h together =
 -- ---- contacts
 -- so many ticks after the separation is to be in contact then
 contact_same : (rules : Rules) (a b : Disk) (s : Separation) (n : ℕ) → IsSeparation a b s →
-    IsContactAfter s.places s.velocities s.distance n ↔ MeetAfter a (place_of a s.start) b (place_of b s.start) n
+    IsContactAfter s.places s.velocities s.distance n ↔ TouchAfter a (place_of a s.start) b (place_of b s.start) n
 contact_same rules a b s n h = alike s.places s.velocities _ _ s.distance _ h.places h.velocities h.distance
   where
     alike : (r u r' u' : Vector) (d d' : ℤ) → r ≡ r' → u ≡ u' → d ≡ d' → IsContactAfter r u d n ↔ IsContactAfter r' u' d' n
@@ -201,8 +201,8 @@ ticks_until rules a b s tick h contact =
     let e = h.start in
     let t : tick ≡ s.start + (tick - s.start) = omega arith in (
       t,
-      (contact_same rules a b s (tick - s.start) h).1 ((meet_after a b s.start (tick - s.start) (omega arith, omega arith)).0
-          (subst (λ (n : ℕ). MeetAt a (place_of a n) b (place_of b n)) t contact.contact)),
+      (contact_same rules a b s (tick - s.start) h).1 ((touch_after a b s.start (tick - s.start) (omega arith, omega arith)).0
+          (subst (λ (n : ℕ). TouchAt a (place_of a n) b (place_of b n)) t contact.contact)),
     )
 
 -- and the other way about, if both disks are inside then
@@ -215,7 +215,7 @@ contact_tick_from rules a b s n h contact inside =
       second_base = omega arith;
       first_inside = inside.0;
       second_inside = inside.1;
-      contact = (meet_after a b s.start n (omega arith, omega arith)).1 ((contact_same rules a b s n h).0 contact);
+      contact = (touch_after a b s.start n (omega arith, omega arith)).1 ((contact_same rules a b s n h).0 contact);
     }
 
 -- the only contact is at the only contact tick
@@ -232,15 +232,15 @@ pub never_from : (rules : Rules) (a b : Disk) (s : Separation) → IsSeparation 
 never_from rules a b s h never tick contact = never (tick - s.start) (ticks_until rules a b s tick h contact).1
 
 -- the contact of the paths is the contact of the disks, if they are inside then
-pub meeting_from : (rules : Rules) (a b : Disk) (s : Separation) (n : ℕ) → IsSeparation a b s → PathsMeetAfter s n →
-    (s.start + n) < rules.end → AreInside rules a b (s.start + n) → IsMeeting rules a b (s.start + n)
-meeting_from rules a b s n h found before inside =
+pub touch_from : (rules : Rules) (a b : Disk) (s : Separation) (n : ℕ) → IsSeparation a b s → PathsTouchAfter s n →
+    (s.start + n) < rules.end → AreInside rules a b (s.start + n) → IsTouch rules a b (s.start + n)
+touch_from rules a b s n h found before inside =
     (contact_tick_from rules a b s n h found.contact inside, before, only_tick rules a b s n h found.only)
 
 -- and no tick else
-pub no_meeting : (rules : Rules) (a b : Disk) (s : Separation) (n : ℕ) → IsSeparation a b s → PathsMeetAfter s n →
+pub no_touch : (rules : Rules) (a b : Disk) (s : Separation) (n : ℕ) → IsSeparation a b s → PathsTouchAfter s n →
     ((s.start + n) < rules.end → AreInside rules a b (s.start + n) → ⊥) → (tick : ℕ) → tick < rules.end → IsContactTick rules a b tick → ⊥
-no_meeting rules a b s n h found never tick before contact =
+no_touch rules a b s n h found never tick before contact =
     let e : tick ≡ s.start + n = only_tick rules a b s n h found.only tick contact in
     never (omega arith) (subst (λ (t : ℕ). AreInside rules a b t) e (contact.first_inside, contact.second_inside))
 

@@ -11,12 +11,12 @@ use Rattle.plane_vectors.specs.Vectors.{sum, difference, dot}
 use Rattle.fixed_motion.specs.declared.rules.Rules.{Rules}
 use Rattle.fixed_motion.specs.declared.disk.Disk.{Disk}
 use Rattle.fixed_motion.specs.Motion.{radius_of, contact_distance, velocity_of, place_of, mark_at}
-use Rattle.contact_predictor.specs.Contact.{IsApproaching, IsCrossing, IsContact}
+use Rattle.contact_predictor.specs.Contact.{IsApproaching, IsCollisionCourse, IsContact}
 use Rattle.event_stamps.specs.declared.Stamp.{Stamp}
 use Rattle.event_stamps.specs.declared.Kind.TheVariants.{Pair}
 use Rattle.event_stamps.specs.Least.{IsOnly}
 use Rattle.event_rules.specs.Events.{NeverHit, IsContactTick, IsPairEvent, pair_stamp}
-use Rattle.event_rules.specs.Predict.{IsMeeting}
+use Rattle.event_rules.specs.Predict.{IsTouch}
 
 -- ---- vectors
 -- the vector with the other signs
@@ -60,7 +60,7 @@ approaching_opposite r u s v d h k now = record {
   approaching = subst (λ (n : ℤ). n <ℤ pos 0) (opposite_dot r u s v h k) now.approaching;
 }
 
-crossing_opposite : (r u s v : Vector) (d : ℤ) → IsOpposite r s → IsOpposite u v → IsCrossing r u d → IsCrossing s v d
+crossing_opposite : (r u s v : Vector) (d : ℤ) → IsOpposite r s → IsOpposite u v → IsCollisionCourse r u d → IsCollisionCourse s v d
 crossing_opposite r u s v d h k = rw (opposite_dot r r s s h h, opposite_dot u u v v k k, opposite_dot r u s v h k) (λ now. now)
 
 contact_opposite : (r u s v : Vector) (d : ℤ) → IsOpposite r s → IsOpposite u v → IsContact r u d → IsContact s v d
@@ -96,7 +96,7 @@ pub no_event_falling : (rules : Rules) (i j : ℕ) (a b : Disk) → ((tick : ℕ
     (s : Stamp) → IsPairEvent rules j b i a s → ⊥
 no_event_falling rules i j a b never s event = never s.tick event.1 (contact_tick_swapped rules b a s.tick event.0)
 
-pub event_falling : (rules : Rules) (i j tick round first second : ℕ) (a b : Disk) → j < i → IsMeeting rules a b tick →
+pub event_falling : (rules : Rules) (i j tick round first second : ℕ) (a b : Disk) → j < i → IsTouch rules a b tick →
     round ≡ max (mark_at a tick) (mark_at b tick) → first ≡ min i j → second ≡ max i j →
     IsOnly (IsPairEvent rules j b i a) (record { tick = tick; round = round; kind = Pair; first = first; second = second })
 event_falling rules i j tick round first second a b lt meeting r f s =

@@ -7,9 +7,9 @@ ghost use Rattle.fixed_motion.specs.Motion.{IsValidDisk};
 ghost use Rattle.event_stamps.specs.declared.Stamp.{Stamp};
 ghost use Rattle.event_stamps.specs.Least.{IsOnly, IsLeastOf};
 ghost use Rattle.event_rules.specs.Events.{IsWallEvent, IsWallBelow, IsPairEvent, NeverHit, IsContactTick, IsPast, IsLastInside, wall_stamp};
-ghost use Rattle.event_rules.specs.Predict.{IsUpTo, IsFirstPast, IsLastTogether, IsOnlyContactTick, IsMeeting, IsSeparation, AreNear, AreOnCourse, MayHit, PathsCross, PathsMeetAfter};
+ghost use Rattle.event_rules.specs.Predict.{IsUpTo, IsFirstPast, IsLastTogether, IsOnlyContactTick, IsTouch, IsSeparation, FitInABox, AreOnCourse, MayHit, IsOnCollisionCourse, PathsTouchAfter};
 
-use contact_predictor::{contact_between, may_meet, quick_contact, stay};
+use contact_predictor::{contact_between, may_touch, quick_contact, stay};
 use event_stamps::{Kind, Stamp};
 use fixed_motion::{Disk, Rules};
 use plane_vectors::Vector;
@@ -100,7 +100,7 @@ pub fn event_between(rules: &Rules, i: u32, a: &Disk, j: u32, b: &Disk) -> Optio
         (IsOnly (IsPairEvent rules.now j b.now i a.now)) }
 {
     // Which number is lower can't be foretold, and is asked only where they meet: that is the same in either order.
-    let tick = meeting_tick(rules, a, b)?;
+    let tick = touching_tick(rules, a, b)?;
     Some(Stamp {
         tick,
         round: max(a.mark_at(tick), b.mark_at(tick)),
@@ -123,7 +123,7 @@ pub fn may_hit(rules: &Rules, a: &Disk, b: &Disk) -> bool
     ensures never_turned { result ≡ false → NeverHit rules.now b.now a.now }
 {
     let s = separate(rules, a, b);
-    is_near(s.places) && are_on_course(rules, a, b, &s)
+    fit_in_a_box(s.places) && are_on_course(rules, a, b, &s)
 }
 
 // Where one disk is from another at the later of their base ticks, how fast that changes, and how far
@@ -138,35 +138,35 @@ struct Separation {
 
 // The cheap tests, which most pairs fail, come first.
 #[inline(always)]
-fn meeting_tick(rules: &Rules, a: &Disk, b: &Disk) -> Option<u64>
+fn touching_tick(rules: &Rules, a: &Disk, b: &Disk) -> Option<u64>
     requires checked { IsChecked rules.now }
     requires first_valid { IsValidDisk rules.now a.now }
     requires second_valid { IsValidDisk rules.now b.now }
     ensures { MatchOption result ((tick : ℕ) → tick < rules.now.end → IsContactTick rules.now a.now b.now tick → ⊥)
-        (IsMeeting rules.now a.now b.now) }
+        (IsTouch rules.now a.now b.now) }
 {
     let s = separate(rules, a, b);
-    if !is_near(s.places) {
+    if !fit_in_a_box(s.places) {
         // One of them isn't inside the box at the later base tick, and so at no later tick.
         return None;
     }
     if !are_on_course(rules, a, b, &s) {
         return None;
     }
-    crossing_tick(rules, a, b, &s)
+    course_tick(rules, a, b, &s)
 }
 
 // Where the paths cross.
 #[inline(always)]
-fn crossing_tick(rules: &Rules, a: &Disk, b: &Disk, s: &Separation) -> Option<u64>
+fn course_tick(rules: &Rules, a: &Disk, b: &Disk, s: &Separation) -> Option<u64>
     requires checked { IsChecked rules.now }
     requires first_valid { IsValidDisk rules.now a.now }
     requires second_valid { IsValidDisk rules.now b.now }
     requires separation { IsSeparation a.now b.now s.now }
-    requires near { AreNear s.now }
-    requires paths { PathsCross s.now }
+    requires near { FitInABox s.now }
+    requires paths { IsOnCollisionCourse s.now }
     ensures { MatchOption result ((tick : ℕ) → tick < rules.now.end → IsContactTick rules.now a.now b.now tick → ⊥)
-        (IsMeeting rules.now a.now b.now) }
+        (IsTouch rules.now a.now b.now) }
 {
     match quick_ticks(rules, a, b, s) {
         Some(ticks) => tick_inside(rules, a, b, s, ticks),
@@ -192,7 +192,7 @@ fn separate(rules: &Rules, a: &Disk, b: &Disk) -> Separation
 }
 
 // Of the separation of two disks; disks that are both inside the box are near.
-fn is_near(places: Vector) -> bool
+fn fit_in_a_box(places: Vector) -> bool
     ensures { IsTrue result ↔ IsWithin (2 ^ 30) places }
 {
     is_small(places.x) && is_small(places.y)
@@ -211,14 +211,14 @@ fn are_on_course(rules: &Rules, a: &Disk, b: &Disk, s: &Separation) -> bool
     requires first_valid { IsValidDisk rules.now a.now }
     requires second_valid { IsValidDisk rules.now b.now }
     requires separation { IsSeparation a.now b.now s.now }
-    requires near { AreNear s.now }
+    requires near { FitInABox s.now }
     ensures fact { IsTrue result ↔ AreOnCourse s.now }
-    ensures yes { IsTrue result → PathsCross s.now }
+    ensures yes { IsTrue result → IsOnCollisionCourse s.now }
     ensures no { result ≡ false → (tick : ℕ) → IsContactTick rules.now a.now b.now tick → ⊥ }
 {
     let _first = a;
     let _second = b;
-    may_meet(s.places, s.velocities, s.distance)
+    may_touch(s.places, s.velocities, s.distance)
 }
 
 // After how many ticks the paths bring the disks into contact, whatever the end and the walls; seldom
@@ -229,9 +229,9 @@ fn quick_ticks(rules: &Rules, a: &Disk, b: &Disk, s: &Separation) -> Option<u64>
     requires first_valid { IsValidDisk rules.now a.now }
     requires second_valid { IsValidDisk rules.now b.now }
     requires separation { IsSeparation a.now b.now s.now }
-    requires near { AreNear s.now }
-    requires paths { PathsCross s.now }
-    ensures found { IfSome result (PathsMeetAfter s.now) }
+    requires near { FitInABox s.now }
+    requires paths { IsOnCollisionCourse s.now }
+    ensures found { IfSome result (PathsTouchAfter s.now) }
     ensures near { IfSome result (λ ticks. ticks ≤ 2 ^ 30) }
 {
     let _first = a;
@@ -245,10 +245,10 @@ fn tick_inside(rules: &Rules, a: &Disk, b: &Disk, s: &Separation, ticks: u64) ->
     requires first_valid { IsValidDisk rules.now a.now }
     requires second_valid { IsValidDisk rules.now b.now }
     requires separation { IsSeparation a.now b.now s.now }
-    requires found { PathsMeetAfter s.now ticks }
+    requires found { PathsTouchAfter s.now ticks }
     requires near { ticks ≤ 2 ^ 30 }
     ensures { MatchOption result ((tick : ℕ) → tick < rules.now.end → IsContactTick rules.now a.now b.now tick → ⊥)
-        (IsMeeting rules.now a.now b.now) }
+        (IsTouch rules.now a.now b.now) }
 {
     let tick = s.start + ticks;
     if tick < rules.end
@@ -269,9 +269,9 @@ fn searched_tick(rules: &Rules, a: Disk, b: Disk, s: Separation) -> Option<u64>
     requires first_valid { IsValidDisk rules.now a }
     requires second_valid { IsValidDisk rules.now b }
     requires separation { IsSeparation a b s }
-    requires near { AreNear s }
+    requires near { FitInABox s }
     ensures { MatchOption result ((tick : ℕ) → tick < rules.now.end → IsContactTick rules.now a b tick → ⊥)
-        (IsMeeting rules.now a b) }
+        (IsTouch rules.now a b) }
 {
     let last = last_together(rules, &a, &b)?;
     contact_tick(rules, &a, &b, &s, last)
@@ -360,7 +360,7 @@ fn contact_tick(rules: &Rules, a: &Disk, b: &Disk, s: &Separation, last: u64) ->
     requires first_valid { IsValidDisk rules.now a.now }
     requires second_valid { IsValidDisk rules.now b.now }
     requires separation { IsSeparation a.now b.now s.now }
-    requires near { AreNear s.now }
+    requires near { FitInABox s.now }
     requires last { IsLastTogether rules.now a.now b.now last }
     ensures { MatchOption result ((tick : ℕ) → tick ≤ last → IsContactTick rules.now a.now b.now tick → ⊥)
         (IsOnlyContactTick rules.now a.now b.now last) }

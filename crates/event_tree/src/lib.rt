@@ -6,7 +6,7 @@
 //! many levels as with two.
 #![tactic(auto)]
 
-pub mod packed;
+mod packed;
 
 use event_stamps::Stamp;
 pub use packed::Packed;

@@ -1,10 +1,10 @@
 //! Rules, disks that move on straight lines, and scenes, all in whole numbers.
 #![tactic(auto)]
 
-pub mod disk;
-pub mod laws;
-pub mod rules;
-pub mod scene;
+mod disk;
+mod laws;
+mod rules;
+mod scene;
 
 pub use disk::{Disk, overlap};
 pub use laws::{ranges_agree, sizes_are_bounded};

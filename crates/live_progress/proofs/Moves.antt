@@ -6,18 +6,18 @@ use Rattle.crossbeam_utils.specs.Register.{Turns, Forks, Merges}
 use Rattle.atomic_table.proofs.Lists.{at_set, at_snoc, set_again}
 use Rattle.live_progress.specs.declared.board.Progress.{Progress}
 use Rattle.live_progress.specs.declared.rule.View.{View}
-use Rattle.live_progress.specs.Lists.{progress, last_from, last_of, IsNoLess, RisesFrom, StartsWith}
+use Rattle.live_progress.specs.Lists.{progress, last_from, last_of, IsNoLess, RisesAfter, StartsWith}
 use Rattle.live_progress.specs.Rule.{pen_of, glass_of, words_of, Fits, IsShown, Publishing, Looking, Checking, told_of}
 
 pub last_from-push : (p : Progress) (xs : List Progress) (x : Progress) → last_from p (xs ++ x ∷ []) ≡ x
 last_from-push p [] x = refl
 last_from-push p (y ∷ xs) x = last_from-push y xs x
 
-rises_push : (p : Progress) (xs : List Progress) (x : Progress) → RisesFrom p xs → IsNoLess (last_from p xs) x → RisesFrom p (xs ++ x ∷ [])
+rises_push : (p : Progress) (xs : List Progress) (x : Progress) → RisesAfter p xs → IsNoLess (last_from p xs) x → RisesAfter p (xs ++ x ∷ [])
 rises_push p [] x rises more = (more, tt)
 rises_push p (y ∷ xs) x rises more = (rises.0, rises_push y xs x rises.1 more)
 
-no_less_than_last : (p : Progress) (xs : List Progress) → RisesFrom p xs → IsNoLess p (last_from p xs)
+no_less_than_last : (p : Progress) (xs : List Progress) → RisesAfter p xs → IsNoLess p (last_from p xs)
 no_less_than_last p [] rises = (omega arith, omega arith)
 no_less_than_last p (x ∷ xs) rises =
     let rest = no_less_than_last x xs rises.1 in let here = rises.0 in
@@ -25,14 +25,14 @@ no_less_than_last p (x ∷ xs) rises =
     (omega arith, omega arith)
 
 -- the last pair of a beginning is no more than that of the whole
-no_less_later : (p : Progress) (xs ys : List Progress) → RisesFrom p (xs ++ ys) → IsNoLess (last_from p xs) (last_from p (xs ++ ys))
+no_less_later : (p : Progress) (xs ys : List Progress) → RisesAfter p (xs ++ ys) → IsNoLess (last_from p xs) (last_from p (xs ++ ys))
 no_less_later p [] ys rises = no_less_than_last p ys rises
 no_less_later p (x ∷ xs) ys rises = no_less_later x xs ys rises.1
 
-no_less_seen : (list seen : List Progress) → RisesFrom (progress 0 0) list → StartsWith list seen → IsNoLess (last_of seen) (last_of list)
+no_less_seen : (list seen : List Progress) → RisesAfter (progress 0 0) list → StartsWith list seen → IsNoLess (last_of seen) (last_of list)
 no_less_seen list seen rises s =
     subst (λ (l : List Progress). IsNoLess (last_of seen) (last_of l)) (sym s.1)
-    (no_less_later (progress 0 0) seen s.0 (subst (RisesFrom (progress 0 0)) s.1 rises))
+    (no_less_later (progress 0 0) seen s.0 (subst (RisesAfter (progress 0 0)) s.1 rises))
 
 -- a longer list begins with what the shorter began with
 longer : (list more seen : List Progress) → StartsWith list seen → StartsWith (list ++ more) seen

@@ -9,7 +9,7 @@ use Rattle.event_stamps.specs.Order.{Before, first_stamp}
 use Rattle.event_stamps.proofs.StampOrder.{before_trans, not_before_itself, tick_not_after}
 use Rattle.event_rules.specs.declared.change.Change.{Change}
 use Rattle.event_rules.specs.declared.outcome.Outcome.{Outcome}
-use Rattle.event_rules.specs.Laws.{RisesFrom, stamps_of}
+use Rattle.event_rules.specs.Laws.{RisesAfter, stamps_of}
 use Rattle.event_rules.specs.Run.{IsRun}
 use Rattle.event_rules.specs.Told.{told, Told, Torn, PrefixTold}
 use Rattle.event_rules.proofs.Rise.{stamps_rise}
@@ -27,7 +27,7 @@ abbrev Ascends : ℕ → List Change → Type 0
 Ascends from [] = ⊤
 Ascends from (c ∷ cs) = (from ≤ c.stamp.tick) × Ascends c.stamp.tick cs
 
-ascends : (s : Stamp) (changes : List Change) (outcome : Outcome) → RisesFrom s (stamps_of changes outcome) → Ascends s.tick changes
+ascends : (s : Stamp) (changes : List Change) (outcome : Outcome) → RisesAfter s (stamps_of changes outcome) → Ascends s.tick changes
 ascends s [] outcome h = tt
 ascends s (c ∷ cs) outcome h = (tick_le s c.stamp h.0, ascends c.stamp cs outcome h.1)
 

@@ -14,7 +14,7 @@ use Rattle.region_view.specs.Views.{ViewData, rows_in}
 use Rattle.region_view.specs.Acting.{stamp_of}
 use Rattle.region_view.specs.Setting.{RowList, rows_set, set_rows, after_action}
 use Rattle.region_view.specs.Messages.{message_of, message_with, told_rows}
-use Rattle.region_messages.specs.Trails.{IsAmong, IsAfterAll, RisesFrom, Rises, below}
+use Rattle.region_messages.specs.Trails.{IsAmong, IsAfterAll, RisesAfter, Rises, below}
 use Rattle.region_messages.proofs.Parts.{below_first, below_none}
 use Rattle.region_core.specs.declared.entry.Entry.{Entry}
 use Rattle.region_core.specs.declared.entry.Entry.TheVariants.{Native, Heard}
@@ -101,24 +101,24 @@ sent_late grid q view s t log rises not m among less =
 
 -- messages before which all others of the log come
 told_rises : (t : Stamp) (o : Option Message) (ms : List Message) →
-    ((n : Message) → o ≡ Some n → n.stamp ≡ t) → RisesFrom t ms → Rises (told o ms)
+    ((n : Message) → o ≡ Some n → n.stamp ≡ t) → RisesAfter t ms → Rises (told o ms)
 told_rises t None [] stamp rises = tt
 told_rises t None (m ∷ ms) stamp rises = rises.1
-told_rises t (Some n) ms stamp rises = subst (λ (v : Stamp). RisesFrom v ms) (sym (stamp n refl)) rises
+told_rises t (Some n) ms stamp rises = subst (λ (v : Stamp). RisesAfter v ms) (sym (stamp n refl)) rises
 
 told_rises_from : (s t : Stamp) (o : Option Message) (ms : List Message) →
-    ((n : Message) → o ≡ Some n → n.stamp ≡ t) → Before s t → RisesFrom t ms → RisesFrom s (told o ms)
+    ((n : Message) → o ≡ Some n → n.stamp ≡ t) → Before s t → RisesAfter t ms → RisesAfter s (told o ms)
 told_rises_from s t None [] stamp lt rises = tt
 told_rises_from s t None (m ∷ ms) stamp lt rises = (before_trans s t m.stamp lt rises.0, rises.1)
 told_rises_from s t (Some n) ms stamp lt rises =
-    subst (λ (v : Stamp). Before s v × RisesFrom v ms) (sym (stamp n refl)) (lt, rises)
+    subst (λ (v : Stamp). Before s v × RisesAfter v ms) (sym (stamp n refl)) (lt, rises)
 
-rises_further : (s t : Stamp) (ms : List Message) → Before s t → RisesFrom t ms → RisesFrom s ms
+rises_further : (s t : Stamp) (ms : List Message) → Before s t → RisesAfter t ms → RisesAfter s ms
 rises_further s t [] lt rises = tt
 rises_further s t (m ∷ ms) lt rises = (before_trans s t m.stamp lt rises.0, rises.1)
 
 sent_rises_after : (grid : GridData) (q : ℕ) (view : ViewData) (s : Stamp) (log : List Entry) →
-    RiseAfter s log → RisesFrom s (sent_to grid q view log)
+    RiseAfter s log → RisesAfter s (sent_to grid q view log)
 sent_rises_after grid q view s [] rises = tt
 sent_rises_after grid q view s (Native a ∷ es) rises =
     told_rises_from s (stamp_of a) (message_of grid q (rows_in view) a) (sent_to grid q (after_action view a) es)
@@ -128,7 +128,7 @@ sent_rises_after grid q view s (Heard r m ∷ es) rises =
     rises_further s m.stamp (sent_to grid q (set_rows view m.rows) es) rises.0
     (sent_rises_after grid q (set_rows view m.rows) m.stamp es rises.1)
 
-rises_any : (s : Stamp) (ms : List Message) → RisesFrom s ms → Rises ms
+rises_any : (s : Stamp) (ms : List Message) → RisesAfter s ms → Rises ms
 rises_any s [] rises = tt
 rises_any s (m ∷ ms) rises = rises.1
 

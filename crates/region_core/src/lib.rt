@@ -5,19 +5,19 @@
 //! states (Jefferson, Virtual Time, 1985).
 #![tactic(auto)]
 
-pub mod answers;
+mod answers;
 mod appending;
-pub mod burst;
-pub mod entry;
-pub mod gate;
+mod burst;
+mod entry;
+mod gate;
 mod hearing;
-pub mod home;
+mod home;
 mod inbox;
 mod laws;
 mod live;
 mod moves;
 mod raising;
-pub mod region;
+mod region;
 mod rollback;
 
 pub use answers::{Differs, Hearing, Step};

@@ -4,7 +4,7 @@ use Rattle.event_stamps.specs.declared.Stamp.{Stamp}
 use Rattle.event_stamps.specs.Order.{Before}
 use Rattle.event_stamps.proofs.StampOrder.{before_trans}
 use Rattle.region_view.specs.declared.rows.Message.{Message}
-use Rattle.region_messages.specs.Trails.{IsAmong, RisesFrom, Rises, IsAfterAll}
+use Rattle.region_messages.specs.Trails.{IsAmong, RisesAfter, Rises, IsAfterAll}
 
 -- ---- lists
 pub among_left : {A : Type 0} (x : A) (xs ys : List A) → IsAmong x xs → IsAmong x (xs ++ ys)
@@ -32,16 +32,16 @@ get_or_among (x ∷ xs) zero d lt = inl refl
 get_or_among (x ∷ xs) (suc i) d lt = inr (get_or_among xs i d (omega arith))
 
 -- ---- rising stamps
-pub rises_tail : (s : Stamp) (ms : List Message) → RisesFrom s ms → Rises ms
+pub rises_tail : (s : Stamp) (ms : List Message) → RisesAfter s ms → Rises ms
 rises_tail s [] h = tt
 rises_tail s (m ∷ ms) h = h.1
 
 pub rises_from : (s : Stamp) (ms : List Message) → Rises ms →
-    ((m : Message) → IsAmong m ms → Before s m.stamp) → RisesFrom s ms
+    ((m : Message) → IsAmong m ms → Before s m.stamp) → RisesAfter s ms
 rises_from s [] r h = tt
 rises_from s (m ∷ ms) r h = (h m (inl refl), r)
 
-pub among_rises : (s : Stamp) (ms : List Message) (n : Message) → RisesFrom s ms → IsAmong n ms →
+pub among_rises : (s : Stamp) (ms : List Message) (n : Message) → RisesAfter s ms → IsAmong n ms →
     Before s n.stamp
 among_rises s [] n r h = absurd h
 among_rises s (m ∷ ms) n r (inl e) = subst (λ (v : Message). Before s v.stamp) (sym e) r.0
@@ -53,7 +53,7 @@ rises_take zero ms r = tt
 rises_take (suc n) [] r = tt
 rises_take (suc n) (m ∷ ms) r = after n m.stamp ms r
   where
-    after : (n : ℕ) (s : Stamp) (ms : List Message) → RisesFrom s ms → RisesFrom s (take n ms)
+    after : (n : ℕ) (s : Stamp) (ms : List Message) → RisesAfter s ms → RisesAfter s (take n ms)
     after zero s ms r = tt
     after (suc n) s [] r = tt
     after (suc n) s (m ∷ ms) r = (r.0, after n m.stamp ms r.1)

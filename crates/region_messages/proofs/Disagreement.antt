@@ -6,7 +6,7 @@ use Rattle.event_stamps.specs.Order.{Before}
 use Rattle.event_stamps.specs.Least.{earlier_of}
 use Rattle.event_stamps.proofs.StampOrder.{before_decides, before_trans, not_before_itself}
 use Rattle.region_view.specs.declared.rows.Message.{Message}
-use Rattle.region_messages.specs.Trails.{is_before, IsAmong, RisesFrom, Rises, below, AgreeBelow, AgreesUpTo, DisagreeAt, IsFirstDisagreement, StartAlike}
+use Rattle.region_messages.specs.Trails.{is_before, IsAmong, RisesAfter, Rises, below, AgreeBelow, AgreesUpTo, DisagreeAt, IsFirstDisagreement, StartAlike}
 use Rattle.region_messages.specs.Laws.{AgreeUntilFirst}
 use Rattle.region_messages.proofs.Order.{is_before_true, is_before_false, not_after_before}
 use Rattle.region_messages.proofs.Among.{rises_tail, among_rises}
@@ -34,7 +34,7 @@ found_swapped a b (Some d) h = (
 )
 
 -- a message that comes before all others and that the other trail hasn't
-first_is_lacking : (m : Message) (ms b : List Message) → RisesFrom m.stamp ms →
+first_is_lacking : (m : Message) (ms b : List Message) → RisesAfter m.stamp ms →
     ((n : Message) → IsAmong n b → ¬ Before n.stamp m.stamp) → ¬ IsAmong m b →
     IsFound (m ∷ ms) b (Some m.stamp)
 first_is_lacking m ms b r after lacks = (
@@ -65,8 +65,8 @@ first_is_lacking m ms b r after lacks = (
     least t (inr h) lt = after h.0 h.2 (subst (λ (v : Stamp). Before v m.stamp) (sym h.1) lt)
 
 -- of two trails with different first messages the one that isn't after the other
-lesser_first : (m n : Message) (ms ns : List Message) → RisesFrom m.stamp ms →
-    RisesFrom n.stamp ns → ¬ Before n.stamp m.stamp → ¬ (m ≡ n) →
+lesser_first : (m n : Message) (ms ns : List Message) → RisesAfter m.stamp ms →
+    RisesAfter n.stamp ns → ¬ Before n.stamp m.stamp → ¬ (m ≡ n) →
     IsFound (m ∷ ms) (n ∷ ns) (Some m.stamp)
 lesser_first m n ms ns rm rn not other = first_is_lacking m ms (n ∷ ns) rm after lacks
   where
@@ -80,8 +80,8 @@ lesser_first m n ms ns rm rn not other = first_is_lacking m ms (n ∷ ns) rm aft
     lacks (inr h) = not (among_rises n.stamp ns m rn h)
 
 -- one message that both have, before all others
-one_more : (m : Message) (a b : List Message) (o : Option Stamp) → RisesFrom m.stamp a →
-    RisesFrom m.stamp b → IsFound a b o → IsFound (m ∷ a) (m ∷ b) o
+one_more : (m : Message) (a b : List Message) (o : Option Stamp) → RisesAfter m.stamp a →
+    RisesAfter m.stamp b → IsFound a b o → IsFound (m ∷ a) (m ∷ b) o
 one_more m a b None ra rb h = ap (λ (v : List Message). m ∷ v) h
 one_more m a b (Some d) ra rb h = (
   record {
@@ -177,7 +177,7 @@ found (suc i) (m ∷ ms) (n ∷ ns) ra rb h =
     subst (λ (v : Message). IsFound (m ∷ ms) (v ∷ ns)
     (earlier_of (stamp_in (slice_get ms i)) (stamp_in (slice_get ns i)))) first
     (one_more m ms ns (earlier_of (stamp_in (slice_get ms i)) (stamp_in (slice_get ns i))) ra
-    (subst (λ (v : Message). RisesFrom v.stamp ns) (sym first) rb) found_in_rest)
+    (subst (λ (v : Message). RisesAfter v.stamp ns) (sym first) rb) found_in_rest)
 
 pub agree_of_found : (a b : List Message) (o : Option Stamp) → IsFound a b o →
     MatchOption o (a ≡ b) (AgreesUpTo a b)
@@ -204,22 +204,22 @@ none_swapped : (t : Stamp) (a b : List Message) → NoneBefore t a b → NoneBef
 none_swapped t a b none s k = none s (disagree_swapped b a s k)
 
 -- a message isn't among those of a trail whose first is another that isn't before it
-not_among_after : (m n : Message) (ns : List Message) → RisesFrom n.stamp ns → ¬ (m ≡ n) →
+not_among_after : (m n : Message) (ns : List Message) → RisesAfter n.stamp ns → ¬ (m ≡ n) →
     ¬ Before n.stamp m.stamp → ¬ IsAmong m (n ∷ ns)
 not_among_after m n ns r other not (inl e) = other e
 not_among_after m n ns r other not (inr h) = not (among_rises n.stamp ns m r h)
 
 -- the first message of one, where the other's first is another that isn't before it, isn't before t
-first_not_before : (t : Stamp) (m n : Message) (ms ns : List Message) → RisesFrom n.stamp ns →
+first_not_before : (t : Stamp) (m n : Message) (ms ns : List Message) → RisesAfter n.stamp ns →
     NoneBefore t (m ∷ ms) (n ∷ ns) → ¬ (m ≡ n) → ¬ Before n.stamp m.stamp → ¬ Before m.stamp t
 first_not_before t m n ms ns r none other not =
     none m.stamp (inl (m, refl, inl refl, not_among_after m n ns r other not))
 
-none_in_rest : (t : Stamp) (m : Message) (ms ns : List Message) → RisesFrom m.stamp ms →
-    RisesFrom m.stamp ns → NoneBefore t (m ∷ ms) (m ∷ ns) → NoneBefore t ms ns
+none_in_rest : (t : Stamp) (m : Message) (ms ns : List Message) → RisesAfter m.stamp ms →
+    RisesAfter m.stamp ns → NoneBefore t (m ∷ ms) (m ∷ ns) → NoneBefore t ms ns
 none_in_rest t m ms ns ra rb none s k = none s (with_first k)
   where
-    lacks : (x : Message) (xs ys : List Message) → RisesFrom m.stamp xs → IsAmong x xs →
+    lacks : (x : Message) (xs ys : List Message) → RisesAfter m.stamp xs → IsAmong x xs →
         ¬ IsAmong x ys → ¬ IsAmong x (m ∷ ys)
     lacks x xs ys r h not (inl e) = not_before_itself m.stamp
         (subst (λ (v : Message). Before m.stamp v.stamp) e (among_rises m.stamp xs x r h))
@@ -239,7 +239,7 @@ agree_where_none t (m ∷ ms) [] ra rb none =
     below_none t m ms (none m.stamp (inl (m, refl, inl refl, λ k. k)))
 agree_where_none t (m ∷ ms) (n ∷ ns) ra rb none = elim (same_message m n) [
   | inl e ↦
-      let rb' = subst (λ (v : Message). RisesFrom v.stamp ns) (sym e) rb in
+      let rb' = subst (λ (v : Message). RisesAfter v.stamp ns) (sym e) rb in
       let none' = subst (λ (v : Message). NoneBefore t (m ∷ ms) (v ∷ ns)) (sym e) none in
       let rest = agree_where_none t ms ns (rises_tail m.stamp ms ra) (rises_tail n.stamp ns rb)
       (none_in_rest t m ms ns ra rb' none') in

@@ -5,7 +5,7 @@ use Rattle.event_stamps.specs.declared.Stamp.{Stamp}
 use Rattle.event_stamps.specs.Order.{Before}
 use Rattle.event_stamps.proofs.StampOrder.{before_trans, not_before_itself}
 use Rattle.region_view.specs.declared.rows.Message.{Message}
-use Rattle.region_messages.specs.Trails.{is_before, IsAmong, RisesFrom, Rises, below, from}
+use Rattle.region_messages.specs.Trails.{is_before, IsAmong, RisesAfter, Rises, below, from}
 use Rattle.region_messages.specs.Laws.{BelowIsBefore, AgreedPartIsKept, PartsMakeTheWhole}
 use Rattle.region_messages.proofs.Order.{is_before_true, is_before_false, before_from_true, not_before_from_false, before_not_before}
 use Rattle.region_messages.proofs.Among.{rises_tail, among_rises, among_either, rises_join}
@@ -99,16 +99,16 @@ pub rises_below : (t : Stamp) (ms : List Message) → Rises ms → Rises (below 
 rises_below t [] r = tt
 rises_below t (m ∷ ms) r = by_test (is_before m.stamp t) (after m.stamp ms r)
   where
-    after : (s : Stamp) (ms : List Message) → RisesFrom s ms → RisesFrom s (below t ms)
+    after : (s : Stamp) (ms : List Message) → RisesAfter s ms → RisesAfter s (below t ms)
     after s [] r = tt
     after s (m ∷ ms) r = each (is_before m.stamp t) s m r.0 (below t ms) (after m.stamp ms r.1)
       where
         each : (b : Bool) (s : Stamp) (m : Message) → Before s m.stamp → (ns : List Message) →
-            RisesFrom m.stamp ns → RisesFrom s (if b then m ∷ ns else [])
+            RisesAfter m.stamp ns → RisesAfter s (if b then m ∷ ns else [])
         each true s m lt ns more = (lt, more)
         each false s m lt ns more = tt
 
-    by_test : (b : Bool) → RisesFrom m.stamp (below t ms) →
+    by_test : (b : Bool) → RisesAfter m.stamp (below t ms) →
         Rises (if b then m ∷ below t ms else [])
     by_test true more = more
     by_test false more = tt

@@ -14,14 +14,14 @@ IsAmong x [] = ⊥
 IsAmong x (y ∷ ys) = (x ≡ y) ⊎ IsAmong x ys
 
 -- stamps rise strictly, all after one
-abbrev pub RisesFrom : Stamp → List Message → Type 0
-RisesFrom s [] = ⊤
-RisesFrom s (m ∷ ms) = Before s m.stamp × RisesFrom m.stamp ms
+abbrev pub RisesAfter : Stamp → List Message → Type 0
+RisesAfter s [] = ⊤
+RisesAfter s (m ∷ ms) = Before s m.stamp × RisesAfter m.stamp ms
 
 -- stamps rise strictly
 abbrev pub Rises : List Message → Type 0
 Rises [] = ⊤
-Rises (m ∷ ms) = RisesFrom m.stamp ms
+Rises (m ∷ ms) = RisesAfter m.stamp ms
 
 -- the messages before a stamp, and those from it on
 abbrev pub below : Stamp → List Message → List Message

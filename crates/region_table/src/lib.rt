@@ -6,11 +6,11 @@
 mod closing;
 mod job;
 mod order;
-pub mod rule;
-pub mod seat;
-pub mod table;
-pub mod take_out;
-pub mod workers;
+mod rule;
+mod seat;
+mod table;
+mod take_out;
+mod workers;
 
 pub use seat::TableSeat;
 pub use table::RegionTable;

@@ -4,14 +4,14 @@
 //! so it sees all disks of these events.
 #![tactic(auto)]
 
-pub mod action;
+mod action;
 mod compact;
-pub mod events;
+mod events;
 mod laws;
-pub mod messages;
-pub mod rows;
+mod messages;
+mod rows;
 mod slots;
-pub mod view;
+mod view;
 
 pub use action::{Action, Placed};
 pub use events::{act, first_alone, home, near_event};

@@ -1,12 +1,12 @@
 //! Workers: threads that run the regions side by side between two commits.
 #![tactic(auto)]
 
-pub mod by_call;
-pub mod call;
+mod by_call;
+mod call;
 mod job;
 mod meeting;
 mod roll;
-pub mod workers;
+mod workers;
 
 pub use by_call::ByCall;
 pub use call::Call;

@@ -1,14 +1,14 @@
 //! The run over all regions: they hear each other, and what they did before the commit horizon is taken over.
 #![tactic(auto)]
 
-pub mod answers;
+mod answers;
 mod laws;
 mod one_event;
 mod pairs;
 mod passes;
-pub mod playing;
-pub mod progress;
-pub mod scripted;
+mod playing;
+mod progress;
+mod scripted;
 mod simulation;
 mod telling;
 

@@ -3,7 +3,7 @@ use Rattle.std.proofs.Common.{◌≡◌, ℕ, ◌<◌, [], ◌∷◌, ◌++◌, 
 use Rattle.std.proofs.lemmas.List.{take-append-drop}
 use Rattle.region_view.specs.Views.{ViewData, rows_in}
 use Rattle.region_view.specs.Setting.{RowList, set_rows, rows_at}
-use Rattle.saved_states.specs.Positions.{RiseFrom, AreSaved, last_of, EndsWith, IsAfterLast, Appends}
+use Rattle.saved_states.specs.Positions.{PositionsRiseAfter, AreSaved, last_of, EndsWith, IsAfterLast, Appends}
 use Rattle.saved_states.specs.Steps.{StepList, RiseAfter, last_position, undone, later, rebuilt}
 use Rattle.saved_states.proofs.Undone.{set_back}
 
@@ -37,7 +37,7 @@ last_before first position view steps h =
 
 -- ---- positions rise
 later_rise : (n : ℕ) (view : ViewData) (steps : StepList) → RiseAfter n steps →
-    RiseFrom n (later view steps)
+    PositionsRiseAfter n (later view steps)
 later_rise n view [] r = tt
 later_rise n view (step ∷ steps) r = (r.0, later_rise step.0 view steps r.1)
 

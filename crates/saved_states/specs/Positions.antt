@@ -8,14 +8,14 @@ abbrev pub SavedData : Type 0
 SavedData = List (ℕ × ViewData)
 
 -- positions rise strictly, all after one
-abbrev pub RiseFrom : ℕ → SavedData → Type 0
-RiseFrom n [] = ⊤
-RiseFrom n (pair ∷ pairs) = (n < pair.0) × RiseFrom pair.0 pairs
+abbrev pub PositionsRiseAfter : ℕ → SavedData → Type 0
+PositionsRiseAfter n [] = ⊤
+PositionsRiseAfter n (pair ∷ pairs) = (n < pair.0) × PositionsRiseAfter pair.0 pairs
 
 -- there is a first pair, and positions rise strictly
 abbrev pub AreSaved : SavedData → Type 0
 AreSaved [] = ⊥
-AreSaved (pair ∷ pairs) = RiseFrom pair.0 pairs
+AreSaved (pair ∷ pairs) = PositionsRiseAfter pair.0 pairs
 
 -- the first position; of no pairs, 0
 abbrev pub first_position : SavedData → ℕ

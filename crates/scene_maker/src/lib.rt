@@ -1,9 +1,9 @@
 //! Scenes as text, and scenes that are made from a number.
 #![tactic(auto)]
 
-pub mod lattice;
-pub mod laws;
-pub mod text;
+mod lattice;
+mod laws;
+mod text;
 
 pub use lattice::make;
 pub use laws::one_scene;

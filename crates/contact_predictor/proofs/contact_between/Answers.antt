@@ -7,20 +7,20 @@ use Rattle.contact_predictor.specs.Contact.{IsContactAfter, IsOnlyContactAfter}
 use Rattle.contact_predictor.proofs.Gaps.{sent_size}
 use Rattle.contact_predictor.proofs.contact_between.Goals as goal
 
-pub may_meet-requires-clause-distance : goal.may_meet-requires-clause-distance
-may_meet-requires-clause-distance c = sent_size c.args.distance 1073741824 c.ranges.distance c.requires.distance
+pub may_touch-requires-clause-distance : goal.may_touch-requires-clause-distance
+may_touch-requires-clause-distance c = sent_size c.args.distance 1073741824 c.ranges.distance c.requires.distance
 
-pub returns-then-not-may_meet-clause-found : goal.returns-then-not-may_meet-clause-found
-returns-then-not-may_meet-clause-found c =
+pub returns-then-not-may_touch-clause-found : goal.returns-then-not-may_touch-clause-found
+returns-then-not-may_touch-clause-found c =
     let f : FitsSigned w64 c.args.distance = c.ranges.distance in
-    let never : c.may_meet.result ≡ false → (s : ℕ) → ¬ IsContactAfter c.args.r c.args.u c.args.distance s = simp to_z-of_z at c.may_meet.ensures.never in
-    λ s le. never c.if-not-may_meet.true s
+    let never : c.may_touch.result ≡ false → (s : ℕ) → ¬ IsContactAfter c.args.r c.args.u c.args.distance s = simp to_z-of_z at c.may_touch.ensures.never in
+    λ s le. never c.if-not-may_touch.true s
 
 pub quick_contact-requires-clause-distance : goal.quick_contact-requires-clause-distance
 quick_contact-requires-clause-distance c = sent_size c.args.distance 1073741824 c.ranges.distance c.requires.distance
 
 pub quick_contact-requires-clause-crossing : goal.quick_contact-requires-clause-crossing
-quick_contact-requires-clause-crossing c = (c.may_meet.ensures.fact.0 c.if-not-may_meet.false).crossing
+quick_contact-requires-clause-crossing c = (c.may_touch.ensures.fact.0 c.if-not-may_touch.false).crossing
 
 pub returns-then-ticks-span-clause-found : goal.returns-then-ticks-span-clause-found
 returns-then-ticks-span-clause-found c =
@@ -43,8 +43,8 @@ returns-else-ticks-span-clause-found c =
 pub contact_by_halving-requires-clause-distance : goal.contact_by_halving-requires-clause-distance
 contact_by_halving-requires-clause-distance c = sent_size c.args.distance 1073741824 c.ranges.distance c.requires.distance
 
-pub contact_by_halving-requires-clause-may_meet : goal.contact_by_halving-requires-clause-may_meet
-contact_by_halving-requires-clause-may_meet c = c.may_meet.ensures.fact.0 c.if-not-may_meet.false
+pub contact_by_halving-requires-clause-may_touch : goal.contact_by_halving-requires-clause-may_touch
+contact_by_halving-requires-clause-may_touch c = c.may_touch.ensures.fact.0 c.if-not-may_touch.false
 
 pub returns-clause-found : goal.returns-clause-found
 returns-clause-found c =

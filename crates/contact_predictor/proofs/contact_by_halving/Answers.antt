@@ -30,7 +30,7 @@ loop-high-init c =
     simp to_z-of_z (record {
       order = omega arith;
       within = omega arith;
-      approaches = (approaching_now c.args.r c.args.u c.args.distance).1 c.requires.may_meet.approaching;
+      approaches = (approaching_now c.args.r c.args.u c.args.distance).1 c.requires.may_touch.approaching;
       ends = λ h. let t : c.is_approaching_after.result ≡ true = later.1 h in
           let f : c.is_approaching_after.result ≡ false = c.if-is_approaching_after.false in cc;
     })
@@ -67,7 +67,7 @@ returns-clause-found c =
     let approaches : IsApproachingAfter c.args.r c.args.u c.args.distance c.loop-high.low = simp to_z-of_z at c.loop-high.invariant.approaches in
     let ends : ¬ IsApproachingAfter c.args.r c.args.u c.args.distance c.loop-high.high = simp to_z-of_z at c.loop-high.invariant.ends in (
       omega arith,
-      contact_at_last c.args.r c.args.u c.args.distance c.loop-high.low c.requires.may_meet.crossing approaches
+      contact_at_last c.args.r c.args.u c.args.distance c.loop-high.low c.requires.may_touch.crossing approaches
           (λ h. ends (subst (λ (n : ℕ). IsApproachingAfter c.args.r c.args.u c.args.distance n) next h)),
     )
 

@@ -18,7 +18,7 @@ pub is_contact_after-requires-clause-distance : goal.is_contact_after-requires-c
 is_contact_after-requires-clause-distance c = sent_size c.args.distance 1073741824 c.ranges.distance c.requires.distance
 
 pub is_contact_after-requires-clause-later : goal.is_contact_after-requires-clause-later
-is_contact_after-requires-clause-later c = rw c.after.ensures at (c.is_near.ensures.0 c.if-is_near.true)
+is_contact_after-requires-clause-later c = rw c.after.ensures at (c.is_small.ensures.0 c.if-is_small.true)
 
 pub is_contact_after-requires-clause-crossing : goal.is_contact_after-requires-clause-crossing
 is_contact_after-requires-clause-crossing c = rw (sent_same c.args.distance c.ranges.distance) c.requires.crossing

@@ -5,30 +5,30 @@ use Rattle.event_rules.proofs.Separations.{never_far}
 use Rattle.event_rules.proofs.Swapped.{never_hit, never_hit_turned}
 use Rattle.event_rules.proofs.predict.may_hit.Goals as goal
 
-pub returns-then-is_near-clause-never_turned : goal.returns-then-is_near-clause-never_turned
-returns-then-is_near-clause-never_turned c =
+pub returns-then-fit_in_a_box-clause-never_turned : goal.returns-then-fit_in_a_box-clause-never_turned
+returns-then-fit_in_a_box-clause-never_turned c =
     λ no. never_hit_turned c.args.rules.now c.args.a.now c.args.b.now (c.are_on_course.ensures.no (cc))
 
-pub returns-else-is_near-clause-never : goal.returns-else-is_near-clause-never
-returns-else-is_near-clause-never c = λ far. never_hit c.args.rules.now c.args.a.now c.args.b.now
+pub returns-else-fit_in_a_box-clause-never : goal.returns-else-fit_in_a_box-clause-never
+returns-else-fit_in_a_box-clause-never c = λ far. never_hit c.args.rules.now c.args.a.now c.args.b.now
     (never_far c.args.rules.now c.args.a.now c.args.b.now c.separate-s.result c.requires.checked c.requires.first_valid c.requires.second_valid c.separate-s.ensures
-    (λ near. let yes : c.is_near.result ≡ true = c.is_near.ensures.1 near in let no = c.if-is_near.false in cc))
+    (λ near. let yes : c.fit_in_a_box.result ≡ true = c.fit_in_a_box.ensures.1 near in let no = c.if-fit_in_a_box.false in cc))
 
-pub returns-else-is_near-clause-never_turned : goal.returns-else-is_near-clause-never_turned
-returns-else-is_near-clause-never_turned c = λ far. never_hit_turned c.args.rules.now c.args.a.now c.args.b.now
+pub returns-else-fit_in_a_box-clause-never_turned : goal.returns-else-fit_in_a_box-clause-never_turned
+returns-else-fit_in_a_box-clause-never_turned c = λ far. never_hit_turned c.args.rules.now c.args.a.now c.args.b.now
     (never_far c.args.rules.now c.args.a.now c.args.b.now c.separate-s.result c.requires.checked c.requires.first_valid c.requires.second_valid c.separate-s.ensures
-    (λ near. let yes : c.is_near.result ≡ true = c.is_near.ensures.1 near in let no = c.if-is_near.false in cc))
+    (λ near. let yes : c.fit_in_a_box.result ≡ true = c.fit_in_a_box.ensures.1 near in let no = c.if-fit_in_a_box.false in cc))
 
-pub returns-then-is_near-clause-exact : goal.returns-then-is_near-clause-exact
-returns-then-is_near-clause-exact c =
-    let near = c.is_near.ensures.0 c.if-is_near.true in (
+pub returns-then-fit_in_a_box-clause-exact : goal.returns-then-fit_in_a_box-clause-exact
+returns-then-fit_in_a_box-clause-exact c =
+    let near = c.fit_in_a_box.ensures.0 c.if-fit_in_a_box.true in (
       λ yes. may_hit_from c.args.a.now c.args.b.now c.separate-s.result c.separate-s.ensures near (c.are_on_course.ensures.fact.0 yes),
       λ may. c.are_on_course.ensures.fact.1 (course_from c.args.a.now c.args.b.now c.separate-s.result c.separate-s.ensures may),
     )
 
-pub returns-else-is_near-clause-exact : goal.returns-else-is_near-clause-exact
-returns-else-is_near-clause-exact c = (
+pub returns-else-fit_in_a_box-clause-exact : goal.returns-else-fit_in_a_box-clause-exact
+returns-else-fit_in_a_box-clause-exact c = (
   λ yes. cc,
-  λ may. let yes : c.is_near.result ≡ true = c.is_near.ensures.1 (near_from c.args.a.now c.args.b.now c.separate-s.result c.separate-s.ensures may) in
-      let no = c.if-is_near.false in cc,
+  λ may. let yes : c.fit_in_a_box.result ≡ true = c.fit_in_a_box.ensures.1 (near_from c.args.a.now c.args.b.now c.separate-s.result c.separate-s.ensures may) in
+      let no = c.if-fit_in_a_box.false in cc,
 )

@@ -1,7 +1,7 @@
 -- The numbers are small enough for the quick contact.
 use Rattle.std.proofs.Common.{sym, subst}
 use Rattle.std.specs.Prelude.{ℤ, IfSome, nat_abs, ◌≤◌, ◌^◌}
-use Rattle.contact_predictor.specs.Contact.{IsCrossing, IsOnlyContactAfter}
+use Rattle.contact_predictor.specs.Contact.{IsCollisionCourse, IsOnlyContactAfter}
 use Rattle.event_rules.proofs.Separations.{are_small}
 use Rattle.event_rules.proofs.predict.quick_ticks.Goals as goal
 
@@ -21,7 +21,7 @@ quick_contact-requires-clause-distance c =
 pub quick_contact-requires-clause-crossing : goal.quick_contact-requires-clause-crossing
 quick_contact-requires-clause-crossing c =
     let small = are_small c.args.rules.now c.args.a.now c.args.b.now c.args.s.now c.requires.checked c.requires.first_valid c.requires.second_valid c.requires.separation c.requires.near in
-    subst (λ (d : ℤ). IsCrossing c.args.s.now.places c.args.s.now.velocities d) (sym small.same) c.requires.paths
+    subst (λ (d : ℤ). IsCollisionCourse c.args.s.now.places c.args.s.now.velocities d) (sym small.same) c.requires.paths
 
 pub returns-clause-found : goal.returns-clause-found
 returns-clause-found c =

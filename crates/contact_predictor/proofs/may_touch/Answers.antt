@@ -8,8 +8,8 @@ use Rattle.plane_vectors.specs.Vectors.{dot}
 use Rattle.plane_vectors.proofs.Sizes.{sent, sent_same}
 use Rattle.contact_predictor.specs.Contact.{gap}
 use Rattle.contact_predictor.proofs.Integers.{positive_difference}
-use Rattle.contact_predictor.proofs.Approaching.{meet_from_now}
-use Rattle.contact_predictor.proofs.may_meet.Goals as goal
+use Rattle.contact_predictor.proofs.Approaching.{touch_from_now}
+use Rattle.contact_predictor.proofs.may_touch.Goals as goal
 
 not_negative : (z n : ℤ) → FitsSigned w64 z → z ≡ n → IsTrue (le_z (pos 0) (sent z)) ↔ (pos 0 ≤ℤ n)
 not_negative z n fits is = rw (sent_same z fits ∙ is) (search rules)
@@ -35,4 +35,4 @@ returns-clause-fact c =
 
 pub returns-clause-never : goal.returns-clause-never
 returns-clause-never c = λ no s contact.
-    let yes : c.are_all_three.result ≡ true = (returns-clause-fact c).1 (meet_from_now c.args.r c.args.u c.args.distance s contact) in cc
+    let yes : c.are_all_three.result ≡ true = (returns-clause-fact c).1 (touch_from_now c.args.r c.args.u c.args.distance s contact) in cc
