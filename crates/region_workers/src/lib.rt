@@ -4,7 +4,7 @@
 mod by_call;
 mod call;
 mod job;
-mod meeting;
+mod rendezvous;
 mod roll;
 mod workers;
 

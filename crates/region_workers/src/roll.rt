@@ -1,4 +1,4 @@
-//! Where a meeting stands, in one word, so that whoever changes it changes all of it at once.
+//! Where a rendezvous stands, in one word, so that whoever changes it changes all of it at once.
 
 ghost use Rattle.std.specs.Prelude.{◌<◌};
 
@@ -46,7 +46,7 @@ pub(crate) struct Roll {
     pub hears: bool,
 }
 
-/// What a worker has to say to a meeting.
+/// What a worker has to say to a rendezvous.
 #[derive(Clone, Copy, Debug)]
 pub(crate) enum Notice {
     /// It begins.

@@ -44,13 +44,13 @@ fn opened(alloc: Global, state: &CellState) -> Result<Vec<Region>, AllocError>
 
 // Worker 0 waits in its first turn until worker 1 was here, and notes whether it was. All turns are counted.
 #[derive(Drop)]
-struct Meeting {
+struct Both {
     came: AtomicBool,
     met: AtomicBool,
     turns: AtomicU32,
 }
 
-impl Gate for Meeting {
+impl Gate for Both {
     fn turn(&self, worker: u32, _turn: u32) {
         self.turns.fetch_add(1, Ordering::SeqCst);
         if worker == 1 {
@@ -111,7 +111,7 @@ fn two_workers_meet(rt: HostRuntime) -> Result<(), AllocError> {
         assert!(rt; false, "the rules are refused");
         return Ok(());
     };
-    let gate = Meeting {
+    let gate = Both {
         came: AtomicBool::new(false),
         met: AtomicBool::new(false),
         turns: AtomicU32::new(0),
@@ -147,7 +147,7 @@ const COMES_IDLE: Notice = Notice::Comes {
     news: false,
 };
 
-// Notices to one meeting, each with the phase after it, how many have come to its end and are waited for, how many
+// Notices to one rendezvous, each with the phase after it, how many have come to its end and are waited for, how many
 // share the regions, and whether they hear.
 const NOTICES: &[(Notice, u32, u32, u32, u32, bool)] = &[
     // The first has all regions, and waits for nobody.

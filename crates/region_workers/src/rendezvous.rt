@@ -37,16 +37,16 @@ const SLEEP_MILLIS: u64 = 1;
 
 /// Where the workers of a burst meet at the end of each slice and of its hearing.
 #[derive(Drop)]
-pub(crate) struct Meeting {
+pub(crate) struct Rendezvous {
     // The word of the roll.
     roll: AtomicU64,
     sleepers: AtomicU64,
 }
 
-impl Meeting {
-    /// A meeting to which nobody has come.
-    pub(crate) fn new() -> Meeting {
-        Meeting {
+impl Rendezvous {
+    /// A rendezvous to which nobody has come.
+    pub(crate) fn new() -> Rendezvous {
+        Rendezvous {
             roll: AtomicU64::new(0),
             sleepers: AtomicU64::new(0),
         }
@@ -56,7 +56,7 @@ impl Meeting {
     pub(crate) fn attend(&self) -> Attendance<'_> {
         let before = self.note(Notice::Begins);
         Attendance {
-            meeting: self,
+            rendezvous: self,
             rank: before.begun,
             roll: before.after(Notice::Begins),
             asleep: 0,
@@ -126,9 +126,9 @@ impl Meeting {
     }
 }
 
-/// One worker's part in a meeting. When it is dropped, the burst is over for all.
+/// One worker's part in a rendezvous. When it is dropped, the burst is over for all.
 pub(crate) struct Attendance<'m> {
-    meeting: &'m Meeting,
+    rendezvous: &'m Rendezvous,
     // How many had begun before it.
     rank: u32,
     // The roll as it was when the phase began that it is at.
@@ -175,25 +175,25 @@ impl Attendance<'_> {
     }
 
     fn arrive<R: Wait>(&mut self, rt: &R, notice: Notice) {
-        let before = self.meeting.note(notice);
+        let before = self.rendezvous.note(notice);
         self.roll = before.after(notice);
         let phase = before.phase;
         if self.roll.phase == phase && !self.roll.is_over() {
             if !self.wait(rt, phase) {
-                self.meeting.note(Notice::Misses { at: phase });
+                self.rendezvous.note(Notice::Misses { at: phase });
             }
-            self.roll = self.meeting.roll();
+            self.roll = self.rendezvous.roll();
         }
     }
 
     // Waits until all have come to the end of a phase, and says whether they came in time.
     fn wait<R: Wait>(&mut self, rt: &R, phase: u32) -> bool {
-        self.meeting.is_seen_to_pass(phase)
+        self.rendezvous.is_seen_to_pass(phase)
             || self.gives_way(phase)
-            || self.meeting.sleep_through(rt, phase)
+            || self.rendezvous.sleep_through(rt, phase)
     }
 
-    // Whether the others came while it gave way to other threads. Where one of them was even at the next meeting
+    // Whether the others came while it gave way to other threads. Where one of them was even at the next rendezvous
     // before it had its processor back, it gave way to another program.
     fn gives_way(&mut self, phase: u32) -> bool {
         if self.asleep > 0 {
@@ -201,7 +201,7 @@ impl Attendance<'_> {
             return false;
         }
         for _ in 0..YIELDS {
-            let roll = self.meeting.roll();
+            let roll = self.rendezvous.roll();
             if roll.phase != phase {
                 self.note(roll.arrived > 0);
                 return true;
@@ -225,9 +225,9 @@ impl Attendance<'_> {
 impl Drop for Attendance<'_> {
     // A worker leaves when its turns are made, and so all regions' turns, or for want of memory.
     fn drop(self) {
-        self.meeting.note(Notice::Leaves);
+        self.rendezvous.note(Notice::Leaves);
         let Attendance {
-            meeting: _,
+            rendezvous: _,
             rank: _,
             roll: _,
             asleep: _,
