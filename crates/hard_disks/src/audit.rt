@@ -48,7 +48,6 @@ pub fn audit<R: Threads + Wait + Sync, S: Source, E: Engine>(
     source: &mut S,
     engine: &mut E,
 ) -> Result<Verdict, AuditFault>
-    requires { E.ready engine.old }
     ensures audits { IsAudit (S.left source.old) result }
     // Where the claimed report is the report, the source was read to its end.
     ensures emptied { Empties (S.left source.old) (S.left source.new) result }
@@ -75,7 +74,6 @@ fn read_report<R: Threads + Wait + Sync, T: Source, E: Engine>(
     engine: &mut E,
     source: &mut T,
 ) -> Result<Kept, AuditFault>
-    requires { E.ready engine.old }
     ensures reads { ReadsReport (T.left source.old) (T.left source.new) result }
     ensures counts { CountsAudit (T.faults source.old) (T.faults source.new) result }
     ensures lasts { T.lasting source.new ≡ T.lasting source.old }
@@ -104,7 +102,6 @@ fn keep_report<R: Threads + Wait + Sync, E: Engine>(
     engine: &mut E,
     scene: &Scene,
 ) -> Result<Kept, AllocError>
-    requires { E.ready engine.old }
     ensures keeps { IfOk result (λ kept. KeepsReport scene.now kept.taken) }
     ensures short { IfOk result (λ kept. HasShortLines kept.taken) }
 {

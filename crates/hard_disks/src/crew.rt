@@ -2,6 +2,7 @@
 
 ghost use Rattle.std.specs.Prelude.{◌≡◌, length, IfOk};
 ghost use Rattle.region_core.specs.Bursts.{AreTogether};
+ghost use Rattle.region_core.specs.RunOn.{AreRunOn};
 ghost use Rattle.command_words.specs.Ranges.{AreInRange};
 
 use command_words::{BurstKind, Settings};
@@ -42,7 +43,7 @@ impl<'g, G: Gate> Crew<'g, G> {
         }
     }
 
-    /// Works on the regions of a grid, as a burst does: gives back as many.
+    /// Works on the regions of a grid, as a burst does that keeps them: gives back each at its place, run on.
     ///
     /// # Errors
     /// Out of memory.
@@ -54,6 +55,7 @@ impl<'g, G: Gate> Crew<'g, G> {
     ) -> Result<Vec<Region>, AllocError>
         requires together { AreTogether regions.items }
         ensures count { IfOk result (λ worked. length worked.items ≡ length regions.items) }
+        ensures kept { IfOk result (λ worked. AreRunOn regions.items worked.items) }
     {
         match self {
             Crew::Locks(workers) => workers.burst(rt, alloc, regions),

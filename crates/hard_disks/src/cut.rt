@@ -36,7 +36,6 @@ pub fn cut_at<E: Engine, R: Threads + Wait + Sync, L: Listener>(
     listener: &mut L,
 ) -> Result<Cut, RunFault>
     requires at { at ≤ scene.now.rules.end }
-    requires ready { E.ready engine.old }
     ensures cut { IfOk result (λ cut.
         CutTold L.after scene.now at cut (L.meaning listener.old) (L.meaning listener.new)) }
     ensures cut_short { IfErr result (λ fault.

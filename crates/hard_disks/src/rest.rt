@@ -3,6 +3,7 @@
 ghost use Rattle.std.specs.Prelude.{◌≡◌, ◌≤◌, length, IfOk};
 ghost use Rattle.cell_grid.specs.Grid.{IsAsked};
 ghost use Rattle.region_core.specs.Bursts.{AreTogether};
+ghost use Rattle.region_core.specs.RunOn.{AreRunOn};
 ghost use Rattle.command_words.specs.Ranges.{AreInRange};
 ghost use Rattle.hard_disks.specs.Output.{format_of, IsCutText};
 ghost use Rattle.hard_disks.specs.Answers.{Wrote, CountsWrites};
@@ -19,7 +20,7 @@ use command_words::Settings;
 use event_rules::{Outcome, RunFault};
 use fixed_motion::Scene;
 use region_core::{Gate, Region};
-use region_workers::ByCall;
+use region_workers::{ByCall, Call};
 use report_ports::Sink;
 use std::alloc::{AllocError, Global};
 use std::sync::Wait;
@@ -43,32 +44,43 @@ pub fn cut_regions<R: Threads + Wait + Sync, K: Sink, G: Gate>(
     let crew = Crew::new(settings, gate);
     let format = format_of(settings.format);
     let (regions, at) = (settings.regions, settings.at);
-    cut_by_workers(rt, alloc, &crew, regions, format, at, scene, sink)
+    cut_by_call(
+        rt,
+        alloc,
+        |regions: Vec<Region>| -> Result<Vec<Region>, AllocError>
+            requires { AreTogether regions.items }
+            ensures { IfOk result (λ worked. (length worked.items ≡ length regions.items)
+                × AreRunOn regions.items worked.items) }
+        { crew.burst(rt, alloc, regions) },
+        regions,
+        format,
+        at,
+        scene,
+        sink,
+    )
 }
 
-// Runs the scene over so many regions, on which workers work between two commits.
-fn cut_by_workers<R: Threads + Wait + Sync, K: Sink, G: Gate>(
+// Runs the scene over so many regions, on which a call works between two commits.
+fn cut_by_call<R: Threads + Wait + Sync, K: Sink, C: Call + Drop>(
     rt: &R,
     alloc: Global,
-    crew: &Crew<'_, G>,
+    call: C,
     regions: u32,
     format: Format,
     at: u64,
     scene: &Scene,
     sink: &mut K,
 ) -> Status
-    requires { IsAsked regions }
+    requires keeping { C.keeping call }
+    requires asked { IsAsked regions }
     ensures wrote { Wrote (IsCutText format at scene.now) (K.taken sink.old) (K.taken sink.new) result }
     ensures of_scene { IsOfScene result }
     ensures counts { CountsWrites (K.faults sink.old) (K.faults sink.new) result }
 {
-    let burst = ByCall {
-        call: |regions: Vec<Region>| -> Result<Vec<Region>, AllocError>
-            requires { AreTogether regions.items }
-            ensures { IfOk result (λ worked. length worked.items ≡ length regions.items) }
-        { crew.burst(rt, alloc, regions) },
+    let mut engine = Regions {
+        regions,
+        burst: ByCall::new(call),
     };
-    let mut engine = Regions { regions, burst };
     write_cut(rt, alloc, &mut engine, format, at, scene, sink)
 }
 
@@ -83,7 +95,6 @@ pub fn write_cut<R: Threads + Wait + Sync, E: Engine, K: Sink>(
     scene: &Scene,
     sink: &mut K,
 ) -> Status
-    requires { E.ready engine.old }
     ensures wrote { Wrote (IsCutText format at scene.now) (K.taken sink.old) (K.taken sink.new) result }
     ensures of_scene { IsOfScene result }
     ensures counts { CountsWrites (K.faults sink.old) (K.faults sink.new) result }
@@ -106,7 +117,6 @@ fn write_rest<R: Threads + Wait + Sync, E: Engine, K: Sink>(
     scene: &Scene,
     sink: &mut K,
 ) -> Status
-    requires ready { E.ready engine.old }
     requires at { at ≤ scene.now.rules.end }
     ensures wrote { Wrote (IsCutText format at scene.now) (K.taken sink.old) (K.taken sink.new) result }
     ensures of_scene { IsOfScene result }

@@ -3,6 +3,7 @@
 ghost use Rattle.std.specs.Prelude.{◌≡◌, ◌≢◌, ◌≤◌, ◌++◌, ◌∷◌, [], Some, length, codes, decimal, IfOk};
 ghost use Rattle.cell_grid.specs.Grid.{IsAsked};
 ghost use Rattle.region_core.specs.Bursts.{AreTogether};
+ghost use Rattle.region_core.specs.RunOn.{AreRunOn};
 ghost use Rattle.command_words.specs.Ranges.{AreInRange};
 ghost use Rattle.command_words.specs.declared.settings.Settings.{Settings};
 ghost use Rattle.command_words.specs.declared.settings.Mode.TheVariants.{Audit};
@@ -18,7 +19,7 @@ use crate::show::write_text;
 use crate::status::Status;
 use command_words::{Mode, Settings};
 use region_core::{Gate, Region};
-use region_workers::ByCall;
+use region_workers::{ByCall, Call};
 use report_audit::Verdict;
 use report_ports::{Sink, Source};
 use std::alloc::{AllocError, Global};
@@ -45,32 +46,41 @@ pub fn audit_regions<R: Threads + Wait + Sync, S: Source, K: Sink, G: Gate>(
     ensures writes { CountsWrites (K.faults sink.old) (K.faults sink.new) result }
 {
     let crew = Crew::new(settings, gate);
-    audit_by_workers(rt, alloc, &crew, settings.regions, source, sink)
+    audit_by_call(
+        rt,
+        alloc,
+        |regions: Vec<Region>| -> Result<Vec<Region>, AllocError>
+            requires { AreTogether regions.items }
+            ensures { IfOk result (λ worked. (length worked.items ≡ length regions.items)
+                × AreRunOn regions.items worked.items) }
+        { crew.burst(rt, alloc, regions) },
+        settings.regions,
+        source,
+        sink,
+    )
 }
 
-// The same over so many regions, on which workers work between two commits.
-fn audit_by_workers<R: Threads + Wait + Sync, S: Source, K: Sink, G: Gate>(
+// The same over so many regions, on which a call works between two commits.
+fn audit_by_call<R: Threads + Wait + Sync, S: Source, K: Sink, C: Call + Drop>(
     rt: &R,
     alloc: Global,
-    crew: &Crew<'_, G>,
+    call: C,
     regions: u32,
     source: &mut S,
     sink: &mut K,
 ) -> Status
-    requires { IsAsked regions }
+    requires keeping { C.keeping call }
+    requires asked { IsAsked regions }
     ensures answers { (settings : Settings) → settings.mode ≡ Audit →
         Answers (Some settings) (S.left source.old) (K.taken sink.old) (K.taken sink.new) result }
     ensures emptied { LeavesNothing (S.left source.old) (S.left source.new) result }
     ensures reads { CountsReads (S.faults source.old) (S.faults source.new) result }
     ensures writes { CountsWrites (K.faults sink.old) (K.faults sink.new) result }
 {
-    let burst = ByCall {
-        call: |regions: Vec<Region>| -> Result<Vec<Region>, AllocError>
-            requires { AreTogether regions.items }
-            ensures { IfOk result (λ worked. length worked.items ≡ length regions.items) }
-        { crew.burst(rt, alloc, regions) },
+    let mut engine = Regions {
+        regions,
+        burst: ByCall::new(call),
     };
-    let mut engine = Regions { regions, burst };
     show_audit(rt, alloc, &mut engine, source, sink)
 }
 
@@ -82,7 +92,6 @@ pub fn show_audit<R: Threads + Wait + Sync, E: Engine, S: Source, K: Sink>(
     source: &mut S,
     sink: &mut K,
 ) -> Status
-    requires { E.ready engine.old }
     ensures answers { (settings : Settings) → settings.mode ≡ Audit →
         Answers (Some settings) (S.left source.old) (K.taken sink.old) (K.taken sink.new) result }
     ensures emptied { LeavesNothing (S.left source.old) (S.left source.new) result }
