@@ -10,7 +10,6 @@ use Rattle.cell_sequence.specs.State.{CellStateData}
 use Rattle.cell_sequence.proofs.Lists.{get_here, get_other}
 use Rattle.region_view.specs.Views.{IsViewOf}
 use Rattle.region_view.specs.declared.rows.Message.{Message}
-use Rattle.cell_sequence.proofs.Lists.{get_here, get_other}
 use Rattle.region_core.specs.declared.home.Home.{Home}
 use Rattle.region_core.specs.declared.answers.Step.{Step}
 use Rattle.region_core.specs.declared.answers.Step.TheVariants.{Ran, Heard as Took, Idle, Past, Tied}
@@ -158,36 +157,36 @@ heard_stands state k old from new (Rewound at) hears h =
     heard_another_stands state k old from new (Rewound at) hears h
 
 -- what stands at each place goes on standing, where one region is set
-set_stands : (regions : List RegionData) (i : ℕ) (old new : RegionData) → slice_get regions i ≡ Some old →
-    ((state : CellStateData) → StandsOn state i old → StandsOn state i new) →
-    GoOnStanding regions (slice_set regions i new)
-set_stands regions i old new here on state k region at h = elim (same_number k i) [
+set_stands : (regions : List RegionData) (place : ℕ) (old new : RegionData) →
+    slice_get regions place ≡ Some old →
+    ((state : CellStateData) (k : ℕ) → StandsOn state k old → StandsOn state k new) →
+    GoOnStanding regions (slice_set regions place new)
+set_stands regions place old new here on state i k region at h = elim (same_number i place) [
   | inl same ↦
-      let there : slice_get regions i ≡ Some region = ap (slice_get regions) (sym same) ∙ at in
+      let there : slice_get regions place ≡ Some region = ap (slice_get regions) (sym same) ∙ at in
       let is : region ≡ old = same_Some region old (sym there ∙ here) in (
         new,
-        ap (slice_get (slice_set regions i new)) same ∙ get_here regions i new old here,
-        subst (λ (v : ℕ). StandsOn state v new) (sym same)
-            (on state (subst (λ (v : ℕ). StandsOn state v old) same (subst (StandsOn state k) is h))),
+        ap (slice_get (slice_set regions place new)) same ∙ get_here regions place new old here,
+        on state k (subst (StandsOn state k) is h),
       )
-  | inr other ↦ (region, get_other regions i k new other ∙ at, h)
+  | inr other ↦ (region, get_other regions place i new other ∙ at, h)
 ]
 
 all_stand : (regions after : List RegionData) → after ≡ regions → GoOnStanding regions after
 all_stand regions after same =
-    subst (GoOnStanding regions) (sym same) (λ state k region at h. (region, at, h))
+    subst (GoOnStanding regions) (sym same) (λ state i k region at h. (region, at, h))
 
 turn_stands : (regions after : List RegionData) (k : ℕ) (s : Step) → Turns regions k s after →
     GoOnStanding regions after
 turn_stands regions after k s turns = subst (GoOnStanding regions) (sym turns.is)
     (set_stands regions k turns.region turns.left turns.here
-    (λ state h. stepped_stands state k turns.region turns.left s turns.steps h))
+    (λ state n h. stepped_stands state n turns.region turns.left s turns.steps h))
 
 meeting_stands : (regions after : List RegionData) (k q : ℕ) (answer : Hearing) →
     Meets regions k q answer after → GoOnStanding regions after
 meeting_stands regions after k q answer meets = subst (GoOnStanding regions) (sym meets.is)
     (set_stands regions k meets.hearer meets.left meets.here
-    (λ state h. heard_stands state k meets.hearer meets.sender meets.left answer meets.hears h))
+    (λ state n h. heard_stands state n meets.hearer meets.sender meets.left answer meets.hears h))
 
 one_stands : (regions after : List RegionData) (c : CoreStep) (first : Option Answer) →
     PlaysOne regions c first after → GoOnStanding regions after
@@ -203,8 +202,8 @@ pub plays_stand : (regions after : List RegionData) (cs : List CoreStep) (answer
 unfolding Plays
 plays_stand regions after [] answers (none, same) = all_stand regions after same
 plays_stand regions after (c ∷ cs) answers (mid, first, rest, one, others, is) =
-    λ state k region at h. let now = one_stands regions mid c first one state k region at h in
-    plays_stand mid after cs rest others state k now.0 now.1 now.2
+    λ state i k region at h. let now = one_stands regions mid c first one state i k region at h in
+    plays_stand mid after cs rest others state i k now.0 now.1 now.2
 
 -- ---- memory is wanting
 pub on_err : {T E : Type 0} (r : Result T E) (P : Type 0) → P → OnErr r P

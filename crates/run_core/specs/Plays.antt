@@ -55,8 +55,9 @@ pub record PlaysSome (regions : List RegionData) (calls : List CoreStep) (after 
   pub plays : Plays regions (take count calls) answers mid
   pub left : SpendsOneAtMost mid after
 
--- a region that stands on a state with its place as its number goes on standing on it
+-- where the region at a place stands on a state, by whatever number, what is at that place goes on standing on it by that
+-- number
 abbrev pub GoOnStanding : List RegionData → List RegionData → Type 0
-GoOnStanding old new = (state : CellStateData) (k : ℕ) (region : RegionData) →
-    slice_get old k ≡ Some region → StandsOn state k region →
-    (left : RegionData) × (slice_get new k ≡ Some left) × StandsOn state k left
+GoOnStanding old new = (state : CellStateData) (i k : ℕ) (region : RegionData) →
+    slice_get old i ≡ Some region → StandsOn state k region →
+    (left : RegionData) × (slice_get new i ≡ Some left) × StandsOn state k left
