@@ -2,7 +2,7 @@
 
 ghost use Rattle.std.specs.Prelude.{IfOk, OnOk};
 ghost use Rattle.commit_horizon.specs.Horizon.{runs_of, AllStand};
-ghost use Rattle.run_core.specs.Advances.{IsAdvance};
+ghost use Rattle.run_core.specs.Advances.{IsAdvance, Works};
 
 use crate::Advance;
 use crate::one_event::{know, one_event};
@@ -26,6 +26,8 @@ pub fn advance(
     requires { AllStand committed.old regions.old }
     ensures answer { IfOk result (λ answer.
         IsAdvance committed.old (runs_of regions.old) answer committed.new) }
+    ensures works { IfOk result (λ answer.
+        Works committed.old (runs_of regions.old) answer committed.new regions.new) }
     ensures stand { OnOk result (AllStand committed.new regions.new) }
 {
     know(regions);
