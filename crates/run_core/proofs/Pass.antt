@@ -22,7 +22,7 @@ use Rattle.region_core.proofs.Opened.{state_place}
 use Rattle.commit_horizon.specs.Horizon.{Runs, IsStanding, AreStanding, IsBound}
 use Rattle.run_core.specs.Hearings.{Call, sent_by, Hears, Hearings, IsPass, one_if_rewound, rewinds}
 use Rattle.run_core.specs.Hearings.{entries_of, Passes, AllHeard, SameBases}
-use Rattle.run_core.specs.Laws.{HearingsKeepBounds, PassesEnd}
+use Rattle.run_core.specs.Laws.{HearingsKeepBounds, PassesEnd, PassesEndInAgreement}
 use Rattle.run_core.proofs.Hearing.{HearsWhat, hears_what, IsLike, like_itself, like_with_news}
 
 -- ---- what a hearing leaves of the hearer
@@ -216,6 +216,13 @@ pub all_heard : (state : CellStateData) (runs after : Runs) (cs : List Call) →
 all_heard state runs after cs pass hearings none k q sends hears linked =
     let call = pass k q sends hears linked in
     each_heard state runs after cs hearings none (record { hearer = q; sender = k; answer = call.0 }) call.1
+
+pub passes_end_in_agreement : PassesEndInAgreement
+passes_end_in_agreement state runs after [] passes = absurd passes
+passes_end_in_agreement state runs after (p ∷ ps) (pass, (mid, hearings, inl last)) =
+    subst (AllHeard state) (same_runs mid after last.2) (all_heard state runs mid p pass hearings last.0)
+passes_end_in_agreement state runs after (p ∷ ps) (pass, (mid, hearings, inr (some, more))) =
+    passes_end_in_agreement state mid after ps more
 
 -- ---- passes end
 -- the entries before a stamp are all, or fewer

@@ -8,7 +8,7 @@ use Rattle.cell_sequence.specs.State.{CellStateData, IsCellState}
 use Rattle.commit_horizon.specs.Horizon.{Runs, AreStanding, IsBound}
 use Rattle.region_view.specs.declared.action.Action.{Action}
 use Rattle.run_core.specs.declared.answers.Advance.TheVariants.{Raised, Limit}
-use Rattle.run_core.specs.Hearings.{Call, Hearings, Passes, entries_of, SameBases}
+use Rattle.run_core.specs.Hearings.{Call, Hearings, Passes, entries_of, AllHeard, SameBases}
 use Rattle.run_core.specs.Advances.{IsAdvance}
 use Rattle.run_core.specs.Simulates.{work_left}
 
@@ -24,6 +24,11 @@ abbrev pub HearingsKeepBounds : Type 0
 HearingsKeepBounds = (state : CellStateData) (runs after : Runs) (cs : List Call) →
     IsCellState state → AreStanding state runs → Hearings state runs cs after →
     AreKept state runs after
+
+-- after passes, of which the last rewinds none, each region has heard just what the others sent
+abbrev pub PassesEndInAgreement : Type 0
+PassesEndInAgreement = (state : CellStateData) (runs after : Runs) (ps : List (List Call)) →
+    Passes state runs ps after → AllHeard state after
 
 -- there are at most as many passes as the regions had entries, and one
 abbrev pub PassesEnd : Type 0

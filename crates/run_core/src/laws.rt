@@ -1,6 +1,6 @@
 //! Laws of runs over regions, for those who read the definitions alone.
 
-ghost use Rattle.run_core.specs.Laws.{HearingsKeepBounds, PassesEnd, AdvancesEnd, LimitsEndTheRun};
+ghost use Rattle.run_core.specs.Laws.{HearingsKeepBounds, PassesEnd, PassesEndInAgreement, AdvancesEnd, LimitsEndTheRun};
 
 /// Whatever regions that stand on a state hear from each other, they go on standing on it, and each bound of
 /// theirs stays a bound: so hearing never lowers the commit horizon.
@@ -11,6 +11,11 @@ pub fn hearings_keep_bounds()
 /// Passes of hearings, up to the first that rewinds none, end: each that rewinds takes an entry.
 pub fn passes_end()
     ensures { PassesEnd }
+{}
+
+/// After them each region has heard from each that is linked with it just what that one sent.
+pub fn passes_end_in_agreement()
+    ensures { PassesEndInAgreement }
 {}
 
 /// Each advance that isn't the last comes nearer to the end, so a run ends after some of them.

@@ -13,7 +13,9 @@ mod simulation;
 mod telling;
 
 pub use answers::Advance;
-pub use laws::{advances_end, hearings_keep_bounds, limits_end_the_run, passes_end};
+pub use laws::{
+    advances_end, hearings_keep_bounds, limits_end_the_run, passes_end, passes_end_in_agreement,
+};
 pub use playing::{Answer, CoreStep, Played, play};
 pub use progress::advance;
 pub use scripted::Scripted;
