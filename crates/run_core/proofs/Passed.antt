@@ -11,7 +11,7 @@ use Rattle.region_core.specs.Answers.{HearsFrom}
 use Rattle.region_core.specs.Opening.{RegionData}
 use Rattle.commit_horizon.specs.Horizon.{Runs, runs_of, AllStand}
 use Rattle.run_core.specs.Hearings.{Call, sent_by, Hearings, IsPass, one_if_rewound, rewinds, entries_of}
-use Rattle.run_core.specs.Passing.{is_rewound, Heard, HearsOne, HearsUpTo, AllHearUpTo, Agrees, entries_left}
+use Rattle.run_core.specs.Passing.{is_rewound, Heard, HearsOne, HearsUpTo, AllHearUpTo, Agrees}
 use Rattle.run_core.specs.Turns.{Meets}
 use Rattle.run_core.proofs.Pass.{same_runs, rewinds_take}
 use Rattle.run_core.proofs.Standing.{has_heard}
@@ -160,6 +160,10 @@ more_passes state old mid new heard rest = record {
     (runs_of mid, heard.hearings, inr (rewinds_some (rewinds heard.calls) heard.tells, rest.hear)),
   );
 }
+
+-- all entries of the regions
+unfoldable pub entries_left : CellStateData → List RegionData → ℕ
+entries_left state regions = entries_of state.grid.regions (runs_of regions)
 
 pub entries_fall : (state : CellStateData) (old mid : List RegionData) →
     Heard state old mid true (AllHearUpTo state state.grid.regions) →

@@ -1,5 +1,5 @@
 -- One region after the other takes in what it is told.
-use Rattle.std.proofs.Common.{◌≡◌, ◌⊎◌, inl, inr, ℕ, ◌+◌, ◌<◌, List, sym, ◌∙◌, subst, refl, arith}
+use Rattle.std.proofs.Common.{◌≡◌, ◌⊎◌, inl, inr, ℕ, ◌+◌, ◌<◌, ◌≤◌, List, sym, ◌∙◌, subst, refl, arith}
 use Rattle.event_stamps.specs.declared.Stamp.{Stamp}
 use Rattle.cell_grid.specs.Grid.{IsRegion, AreLinked}
 use Rattle.cell_sequence.specs.State.{CellStateData}
@@ -12,7 +12,7 @@ use Rattle.region_core.specs.Opening.{RegionData, home_of}
 use Rattle.commit_horizon.specs.Horizon.{Runs, runs_of, AllStand}
 use Rattle.run_core.specs.Hearings.{sent_by}
 use Rattle.run_core.specs.Second.{StepsIfLater}
-use Rattle.run_core.specs.Taking.{TookIn, OneTookIn, TookInUpTo}
+use Rattle.run_core.specs.Taking.{TookIn, OneTookIn}
 use Rattle.run_core.specs.Turns.{Turns, Meets}
 use Rattle.run_core.proofs.Standing.{HasHeardAt, has_heard, HasStepped, has_stepped}
 
@@ -102,6 +102,13 @@ took_from state runs mid k q after teller same (inl (linked, takes)) = inl (
   },
 )
 took_from state runs mid k q after teller same (inr (not, is)) = inr (not, is ∙ same)
+
+-- the first i took it in, and all others are as they were
+pub record TookInUpTo (state : CellStateData) (old new : List RegionData) (k i : ℕ) : Type 0 where
+  pub took : (q : ℕ) → q < i → TookIn state (runs_of old) k q (runs_of new q)
+  pub rest : (q : ℕ) → i ≤ q → runs_of new q ≡ runs_of old q
+  pub teller : runs_of new k ≡ runs_of old k
+  pub stand : AllStand state new
 
 pub one_more_took : (state : CellStateData) (old mid new : List RegionData) (k i : ℕ) →
     TookInUpTo state old mid k i → OneTookIn state mid new k i → TookInUpTo state old new k (i + 1)

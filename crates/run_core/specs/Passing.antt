@@ -7,7 +7,7 @@ use Rattle.region_core.specs.declared.answers.Hearing.{Hearing}
 use Rattle.region_core.specs.declared.answers.Hearing.TheVariants.{Same, Rewound, Later, Apart}
 use Rattle.region_core.specs.Opening.{RegionData}
 use Rattle.commit_horizon.specs.Horizon.{runs_of, AllStand}
-use Rattle.run_core.specs.Hearings.{Call, Hearings, rewinds, Passes, entries_of}
+use Rattle.run_core.specs.Hearings.{Call, Hearings, rewinds, Passes}
 
 -- whether the hearer was rewound
 abbrev pub is_rewound : Hearing → Bool
@@ -42,7 +42,3 @@ AllHearUpTo state i calls = (q : ℕ) → q < i → HearsUpTo state q state.grid
 pub record Agrees (state : CellStateData) (old new : List RegionData) : Type 0 where
   pub passes : List (List Call)
   pub hear : Passes state (runs_of old) passes (runs_of new)
-
--- all entries of the regions
-unfoldable pub entries_left : CellStateData → List RegionData → ℕ
-entries_left state regions = entries_of state.grid.regions (runs_of regions)

@@ -1,5 +1,5 @@
 -- What regions have due, and what the others make of one region's step.
-use Rattle.std.specs.Prelude.{◌≡◌, ◌≢◌, ◌⊎◌, ℕ, ◌<◌, ◌≤◌, List, Some, length, slice_get}
+use Rattle.std.specs.Prelude.{◌≡◌, ◌≢◌, ◌⊎◌, ℕ, ◌<◌, List, Some, length, slice_get}
 use Rattle.event_stamps.specs.declared.Stamp.{Stamp}
 use Rattle.event_stamps.specs.Order.{Before}
 use Rattle.cell_grid.specs.Grid.{IsRegion, AreLinked}
@@ -38,13 +38,6 @@ TookIn state runs k q after = (AreLinked state.grid k q × TakesIn state runs k 
 pub record OneTookIn (state : CellStateData) (old new : List RegionData) (k q : ℕ) : Type 0 where
   pub took : TookIn state (runs_of old) k q (runs_of new q)
   pub others : (x : ℕ) → x ≢ q → runs_of new x ≡ runs_of old x
-  pub teller : runs_of new k ≡ runs_of old k
-  pub stand : AllStand state new
-
--- the first i took it in, and all others are as they were
-pub record TookInUpTo (state : CellStateData) (old new : List RegionData) (k i : ℕ) : Type 0 where
-  pub took : (q : ℕ) → q < i → TookIn state (runs_of old) k q (runs_of new q)
-  pub rest : (q : ℕ) → i ≤ q → runs_of new q ≡ runs_of old q
   pub teller : runs_of new k ≡ runs_of old k
   pub stand : AllStand state new
 

@@ -1,4 +1,4 @@
-use Rattle.run_core.specs.Taking.{TookInUpTo}
+use Rattle.run_core.proofs.Taken.{TookInUpTo}
 use Rattle.run_core.proofs.one_event.tell_all.Given as goal
 
 abbrev pub invariant-loop-hearer : goal.invariant-loop-hearer

@@ -1,7 +1,8 @@
 use Rattle.std.proofs.Common.{List}
 use Rattle.region_core.specs.Opening.{RegionData}
 use Rattle.commit_horizon.specs.Horizon.{AllStand}
-use Rattle.run_core.specs.Passing.{Agrees, entries_left}
+use Rattle.run_core.specs.Passing.{Agrees}
+use Rattle.run_core.proofs.Passed.{entries_left}
 use Rattle.run_core.proofs.passes.agree.Given as goal
 
 abbrev pub invariant-passes : goal.invariant-passes
