@@ -5,7 +5,11 @@ use Rattle.std.proofs.lemmas.Bool.{cases_lt}
 use Rattle.cell_grid.specs.Grid.{GridData, column_of, row_of}
 use Rattle.cell_lists.specs.declared.near.Block.{Block}
 use Rattle.cell_lists.specs.Listing.{ListsData, IsListed}
-use Rattle.cell_lists.specs.Nearby.{rows_to, columns_to, IsWithin, IsListedWithin}
+use Rattle.cell_lists.specs.Nearby.{columns_to, IsWithin, IsListedWithin}
+
+-- the rows of a block below one
+abbrev pub rows_to : Block → ℕ → Block
+rows_to block row = record { left = block.left; right = block.right; low = block.low; high = row }
 
 next : (n : ℕ) → n < n + 1
 next n = omega arith
@@ -15,6 +19,13 @@ same n = omega arith
 
 less_or_last : (k n : ℕ) → k < n + 1 → (k < n) ⊎ (k ≡ n)
 less_or_last k n lt = grind arith
+
+-- no cell, no row
+pub no_column : (lists : ListsData) (block : Block) (row i : ℕ) → ¬ IsListedWithin lists (columns_to block row block.left) i
+no_column lists block row i h = let a = h.2.0.0 in let b = h.2.0.1 in absurd (omega arith)
+
+pub no_row : (lists : ListsData) (block : Block) (i : ℕ) → ¬ IsListedWithin lists (rows_to block block.low) i
+no_row lists block i h = let a = h.2.1.0 in let b = h.2.1.1 in absurd (omega arith)
 
 -- one more cell of a row
 pub split_column : (lists : ListsData) (block : Block) (row column i : ℕ) → IsListedWithin lists (columns_to block row (column + 1)) i →

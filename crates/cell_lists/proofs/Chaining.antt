@@ -5,8 +5,7 @@ use Rattle.std.proofs.lemmas.Bool.{cases_lt, true≢false, false≢true, eqb-tru
 use Rattle.std.specs.Prelude.{true, false, eqb, replicate, Option, Some, None}
 use Rattle.std.proofs.lemmas.List.{get_or-set_same, get_or-set_other, get_or_past, get_or_default, get_or-replicate, length-set, length-replicate}
 use Rattle.cell_lists.specs.Chain.{ChainsData, chains_of, at, IsLinked, IsUnlinked, IsIn, InBucket, IsFirst, IsLast, IsChained}
-use Rattle.cell_lists.specs.Firsts.{after_of, ascent}
-use Rattle.cell_lists.proofs.Firsts.{falls, first_kept, first_before, first_is, first_later, first_earlier}
+use Rattle.cell_lists.proofs.Firsts.{after_of, ascent, falls, first_kept, first_before, first_is, first_later, first_earlier}
 
 -- ---- a disk that is listed, or taken off
 pub same_or_not : (i j : ℕ) → (i ≡ j) ⊎ (i ≢ j)

@@ -1,10 +1,20 @@
 -- Firsts and lasts of a property.
-use Rattle.std.proofs.Common.{◌≢◌, ◌^◌, IfSome, ◌↔◌, ℕ, ◌+◌, ◌<◌, ◌≤◌, arith, inl, inr}
+use Rattle.std.proofs.Common.{◌≡◌, ◌≢◌, ◌⊎◌, ◌^◌, IfSome, ◌↔◌, ℕ, ◌+◌, ◌-◌, ◌<◌, ◌≤◌, min, List, [], ◌∷◌, ◌++◌, arith, inl, inr, sym, subst}
 use Rattle.std.specs.Prelude.{Option, Some, None}
 use Rattle.std.proofs.lemmas.Bool.{cases_lt}
-use Rattle.cell_lists.specs.Firsts.{IsFirstOf, IsLastOf, after_of, ascent}
+use Rattle.cell_lists.specs.Firsts.{IsFirstOf, IsLastOf, AreAllFrom, lesser_of}
 
 -- ---- walks
+-- one past a number, or 0
+abbrev pub after_of : Option ℕ → ℕ
+after_of None = 0
+after_of (Some i) = i + 1
+
+-- how far numbers of 32 bits may still ascend
+abbrev pub ascent : Option ℕ → ℕ
+ascent None = 0
+ascent (Some i) = 2 ^ 32 - i
+
 pub falls : (P : ℕ → Type 0) (i : ℕ) (o : Option ℕ) → i < 2 ^ 32 → IsFirstOf P (i + 1) o → ascent o < ascent (Some i)
 falls P i None lt h = omega arith
 falls P i (Some j) lt h = let le : i + 1 ≤ j = h.0 in omega arith
@@ -51,3 +61,33 @@ first_earlier P from later None le none h = λ j above p. elim (cases_lt j later
 first_earlier P from later (Some i) le none h =
     let low : later ≤ i = h.0 in
     (omega arith, h.1, λ j above below p. elim (cases_lt j later) [ inl lt ↦ none j above lt p | inr ge ↦ h.2 j ge below p ])
+
+-- ---- the first of either
+pub first_of_either : (P Q R : ℕ → Type 0) (from : ℕ) (a b : Option ℕ) → ((i : ℕ) → P i → R i) → ((i : ℕ) → Q i → R i) → ((i : ℕ) → R i → P i ⊎ Q i) →
+    IsFirstOf P from a → IsFirstOf Q from b → IsFirstOf R from (lesser_of a b)
+first_of_either P Q R from None None p_is q_is split ha hb = λ j le r. elim (split j r) [ inl p ↦ ha j le p | inr q ↦ hb j le q ]
+first_of_either P Q R from None (Some j) p_is q_is split ha hb =
+    (hb.0, q_is j hb.1, λ k le lt r. elim (split k r) [ inl p ↦ ha k le p | inr q ↦ hb.2 k le lt q ])
+first_of_either P Q R from (Some i) None p_is q_is split ha hb =
+    (ha.0, p_is i ha.1, λ k le lt r. elim (split k r) [ inl p ↦ ha.2 k le lt p | inr q ↦ hb k le q ])
+first_of_either P Q R from (Some i) (Some j) p_is q_is split ha hb = elim (which i j) [
+  | inl w ↦ subst (λ (n : ℕ). IsFirstOf R from (Some n)) (sym w.0)
+      (ha.0, p_is i ha.1, λ k le lt r. elim (split k r) [ inl p ↦ ha.2 k le lt p | inr q ↦ hb.2 k le (below k i j lt w.1) q ])
+  | inr w ↦ subst (λ (n : ℕ). IsFirstOf R from (Some n)) (sym w.0)
+      (hb.0, q_is j hb.1, λ k le lt r. elim (split k r) [ inl p ↦ ha.2 k le (below k j i lt w.1) p | inr q ↦ hb.2 k le lt q ])
+]
+  where
+    which : (i j : ℕ) → ((min i j ≡ i) × (i ≤ j)) ⊎ ((min i j ≡ j) × (j ≤ i))
+    which i j = elim (cases_lt i j) [ inl lt ↦ inl (omega arith, omega arith) | inr ge ↦ inr (omega arith, omega arith) ]
+
+    below : (k i j : ℕ) → k < i → i ≤ j → k < j
+    below k i j lt le = omega arith
+
+-- ---- all, one after the other
+pub all_same : (P Q : ℕ → Type 0) (from : ℕ) (xs : List ℕ) → ((j : ℕ) → (P j ↔ Q j)) → AreAllFrom P from xs → AreAllFrom Q from xs
+all_same P Q from [] same h = first_kept P Q from None (λ j _. same j) h
+all_same P Q from (i ∷ xs) same h = (first_kept P Q from (Some i) (λ j _. same j) h.0, all_same P Q (i + 1) xs same h.1)
+
+-- the list goes on with all from a number on
+abbrev pub GoesOn : (ℕ → Type 0) → List ℕ → ℕ → Type 0
+GoesOn P xs from = (later : List ℕ) → AreAllFrom P from later → AreAllFrom P 0 (xs ++ later)

@@ -1,22 +1,23 @@
 -- The first number that has a property, and the last.
-use Rattle.std.specs.Prelude.{ℕ, ◌+◌, ◌-◌, ◌^◌, ◌<◌, ◌≤◌, Option, Some, None, MatchOption}
+use Rattle.std.specs.Prelude.{ℕ, ◌+◌, ◌<◌, ◌≤◌, min, List, [], ◌∷◌, Option, Some, None, MatchOption}
 
 -- the first from a number on of which P holds; none where there is none
 abbrev pub IsFirstOf : (ℕ → Type 0) → ℕ → Option ℕ → Type 0
 IsFirstOf P from o = MatchOption o ((j : ℕ) → from ≤ j → ¬ P j)
     (λ i. (from ≤ i) × P i × ((j : ℕ) → from ≤ j → j < i → ¬ P j))
 
+-- all numbers from one on of which P holds, ascending
+abbrev pub AreAllFrom : (ℕ → Type 0) → ℕ → List ℕ → Type 0
+AreAllFrom P from [] = IsFirstOf P from None
+AreAllFrom P from (i ∷ later) = IsFirstOf P from (Some i) × AreAllFrom P (i + 1) later
+
+-- the lesser of two numbers, each of which may be there or not
+abbrev pub lesser_of : Option ℕ → Option ℕ → Option ℕ
+lesser_of None o = o
+lesser_of (Some i) None = Some i
+lesser_of (Some i) (Some j) = Some (min i j)
+
 -- the last below a number
 abbrev pub IsLastOf : (ℕ → Type 0) → ℕ → Option ℕ → Type 0
 IsLastOf P below o = MatchOption o ((j : ℕ) → j < below → ¬ P j)
     (λ i. (i < below) × P i × ((j : ℕ) → i < j → j < below → ¬ P j))
-
--- one past a number, or 0
-abbrev pub after_of : Option ℕ → ℕ
-after_of None = 0
-after_of (Some i) = i + 1
-
--- how far numbers of 32 bits may still ascend
-abbrev pub ascent : Option ℕ → ℕ
-ascent None = 0
-ascent (Some i) = 2 ^ 32 - i

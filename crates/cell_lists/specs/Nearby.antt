@@ -1,7 +1,7 @@
 -- Blocks of cells, and the disks that are listed in them.
 use Rattle.std.specs.Prelude.{◌⊎◌, ◌↔◌, ℕ, ◌+◌, ◌<◌, ◌≤◌, List}
 use Rattle.std.specs.List.{Contains}
-use Rattle.cell_grid.specs.Grid.{GridData, column_of, row_of}
+use Rattle.cell_grid.specs.Grid.{GridData, column_of, row_of, IsAdjacent}
 use Rattle.cell_lists.specs.declared.near.Block.{Block}
 use Rattle.cell_lists.specs.Listing.{ListsData, IsListed}
 
@@ -20,9 +20,9 @@ IsWithin grid block cell =
 abbrev pub IsListedWithin : ListsData → Block → ℕ → Type 0
 IsListedWithin lists block disk = (cell : ℕ) × IsListed lists cell disk × IsWithin lists.grid block cell
 
--- the rows of a block below one
-abbrev pub rows_to : Block → ℕ → Block
-rows_to block row = record { left = block.left; right = block.right; low = block.low; high = row }
+-- the disk is listed in a cell adjacent to this one, as it is itself
+abbrev pub IsListedNear : ListsData → ℕ → ℕ → Type 0
+IsListedNear lists cell disk = (other : ℕ) × IsListed lists other disk × IsAdjacent lists.grid cell other
 
 -- the cells of a block in one row, in columns below one
 abbrev pub columns_to : Block → ℕ → ℕ → Block

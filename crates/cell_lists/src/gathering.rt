@@ -4,7 +4,7 @@
 //! longer than some reads. So nothing asks for that: all heads of the block are read, and then the next of
 //! each disk that was gathered, and the processor can wait for many of them at once.
 
-ghost use Rattle.std.specs.Prelude.{ℕ, ◌*◌, ◌<◌, ◌≤◌, take, drop, IfSome, IsTrue};
+ghost use Rattle.std.specs.Prelude.{◌*◌, ◌<◌, ◌≤◌, take, drop, IfSome, IsTrue};
 ghost use Rattle.cell_lists.specs.declared.gathered.TheConstants.{MOST_GATHERED};
 ghost use Rattle.cell_lists.specs.Chain.{AreCells};
 ghost use Rattle.cell_lists.specs.Nearby.{IsBlock, IsWithin};

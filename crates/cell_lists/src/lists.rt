@@ -2,9 +2,10 @@
 
 use crate::chains::Chains;
 use crate::gathered::Gathered;
-use crate::near::Block;
+use crate::near::{Block, block_around};
 use cell_grid::Grid;
 use std::alloc::{AllocError, Global};
+use std::cmp::min;
 use std::marker::Model;
 
 /// Which disks are listed in which cells of a grid.
@@ -31,10 +32,11 @@ impl Model for Lists {
     ghost invariant = { λ a. AreCells a.grid a.chains.cells };
 }
 
-ghost use Rattle.std.specs.Prelude.{◌≡◌, ◌+◌, OnOk, OnErr, IfOk, IfSome, IsTrue};
+ghost use Rattle.std.specs.Prelude.{◌≡◌, ◌+◌, ◌<◌, ◌≤◌, OnOk, OnErr, IfOk, IfSome, IsTrue};
 ghost use Rattle.std.specs.FinMap as map;
 ghost use Rattle.cell_grid.specs.Grid.{IsCell};
-ghost use Rattle.cell_lists.specs.Nearby.{IsBlock, AreGathered};
+ghost use Rattle.cell_lists.specs.Firsts.{IsFirstOf, AreAllFrom, lesser_of};
+ghost use Rattle.cell_lists.specs.Nearby.{IsBlock, IsListedWithin, IsListedNear, AreGathered, columns_to};
 ghost use Rattle.cell_lists.specs.Listing.{lists_of, IsListed, IsFree, IsFirstIn, AreInGrid, with_disk, without_disk};
 
 impl Lists {
@@ -99,6 +101,65 @@ impl Lists {
         self.chains.next_in(disk, cell)
     }
 
+    /// The disks that are listed in a cell of the grid and in those adjacent to it, ascending.
+    ///
+    /// # Errors
+    /// Out of memory.
+    pub fn near(&self, alloc: Global, cell: u32) -> Result<Vec<u32>, AllocError>
+        requires { IsCell self.now.grid cell }
+        ensures { IfOk result (λ disks. AreAllFrom (IsListedNear self.now cell) 0 disks.items) }
+    {
+        let block = block_around(&self.grid, cell);
+        let mut disks = Vec::new(alloc);
+        let mut next = self.first_within(block, 0);
+        while let Some(disk) = next {
+            disks.push(disk)?;
+            next = self.first_within(block, u64::from(disk) + 1);
+        }
+        Ok(disks)
+    }
+
+    // The least disk from a number on that is listed in a block.
+    fn first_within(&self, block: Block, from: u64) -> Option<u32>
+        requires { IsBlock self.now.grid block }
+        ensures { IsFirstOf (IsListedWithin self.now block) from result }
+    {
+        let mut first = None;
+        for row in block.low..block.high {
+            first = lesser(first, self.first_in_row(block, row, from));
+        }
+        first
+    }
+
+    // The same of one row of the block.
+    fn first_in_row(&self, block: Block, row: u32, from: u64) -> Option<u32>
+        requires block { IsBlock self.now.grid block }
+        requires low { block.low ≤ row }
+        requires high { row < block.high }
+        ensures { IsFirstOf (IsListedWithin self.now (columns_to block row block.right)) from result }
+    {
+        let start = row * self.grid.columns();
+        let mut first = None;
+        for column in block.left..block.right {
+            first = lesser(first, self.first_from(start + column, from));
+        }
+        first
+    }
+
+    // The same of one cell.
+    fn first_from(&self, cell: u32, from: u64) -> Option<u32>
+        ensures { IsFirstIn self.now cell from result }
+    {
+        let mut next = self.first_in(cell);
+        while let Some(disk) = next {
+            if u64::from(disk) >= from {
+                break;
+            }
+            next = self.next_in(disk, cell);
+        }
+        next
+    }
+
     /// Gathers the disks that are listed in a block, beside those that were gathered before. False where
     /// there is no room for them, or where cells share buckets; then nothing is said of what is gathered.
     pub fn gather(&self, block: Block, gathered: &mut Gathered) -> bool
@@ -106,5 +167,16 @@ impl Lists {
         ensures { IsTrue result → AreGathered self.now block gathered.old gathered.new }
     {
         self.chains.gather(&self.grid, block, gathered)
+    }
+}
+
+// The lesser of two numbers, each of which may be there or not.
+fn lesser(a: Option<u32>, b: Option<u32>) -> Option<u32>
+    ensures { result ≡ lesser_of a b }
+{
+    match (a, b) {
+        (Some(a), Some(b)) => Some(min(a, b)),
+        (Some(a), None) => Some(a),
+        (None, b) => b,
     }
 }

@@ -15,7 +15,7 @@ use Rattle.region_view.specs.declared.action.Placed.{Placed}
 use Rattle.region_view.specs.Events.{IsNear}
 use Rattle.region_view.specs.Views.{ViewData, rows_in}
 use Rattle.region_queue.specs.declared.finder.Finder.{Finder}
-use Rattle.region_queue.specs.Finding.{IsNativeOf, IsNativePair, IsPlacedBeside, IsNearby, IsBlockBeside, AreListed}
+use Rattle.region_queue.specs.Finding.{IsNativeOf, IsNativePair, IsNearby, IsBlockBeside, AreListed}
 use Rattle.region_queue.proofs.Candidates.{same_row, near_pair, native_is, pair_low, pair_high, adjacent_back, listed_at}
 
 -- ---- cells
@@ -54,6 +54,12 @@ nearby_in_cell finder view at cell other whole listed here beside owned q row =
   where
     same : cell ≡ q.cell
     same = let e : Some cell ≡ Some q.cell = sym here ∙ listed_at view finder.lists other q listed row in cc
+
+-- what is known of the other disk while the block around a cell is walked: it is in an adjacent cell, and whether the
+-- region owns that cell
+abbrev pub IsPlacedBeside : Finder → ViewData → ℕ → ℕ → Bool → Type 0
+IsPlacedBeside finder view cell other home = (q : Placed) → rows_in view other ≡ Some q →
+    IsAdjacent finder.grid cell q.cell × (IsTrue home ↔ Owns finder.grid finder.region q.cell)
 
 -- whether the region owns the cell is known where it owns all, and else it was asked for
 pub placed_beside : (finder : Finder) (view : ViewData) (at other : ℕ) (q : Placed) (whole home : Bool) → rows_in view other ≡ Some q →

@@ -13,8 +13,8 @@ use Rattle.cell_grid.specs.Grid.{GridData, IsCell, IsAdjacent, Owns}
 use Rattle.cell_grid.specs.Crossing.{IsCrossEvent}
 use Rattle.cell_lists.specs.declared.near.Block.{Block}
 use Rattle.cell_lists.specs.Listing.{ListsData, IsListed, IsFirstIn}
-use Rattle.cell_lists.specs.Nearby.{IsWithin, IsListedWithin, rows_to, columns_to}
-use Rattle.cell_lists.proofs.Blocks.{split_column, wider_column, in_last_column, split_row, join_row}
+use Rattle.cell_lists.specs.Nearby.{IsWithin, IsListedWithin, columns_to}
+use Rattle.cell_lists.proofs.Blocks.{rows_to, split_column, wider_column, in_last_column, split_row, join_row}
 use Rattle.region_view.specs.declared.action.Placed.{Placed}
 use Rattle.region_view.specs.Events.{IsAlone, IsNear}
 use Rattle.region_view.specs.Placing.{IsCellCandidate, IsNearPair, IsNative}
@@ -262,12 +262,6 @@ walk_ends finder view disk cell from a none h =
     (λ i x. elim (cases_lt i from) [ inl lt ↦ (x, lt) | inr past ↦ absurd (none i past x) ]) h
 
 -- ---- blocks
-pub no_column : (lists : ListsData) (block : Block) (row i : ℕ) → ¬ IsListedWithin lists (columns_to block row block.left) i
-no_column lists block row i h = let a = h.2.0.0 in let b = h.2.0.1 in absurd (omega arith)
-
-pub no_row : (lists : ListsData) (block : Block) (i : ℕ) → ¬ IsListedWithin lists (rows_to block block.low) i
-no_row lists block i h = let a = h.2.1.0 in let b = h.2.1.1 in absurd (omega arith)
-
 pub column_more : (finder : Finder) (view : ViewData) (disk : ℕ) (block : Block) (row column : ℕ) (a b : Option Stamp) →
     block.left ≤ column → column < finder.lists.grid.columns →
     IsLeastOf (IsNativeWith finder view disk (IsListedWithin finder.lists (columns_to block row column))) a →

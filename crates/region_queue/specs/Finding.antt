@@ -83,12 +83,6 @@ IsNativeOf finder view low high s =
 abbrev pub IsNativePair : Finder → ViewData → ℕ → ℕ → Stamp → Type 0
 IsNativePair finder view i j s = IsNativeOf finder view i j s ⊎ IsNativeOf finder view j i s
 
--- what is known of the other disk while the block around a cell is walked: it is in an adjacent cell, and whether the
--- region owns that cell
-abbrev pub IsPlacedBeside : Finder → ViewData → ℕ → ℕ → Bool → Type 0
-IsPlacedBeside finder view cell other home = (q : Placed) → rows_in view other ≡ Some q →
-    IsAdjacent finder.grid cell q.cell × (IsTrue home ↔ Owns finder.grid finder.region q.cell)
-
 -- where the view has the disk, it is in an adjacent cell, and where `whole`, in a column that the region owns
 abbrev pub IsNearby : Finder → ViewData → ℕ → Bool → ℕ → Type 0
 IsNearby finder view cell whole other = (q : Placed) → rows_in view other ≡ Some q →

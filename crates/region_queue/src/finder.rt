@@ -4,7 +4,7 @@ ghost use Rattle.std.specs.Prelude.{◌≡◌, ◌↔◌, ◌⊎◌, ℕ, ◌<�
 ghost use Rattle.std.specs.List.{Contains};
 ghost use Rattle.std.specs.FinMap as map;
 ghost use Rattle.event_stamps.specs.declared.Kind.TheVariants.{Pair};
-ghost use Rattle.event_stamps.specs.Least.{IsLeastOf, HasNone, IsOnly, earlier_of};
+ghost use Rattle.event_stamps.specs.Least.{IsLeastOf, HasNone, IsOnly};
 ghost use Rattle.event_stamps.specs.Order.{IsInRange};
 ghost use Rattle.cell_grid.specs.Grid.{IsCell, IsAdjacent, IsStripOf, Owns};
 ghost use Rattle.cell_lists.specs.Listing.{IsListed};

@@ -1,5 +1,5 @@
 -- A view that is made row by row.
-use Rattle.std.proofs.Common.{◌≡◌, ◌≢◌, inl, inr, ℕ, ◌+◌, ◌<◌, ◌≤◌, List, length}
+use Rattle.std.proofs.Common.{◌≡◌, ◌≢◌, ◌↔◌, inl, inr, ℕ, ◌+◌, ◌<◌, ◌≤◌, List, length}
 use Rattle.std.proofs.Common.{slice_get, get_or, sym, ap, ◌∙◌, subst, arith, Some}
 use Rattle.std.specs.Prelude.{cond, true, false, Bool, pos}
 use Rattle.std.specs.Ordering.{nat_cmp, eq_by_cmp}
@@ -11,7 +11,13 @@ use Rattle.event_stamps.proofs.Decision.{same_number}
 use Rattle.cell_grid.specs.Grid.{GridData, Reaches}
 use Rattle.region_view.specs.declared.action.Placed.{Placed}
 use Rattle.region_view.specs.Placing.{Placing}
-use Rattle.region_view.specs.Views.{ViewData, IsViewOf, IsViewBelow}
+use Rattle.region_view.specs.Views.{ViewData, IsViewOf}
+
+-- what is seen of the disks below a number
+abbrev pub IsViewBelow : GridData → ℕ → Placing → ℕ → ViewData → Type 0
+IsViewBelow grid region at n view =
+    (i : ℕ) (p : Placed) → (map.get view i ≡ Some p) ↔
+    ((at i ≡ Some p) × Reaches grid region p.cell × (i < n))
 
 insert_here : (view : ViewData) (n : ℕ) (p : Placed) → map.get (map.insert view n p) n ≡ Some p
 insert_here view n p = get-insert nat_cmp_total view n p n

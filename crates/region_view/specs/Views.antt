@@ -18,12 +18,6 @@ abbrev pub IsViewOf : GridData → ℕ → Placing → ViewData → Type 0
 IsViewOf grid region at view = (i : ℕ) (p : Placed) →
     (map.get view i ≡ Some p) ↔ ((at i ≡ Some p) × Reaches grid region p.cell)
 
--- the same of the disks below a number
-abbrev pub IsViewBelow : GridData → ℕ → Placing → ℕ → ViewData → Type 0
-IsViewBelow grid region at n view =
-    (i : ℕ) (p : Placed) → (map.get view i ≡ Some p) ↔
-    ((at i ≡ Some p) × Reaches grid region p.cell × (i < n))
-
 -- the row of the least number from this one on, where there is one
 abbrev pub IsNextRow : ViewData → ℕ → Option (ℕ × Placed) → Type 0
 IsNextRow view from None = (i : ℕ) → from ≤ i → map.get view i ≡ None

@@ -1,19 +1,15 @@
 //! The events of disks with recorded cells: when they come, and what they do.
 
-ghost use Rattle.std.specs.Prelude.{◌≡◌, ◌<◌, ◌≤◌, ◌^◌, option_copied, MatchOption, None};
-ghost use Rattle.std.specs.FinMap as map;
+ghost use Rattle.std.specs.Prelude.{◌≡◌, ◌<◌, ◌≤◌, ◌^◌, option_copied, MatchOption};
 ghost use Rattle.std.specs.Option.{ForSome};
 ghost use Rattle.fixed_motion.specs.Rules.{IsChecked};
 ghost use Rattle.fixed_motion.specs.Motion.{IsValidDisk, IsInside, place_of};
 ghost use Rattle.event_stamps.specs.Least.{HasNone, IsOnly, IsLeastOf};
-ghost use Rattle.cell_grid.specs.Grid.{IsGridOf, IsCell, IsRegion};
+ghost use Rattle.cell_grid.specs.Grid.{IsGridOf, IsCell};
 ghost use Rattle.region_view.specs.Events.{IsAlone, IsNear, IsEventBy};
 ghost use Rattle.region_view.specs.Acting.{action_of, crossed};
-ghost use Rattle.region_view.specs.Placing.{IsHome};
-ghost use Rattle.region_view.specs.Views.{rows_in};
-ghost use Rattle.region_view.specs.Laws.{HasCells};
 
-use crate::{Action, Placed, View};
+use crate::{Action, Placed};
 use cell_grid::Grid;
 use event_rules::{Limit, apply, first_wall, pair_event};
 use event_stamps::{Kind, Stamp};
@@ -107,15 +103,4 @@ fn cross(rules: &Rules, grid: &Grid, stamp: &Stamp, a: &Disk) -> Result<Action, 
         stamp: *stamp,
         cell: grid.cell_of(place.x, place.y),
     })
-}
-
-/// The region that runs an event: it owns the recorded cell of the event's first disk. None exactly where
-/// the disk has no row.
-pub fn home(view: &View, grid: &Grid, stamp: &Stamp) -> Option<u32>
-    requires cells { HasCells grid.now (rows_in view.now) }
-    ensures { MatchOption result (map.get view.now stamp.now.first ≡ None)
-        (λ region. IsRegion grid.now region × IsHome grid.now (rows_in view.now) region stamp.now) }
-{
-    let row = view.get(stamp.first)?;
-    Some(grid.owner(row.cell))
 }

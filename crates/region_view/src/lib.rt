@@ -14,7 +14,7 @@ mod slots;
 mod view;
 
 pub use action::{Action, Placed};
-pub use events::{act, first_alone, home, near_event};
+pub use events::{act, first_alone, near_event};
 pub use laws::{
     actions_are_valid, actions_have_rows, each_event_has_one_home, home_sees,
     messages_are_faithful, natives_act_alike, natives_are_home, set_rows_are_put_over,

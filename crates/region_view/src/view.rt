@@ -34,7 +34,7 @@ ghost use Rattle.std.specs.Prelude.{◌≡◌, ◌↔◌, ℕ, ◌<◌, ◌≤�
 ghost use Rattle.std.specs.FinMap as map;
 ghost use Rattle.cell_grid.specs.Grid.{IsRegion};
 ghost use Rattle.region_view.specs.Laws.{HasCells};
-ghost use Rattle.region_view.specs.Views.{rows_in, IsNextRow, IsViewOf, IsViewBelow};
+ghost use Rattle.region_view.specs.Views.{rows_in, IsNextRow, IsViewOf};
 ghost use Rattle.region_view.specs.Setting.{put, set_rows, rows_at, after_action, IsInOrder};
 
 use cell_grid::Grid;

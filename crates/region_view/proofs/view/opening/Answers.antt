@@ -1,6 +1,5 @@
 use Rattle.std.proofs.Common.{slice_get, get_or, ◌+◌, sym, ◌∙◌, subst}
-use Rattle.region_view.specs.Views.{IsViewBelow}
-use Rattle.region_view.proofs.Seen.{none_yet, one_seen, one_unseen, all_seen, no_row, row_at}
+use Rattle.region_view.proofs.Seen.{IsViewBelow, none_yet, one_seen, one_unseen, all_seen, no_row, row_at}
 use Rattle.region_view.proofs.view.opening.Goals as goal
 use Rattle.region_view.proofs.view.opening.Goals.{then-in_reach+in_ok-replace, else-in_reach}
 

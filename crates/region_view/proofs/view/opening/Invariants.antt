@@ -1,5 +1,5 @@
 use Rattle.std.proofs.Common.{slice_get}
-use Rattle.region_view.specs.Views.{IsViewBelow}
+use Rattle.region_view.proofs.Seen.{IsViewBelow}
 use Rattle.region_view.proofs.view.opening.Given as goal
 
 abbrev pub invariant-loop-i : goal.invariant-loop-i

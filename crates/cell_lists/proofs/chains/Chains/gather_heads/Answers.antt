@@ -1,9 +1,9 @@
 -- One more row in each round.
 use Rattle.std.proofs.Common.{◌≡◌, ◌+◌, ◌*◌, ◌<◌, ◌≤◌, take, arith, subst}
 use Rattle.std.specs.Prelude.{ℕ}
-use Rattle.cell_lists.specs.Nearby.{IsWithin, rows_to}
+use Rattle.cell_lists.specs.Nearby.{IsWithin}
+use Rattle.cell_lists.proofs.Blocks.{rows_to, row_cells}
 use Rattle.cell_lists.specs.Gathering.{StartsAdded}
-use Rattle.cell_lists.proofs.Blocks.{row_cells}
 use Rattle.cell_lists.proofs.Walks.{both_added}
 use Rattle.cell_lists.proofs.chains.Chains.gather_heads.Goals as goal
 

@@ -1,7 +1,8 @@
 -- The least disks of the cells in rows below this one were added.
 use Rattle.std.proofs.Common.{◌≤◌, take}
 use Rattle.cell_lists.specs.declared.gathered.TheConstants.{MOST_GATHERED}
-use Rattle.cell_lists.specs.Nearby.{IsWithin, rows_to}
+use Rattle.cell_lists.specs.Nearby.{IsWithin}
+use Rattle.cell_lists.proofs.Blocks.{rows_to}
 use Rattle.cell_lists.specs.Gathering.{StartsAdded}
 use Rattle.cell_lists.proofs.chains.Chains.gather_heads.Given as goal
 

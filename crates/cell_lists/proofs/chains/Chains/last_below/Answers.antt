@@ -1,9 +1,8 @@
 -- The chain ascends.
 use Rattle.std.proofs.Common.{◌<◌, arith, sym, subst}
 use Rattle.std.specs.Prelude.{ℕ, Option}
-use Rattle.cell_lists.specs.Firsts.{after_of, ascent}
+use Rattle.cell_lists.proofs.Firsts.{after_of, ascent, last_past, last_end}
 use Rattle.cell_lists.specs.Chain.{InBucket, IsFirst}
-use Rattle.cell_lists.proofs.Firsts.{last_past, last_end}
 use Rattle.cell_lists.specs.Nodes.{nexts_of, cells_of}
 use Rattle.cell_lists.proofs.Chaining.{seen, head_is_first, next_is_first, next_falls}
 use Rattle.cell_lists.proofs.Nodes.{next_read}

@@ -1,7 +1,7 @@
 -- The next disk is the first of the bucket after the last one that was found.
 use Rattle.std.proofs.Common.{◌<◌}
 use Rattle.std.specs.Prelude.{IfSome}
-use Rattle.cell_lists.specs.Firsts.{after_of, ascent}
+use Rattle.cell_lists.proofs.Firsts.{after_of, ascent}
 use Rattle.cell_lists.specs.Chain.{IsFirst, InBucket}
 use Rattle.cell_lists.proofs.chains.Chains.last_below.Given as goal
 

@@ -1,7 +1,8 @@
 -- The chain ascends, and no disk of the cell is passed.
 use Rattle.std.proofs.Common.{◌+◌, ◌%◌, ◌<◌, ◌≤◌, arith, sym, subst, ◌∙◌, length}
 use Rattle.std.specs.Prelude.{ℕ, Option}
-use Rattle.cell_lists.specs.Firsts.{IsFirstOf, ascent}
+use Rattle.cell_lists.specs.Firsts.{IsFirstOf}
+use Rattle.cell_lists.proofs.Firsts.{ascent}
 use Rattle.cell_lists.specs.Chain.{IsFirst, IsIn}
 use Rattle.cell_lists.specs.Nodes.{nexts_of, cells_of}
 use Rattle.cell_lists.proofs.Chaining.{within, cell_is_read, is_that, is_other, seen, next_is_first, next_falls, passed_more, passed_all, passed_one}

@@ -1,6 +1,6 @@
 -- The next disk is the first of the bucket from some number on, and no disk of the cell is below.
 use Rattle.std.proofs.Common.{ℕ, ◌%◌, ◌<◌, ◌≤◌}
-use Rattle.cell_lists.specs.Firsts.{ascent}
+use Rattle.cell_lists.proofs.Firsts.{ascent}
 use Rattle.cell_lists.specs.Chain.{IsFirst, IsIn}
 use Rattle.cell_lists.proofs.chains.Chains.skip.Given as goal
 

@@ -3,9 +3,10 @@ use Rattle.std.proofs.Common.{◌≡◌, ℕ, ◌+◌, arith, sym, subst}
 use Rattle.std.specs.Prelude.{Option}
 use Rattle.event_stamps.specs.declared.Stamp.{Stamp}
 use Rattle.event_stamps.specs.Least.{IsLeastOf}
-use Rattle.cell_lists.specs.Nearby.{IsListedWithin, rows_to}
+use Rattle.cell_lists.specs.Nearby.{IsListedWithin}
+use Rattle.cell_lists.proofs.Blocks.{rows_to, no_row}
 use Rattle.region_queue.specs.Finding.{IsNativeWith}
-use Rattle.region_queue.proofs.Candidates.{with_none, no_row, row_more}
+use Rattle.region_queue.proofs.Candidates.{with_none, row_more}
 use Rattle.region_queue.proofs.finder.Finder.best_by_rows.Goals as goal
 
 pub loop-row-init : goal.loop-row-init

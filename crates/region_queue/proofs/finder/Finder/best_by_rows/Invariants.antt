@@ -1,6 +1,7 @@
 -- The least event with a disk in the rows so far.
 use Rattle.event_stamps.specs.Least.{IsLeastOf}
-use Rattle.cell_lists.specs.Nearby.{IsListedWithin, rows_to}
+use Rattle.cell_lists.specs.Nearby.{IsListedWithin}
+use Rattle.cell_lists.proofs.Blocks.{rows_to}
 use Rattle.region_queue.specs.Finding.{IsNativeWith, AreListed}
 use Rattle.region_queue.proofs.finder.Finder.best_by_rows.Given as goal
 

@@ -4,8 +4,7 @@ use Rattle.std.specs.Prelude.{Option}
 use Rattle.event_stamps.specs.declared.Stamp.{Stamp}
 use Rattle.event_stamps.specs.Least.{IsLeastOf}
 use Rattle.cell_lists.specs.Listing.{IsListed, IsFirstIn}
-use Rattle.cell_lists.specs.Firsts.{ascent}
-use Rattle.cell_lists.proofs.Firsts.{falls}
+use Rattle.cell_lists.proofs.Firsts.{ascent, falls}
 use Rattle.region_queue.specs.Finding.{IsNativeWith}
 use Rattle.region_queue.proofs.Candidates.{ListedBelow, walk_begins, walk_more, walk_ends}
 use Rattle.region_queue.proofs.Beside.{nearby_in_cell}

@@ -1,7 +1,7 @@
 -- The least event with a disk of the cell below some number, from which on the walk goes.
 use Rattle.std.proofs.Common.{ℕ}
 use Rattle.event_stamps.specs.Least.{IsLeastOf}
-use Rattle.cell_lists.specs.Firsts.{ascent}
+use Rattle.cell_lists.proofs.Firsts.{ascent}
 use Rattle.cell_lists.specs.Listing.{IsFirstIn}
 use Rattle.region_queue.specs.Finding.{IsNativeWith, AreListed}
 use Rattle.region_queue.proofs.Candidates.{ListedBelow}

@@ -7,7 +7,8 @@ use Rattle.cell_grid.specs.Grid.{GridData}
 use Rattle.cell_lists.specs.Listing.{IsListed}
 use Rattle.cell_lists.specs.Nearby.{IsListedWithin, columns_to}
 use Rattle.region_queue.specs.Finding.{IsNativeWith}
-use Rattle.region_queue.proofs.Candidates.{with_none, no_column, column_more}
+use Rattle.cell_lists.proofs.Blocks.{no_column}
+use Rattle.region_queue.proofs.Candidates.{with_none, column_more}
 use Rattle.region_queue.proofs.Beside.{cell_within}
 use Rattle.region_queue.proofs.finder.Finder.best_in_row.Goals as goal
 
