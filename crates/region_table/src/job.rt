@@ -7,9 +7,10 @@ ghost use Rattle.region_table.specs.Bases.{MayLieIn, StaysOrSpent};
 ghost use Rattle.region_table.specs.Rule.{slots_of, is_held};
 ghost use Rattle.region_table.specs.Tables.{IsSeatOf};
 
+use crate::calm::{Calm, Changes};
 use crate::{RegionTable, TableSeat, TakeOut};
 use cell_grid::Grid;
-use region_core::{Gate, Region};
+use region_core::{Gate, Hearing, Region};
 use std::alloc::{AllocError, Global};
 
 /// The work of one worker.
@@ -19,6 +20,7 @@ pub(crate) struct Job<'a, G: Gate> {
     pub table: &'a RegionTable,
     pub grid: &'a Grid,
     pub gate: &'a G,
+    pub changes: &'a Changes,
     pub worker: u32,
     pub steps: u32,
     ghost each: { length table.now.opened ≡ grid.now.regions },
@@ -26,7 +28,7 @@ pub(crate) struct Job<'a, G: Gate> {
 }
 
 impl<'a, G: Gate> Job<'a, G> {
-    /// Makes the given number of turns.
+    /// Makes the given number of turns. Once no region has anything to do, they only pass the gate.
     ///
     /// # Errors
     /// Out of memory.
@@ -36,34 +38,51 @@ impl<'a, G: Gate> Job<'a, G> {
         ensures seat { IsSeatOf self.now.table.now seat.new }
         ensures idle { OnOk result (seat.new.view.held ≡ []) }
     {
+        let mut calm = Calm::new(self.changes);
         for turn in 0..turns {
             self.gate.turn(self.worker, turn);
-            for region in 0..self.grid.regions() {
-                self.visit(seat, region)?;
-            }
+            self.make_turn(seat, &mut calm)?;
         }
         Ok(())
     }
 
-    // Lets a region run, and then hear those that it is linked with. What is away is passed over.
-    fn visit(&self, seat: &mut TableSeat, region: u32) -> Result<(), AllocError>
+    // Visits all regions, if any of them may have something to do.
+    fn make_turn(&self, seat: &mut TableSeat, calm: &mut Calm<'_>) -> Result<(), AllocError>
+        requires seat { IsSeatOf self.now.table.now seat.old }
+        requires idle { slots_of seat.old.view.held ≡ [] }
+        ensures seat { IsSeatOf self.now.table.now seat.new }
+        ensures idle { slots_of seat.new.view.held ≡ [] }
+    {
+        if calm.is_of_all(self.grid.regions()) {
+            return Ok(());
+        }
+        for region in 0..self.grid.regions() {
+            let is_whole = self.visit(seat, region)?;
+            calm.note(region, is_whole);
+        }
+        Ok(())
+    }
+
+    // Lets a region run, and then hear those that it is linked with. What is away is passed over; whether nothing
+    // was.
+    fn visit(&self, seat: &mut TableSeat, region: u32) -> Result<bool, AllocError>
         requires region { IsRegion self.now.grid.now region }
         requires seat { IsSeatOf self.now.table.now seat.old }
         requires idle { slots_of seat.old.view.held ≡ [] }
         ensures seat { IsSeatOf self.now.table.now seat.new }
         ensures idle { slots_of seat.new.view.held ≡ [] }
     {
-        self.step(seat, region)?;
+        let mut is_whole = self.step(seat, region)?;
         for other in 0..self.grid.regions() {
             if other != region && self.grid.linked(region, other) {
-                self.hear(seat, region, other)?;
+                is_whole &= self.hear(seat, region, other)?;
             }
         }
-        Ok(())
+        Ok(is_whole)
     }
 
-    // Lets a region run, if it is at home.
-    fn step(&self, seat: &mut TableSeat, region: u32) -> Result<(), AllocError>
+    // Lets a region run, if it is at home; whether it was.
+    fn step(&self, seat: &mut TableSeat, region: u32) -> Result<bool, AllocError>
         requires region { IsRegion self.now.grid.now region }
         requires seat { IsSeatOf self.now.table.now seat.old }
         requires idle { slots_of seat.old.view.held ≡ [] }
@@ -71,9 +90,10 @@ impl<'a, G: Gate> Job<'a, G> {
         ensures idle { slots_of seat.new.view.held ≡ [] }
     {
         let Some(value) = take(self.table, seat, region) else {
-            return Ok(());
+            return Ok(false);
         };
-        self.step_out(seat, region, value)
+        self.step_out(seat, region, value)?;
+        Ok(true)
     }
 
     // Lets a region run that is out with the seat, and puts it back.
@@ -89,13 +109,13 @@ impl<'a, G: Gate> Job<'a, G> {
         ensures seat { IsSeatOf self.now.table.now seat.new }
         ensures idle { slots_of seat.new.view.held ≡ [] }
     {
-        let done = run(self.alloc, &mut value, self.steps);
+        let done = run(self.alloc, self.changes, &mut value, self.steps);
         put(self.table, seat, region, value);
         done
     }
 
-    // Lets a region hear another, if both are at home. The lower number is taken first.
-    fn hear(&self, seat: &mut TableSeat, hearer: u32, from: u32) -> Result<(), AllocError>
+    // Lets a region hear another, if both are at home; whether they were. The lower number is taken first.
+    fn hear(&self, seat: &mut TableSeat, hearer: u32, from: u32) -> Result<bool, AllocError>
         requires hearer { IsRegion self.now.grid.now hearer }
         requires from { IsRegion self.now.grid.now from }
         requires apart { hearer ≢ from }
@@ -106,23 +126,24 @@ impl<'a, G: Gate> Job<'a, G> {
     {
         if hearer < from {
             let Some(hears) = take(self.table, seat, hearer) else {
-                return Ok(());
+                return Ok(false);
             };
             let Some(tells) = take(self.table, seat, from) else {
                 put(self.table, seat, hearer, hears);
-                return Ok(());
+                return Ok(false);
             };
-            self.hear_out(seat, hearer, from, hears, tells)
+            self.hear_out(seat, hearer, from, hears, tells)?;
         } else {
             let Some(tells) = take(self.table, seat, from) else {
-                return Ok(());
+                return Ok(false);
             };
             let Some(hears) = take(self.table, seat, hearer) else {
                 put(self.table, seat, from, tells);
-                return Ok(());
+                return Ok(false);
             };
-            self.hear_out(seat, hearer, from, hears, tells)
+            self.hear_out(seat, hearer, from, hears, tells)?;
         }
+        Ok(true)
     }
 
     // Lets a region hear another, both out with the seat, and puts them back.
@@ -143,7 +164,7 @@ impl<'a, G: Gate> Job<'a, G> {
         ensures seat { IsSeatOf self.now.table.now seat.new }
         ensures idle { slots_of seat.new.view.held ≡ [] }
     {
-        let done = hear(self.alloc, &mut hears, &tells);
+        let done = hear(self.alloc, self.changes, &mut hears, &tells);
         put(self.table, seat, hearer, hears);
         put(self.table, seat, from, tells);
         done
@@ -178,18 +199,33 @@ fn put(table: &RegionTable, seat: &mut TableSeat, region: u32, value: Region)
 }
 
 // Lets a region run up to the given number of steps. It is put back after an error too.
-fn run(alloc: Global, value: &mut Region, steps: u32) -> Result<(), AllocError>
+fn run(alloc: Global, changes: &Changes, value: &mut Region, steps: u32) -> Result<(), AllocError>
     requires some { 0 < steps }
     ensures { StaysOrSpent value.old value.new }
 {
+    let before = value.entries();
     value.run(alloc, steps)?;
+    changes.note(value.entries() != before);
     Ok(())
 }
 
 // Lets a region hear another.
-fn hear(alloc: Global, hears: &mut Region, tells: &Region) -> Result<(), AllocError>
+fn hear(
+    alloc: Global,
+    changes: &Changes,
+    hears: &mut Region,
+    tells: &Region,
+) -> Result<(), AllocError>
     ensures { StaysOrSpent hears.old hears.new }
 {
-    hears.hear(alloc, tells)?;
+    let answer = hears.hear(alloc, tells)?;
+    changes.note(is_news(&answer));
     Ok(())
+}
+
+fn is_news(answer: &Hearing) -> bool {
+    match answer {
+        Hearing::Rewound(_) | Hearing::Later(_) => true,
+        Hearing::Same | Hearing::Apart => false,
+    }
 }

@@ -3,6 +3,7 @@
 //! A worker that finds a region away doesn't wait for it: it goes on with the next.
 #![tactic(auto)]
 
+mod calm;
 mod closing;
 mod job;
 mod order;

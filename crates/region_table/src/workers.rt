@@ -8,6 +8,7 @@ ghost use Rattle.region_table.specs.Bases.{AreAlive};
 ghost use Rattle.region_table.specs.Rule.{slots_of};
 ghost use Rattle.region_table.specs.Tables.{IsSeatOf};
 
+use crate::calm::Changes;
 use crate::job::Job;
 use crate::{RegionTable, TableSeat};
 use cell_grid::Grid;
@@ -19,7 +20,8 @@ use std::thread::Threads;
 
 /// What works on the regions between two commits: threads, each of which makes some turns. In a turn it goes
 /// through all regions: it takes one out, lets it run, puts it back, and lets it hear those that it is linked with.
-/// What another worker has out, it passes over.
+/// What another worker has out, it passes over. Once it found that no region has anything to do, the turns that it
+/// has left only pass the gate.
 #[derive(Drop)]
 pub struct TableWorkers<'g, G: Gate> {
     /// How many threads there are, 1 to [`MAX_WORKERS`](region_workers::MAX_WORKERS); no more than there are regions are started.
@@ -82,6 +84,7 @@ impl<'g, G: Gate> TableWorkers<'g, G> {
         ensures seat { IsSeatOf table.now seat.new }
         ensures idle { seat.new.view.held ≡ [] }
     {
+        let changes = Changes::new();
         let run_one = |start: (u32, TableSeat)| -> Result<TableSeat, AllocError>
             requires { IsSeatOf table.now start.1 × (slots_of start.1.view.held ≡ []) × (length table.now.opened ≡ grid.now.regions) }
             ensures { IfOk result (λ seat. IsSeatOf table.entry.now seat × (seat.view.held ≡ [])) }
@@ -92,6 +95,7 @@ impl<'g, G: Gate> TableWorkers<'g, G> {
                 table,
                 grid,
                 gate: self.gate,
+                changes: &changes,
                 worker,
                 steps: self.steps,
             };
