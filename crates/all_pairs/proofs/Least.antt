@@ -11,7 +11,7 @@ use Rattle.event_stamps.proofs.Least.{only_least, least_of_either, least_same}
 use Rattle.event_rules.specs.Events.{IsWallEvent, IsWallBelow, IsPairEvent}
 use Rattle.event_rules.specs.Run.{IsCandidate}
 use Rattle.event_rules.proofs.Ranges.{side_range}
-use Rattle.all_pairs.specs.Search.{IsPairBelow, IsBelow}
+use Rattle.all_pairs.specs.Search.{IsPairBelow}
 
 below_one_more : (k n : ℕ) → k < n + 1 → (k < n) ⊎ (k ≡ n)
 below_one_more k n lt = grind arith
@@ -118,6 +118,10 @@ own_events rules disks i a wall pair at hw hp =
             ),
           )
     ]
+
+-- an event whose first disk is below n
+abbrev pub IsBelow : (Stamp → Type 0) → ℕ → Stamp → Type 0
+IsBelow P n s = P s × (s.first < n)
 
 pub no_disk_before : (rules : Rules) (disks : List Disk) →
     IsLeastOf (IsBelow (IsCandidate rules disks) 0) None

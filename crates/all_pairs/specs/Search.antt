@@ -9,7 +9,3 @@ use Rattle.event_rules.specs.Events.{IsPairEvent}
 abbrev pub IsPairBelow : Rules → List Disk → ℕ → Disk → ℕ → Stamp → Type 0
 IsPairBelow rules disks i a n s = (j : ℕ) × (i < j) × (j < n)
     × ((b : Disk) × (slice_get disks j ≡ Some b) × IsPairEvent rules i a j b s)
-
--- an event whose first disk is below n
-abbrev pub IsBelow : (Stamp → Type 0) → ℕ → Stamp → Type 0
-IsBelow P n s = P s × (s.first < n)

@@ -13,7 +13,7 @@ use Rattle.cell_grid.specs.Crossing.{IsCrossEvent}
 use Rattle.region_view.specs.declared.action.Placed.{Placed}
 use Rattle.region_view.specs.Events.{IsAlone, IsNear}
 use Rattle.cell_sequence.specs.Run.{IsStateCandidate}
-use Rattle.cell_sequence.specs.Search.{IsNearBelow, IsBelow, IsFirstOf}
+use Rattle.cell_sequence.specs.Search.{IsNearBelow, IsFirstOf}
 use Rattle.cell_sequence.proofs.Next.{row_of_candidate}
 
 below_one_more : (k n : ℕ) → k < n + 1 → (k < n) ⊎ (k ≡ n)
@@ -155,6 +155,10 @@ own_events rules grid placed i p alone near at ha hn =
     ]
 
 -- ---- all disks
+-- an event whose first disk is below n
+abbrev pub IsBelow : (Stamp → Type 0) → ℕ → Stamp → Type 0
+IsBelow P n s = P s × (s.first < n)
+
 pub none_before : (rules : Rules) (grid : GridData) (placed : List Placed) →
     IsLeastOf (IsBelow (IsStateCandidate rules grid placed) 0) None
 none_before rules grid placed = λ s h. let lt = h.1 in omega arith

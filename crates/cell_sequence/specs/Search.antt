@@ -12,10 +12,6 @@ IsNearBelow rules grid placed i p n s =
     (j : ℕ) × (i < j) × (j < n)
     × ((q : Placed) × (slice_get placed j ≡ Some q) × IsNear rules grid i p j q s)
 
--- an event whose first disk is below n
-abbrev pub IsBelow : (Stamp → Type 0) → ℕ → Stamp → Type 0
-IsBelow P n s = P s × (s.first < n)
-
 -- an event whose first disk is i
 abbrev pub IsFirstOf : (Stamp → Type 0) → ℕ → Stamp → Type 0
 IsFirstOf P i s = P s × (s.first ≡ i)

@@ -3,8 +3,7 @@ use Rattle.fixed_motion.specs.declared.disk.Disk.{Disk}
 use Rattle.event_rules.specs.Run.{IsCandidate}
 use Rattle.event_stamps.specs.declared.Stamp.{Stamp}
 use Rattle.event_stamps.specs.Least.{IsLeastOf}
-use Rattle.all_pairs.specs.Search.{IsBelow}
-use Rattle.all_pairs.proofs.Least.{no_disk, disk_at, no_disk_before, one_more_disk, own_events}
+use Rattle.all_pairs.proofs.Least.{IsBelow, no_disk, disk_at, no_disk_before, one_more_disk, own_events}
 use Rattle.all_pairs.proofs.Least.{all_disks}
 use Rattle.all_pairs.proofs.search.next.Goals as goal
 

@@ -1,6 +1,6 @@
 use Rattle.event_rules.specs.Run.{IsCandidate}
 use Rattle.event_stamps.specs.Least.{IsLeastOf}
-use Rattle.all_pairs.specs.Search.{IsBelow}
+use Rattle.all_pairs.proofs.Least.{IsBelow}
 use Rattle.all_pairs.proofs.search.next.Given as goal
 
 abbrev pub invariant-loop-i : goal.invariant-loop-i

@@ -1,8 +1,7 @@
 use Rattle.std.proofs.Common.{◌+◌, sym, subst}
 use Rattle.event_stamps.specs.Least.{IsLeastOf}
 use Rattle.cell_sequence.specs.Run.{IsStateCandidate}
-use Rattle.cell_sequence.specs.Search.{IsBelow}
-use Rattle.cell_sequence.proofs.Found.{none_before, one_more_disk, all_disks}
+use Rattle.cell_sequence.proofs.Found.{IsBelow, none_before, one_more_disk, all_disks}
 use Rattle.cell_sequence.proofs.search.next.Goals as goal
 
 pub loop-i-init : goal.loop-i-init

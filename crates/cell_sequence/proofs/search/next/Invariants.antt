@@ -1,6 +1,6 @@
 use Rattle.event_stamps.specs.Least.{IsLeastOf}
 use Rattle.cell_sequence.specs.Run.{IsStateCandidate}
-use Rattle.cell_sequence.specs.Search.{IsBelow}
+use Rattle.cell_sequence.proofs.Found.{IsBelow}
 use Rattle.cell_sequence.proofs.search.next.Given as goal
 
 abbrev pub invariant-loop-i : goal.invariant-loop-i
