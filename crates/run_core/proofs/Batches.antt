@@ -13,7 +13,7 @@ use Rattle.region_messages.proofs.Among.{among_right}
 use Rattle.cell_sequence.specs.Run.{hits}
 use Rattle.cell_sequence.proofs.Joins.{hits_join}
 use Rattle.run_core.specs.Tells.{RefusedAmong}
-use Rattle.run_core.proofs.Simulating.{told_in_turn}
+use Rattle.commit_horizon.proofs.Tellings.{told_in_turn}
 
 -- the collisions before one, that one, and those after it
 hits_at : (xs : List Action) (i : ℕ) (d : Action) (change : Change) → i < length xs →

@@ -17,3 +17,5 @@ pub mod Calls
 pub mod Batches
 pub mod SoFar
 pub mod Spots
+pub mod Prefixes
+pub mod TellingOn

@@ -1,6 +1,5 @@
 -- What was told of the run of a scene, one advance after the other.
-use Rattle.std.proofs.Common.{◌≡◌, inl, inr, ℕ, List, [], ◌∷◌, ◌++◌, append-nil, append_assoc, length, take, sym, ap, ◌∙◌, subst, refl, arith, Option, Some, None}
-use Rattle.std.proofs.lemmas.Grind.{common_steps}
+use Rattle.std.proofs.Common.{◌≡◌, ℕ, List, [], ◌∷◌, ◌++◌, append-nil, sym, ap, ◌∙◌, subst, refl, Option}
 use Rattle.fixed_motion.specs.declared.rules.Rules.{Rules}
 use Rattle.fixed_motion.specs.declared.disk.Disk.{Disk}
 use Rattle.fixed_motion.specs.Scene.{SceneData, IsValidScene}
@@ -10,66 +9,29 @@ use Rattle.event_rules.specs.declared.change.Limit.{Limit as Failure}
 use Rattle.event_rules.specs.declared.outcome.Spot.{Spot}
 use Rattle.event_rules.specs.declared.outcome.Outcome.{Outcome}
 use Rattle.event_rules.specs.declared.outcome.Outcome.TheVariants.{Done, Limit as Passes}
-use Rattle.event_rules.specs.Run.{IsRun, Steps, spots_of, effect}
-use Rattle.event_rules.specs.Told.{IsTellable, told, Told, Torn, PrefixTold}
-use Rattle.event_rules.proofs.Ran.{ran, ran_tellable}
+use Rattle.event_rules.specs.declared.outcome.RunFault.{RunFault}
+use Rattle.event_rules.specs.declared.outcome.RunFault.TheVariants.{Listener, NoMemory}
+use Rattle.event_rules.specs.Tellings.{StepsCutShort, scene_of}
+use Rattle.event_rules.specs.Run.{IsRun, Steps, spots_of}
+use Rattle.event_rules.specs.Told.{told, Told}
 use Rattle.event_rules.proofs.Telling.{told_none}
 use Rattle.cell_grid.specs.Grid.{GridData, grid_of, IsAsked}
 use Rattle.region_view.specs.declared.action.Action.{Action}
-use Rattle.region_messages.specs.Trails.{IsAmong}
-use Rattle.region_messages.proofs.Among.{among_right}
 use Rattle.cell_sequence.specs.Run.{opened, disks_of, hits, CellSteps, CellRuns}
 use Rattle.cell_sequence.specs.State.{CellStateData, IsCandidateOf, followed, followed_by, start_of}
 use Rattle.cell_sequence.proofs.Joins.{steps_join, runs_join, hits_join}
 use Rattle.cell_sequence.proofs.Hits.{hits_are_changes, hits_are_steps}
 use Rattle.commit_horizon.specs.Horizon.{Runs}
+use Rattle.commit_horizon.proofs.Tellings.{told_in_turn}
 use Rattle.run_core.specs.declared.answers.Advance.{Advance}
 use Rattle.run_core.specs.declared.answers.Advance.TheVariants.{Raised, End, Limit}
+use Rattle.commit_horizon.specs.Telling.{HitsCutShort}
 use Rattle.run_core.specs.Advances.{Leads, FailsNext, IsAdvance}
+use Rattle.run_core.specs.AdvancesTold.{NextCutShort}
 use Rattle.run_core.specs.Simulates.{batch_of}
 use Rattle.run_core.specs.Laws.{LimitsEndTheRun}
 use Rattle.run_core.proofs.Advancing.{rules_after}
-
--- ---- tellings, one after the other
-told_joined : {M C : Type 0} (after : M → C → M) (m : M) (xs ys : List C) →
-    told after m (xs ++ ys) ≡ told after (told after m xs) ys
-told_joined after m [] ys = refl
-told_joined after m (x ∷ xs) ys = told_joined after (after m x) xs ys
-
-pub told_in_turn : {M C : Type 0} (after : M → C → M) (old mid new : Option M) (xs ys : List C) →
-    Told after old xs mid → Told after mid ys new → Told after old (xs ++ ys) new
-told_in_turn after None mid new xs ys h k = tt
-told_in_turn after (Some m) None new xs ys h k = absurd h
-told_in_turn after (Some m) (Some n) None xs ys h k = absurd k
-told_in_turn after (Some m) (Some n) (Some p) xs ys h k =
-    k ∙ ap (λ v. told after v ys) h ∙ sym (told_joined after m xs ys)
-
-refused_after : {M C : Type 0} (after : M → C → M) (torn : M → C → M → Type 0) (old mid new : Option M)
-    (xs : List C) (c : C) (rest : List C) → Told after old xs mid → Torn torn mid c new →
-    PrefixTold after torn old (xs ++ c ∷ rest) new
-refused_after {C = C} after torn old mid new xs c rest h k = (
-  length xs,
-  inr (
-    mid,
-    c,
-    rest,
-    grind (arith, common_steps),
-    subst (λ (v : List C). Told after old v mid) (take_front xs (c ∷ rest)) h,
-    k,
-  ),
-)
-  where
-    take_front : (xs ys : List C) → xs ≡ take (length xs) (xs ++ ys)
-    take_front xs ys = grind (arith, common_steps)
-
--- changes that were run can be told
-steps_tellable : (rules : Rules) (disks later : List Disk) (changes : List Change) (c : Change) →
-    Steps rules disks changes later → IsAmong c changes → IsTellable c
-steps_tellable rules disks later [] c steps among = absurd among
-steps_tellable rules disks later (x ∷ xs) c steps (inl same) = subst IsTellable (sym same)
-    (ran_tellable rules disks x (ran rules disks x steps.0.0 steps.1))
-steps_tellable rules disks later (x ∷ xs) c steps (inr more) =
-    steps_tellable rules (effect disks x) later xs c steps.2 more
+use Rattle.run_core.proofs.Prefixes.{whole_after, prefix_after}
 
 -- ---- advances
 pub leads_of : (old new : CellStateData) (runs : Runs) (answer : Advance) → IsAdvance old runs answer new →
@@ -153,45 +115,37 @@ module _ {M : Type 0} (after : M → Change → M) (torn : M → Change → M �
     is.told,
   )
 
-  -- those of a batch, after those so far
-  all_steps : (state later : CellStateData) (runs : Runs) (answer : Advance) (old mid : Option M)
-      (so_far : IsTold after scene asked state old mid) → IsAdvance state runs answer later →
-      Steps scene.rules scene.disks (hits so_far.actions ++ hits (batch_of answer)) (disks_of later.placed)
-  all_steps state later runs answer old mid so_far advance =
-      let batch = batch_of answer in
-      subst (λ (v : List Change). Steps scene.rules scene.disks v (disks_of later.placed))
-      (hits_join so_far.actions batch)
-      (hits_are_steps scene asked (so_far.actions ++ batch) later.placed valid some
-      (joined state later runs batch old mid so_far (leads_of state later runs answer advance)))
+  -- where the telling of what comes next breaks off
+  pub next_cut : (state : CellStateData) (fault : RunFault) (old mid new : Option M) →
+      IsTold after scene asked state old mid → NextCutShort after torn state fault mid new →
+      StepsCutShort after torn (scene_of scene.rules scene.disks) fault old new
+  next_cut state fault old mid new so_far (next, later, steps, cut) = by_fault fault cut
+    where
+      sooner : List Change
+      sooner = hits so_far.actions
 
-  -- can be told
-  pub can_be_told : (state later : CellStateData) (runs : Runs) (answer : Advance) (old mid : Option M)
-      (change : Change) → IsTold after scene asked state old mid → IsAdvance state runs answer later →
-      IsAmong change (hits (batch_of answer)) → IsTellable change
-  can_be_told state later runs answer old mid change so_far advance among =
-      steps_tellable scene.rules scene.disks (disks_of later.placed)
-      (hits so_far.actions ++ hits (batch_of answer)) change
-      (all_steps state later runs answer old mid so_far advance)
-      (among_right change (hits so_far.actions) (hits (batch_of answer)) among)
+      all : Steps scene.rules scene.disks (sooner ++ hits next) (disks_of later)
+      all = subst (λ (v : List Change). Steps scene.rules scene.disks v (disks_of later))
+          (hits_join so_far.actions next)
+          (hits_are_steps scene asked (so_far.actions ++ next) later valid some
+          (steps_join scene.rules (grid_of scene.rules asked) (opened (grid_of scene.rules asked) scene.disks)
+          state.placed later so_far.actions next so_far.steps
+          (subst (λ (g : GridData). CellSteps scene.rules g state.placed next later) so_far.grid
+          (subst (λ (r : Rules). CellSteps r state.grid state.placed next later) so_far.rules steps))))
 
-  -- where one of them was refused
-  pub refused_told : (state later : CellStateData) (runs : Runs) (answer : Advance)
-      (old mid between new : Option M) (done rest : List Change) (change : Change) →
-      IsTold after scene asked state old mid → IsAdvance state runs answer later →
-      hits (batch_of answer) ≡ done ++ change ∷ rest → Told after mid done between →
-      Torn torn between change new →
-      (changes : List Change) × (end : List Disk) × Steps scene.rules scene.disks changes end
-      × PrefixTold after torn old changes new
-  refused_told state later runs answer old mid between new done rest change so_far advance is told refused =
-      let sooner = hits so_far.actions in
-      let split : (sooner ++ done) ++ change ∷ rest ≡ sooner ++ hits (batch_of answer) =
-      append_assoc sooner done (change ∷ rest) ∙ ap (λ (v : List Change). sooner ++ v) (sym is) in (
-        sooner ++ hits (batch_of answer),
-        disks_of later.placed,
-        all_steps state later runs answer old mid so_far advance,
-        subst (λ (v : List Change). PrefixTold after torn old v new) split
-            (refused_after after torn old between new (sooner ++ done) change rest
-            (told_in_turn after old mid between sooner done so_far.told told) refused),
+      by_fault : (fault : RunFault) → HitsCutShort after torn next fault mid new →
+          StepsCutShort after torn (scene_of scene.rules scene.disks) fault old new
+      by_fault Listener cut = (
+        sooner ++ hits next,
+        disks_of later,
+        all,
+        prefix_after after torn old mid new sooner (hits next) so_far.told cut,
+      )
+      by_fault NoMemory cut = (
+        sooner ++ hits next,
+        disks_of later,
+        all,
+        whole_after after old mid new sooner (hits next) so_far.told cut,
       )
 
   -- ---- the end

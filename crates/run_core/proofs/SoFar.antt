@@ -8,7 +8,8 @@ use Rattle.event_rules.specs.declared.change.Change.{Change}
 use Rattle.event_rules.specs.declared.change.Limit.{Limit as Failure}
 use Rattle.event_rules.specs.declared.outcome.Spot.{Spot}
 use Rattle.event_rules.specs.declared.outcome.Outcome.TheVariants.{Done, Limit as Passes}
-use Rattle.event_rules.specs.declared.outcome.RunFault.TheVariants.{Listener, NoMemory}
+use Rattle.event_rules.specs.declared.outcome.RunFault.{RunFault}
+use Rattle.event_rules.specs.declared.outcome.RunFault.TheVariants.{NoMemory}
 use Rattle.event_rules.specs.Run.{IsValidState, spots_of}
 use Rattle.event_rules.specs.Told.{Told}
 use Rattle.event_rules.specs.Tellings.{RunTold, RunCutShort}
@@ -26,9 +27,9 @@ use Rattle.commit_horizon.specs.Horizon.{AllStand}
 use Rattle.run_core.specs.declared.answers.Advance.{Advance}
 use Rattle.run_core.specs.declared.answers.Advance.TheVariants.{Raised, End, Limit}
 use Rattle.run_core.specs.Simulates.{batch_of, Advances, work_left}
-use Rattle.run_core.specs.Tells.{AreTellable, RefusedAmong}
+use Rattle.run_core.specs.AdvancesTold.{NextCutShort}
 use Rattle.event_rules.proofs.RunsTold.{run_told, cut_short}
-use Rattle.run_core.proofs.Simulating.{IsTold, open_told, goes_on, so_far_told, can_be_told, refused_told}
+use Rattle.run_core.proofs.Simulating.{IsTold, open_told, goes_on, so_far_told, next_cut}
 use Rattle.run_core.proofs.Simulating.{done_told, limit_told, leads_of}
 use Rattle.run_core.proofs.Left.{advances_end}
 
@@ -52,21 +53,17 @@ module _ {M : Type 0} {after : M → Change → M} (torn : M → Change → M �
       cut_short after torn scene NoMemory old new valid
       (so_far.0, so_far.1, so_far.2, all_told after old new so_far.0 so_far.3)
 
-  -- an advance of the state, whose batch is to be told
+  -- where the telling of what comes next breaks off
+  pub cut_so_far : {state : CellStateData} {old mid : Option M} (new : Option M) (fault : RunFault) →
+      IsTold after scene asked state old mid → NextCutShort after torn state fault mid new →
+      RunCutShort after torn scene fault old new
+  cut_so_far {state} {old} {mid} new fault told cut = cut_short after torn scene fault old new valid
+      (next_cut after torn scene asked valid some state fault old mid new told cut)
+
+  -- an advance of the state, whose batch was told
   module _ {state later : CellStateData} {answer : Advance} {old mid : Option M} {actions : List Action}
       (told : IsTold after scene asked state old mid) (advance : Advances state answer later)
       (same : actions ≡ batch_of answer) where
-    pub tellable : AreTellable actions
-    tellable = subst AreTellable (sym same) (λ change among. can_be_told after torn scene asked valid some
-        state later advance.runs answer old mid change told advance.is among)
-
-    pub refused_so_far : (new : Option M) → RefusedAmong after torn mid actions new →
-        RunCutShort after torn scene Listener old new
-    refused_so_far new (done, rest, change, between, is, first, refused) =
-        cut_short after torn scene Listener old new valid
-        (refused_told after torn scene asked valid some state later advance.runs answer old mid between
-        new done rest change told advance.is (sym (ap hits same) ∙ is) first refused)
-
     -- once it was told
     module _ (new : Option M) (batch_told : Told after mid (hits actions) new) where
       pub told_on : IsTold after scene asked later old new

@@ -8,3 +8,4 @@ pub mod Plays
 pub mod Passing
 pub mod Taking
 pub mod Tells
+pub mod AdvancesTold

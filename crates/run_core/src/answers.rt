@@ -14,7 +14,19 @@ pub enum Advance {
     Limit(Batch, Limit),
 }
 
+/// What an advance comes to, whatever it committed.
+#[derive(Clone, Copy, Debug, PartialEq, Eq)]
+pub(crate) enum Course {
+    /// Some actions were committed.
+    Raised,
+    /// No event is left.
+    End,
+    /// The next event fails the limit.
+    Limit(Limit),
+}
+
 ghost use Rattle.std.specs.Prelude.{◌≡◌};
+ghost use Rattle.run_core.specs.AdvancesTold.{answer_with};
 ghost use Rattle.run_core.specs.Simulates.{batch_of};
 
 impl Advance {
@@ -26,6 +38,17 @@ impl Advance {
             Advance::Raised(batch) => batch,
             Advance::End(batch) => batch,
             Advance::Limit(batch, _) => batch,
+        }
+    }
+
+    /// The same without the actions.
+    pub(crate) fn without_batch(&self) -> Course
+        ensures { answer_with result (batch_of self.now) ≡ self.now }
+    {
+        match self {
+            Advance::Raised(_) => Course::Raised,
+            Advance::End(_) => Course::End,
+            Advance::Limit(_, limit) => Course::Limit(*limit),
         }
     }
 }

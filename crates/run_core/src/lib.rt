@@ -1,6 +1,7 @@
 //! The run over all regions: they hear each other, and what they did before the commit horizon is taken over.
 #![tactic(auto)]
 
+mod advance_telling;
 mod answers;
 mod laws;
 mod one_event;

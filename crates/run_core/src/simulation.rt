@@ -7,11 +7,10 @@ ghost use Rattle.event_rules.specs.Tellings.{RunTold, RunCutShort, CountsRun};
 ghost use Rattle.cell_grid.specs.Grid.{IsAsked};
 ghost use Rattle.cell_sequence.specs.Run.{disks_of};
 ghost use Rattle.commit_horizon.specs.Horizon.{AllStand};
-ghost use Rattle.run_core.specs.Simulates.{Advances};
+ghost use Rattle.run_core.specs.AdvancesTold.{AdvancesTold, NextCutShort};
 
-use crate::answers::Advance;
-use crate::progress::advance;
-use crate::telling::tell;
+use crate::advance_telling::advance_telling;
+use crate::answers::Course;
 use commit_horizon::Committed;
 use event_rules::{FinalState, Listener, Outcome, RunFault, Spot};
 use fixed_motion::{Rules, Scene};
@@ -46,37 +45,41 @@ pub fn simulate<B: Burst, R: Threads + Wait + Sync, L: Listener>(
     let mut committed = Committed::open(alloc, scene, regions)?;
     let mut standing = committed.open_all(alloc)?;
     'bursts: loop {
-        let (answer, left) = work(rt, alloc, &mut committed, standing, burst)?;
-        tell(answer.batch().as_slice(), listener)?;
-        match answer {
-            Advance::Raised(_) => standing = left,
-            Advance::End(_) => {
+        let (course, left) = work(rt, alloc, &mut committed, standing, burst, listener)?;
+        match course {
+            Course::Raised => standing = left,
+            Course::End => {
                 let spots = final_state(alloc, rules, committed.state().placed())?;
                 return Ok(Outcome::Done(spots));
             }
-            Advance::Limit(_, limit) => return Ok(Outcome::Limit(limit)),
+            Course::Limit(limit) => return Ok(Outcome::Limit(limit)),
         }
     }
 }
 
 // Lets a burst work on the regions of the committed state, and advances by those of its regions that stand
-// on that state: all of them, where the burst keeps them.
-fn work<R: Threads + Wait + Sync, B: Burst>(
+// on that state: all of them, where the burst keeps them. What is committed is told before it returns.
+fn work<R: Threads + Wait + Sync, B: Burst, L: Listener>(
     rt: &R,
     alloc: Global,
     committed: &mut Committed,
     regions: Vec<Region>,
     burst: &mut B,
-) -> Result<(Advance, Vec<Region>), AllocError>
+    listener: &mut L,
+) -> Result<(Course, Vec<Region>), RunFault>
     requires stand { AllStand committed.old regions.items }
-    ensures answer { IfOk result (λ worked. Advances committed.old worked.0 committed.new) }
+    ensures told { IfOk result (λ worked. AdvancesTold L.after committed.old worked.0 committed.new
+        (L.meaning listener.old) (L.meaning listener.new)) }
+    ensures cut_short { IfErr result (λ fault. NextCutShort L.after L.torn committed.old fault
+        (L.meaning listener.old) (L.meaning listener.new)) }
+    ensures counts { CountsRun (L.faults listener.old) (L.faults listener.new) result }
     ensures stand { IfOk result (λ worked. AllStand committed.new worked.1.items) }
 {
     let kept = burst.keeps();
     let worked = burst.burst(rt, alloc, regions)?;
     let mut standing = take_over(alloc, committed, worked, kept)?;
-    let answer = advance(alloc, committed, &mut standing)?;
-    Ok((answer, standing))
+    let course = advance_telling(alloc, committed, &mut standing, listener)?;
+    Ok((course, standing))
 }
 
 // The regions of a burst that stand on the committed state, and others opened anew. Where it kept them, all stand on

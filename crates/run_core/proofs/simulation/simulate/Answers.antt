@@ -1,10 +1,15 @@
-use Rattle.std.proofs.Common.{◌≤◌, ◌∙◌, ℕ, ap, subst, refl}
+use Rattle.std.proofs.Common.{◌∙◌, ℕ, List, Err, ap, subst, refl}
 use Rattle.std.proofs.lemmas.Result.{err_from_is_err_and}
-use Rattle.report_ports.specs.Ports.{Rose}
 use Rattle.fixed_motion.specs.Scene.{SceneData, IsValidScene}
 use Rattle.cell_sequence.specs.State.{CellStateData}
-use Rattle.run_core.proofs.SoFar.{at_start, all_so_far, tellable, refused_so_far, told_on, rows_valid}
+use Rattle.run_core.proofs.SoFar.{at_start, all_so_far, cut_so_far, told_on, rows_valid}
 use Rattle.run_core.proofs.SoFar.{ends, fails, cell_at_start, cell_after, less_left}
+use Rattle.run_core.specs.declared.answers.Course.{Course}
+use Rattle.run_core.specs.AdvancesTold.{answer_with}
+use Rattle.region_core.specs.Opening.{RegionData}
+use Rattle.event_rules.specs.declared.outcome.Outcome.{Outcome}
+use Rattle.event_rules.specs.Tellings.{CountsRun}
+use Rattle.run_core.proofs.TellingOn.{batch_in, advance_in, counts_of_err}
 use Rattle.run_core.proofs.simulation.simulate.Goals as goal
 
 pub returns-in_err-committed-clause-cut_short : goal.returns-in_err-committed-clause-cut_short
@@ -38,45 +43,34 @@ bursts-init g c =
       count = refl;
     }
 
-pub returns-in_err-answer-clause-cut_short : goal.returns-in_err-answer-clause-cut_short
-returns-in_err-answer-clause-cut_short g c =
-    let valid = subst IsValidScene c.scene.view_is c.scene.invariant in
-    let fault = err_from_is_err_and c.from_residual-in_err-answer.result
-    c.from_residual-in_err-answer.ensures.1 in
-    rw (fault.1, fault.2) (all_so_far g.L.Listener.torn c.args.regions valid c.requires.asked
-    c.bursts.invariant.told)
-
-pub tell-requires : goal.tell-requires
-tell-requires g c =
-    let valid = subst IsValidScene c.scene.view_is c.scene.invariant in
-    tellable g.L.Listener.torn c.args.regions valid c.requires.asked c.bursts.invariant.told
-    c.in_ok-answer.ensures.answer (c.as_slice.ensures ∙ c.batch.ensures)
-
-pub returns-in_err-tell-clause-cut_short : goal.returns-in_err-tell-clause-cut_short
-returns-in_err-tell-clause-cut_short g c =
+pub returns-in_err-course-clause-cut_short : goal.returns-in_err-course-clause-cut_short
+returns-in_err-course-clause-cut_short g c =
     let L = g.L.Listener in
     let valid = subst IsValidScene c.scene.view_is c.scene.invariant in
-    let fault = err_from_is_err_and c.from_residual-in_err-tell.result
-    c.from_residual-in_err-tell.ensures.1 in
-    rw (fault.1, fault.2) (refused_so_far L.torn c.args.regions valid c.requires.asked
-    c.bursts.invariant.told c.in_ok-answer.ensures.answer (c.as_slice.ensures ∙ c.batch.ensures)
-    (L.meaning c.tell.new.listener) c.in_err-tell.ensures.refused)
+    let fault = err_from_is_err_and c.from_residual-in_err-course.result
+    c.from_residual-in_err-course.ensures.1 in
+    rw (fault.1, fault.2) (cut_so_far L.torn c.args.regions valid c.requires.asked
+    (L.meaning c.work.new.listener) c.in_err-course.field-0.0 c.bursts.invariant.told
+    c.in_err-course.ensures.cut_short)
 
-pub returns-in_err-tell-clause-counts : goal.returns-in_err-tell-clause-counts
-returns-in_err-tell-clause-counts g c =
-    let new = g.L.Listener.faults c.tell.new.listener in
-    let fault = err_from_is_err_and c.from_residual-in_err-tell.result
-    c.from_residual-in_err-tell.ensures.1 in
-    rw (fault.1, fault.2) (subst (λ (old : ℕ). (old ≤ new) × Rose old new) c.bursts.invariant.count
-    c.in_err-tell.ensures.counts)
+pub returns-in_err-course-clause-counts : goal.returns-in_err-course-clause-counts
+returns-in_err-course-clause-counts g c =
+    let L = g.L.Listener in
+    let mid = L.faults c.bursts.listener in
+    let new = L.faults c.work.new.listener in
+    let fault = err_from_is_err_and c.from_residual-in_err-course.result
+    c.from_residual-in_err-course.ensures.1 in
+    rw (fault.1, fault.2) (subst (λ (old : ℕ). CountsRun {T = Outcome} old new (Err c.in_err-course.field-0.0))
+    c.bursts.invariant.count (counts_of_err (Course × List RegionData) Outcome mid new
+    c.in_err-course.field-0.0 c.in_err-course.ensures.counts))
 
 pub final_state-requires-clause-valid : goal.final_state-requires-clause-valid
 final_state-requires-clause-valid g c =
     let L = g.L.Listener in
     let valid = subst IsValidScene c.scene.view_is c.scene.invariant in
+    let told = c.in_ok-course.ensures.told in
     rows_valid L.torn c.args.regions valid c.requires.asked c.bursts.invariant.told
-    c.in_ok-answer.ensures.answer (c.as_slice.ensures ∙ c.batch.ensures)
-    (L.meaning c.tell.new.listener) c.in_ok-tell.ensures.told
+    (advance_in told) (batch_in c.in_ok-course.course told.1.batch) (L.meaning c.work.new.listener) told.1.told
     (ap (λ (v : SceneData). v.rules) c.scene.view_is)
     (c.placed.ensures.value ∙ ap (λ (v : CellStateData). v.placed) c.state.ensures.value)
 
@@ -85,20 +79,23 @@ pub returns-in_err-spots-in-End-clause-cut_short :
 returns-in_err-spots-in-End-clause-cut_short g c =
     let L = g.L.Listener in
     let valid = subst IsValidScene c.scene.view_is c.scene.invariant in
+    let told = c.in_ok-course.ensures.told in
     let fault = err_from_is_err_and c.from_residual-in_err-spots-in-End.result
     c.from_residual-in_err-spots-in-End.ensures.1 in
     rw (fault.1, fault.2) (all_so_far L.torn c.args.regions valid c.requires.asked
     (told_on L.torn c.args.regions valid c.requires.asked c.bursts.invariant.told
-    c.in_ok-answer.ensures.answer (c.as_slice.ensures ∙ c.batch.ensures)
-    (L.meaning c.tell.new.listener) c.in_ok-tell.ensures.told))
+    (advance_in told) (batch_in c.in_ok-course.course told.1.batch)
+    (L.meaning c.work.new.listener) told.1.told))
 
 pub returns-in-End-clause-run : goal.returns-in-End-clause-run
 returns-in-End-clause-run g c =
     let L = g.L.Listener in
     let valid = subst IsValidScene c.scene.view_is c.scene.invariant in
+    let told = c.in_ok-course.ensures.told in
     ends L.torn c.args.regions valid c.requires.asked c.bursts.invariant.told
-    c.in_ok-answer.ensures.answer (c.as_slice.ensures ∙ c.batch.ensures)
-    (L.meaning c.tell.new.listener) c.in_ok-tell.ensures.told c.in_ok-spots-in-End.spots c.in-End.is
+    (advance_in told) (batch_in c.in_ok-course.course told.1.batch)
+    (L.meaning c.work.new.listener) told.1.told c.in_ok-spots-in-End.spots
+    (ap (λ (v : Course). answer_with v told.1.batch) c.in-End.is)
     (ap (λ (v : SceneData). v.rules) c.scene.view_is)
     (c.placed.ensures.value ∙ ap (λ (v : CellStateData). v.placed) c.state.ensures.value)
     c.in_ok-spots-in-End.ensures
@@ -107,23 +104,27 @@ pub returns-in-Limit-clause-run : goal.returns-in-Limit-clause-run
 returns-in-Limit-clause-run g c =
     let L = g.L.Listener in
     let valid = subst IsValidScene c.scene.view_is c.scene.invariant in
+    let told = c.in_ok-course.ensures.told in
     fails L.torn c.args.regions valid c.requires.asked c.bursts.invariant.told
-    c.in_ok-answer.ensures.answer (c.as_slice.ensures ∙ c.batch.ensures)
-    (L.meaning c.tell.new.listener) c.in_ok-tell.ensures.told c.in-Limit.is
+    (advance_in told) (batch_in c.in_ok-course.course told.1.batch)
+    (L.meaning c.work.new.listener) told.1.told (ap (λ (v : Course). answer_with v told.1.batch) c.in-Limit.is)
 
-pub bursts-smaller-in-Raised : goal.bursts-smaller-in-Raised
-bursts-smaller-in-Raised g c =
-    less_left c.bursts.invariant.cell c.in_ok-answer.ensures.answer c.in-Raised.is
+pub bursts-smaller : goal.bursts-smaller
+bursts-smaller g c =
+    let told = c.in_ok-course.ensures.told in
+    less_left c.bursts.invariant.cell (advance_in told)
+    (ap (λ (v : Course). answer_with v told.1.batch) c.in-Raised.is)
 
-pub bursts-preserved-in-Raised : goal.bursts-preserved-in-Raised
-bursts-preserved-in-Raised g c =
+pub bursts-preserved : goal.bursts-preserved
+bursts-preserved g c =
     let L = g.L.Listener in
     let valid = subst IsValidScene c.scene.view_is c.scene.invariant in
+    let told = c.in_ok-course.ensures.told in
     record {
-      cell = cell_after c.in_ok-answer.ensures.answer;
-      stand = c.in_ok-answer.ensures.stand;
+      cell = cell_after (advance_in told);
+      stand = c.in_ok-course.ensures.stand;
       told = told_on L.torn c.args.regions valid c.requires.asked c.bursts.invariant.told
-          c.in_ok-answer.ensures.answer (c.as_slice.ensures ∙ c.batch.ensures)
-          (L.meaning c.tell.new.listener) c.in_ok-tell.ensures.told;
-      count = c.in_ok-tell.ensures.counts ∙ c.bursts.invariant.count;
+          (advance_in told) (batch_in c.in_ok-course.course told.1.batch)
+          (L.meaning c.work.new.listener) told.1.told;
+      count = c.in_ok-course.ensures.counts ∙ c.bursts.invariant.count;
     }
