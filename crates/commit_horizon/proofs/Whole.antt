@@ -112,7 +112,7 @@ module _ (old : CellStateData) (regions : List RegionData) (h : Stamp) (is : IsC
           (let falls = costs_less old regions h heads done now keeps stand kept k head least region at new.0 new.1 in
           omega (arith, falls, less)) in
           let same : (done ++ x.0 ∷ []) ++ rest.0 ≡ done ++ (x.0 ∷ rest.0) = append_assoc done (x.0 ∷ []) rest.0 in
-          (x.0 ∷ rest.0, rest.1, merges_same rest.1 same rest.2)
+          (x.0 ∷ rest.0, rest.1, merges_same {xs = (done ++ x.0 ∷ []) ++ rest.0} {ys = done ++ (x.0 ∷ rest.0)} rest.1 same rest.2)
 
   -- from any place of a merge on
   pub merge_ends : (heads : Heads) (done : List Action) (now : CellStateData) →
