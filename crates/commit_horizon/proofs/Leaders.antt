@@ -86,13 +86,6 @@ leads_on heads n first second false lt so_far is = record {
   ];
 }
 
-pub leads_begin : (heads : Heads) (second : Stamp) → LeadsOfFirst heads 0 None second
-leads_begin heads second = record {
-  within = tt;
-  least = λ k below. absurd (omega arith);
-  others = λ q other below not at. absurd (omega arith);
-}
-
 -- ---- when all were compared
 -- the number of a head is its own
 number_is : (heads : Heads) (first : Option ℕ) (k : ℕ) (head : Head) →
@@ -112,11 +105,6 @@ leader_of_all heads n first second k head le so_far is = (
   λ q other others at. so_far.others q other (omega (arith, head_within heads q other at))
       (λ e. others (same_Some q k (sym e ∙ number_is heads first k head is))) at,
 )
-
-pub no_leader : (heads : Heads) (n : ℕ) (first : Option ℕ) (second : Stamp) → length heads ≤ n →
-    LeadsOfFirst heads n first second → head_with heads first ≡ None → IsLeader heads None
-no_leader heads n first second le so_far is =
-    subst (IsLeastHead heads) is (least_of_all heads n (head_with heads first) le so_far.least)
 
 -- ---- a region that runs on
 -- its next head leads, where it is before the second
