@@ -12,6 +12,6 @@ mod room;
 pub use grid::{Grid, MAX_CELLS_ALONG, MAX_REGIONS, Strip};
 pub use laws::{
     crosses_later, each_cell_has_one_owner, far_unless_adjacent, grids_have_sizes,
-    leaves_after_last, links_are_mutual, touch_in_adjacent, moves_to_adjacent,
-    neighbours_are_in_reach, one_crossing, own_is_in_reach, places_have_cells, reach_is_beside_own,
+    leaves_after_last, links_are_mutual, moves_to_adjacent, neighbours_are_in_reach, one_crossing,
+    own_is_in_reach, places_have_cells, reach_is_beside_own, touch_in_adjacent,
 };
