@@ -1,14 +1,12 @@
 -- Keys are taken again until the least is a candidate.
-use Rattle.std.proofs.Common.{◌≡◌, ◌⊎◌, inl, inr, ℕ, ◌-◌, ◌^◌, ◌<◌, List, arith, refl, sym, ap, subst, ◌∙◌}
+use Rattle.std.proofs.Common.{◌≡◌, ◌⊎◌, inl, inr, ℕ, ◌-◌, ◌^◌, List, refl, sym, ap, subst, ◌∙◌}
 use Rattle.std.specs.Prelude.{Some, None, IfSome}
 use Rattle.event_stamps.specs.declared.Stamp.{Stamp}
 use Rattle.event_stamps.specs.declared.Kind.TheVariants.{Pair}
-use Rattle.event_stamps.specs.Order.{Before, rank, kind_number}
+use Rattle.event_stamps.specs.Order.{Before, rank}
 use Rattle.event_stamps.specs.Least.{IsLeastOf}
 use Rattle.event_stamps.proofs.StampOrder.{before_decides, same_stamp}
-use Rattle.event_stamps.proofs.Ranks.{kind_below, rank_less}
 use Rattle.event_tree.specs.Keys.{Key, IsNotAfter, IsLeastKey, key_at}
-use Rattle.event_tree.specs.Packing.{HasRoom}
 use Rattle.region_queue.specs.declared.keys.Keys.{Keys}
 use Rattle.region_queue.specs.Covering.{Covers, IsSettled}
 use Rattle.region_queue.specs.Finding.{HasKey, IsHolder}
@@ -65,23 +63,6 @@ settled_least C keys bounds (Some s) covers settled least =
 abbrev pub below_all : Key → ℕ
 below_all None = 0
 below_all (Some s) = 2 ^ 128 - rank s
-
-rank_fits : (s : Stamp) → HasRoom s → rank s < 2 ^ 128
-rank_fits s kept =
-    let tick : s.tick < 2 ^ 64 = kept.tick in
-    let round : s.round < 65537 = kept.in_range.0 in
-    let first : s.first < 65536 = kept.in_range.1 in
-    let second : s.second < 65536 = kept.in_range.2 in
-    let kind : kind_number s.kind < 3 = kind_below s.kind in
-    omega arith
-
--- the search takes this one for the measure of `settle`
-pub comes_nearer : (last : Stamp) (key : Key) → HasRoom last → IfSome key HasRoom → IfSome key (Before last) → below_all key < below_all (Some last)
-comes_nearer last None kept next before = let fits : rank last < 2 ^ 128 = rank_fits last kept in omega arith
-comes_nearer last (Some s) kept next before =
-    let less : rank last < rank s = rank_less last s kept.in_range next.in_range before in
-    let fits : rank s < 2 ^ 128 = rank_fits s next in
-    omega arith
 
 -- ---- disks that have a key
 pub held : (C : Stamp → Type 0) (old mid new : Keys) (s : Stamp) →
