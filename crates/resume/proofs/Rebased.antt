@@ -123,9 +123,6 @@ wall_tick_same rules e a b side m n size le here next h = record {
 abbrev Course : Type 0
 Course = ℤ × Vector × Vector
 
-course_of : Disk → ℕ → Course
-course_of a t = (a.size, velocity_of a, place_of a t)
-
 abbrev AreMeeting : Course → Course → Type 0
 AreMeeting c d = IsContact (difference c.2 d.2) (difference c.1 d.1) (half_of c.0 +ℤ half_of d.0)
 
