@@ -133,7 +133,7 @@ fn two_workers_meet(rt: HostRuntime) -> Result<(), AllocError> {
 }
 
 // A worker that comes to the end of a phase with something to do, and with news or none.
-const fn comes(at: u32, news: bool) -> Notice {
+fn comes(at: u32, news: bool) -> Notice {
     Notice::Comes {
         at,
         moved: true,
@@ -149,26 +149,28 @@ const COMES_IDLE: Notice = Notice::Comes {
 
 // Notices to one rendezvous, each with the phase after it, how many have come to its end and are waited for, how many
 // share the regions, and whether they hear.
-const NOTICES: &[(Notice, u32, u32, u32, u32, bool)] = &[
-    // The first has all regions, and waits for nobody.
-    (Notice::Begins, 0, 0, 1, 1, false),
-    (comes(0, false), 1, 0, 1, 1, false),
-    // The second has its share after the phase in which it began.
-    (Notice::Begins, 1, 0, 2, 1, false),
-    (comes(1, true), 1, 1, 2, 1, false),
-    (comes(1, false), 2, 0, 2, 2, true),
-    (comes(2, false), 2, 1, 2, 2, true),
-    // One goes on without the other, which is there again when it comes, and then isn't gone without again.
-    (Notice::Misses { at: 2 }, 3, 0, 1, 2, false),
-    (comes(3, false), 4, 0, 1, 2, false),
-    (comes(2, false), 4, 1, 2, 2, false),
-    (Notice::Misses { at: 3 }, 4, 1, 2, 2, false),
-    (comes(4, false), 5, 0, 2, 2, false),
-    // Neither has anything to do.
-    (COMES_IDLE, 5, 1, 2, 2, false),
-    (COMES_IDLE, u32::MAX, 0, 2, 2, false),
-    (Notice::Begins, u32::MAX, 0, 2, 2, false),
-];
+fn notices() -> [(Notice, u32, u32, u32, u32, bool); 14] {
+    [
+        // The first has all regions, and waits for nobody.
+        (Notice::Begins, 0, 0, 1, 1, false),
+        (comes(0, false), 1, 0, 1, 1, false),
+        // The second has its share after the phase in which it began.
+        (Notice::Begins, 1, 0, 2, 1, false),
+        (comes(1, true), 1, 1, 2, 1, false),
+        (comes(1, false), 2, 0, 2, 2, true),
+        (comes(2, false), 2, 1, 2, 2, true),
+        // One goes on without the other, which is there again when it comes, and then isn't gone without again.
+        (Notice::Misses { at: 2 }, 3, 0, 1, 2, false),
+        (comes(3, false), 4, 0, 1, 2, false),
+        (comes(2, false), 4, 1, 2, 2, false),
+        (Notice::Misses { at: 3 }, 4, 1, 2, 2, false),
+        (comes(4, false), 5, 0, 2, 2, false),
+        // Neither has anything to do.
+        (COMES_IDLE, 5, 1, 2, 2, false),
+        (COMES_IDLE, u32::MAX, 0, 2, 2, false),
+        (Notice::Begins, u32::MAX, 0, 2, 2, false),
+    ]
+}
 
 // What a word keeps of a roll after a notice.
 fn kept(roll: Roll, notice: Notice) -> Roll {
@@ -178,7 +180,7 @@ fn kept(roll: Roll, notice: Notice) -> Roll {
 #[test]
 fn who_has_begun_is_waited_for(rt: HostRuntime) {
     let mut roll = Roll::of(0);
-    for &(notice, phase, arrived, present, shares, hears) in NOTICES {
+    for &(notice, phase, arrived, present, shares, hears) in &notices() {
         roll = kept(roll, notice);
         assert_eq!(rt; roll.phase, phase);
         assert_eq!(rt; roll.arrived, arrived);
