@@ -7,6 +7,7 @@ use event_stamps::{Kind, Stamp};
 use region_core::{Differs, Region};
 use std::alloc::{AllocError, Global};
 use std::test::Fail;
+use test_scenes::FOUR_IN_A_ROW;
 
 // A disk that goes up and down in region 1 of four, near the border.
 const LEFT: &str = "[190, 10, 0, 8]";
@@ -40,31 +41,53 @@ enum Form {
     Raised,
 }
 
-// A region in the place of number 1 of the four of `LEFT`, up to tick 20: its disks, the end of its scene, how many
-// regions there are, its number, and what was done to it.
+// A place of the four regions of a state: the disks, the end of the scene, and the region that belongs there.
+type Place = (&'static str, u32, u32);
+
+const LEFT_1: Place = (LEFT, 20, 1);
+
+const ROW_0: Place = (FOUR_IN_A_ROW, 40, 0);
+
+// A region that is given for that place: its disks, the end of its scene, how many regions there are, its number, and
+// what was done to it.
 type Given = (&'static str, u32, u32, u32, Form);
 
 // In what it doesn't stand there, if it doesn't: the first of several.
-const GIVEN: &[(&str, Given, Option<Differs>)] = &[
-    ("it stands", (LEFT, 20, 4, 1, Form::Opened), None),
+const GIVEN: &[(&str, Place, Given, Option<Differs>)] = &[
+    ("it stands", LEFT_1, (LEFT, 20, 4, 1, Form::Opened), None),
     (
         "spent",
+        LEFT_1,
         (RIGHT, 21, 5, 2, Form::Spent),
         Some(Differs::Spent),
     ),
     (
         "number",
+        LEFT_1,
         (RIGHT, 21, 5, 2, Form::Raised),
         Some(Differs::Number { kept: 1, given: 2 }),
     ),
     (
+        "number, of two regions that were swapped",
+        ROW_0,
+        (FOUR_IN_A_ROW, 40, 4, 1, Form::Opened),
+        Some(Differs::Number { kept: 0, given: 1 }),
+    ),
+    (
         "rules",
+        LEFT_1,
         (RIGHT, 21, 5, 1, Form::Raised),
         Some(Differs::Rules),
     ),
-    ("grid", (RIGHT, 20, 5, 1, Form::Raised), Some(Differs::Grid)),
+    (
+        "grid",
+        LEFT_1,
+        (RIGHT, 20, 5, 1, Form::Raised),
+        Some(Differs::Grid),
+    ),
     (
         "floor",
+        LEFT_1,
         (RIGHT, 20, 4, 1, Form::Raised),
         Some(Differs::Floor {
             kept: FIRST_OF_ALL,
@@ -73,6 +96,7 @@ const GIVEN: &[(&str, Given, Option<Differs>)] = &[
     ),
     (
         "row",
+        LEFT_1,
         (RIGHT, 20, 4, 1, Form::Opened),
         Some(Differs::Row(0)),
     ),
@@ -121,17 +145,25 @@ fn spent(region: &Region) -> Region {
 }
 
 // What is found where a region is to be adopted; none where there is no region or no such place.
-fn adopted(alloc: Global, given: &Given) -> Result<Option<Option<Differs>>, AllocError> {
+fn adopted(
+    alloc: Global,
+    place: &Place,
+    given: &Given,
+) -> Result<Option<Option<Differs>>, AllocError> {
     match given_region(alloc, given)? {
-        Some(region) => adopted_in_place(alloc, region),
+        Some(region) => adopted_in_place(alloc, place, region),
         None => Ok(None),
     }
 }
 
-fn adopted_in_place(alloc: Global, region: Region) -> Result<Option<Option<Differs>>, AllocError> {
-    match committed_of(alloc, LEFT, 20, 4)? {
-        Some(committed) if committed.state().grid().regions() > 1 => {
-            Ok(Some(differs(committed.adopt(alloc, 1, region)?)))
+fn adopted_in_place(
+    alloc: Global,
+    &(disks, end, number): &Place,
+    region: Region,
+) -> Result<Option<Option<Differs>>, AllocError> {
+    match committed_of(alloc, disks, end, 4)? {
+        Some(committed) if number < committed.state().grid().regions() => {
+            Ok(Some(differs(committed.adopt(alloc, number, region)?)))
         }
         _ => Ok(None),
     }
@@ -146,8 +178,9 @@ fn differs(adopted: Adopted) -> Option<Differs> {
 
 #[test]
 fn exactly_a_region_that_stands_is_adopted(rt: HostRuntime) -> Result<(), Fail> {
-    for (shows, given, differs) in GIVEN {
-        assert_eq!(rt; adopted(rt.alloc(), given)?, Some(*differs), "{shows}");
+    for (shows, place, given, differs) in GIVEN {
+        let found = adopted(rt.alloc(), place, given)?;
+        assert_eq!(rt; found, Some(*differs), "{shows}");
     }
     Ok(())
 }
