@@ -3,5 +3,6 @@
 mod bursts;
 mod cell_runs;
 mod listeners;
+mod texts;
 mod told;
 mod workers;

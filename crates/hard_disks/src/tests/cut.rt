@@ -2,7 +2,7 @@
 
 ghost use Rattle.std.specs.Prelude.{None};
 
-use super::helpers::{Numbers, RUN, RUN_SUMMARY, answers, generated, output, scene_of};
+use super::helpers::{MEETING, Numbers, RUN, RUN_SUMMARY, answers, generated, output, scene_of};
 use crate::status::Status;
 use crate::top::top;
 use region_core::OpenGate;
@@ -13,18 +13,7 @@ use std::sync::Wait;
 use std::test::Fail;
 use std::thread::Threads;
 
-const HEAD_ON: &str = "width = 40\n\
-    height = 20\n\
-    diameter = 4\n\
-    speed_limit = 8\n\
-    round_limit = 8\n\
-    end = 5\n\
-    disks = [\n  \
-    [10, 10, 1, 0],\n  \
-    [20, 10, -1, 0],\n\
-    ]\n";
-
-// The same, of which states are asked for, and of which a disk is smaller.
+// The meeting, of which states are asked for, and of which a disk is smaller.
 const SMALLER: &str = "width = 40\n\
     height = 20\n\
     diameter = 4\n\
@@ -83,7 +72,7 @@ type CutRow = (
 );
 
 const CUTS: &[CutRow] = &[
-    ("cut", "4", "lines", HEAD_ON, Status::Done, AFTER_IT),
+    ("cut", "4", "lines", MEETING, Status::Done, AFTER_IT),
     (
         "run",
         "4",
@@ -99,7 +88,7 @@ const CUTS: &[CutRow] = &[
         disk 1 19 10 1 0\n",
     ),
     // The event of the tick itself is left.
-    ("cut", "3", "lines", HEAD_ON, Status::Done, BEFORE_IT),
+    ("cut", "3", "lines", MEETING, Status::Done, BEFORE_IT),
     (
         "run",
         "3",
@@ -115,13 +104,13 @@ const CUTS: &[CutRow] = &[
         disk 0 11 10 -1 0\n\
         disk 1 19 10 1 0\n",
     ),
-    ("cut", "4", "summary", HEAD_ON, Status::Done, "rest 2\n"),
-    ("cut", "0", "lines", HEAD_ON, Status::Done, HEAD_ON),
+    ("cut", "4", "summary", MEETING, Status::Done, "rest 2\n"),
+    ("cut", "0", "lines", MEETING, Status::Done, MEETING),
     (
         "cut",
         "5",
         "lines",
-        HEAD_ON,
+        MEETING,
         Status::Done,
         "width = 40\n\
         height = 20\n\
@@ -138,7 +127,7 @@ const CUTS: &[CutRow] = &[
         "cut",
         "6",
         "lines",
-        HEAD_ON,
+        MEETING,
         Status::SceneRefused,
         "refused 16 cut after end\n",
     ),
@@ -146,7 +135,7 @@ const CUTS: &[CutRow] = &[
         "cut",
         "1099511627776",
         "summary",
-        HEAD_ON,
+        MEETING,
         Status::SceneRefused,
         "refused 16 cut after end\n",
     ),
@@ -223,7 +212,7 @@ const CUTS: &[CutRow] = &[
         "cut",
         "1099511627777",
         "lines",
-        HEAD_ON,
+        MEETING,
         Status::BadWords,
         "bad words\n",
     ),
@@ -231,7 +220,7 @@ const CUTS: &[CutRow] = &[
         "cut",
         "-1",
         "lines",
-        HEAD_ON,
+        MEETING,
         Status::BadWords,
         "bad words\n",
     ),
@@ -239,7 +228,7 @@ const CUTS: &[CutRow] = &[
         "cut",
         "end",
         "lines",
-        HEAD_ON,
+        MEETING,
         Status::BadWords,
         "bad words\n",
     ),
@@ -322,7 +311,7 @@ fn writes_so_much(
     room: usize,
 ) -> Result<bool, AllocError> {
     let words = ["--mode", "cut", "--at", "4", "--regions", "1"];
-    let mut source = MemorySource::new(alloc, HEAD_ON.as_bytes(), &[])?;
+    let mut source = MemorySource::new(alloc, MEETING.as_bytes(), &[])?;
     let mut sink = ShortSink {
         room,
         taken: Vec::new(alloc),

@@ -101,6 +101,18 @@ fn expect_given(
     Ok(())
 }
 
+// The same scene with a diameter that is out of its range.
+const ODD_DIAMETER: &str = "width = 40\n\
+    height = 20\n\
+    diameter = 5\n\
+    speed_limit = 8\n\
+    round_limit = 8\n\
+    end = 5\n\
+    disks = [\n  \
+    [10, 10, 1, 0],\n  \
+    [20, 10, -1, 0],\n\
+    ]\n";
+
 // The words, the text, the calls of the source and of the sink that fail, and the status.
 type UntoldRow = (
     &'static [&'static str],
@@ -113,11 +125,11 @@ type UntoldRow = (
 const UNTOLD: &[UntoldRow] = &[
     (&["extra"], MEETING, &[], &[0], Status::WriteFault),
     (&["extra"], MEETING, &[0], &[0], Status::WriteFault),
-    (PLAIN, "diameter = 5", &[], &[0], Status::WriteFault),
-    (PLAIN, "diameter = 5", &[0], &[0], Status::ReadFault),
+    (PLAIN, ODD_DIAMETER, &[], &[0], Status::WriteFault),
+    (PLAIN, ODD_DIAMETER, &[0], &[0], Status::ReadFault),
     (PLAIN, MEETING, &[0], &[], Status::ReadFault),
     (PLAIN, MEETING, &[1], &[], Status::ReadFault),
-    (RUN, "diameter = 5", &[], &[0], Status::WriteFault),
+    (RUN, ODD_DIAMETER, &[], &[0], Status::WriteFault),
     (RUN, MEETING, &[0], &[], Status::ReadFault),
 ];
 

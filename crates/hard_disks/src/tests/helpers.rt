@@ -9,7 +9,8 @@ use std::process::Abort;
 use std::sync::Wait;
 use std::thread::Threads;
 pub use test_scenes::{
-    FOUR_IN_A_ROW, FOUR_IN_A_ROW_REPORT, LONG, Numbers, PAIR, USUAL, generated, scene, scene_of,
+    BOUNCING, BOUNCING_SUMMARY, FOUR_IN_A_ROW, FOUR_IN_A_ROW_REPORT, LONG, MISLED, MISLED_REPORT,
+    Numbers, PAIR, ROLLED_BACK, ROLLED_BACK_REPORT, USUAL, generated, scene, scene_of,
 };
 
 pub const RUN: &[&str] = &["--mode", "run"];

@@ -1,6 +1,6 @@
 //! Large inputs for which there is memory.
 
-use super::helpers::{AMPLE_ROOM, COUNT, PLAIN, SUMMARY, expect, expect_output, scene};
+use super::helpers::{AMPLE_ROOM, COUNT, MEETING, PLAIN, SUMMARY, expect, expect_output, scene};
 use crate::status::Status;
 use crate::top::top;
 use region_core::OpenGate;
@@ -8,11 +8,17 @@ use report_ports::{MemorySink, Source, Taken};
 use std::alloc::{AllocError, Global};
 use std::test::Fail;
 
-// A comment that never ends.
-#[derive(Drop)]
-struct EndlessComment;
+// The most bytes that a text may have.
+const MOST_BYTES: usize = 67_108_864;
 
-impl Source for EndlessComment {
+// A scene, and then a comment with so many bytes.
+#[derive(Drop)]
+struct Commented {
+    text: &'static [u8],
+    comment: usize,
+}
+
+impl Source for Commented {
     ghost use Rattle.std.specs.Prelude.{None};
 
     ghost left = { λ _. None };
@@ -28,26 +34,35 @@ impl Source for EndlessComment {
     }
 
     fn take(&mut self, into: &mut [u8]) -> Taken {
-        into.fill(b'#');
-        Taken::Got(into.len())
+        if self.text.is_empty() {
+            let count = self.comment.min(into.len());
+            into.fill(b'#');
+            self.comment -= count;
+            return if count == 0 {
+                Taken::End
+            } else {
+                Taken::Got(count)
+            };
+        }
+        let count = self.text.len().min(into.len());
+        into[..count].copy_from_slice(&self.text[..count]);
+        self.text = &self.text[count..];
+        Taken::Got(count)
     }
 }
 
 #[test]
-fn a_text_without_an_end_is_too_long(rt: HostRuntime) -> Result<(), Fail> {
+fn a_text_of_a_byte_too_much_is_too_long(rt: HostRuntime) -> Result<(), Fail> {
+    let mut source = Commented {
+        text: MEETING.as_bytes(),
+        comment: (MOST_BYTES + 1).saturating_sub(MEETING.len()),
+    };
     let mut sink = MemorySink::new(rt.alloc(), &[], AMPLE_ROOM)?;
-    let status = top(
-        &rt,
-        rt.alloc(),
-        PLAIN,
-        &mut EndlessComment,
-        &mut sink,
-        &OpenGate,
-    );
+    let status = top(&rt, rt.alloc(), PLAIN, &mut source, &mut sink, &OpenGate);
     let want = "refused 1 too long\n";
     expect(
         &rt,
-        "an endless comment",
+        "a long comment",
         &(sink, status),
         Status::SceneRefused,
         want,

@@ -63,7 +63,7 @@ const REFUSALS: &[RefusalRow<'static>] = &[
     ),
     ("end = 5", "end = -1", "refused 6 out of range end\n"),
     (DISKS, "[[disks]]\n", "refused 8 bad row 0\n"),
-    ("[20, 10, -1, 0]", "[20, 10, -1]", "refused 8 bad row 1\n"),
+    ("[20, 10, -1, 0]", "[10, 10, 1]", "refused 8 bad row 1\n"),
     (
         "[10, 10, 1, 0]",
         "[10, 10, 1, 0, 4, 0]",
@@ -226,8 +226,16 @@ fn empty_rows(alloc: Global, count: u32) -> Result<String, AllocError> {
     Ok(rows)
 }
 
-// An unknown option, and one that is used twice.
-const NO_SETTINGS: &[&[&str]] = &[&["--help"], &["--mode", "plain", "--mode", "plain"]];
+// Values out of their ranges, a mode that there isn't, an option and a word that there aren't, and an option that is
+// used twice.
+const NO_SETTINGS: &[&[&str]] = &[
+    &["--regions", "0"],
+    &["--regions", "65"],
+    &["--mode", "fast"],
+    &["--help"],
+    &["extra"],
+    &["--mode", "plain", "--mode", "plain"],
+];
 
 #[test]
 fn refuses_words_without_settings(rt: HostRuntime) -> Result<(), Fail> {

@@ -1,7 +1,8 @@
 //! Runs with their reports.
 
 use super::helpers::{
-    CRADLE, FOUR_IN_A_ROW, FOUR_IN_A_ROW_REPORT, LONG, MEETING_REPORT, OutputRow, PAIR, PLAIN, RUN,
+    BOUNCING, BOUNCING_SUMMARY, CRADLE, FOUR_IN_A_ROW, FOUR_IN_A_ROW_REPORT, LONG, MEETING_REPORT,
+    MISLED, MISLED_REPORT, OutputRow, PAIR, PLAIN, ROLLED_BACK, ROLLED_BACK_REPORT, RUN,
     RUN_SUMMARY, SUMMARY, USUAL, expect_outputs,
 };
 use crate::status::Status;
@@ -21,7 +22,7 @@ const EVERY_THIRD: &str = "width = 40\nheight = 20\ndiameter = 4\nevery = 3\n";
 
 const EVERY_FIFTH: &str = "width = 40\nheight = 20\ndiameter = 4\nevery = 5\n";
 
-// Scenes and the reports of their runs.
+// Scenes, and the reports of their runs or the lines of their refusals.
 const REPORTS: &[OutputRow] = &[
     (USUAL, 8, 5, PAIR, Status::Done, MEETING_REPORT),
     (
@@ -49,6 +50,14 @@ const REPORTS: &[OutputRow] = &[
         energy 2 2\n\
         disk 0 10 10 1 0\n\
         disk 1 20 10 -1 0\n",
+    ),
+    (
+        USUAL,
+        8,
+        5,
+        "[10, 10, 0, 0], [12, 10, 0, 0]",
+        Status::SceneRefused,
+        "refused 11 overlap 0 1\n",
     ),
     (
         USUAL,
@@ -172,6 +181,9 @@ const REPORTS: &[OutputRow] = &[
         Status::Done,
         FOUR_IN_A_ROW_REPORT,
     ),
+    // Disk 0 comes into another column, while disk 1 hits a side at every other tick.
+    (LONG, 8, 20, ROLLED_BACK, Status::Done, ROLLED_BACK_REPORT),
+    (LONG, 8, 3, MISLED, Status::Done, MISLED_REPORT),
     (
         NARROW,
         2,
@@ -214,6 +226,39 @@ const REPORTS: &[OutputRow] = &[
         momentum 1 0\n\
         energy 1 1\n\
         disk 0 2 10 1 0\n",
+    ),
+    // Sizes that are odd or above the diameter, a disk of the greatest size at a side, and a row that is too long.
+    (
+        WIDER_DISKS,
+        8,
+        5,
+        "[10, 10, 1, 0, 3]",
+        Status::SceneRefused,
+        "refused 14 bad size 0\n",
+    ),
+    (
+        WIDER_DISKS,
+        8,
+        5,
+        "[10, 10, 1, 0, 8]",
+        Status::SceneRefused,
+        "refused 14 bad size 0\n",
+    ),
+    (
+        WIDER_DISKS,
+        8,
+        5,
+        "[2, 10, 1, 0]",
+        Status::SceneRefused,
+        "refused 9 outside 0\n",
+    ),
+    (
+        WIDER_DISKS,
+        8,
+        5,
+        "[10, 10, 1, 0, 4, 0]",
+        Status::SceneRefused,
+        "refused 8 bad row 0\n",
     ),
     (
         EVERY_SECOND,
@@ -279,8 +324,9 @@ fn writes_each_report(rt: HostRuntime) -> Result<(), Fail> {
     Ok(())
 }
 
-// Some of the same runs, without what a report lists.
+// Runs, most of them the same, without what a report lists.
 const SUMMARIES: &[OutputRow] = &[
+    (USUAL, 8, 10_000, BOUNCING, Status::Done, BOUNCING_SUMMARY),
     (
         LONG,
         8,

@@ -2,6 +2,7 @@
 
 ghost use Rattle.cell_grid.specs.Grid.{IsAsked};
 
+use super::texts::{report, sums};
 use super::told::{Keeping, Told, expect_same, told_plainly};
 use cell_grid::MAX_REGIONS;
 use cell_sequence::CellState;
@@ -14,7 +15,8 @@ use std::sync::Wait;
 use std::test::Fail;
 use std::thread::Threads;
 use test_scenes::{
-    BOUNCING, FOUR_IN_A_ROW, LONG, MISLED, Numbers, ROLLED_BACK, USUAL, generated, scene, scene_of,
+    BOUNCING, BOUNCING_SUMMARY, FOUR_IN_A_ROW, LONG, MISLED, MISLED_REPORT, Numbers, ROLLED_BACK,
+    ROLLED_BACK_REPORT, USUAL, generated, scene, scene_of,
 };
 
 // What is done to the regions in a burst.
@@ -199,16 +201,16 @@ fn replace(
     Ok(())
 }
 
-// Stops a test where the run over so many regions, on which a burst works, comes to another report than that of the
-// engine that looks at all pairs.
-fn expect_report<B: Burst>(
+// What the run over so many regions tells, on which a burst works. Stops a test where the engine that looks at all
+// pairs tells something else.
+fn run_beside<B: Burst>(
     rt: &(impl Threads + Wait + Sync + Abort),
     alloc: Global,
     case: &str,
     scene: &Scene,
     regions: u32,
     burst: &mut B,
-) -> Result<(), AllocError>
+) -> Result<Told, AllocError>
     requires asked { IsAsked regions }
     requires ready { B.ready burst.old }
 {
@@ -216,7 +218,7 @@ fn expect_report<B: Burst>(
     let outcome = simulate(rt, alloc, scene, regions, burst, &mut kept);
     let found = Told::new(alloc, kept, outcome)?;
     expect_same(rt, case, &found, &told_plainly(alloc, scene)?);
-    Ok(())
+    Ok(found)
 }
 
 // The scene of a text that is refused by no rule.
@@ -244,7 +246,8 @@ fn expect_row(
     let scene = valid_scene(rt, alloc, text.as_str())?;
     let other = valid_scene(rt, alloc, later.as_str())?;
     let mut burst = Tampering::new(alloc, deed, &other, regions)?;
-    expect_report(rt, alloc, case.as_str(), &scene, regions, &mut burst)
+    run_beside(rt, alloc, case.as_str(), &scene, regions, &mut burst)?;
+    Ok(())
 }
 
 const RESTING: &[DeedRow] = &[
@@ -255,7 +258,7 @@ const RESTING: &[DeedRow] = &[
 ];
 
 #[test]
-fn regions_that_rest_write_the_report(rt: HostRuntime) -> Result<(), Fail> {
+fn regions_that_rest_tell_the_plain_run(rt: HostRuntime) -> Result<(), Fail> {
     for row in RESTING {
         expect_row(&rt, rt.alloc(), row)?;
     }
@@ -270,7 +273,7 @@ const MOVED_OR_LOST: &[DeedRow] = &[
 ];
 
 #[test]
-fn regions_that_are_moved_or_lost_write_the_report(rt: HostRuntime) -> Result<(), Fail> {
+fn regions_that_are_moved_or_lost_tell_the_plain_run(rt: HostRuntime) -> Result<(), Fail> {
     for row in MOVED_OR_LOST {
         expect_row(&rt, rt.alloc(), row)?;
     }
@@ -278,7 +281,7 @@ fn regions_that_are_moved_or_lost_write_the_report(rt: HostRuntime) -> Result<()
 }
 
 #[test]
-fn regions_of_another_scene_write_the_report(rt: HostRuntime) -> Result<(), Fail> {
+fn regions_of_another_scene_tell_the_plain_run(rt: HostRuntime) -> Result<(), Fail> {
     expect_row(
         &rt,
         rt.alloc(),
@@ -287,10 +290,14 @@ fn regions_of_another_scene_write_the_report(rt: HostRuntime) -> Result<(), Fail
     Ok(())
 }
 
-// The disk hits a side at every other tick.
 #[test]
-fn a_long_run_of_one_region_is_summed_up(rt: HostRuntime) -> Result<(), Fail> {
-    expect_row(&rt, rt.alloc(), &(USUAL, 10_000, BOUNCING, 1, Deed::Rest))?;
+fn a_long_run_of_one_region_tells_the_plain_run_and_its_sums(rt: HostRuntime) -> Result<(), Fail> {
+    let text = scene(rt.alloc(), USUAL, 8, 10_000, BOUNCING)?;
+    let scene = valid_scene(&rt, rt.alloc(), text.as_str())?;
+    let mut burst = Tampering::new(rt.alloc(), Deed::Rest, &scene, 1)?;
+    let told = run_beside(&rt, rt.alloc(), BOUNCING, &scene, 1, &mut burst)?;
+    let found = sums(rt.alloc(), &scene, &told)?;
+    assert_eq!(rt; found.as_str(), BOUNCING_SUMMARY);
     Ok(())
 }
 
@@ -325,13 +332,16 @@ const LIMIT_BY_MISTAKE: &[Calls] = &[
     (3, CoreStep::Turn(1)),
 ];
 
-// Disks, the end, and what four regions do in the first burst.
-type ScriptRow = (&'static str, u32, &'static [Calls]);
+// Disks, the end, what four regions do in the first burst, and the report.
+type ScriptRow = (&'static str, u32, &'static [Calls], &'static str);
 
-const SCRIPTS: &[ScriptRow] = &[(ROLLED_BACK, 20, ROLLBACK), (MISLED, 3, LIMIT_BY_MISTAKE)];
+const SCRIPTS: &[ScriptRow] = &[
+    (ROLLED_BACK, 20, ROLLBACK, ROLLED_BACK_REPORT),
+    (MISLED, 3, LIMIT_BY_MISTAKE, MISLED_REPORT),
+];
 
 #[test]
-fn scripts_write_the_report(rt: HostRuntime) -> Result<(), Fail> {
+fn scripts_tell_their_reports(rt: HostRuntime) -> Result<(), Fail> {
     for row in SCRIPTS {
         expect_report_of_script(&rt, rt.alloc(), row)?;
     }
@@ -341,12 +351,15 @@ fn scripts_write_the_report(rt: HostRuntime) -> Result<(), Fail> {
 fn expect_report_of_script(
     rt: &(impl Threads + Wait + Sync + Abort),
     alloc: Global,
-    &(disks, end, calls): &ScriptRow,
+    &(disks, end, calls, want): &ScriptRow,
 ) -> Result<(), AllocError> {
     let text = scene(alloc, LONG, 8, end, disks)?;
     let scene = valid_scene(rt, alloc, text.as_str())?;
     let mut burst = script(alloc, calls)?;
-    expect_report(rt, alloc, disks, &scene, 4, &mut burst)
+    let told = run_beside(rt, alloc, disks, &scene, 4, &mut burst)?;
+    let found = report(alloc, &scene, &told)?;
+    assert_eq!(rt; found.as_str(), want, "{disks}");
+    Ok(())
 }
 
 // How many generated scenes are run; others are refused.
@@ -355,7 +368,7 @@ const GENERATED: u64 = 20;
 const MOST_TRIED: u32 = 100;
 
 #[test]
-fn hostile_bursts_write_the_report(rt: HostRuntime) -> Result<(), Fail> {
+fn hostile_bursts_tell_the_plain_run(rt: HostRuntime) -> Result<(), Fail> {
     let mut numbers = Numbers { state: 5 };
     let mut found: u64 = 0;
     for _ in 0..MOST_TRIED {
@@ -380,6 +393,6 @@ fn is_run(
     };
     let mut burst = Tampering::new(alloc, Deed::Hostile, &scene, 4)?;
     burst.numbers.state = number.wrapping_add(1);
-    expect_report(rt, alloc, text, &scene, 4, &mut burst)?;
+    run_beside(rt, alloc, text, &scene, 4, &mut burst)?;
     Ok(true)
 }

@@ -4,9 +4,9 @@ ghost use Rattle.cell_grid.specs.Grid.{IsAsked};
 
 use super::told::{Told, expect_same, told_plainly};
 use cell_sequence::CellState;
-use event_rules::{Change, Limit, Spot};
+use event_rules::{Limit, Spot};
 use fixed_motion::{Disk, Scene};
-use region_view::{Action, Placed};
+use region_view::Action;
 use std::alloc::{AllocError, Global};
 use std::process::Abort;
 use std::test::Fail;
@@ -100,7 +100,7 @@ const RUNS: &[RunRow] = &[
 ];
 
 #[test]
-fn cell_runs_give_the_report(rt: HostRuntime) -> Result<(), Fail> {
+fn cell_runs_tell_the_plain_run(rt: HostRuntime) -> Result<(), Fail> {
     for row in RUNS {
         expect_counts(&rt, rt.alloc(), row)?;
     }
@@ -185,7 +185,7 @@ const LEAST_PAIRS: usize = 200;
 const LEAST_LIMITS: u32 = 20;
 
 #[test]
-fn cell_runs_of_generated_scenes_give_the_report(rt: HostRuntime) -> Result<(), Fail> {
+fn cell_runs_of_generated_scenes_tell_the_plain_run(rt: HostRuntime) -> Result<(), Fail> {
     let mut numbers = Numbers { state: 1 };
     let mut tally = Tally {
         scenes: 0,

@@ -1,9 +1,7 @@
 //! What a run tells, and how it ends.
 //!
 //! A report is a function of the scene, of the changes of its run and of how that ends: runs that come to the same
-//! write the same report.
-
-ghost use Rattle.std.specs.Prelude.{IfOk};
+//! have the same report.
 
 use all_pairs::simulate_plain;
 use event_rules::{Change, Deaf, Limit, Listener, Outcome, RunFault, Spot};
