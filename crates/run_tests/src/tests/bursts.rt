@@ -1,13 +1,17 @@
 //! Runs over regions, whatever works on these between two commits.
 
+ghost use Rattle.std.specs.Prelude.{◌≡◌, length, IfOk};
 ghost use Rattle.cell_grid.specs.Grid.{IsAsked};
+ghost use Rattle.region_core.specs.Bursts.{AreTogether};
+ghost use Rattle.region_core.specs.RunOn.{AreRunOn};
 
 use super::texts::{report, sums};
 use super::told::{Keeping, Told, expect_same, told_plainly};
 use cell_grid::MAX_REGIONS;
 use cell_sequence::CellState;
 use fixed_motion::Scene;
-use region_core::{Burst, Region};
+use region_core::{Burst, OpenGate, Region};
+use region_workers::{ByCall, Call, Workers};
 use run_core::{CoreStep, Scripted, play, simulate};
 use std::alloc::{AllocError, Global};
 use std::process::Abort;
@@ -28,6 +32,8 @@ enum Deed {
     Swap,
     // They are given back in the other order.
     Reverse,
+    // All run on as far as workers let them, and then the first two change places.
+    RunAndSwap,
     // All are spent.
     Spend,
     // The last one makes as many steps as a log has entries.
@@ -47,8 +53,6 @@ struct Tampering {
 }
 
 impl Burst for Tampering {
-    ghost ready = { λ _. Unit {0} };
-
     fn burst<R: Threads + Wait + Sync>(
         &mut self,
         _rt: &R,
@@ -80,6 +84,7 @@ impl Tampering {
             Deed::Rest => Ok(()),
             Deed::Swap => Ok(swap(regions, 0, 1)),
             Deed::Reverse => Ok(regions.reverse()),
+            Deed::RunAndSwap => run_and_swap(alloc, regions),
             Deed::Spend => Ok(spend_all(regions)),
             Deed::OneAhead => run_last(alloc, regions),
             Deed::Replace => replace_all(alloc, regions, &self.other),
@@ -148,6 +153,17 @@ fn swap(regions: &mut [Region], first: usize, second: usize) {
     }
 }
 
+// How many steps a region runs in a burst of the workers, and of those who swap two of them afterwards.
+const STEPS: u32 = 8;
+
+fn run_and_swap(alloc: Global, regions: &mut [Region]) -> Result<(), AllocError> {
+    for region in regions.iter_mut() {
+        region.run(alloc, STEPS)?;
+    }
+    swap(regions, 0, 1);
+    Ok(())
+}
+
 fn spend_all(regions: &mut [Region]) {
     for region in regions {
         spend_one(Some(region));
@@ -201,6 +217,21 @@ fn replace(
     Ok(())
 }
 
+// What the run over so many regions tells, on which a burst works.
+fn told_over<B: Burst>(
+    rt: &(impl Threads + Wait + Sync),
+    alloc: Global,
+    scene: &Scene,
+    regions: u32,
+    burst: &mut B,
+) -> Result<Told, AllocError>
+    requires asked { IsAsked regions }
+{
+    let mut kept = Keeping::new(alloc);
+    let outcome = simulate(rt, alloc, scene, regions, burst, &mut kept);
+    Told::new(alloc, kept, outcome)
+}
+
 // What the run over so many regions tells, on which a burst works. Stops a test where the engine that looks at all
 // pairs tells something else.
 fn run_beside<B: Burst>(
@@ -212,11 +243,8 @@ fn run_beside<B: Burst>(
     burst: &mut B,
 ) -> Result<Told, AllocError>
     requires asked { IsAsked regions }
-    requires ready { B.ready burst.old }
 {
-    let mut kept = Keeping::new(alloc);
-    let outcome = simulate(rt, alloc, scene, regions, burst, &mut kept);
-    let found = Told::new(alloc, kept, outcome)?;
+    let found = told_over(rt, alloc, scene, regions, burst)?;
     expect_same(rt, case, &found, &told_plainly(alloc, scene)?);
     Ok(found)
 }
@@ -276,6 +304,76 @@ const MOVED_OR_LOST: &[DeedRow] = &[
 fn regions_that_are_moved_or_lost_tell_the_plain_run(rt: HostRuntime) -> Result<(), Fail> {
     for row in MOVED_OR_LOST {
         expect_row(&rt, rt.alloc(), row)?;
+    }
+    Ok(())
+}
+
+// What a run tells over four regions, which workers keep, and whether they say that they do.
+fn told_by_workers<R: Threads + Wait + Sync>(
+    rt: &R,
+    alloc: Global,
+    scene: &Scene,
+) -> Result<(Told, bool), AllocError> {
+    let workers = Workers {
+        workers: 2,
+        turns: 1,
+        steps: STEPS,
+        gate: &OpenGate,
+    };
+    told_by_call(
+        rt,
+        alloc,
+        scene,
+        |regions: Vec<Region>| -> Result<Vec<Region>, AllocError>
+            requires { AreTogether regions.items }
+            ensures { IfOk result (λ worked. (length worked.items ≡ length regions.items)
+                × AreRunOn regions.items worked.items) }
+        { workers.burst(rt, alloc, regions) },
+    )
+}
+
+fn told_by_call<C: Call + Drop>(
+    rt: &(impl Threads + Wait + Sync),
+    alloc: Global,
+    scene: &Scene,
+    call: C,
+) -> Result<(Told, bool), AllocError>
+    requires { C.keeping call }
+{
+    let mut burst = ByCall::new(call);
+    let told = told_over(rt, alloc, scene, 4, &mut burst)?;
+    Ok((told, burst.keeps()))
+}
+
+// The same, where the regions run in one thread and two of them are swapped.
+fn told_by_swapping<R: Threads + Wait + Sync>(
+    rt: &R,
+    alloc: Global,
+    scene: &Scene,
+) -> Result<(Told, bool), AllocError> {
+    let mut burst = Tampering::new(alloc, Deed::RunAndSwap, scene, 4)?;
+    let told = told_over(rt, alloc, scene, 4, &mut burst)?;
+    Ok((told, burst.keeps()))
+}
+
+// The end and the disks of scenes.
+const KEPT_OR_SWAPPED: &[(u32, &'static str)] = &[(40, FOUR_IN_A_ROW), (20, ROLLED_BACK)];
+
+// Of workers the regions are taken over as they come, and of those who swap them only where they stand; nobody who
+// is told of the run sees a difference.
+#[test]
+fn bursts_that_keep_and_that_swap_are_told_apart_by_nothing(rt: HostRuntime) -> Result<(), Fail> {
+    for &(end, disks) in KEPT_OR_SWAPPED {
+        let text = scene(rt.alloc(), LONG, 8, end, disks)?;
+        let scene = valid_scene(&rt, rt.alloc(), text.as_str())?;
+        let (kept, keeps) = told_by_workers(&rt, rt.alloc(), &scene)?;
+        let (swapped, swaps) = told_by_swapping(&rt, rt.alloc(), &scene)?;
+        assert!(rt;
+            keeps && !swaps,
+            "the workers keep their regions, and nobody else"
+        );
+        expect_same(&rt, disks, &swapped, &kept);
+        expect_same(&rt, disks, &kept, &told_plainly(rt.alloc(), &scene)?);
     }
     Ok(())
 }

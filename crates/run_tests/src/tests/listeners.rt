@@ -71,8 +71,6 @@ struct Reading<'a> {
 }
 
 impl<'a> Burst for Reading<'a> {
-    ghost ready = { λ _. Unit {0} };
-
     fn burst<R: Threads + Wait + Sync>(
         &mut self,
         _rt: &R,
@@ -140,8 +138,6 @@ struct Counting {
 }
 
 impl Burst for Counting {
-    ghost ready = { λ _. Unit {0} };
-
     fn burst<R: Threads + Wait + Sync>(
         &mut self,
         _rt: &R,
