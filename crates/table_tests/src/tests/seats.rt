@@ -1,8 +1,9 @@
 //! What seats take out of a table and put back.
 
-ghost use Rattle.std.specs.Prelude.{◌≡◌, ◌<◌, ◌∷◌, [], length, IfOk, IfSome};
+ghost use Rattle.std.specs.Prelude.{◌≡◌, ◌<◌, ◌∷◌, [], length, IfSome, OnOk};
 ghost use Rattle.region_core.specs.Bursts.{AreTogether};
-ghost use Rattle.region_table.specs.Bases.{MayLieIn, HasBaseOf};
+ghost use Rattle.region_core.specs.RunOn.{BeginsAs};
+ghost use Rattle.region_table.specs.Bases.{MayLieIn};
 ghost use Rattle.region_table.specs.Rule.{slots_of};
 ghost use Rattle.region_table.specs.Tables.{IsSeatOf};
 
@@ -68,7 +69,7 @@ fn ask(table: &RegionTable, seat: &mut TableSeat, region: u32) -> Answer
 
 // Lets a region run three steps, and says what the last one answers.
 fn step_thrice(alloc: Global, region: &mut Region) -> Result<Step, AllocError>
-    ensures { IfOk result (λ _. HasBaseOf region.old region.new) }
+    ensures { OnOk result (BeginsAs region.old region.new) }
 {
     region.run(alloc, 3)
 }

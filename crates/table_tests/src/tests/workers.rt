@@ -2,6 +2,7 @@
 
 ghost use Rattle.std.specs.Prelude.{◌≡◌, length, IfOk};
 ghost use Rattle.region_core.specs.Bursts.{AreTogether};
+ghost use Rattle.region_core.specs.RunOn.{AreRunOn};
 
 use super::scenes::{REGIONS, opened};
 use event_rules::{Change, Deaf, Listener};
@@ -9,7 +10,7 @@ use event_stamps::{Kind, Stamp};
 use fixed_motion::Scene;
 use region_core::{Gate, OpenGate, Region};
 use region_table::TableWorkers;
-use region_workers::ByCall;
+use region_workers::{ByCall, Call};
 use run_core::simulate;
 use std::alloc::{AllocError, Global};
 use std::sync::Wait;
@@ -135,12 +136,27 @@ fn changes_by<R: Threads + Wait + Sync, G: Gate>(
     scene: &Scene,
     workers: &TableWorkers<'_, G>,
 ) -> Option<u32> {
-    let mut burst = ByCall {
-        call: |regions: Vec<Region>| -> Result<Vec<Region>, AllocError>
+    changes_by_call(
+        rt,
+        alloc,
+        scene,
+        |regions: Vec<Region>| -> Result<Vec<Region>, AllocError>
             requires { AreTogether regions.items }
-            ensures { IfOk result (λ worked. length worked.items ≡ length regions.items) }
+            ensures { IfOk result (λ worked. (length worked.items ≡ length regions.items)
+                × AreRunOn regions.items worked.items) }
         { workers.burst(rt, alloc, regions) },
-    };
+    )
+}
+
+fn changes_by_call<R: Threads + Wait + Sync, C: Call + Drop>(
+    rt: &R,
+    alloc: Global,
+    scene: &Scene,
+    call: C,
+) -> Option<u32>
+    requires { C.keeping call }
+{
+    let mut burst = ByCall::new(call);
     let mut counter = Counter { changes: 0 };
     match simulate(rt, alloc, scene, REGIONS, &mut burst, &mut counter) {
         Ok(_) => Some(counter.changes),
