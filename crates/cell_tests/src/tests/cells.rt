@@ -318,6 +318,12 @@ fn a_disk_is_listed_and_gathered_and_taken_off(rt: HostRuntime) -> Result<(), Fa
     lists.put(rt.alloc(), 7, cell)?;
     assert_eq!(rt; lists.first_in(cell), Some(7), "the first that is listed");
     assert_eq!(rt; lists.next_in(7, cell), None, "the one after it");
+    let listed = lists.near(rt.alloc(), grid.cell_of(10, 10))?;
+    assert_eq!(rt;
+        listed.as_slice(),
+        [7].as_slice(),
+        "those near another cell"
+    );
     let mut near = Gathered::new();
     let done = lists.gather(block_around(&grid, cell), &mut near);
     assert_eq!(rt;
