@@ -5,3 +5,4 @@ mod cells;
 mod helpers;
 mod queues;
 mod views;
+mod walks;

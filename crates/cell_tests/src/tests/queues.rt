@@ -1,15 +1,16 @@
-//! Queues of regions that take in one change of a cell run after the other, against queues opened anew.
+//! Queues of regions that take in one change of a cell run after the other, against queues opened anew, and against a
+//! walk over the disks near each one.
 
 ghost use Rattle.std.specs.Prelude.{◌≡◌};
 ghost use Rattle.cell_grid.specs.Grid.{IsRegion};
 ghost use Rattle.region_queue.specs.Queue.{IsOf};
 
 use super::helpers::view_of;
+use super::walks::least_by_walk;
 use cell_sequence::CellState;
 use event_stamps::{Kind, Stamp};
 use fixed_motion::Scene;
 use region_queue::Queue;
-use region_view::View;
 use std::alloc::{AllocError, Global};
 use std::test::Fail;
 use test_scenes::scene_of;
@@ -34,8 +35,8 @@ const LEAST_CALLS: u32 = 2_000;
 
 const LEAST_FOUND: u32 = 200;
 
-// What a queue that was kept finds, and what one opened anew finds.
-type Found = (Option<Stamp>, Option<Stamp>);
+// What a queue that was kept finds, what one opened anew finds, and what a walk finds.
+type Found = (Option<Stamp>, Option<Stamp>, Option<Stamp>);
 
 // How often a queue took in a change, how often it then found an event, and what was last found where the two
 // differed.
@@ -47,11 +48,11 @@ struct Tally {
 }
 
 impl Tally {
-    fn add(&mut self, (kept, anew): Found) {
+    fn add(&mut self, (kept, anew, walked): Found) {
         self.calls = self.calls.wrapping_add(1);
         self.found = self.found.wrapping_add(u32::from(kept.is_some()));
-        if kept != anew {
-            self.wrong = Some((kept, anew));
+        if kept != anew || kept != walked {
+            self.wrong = Some((kept, anew, walked));
         }
     }
 }
@@ -68,7 +69,7 @@ fn run_next(state: &mut CellState) -> Option<Stamp>
     }
 }
 
-// What a queue finds once it took in what the event changed, and what a queue opened anew finds.
+// What a queue finds once it took in what the event changed, what a queue opened anew finds, and what a walk finds.
 fn compare(
     alloc: Global,
     state: &CellState,
@@ -85,7 +86,8 @@ fn compare(
     let changed = if event.kind == Kind::Pair { 2 } else { 1 };
     queue.touched(alloc, &view, &both[..changed])?;
     let anew = Queue::open(alloc, &view, state.grid(), state.rules(), region)?;
-    Ok((queue.least(), anew.least()))
+    let walked = least_by_walk(alloc, state, &view, region)?;
+    Ok((queue.least(), anew.least(), walked))
 }
 
 // Compares the queue of a region after each action of the cell run.
@@ -121,7 +123,7 @@ fn queues_that_are_kept_find_what_queues_opened_anew_find(rt: HostRuntime) -> Re
             assert_eq!(rt;
                 tally.wrong,
                 None,
-                "region {region}: what was found, kept and anew"
+                "region {region}: what was found, kept, anew and by a walk"
             );
             calls = calls.wrapping_add(tally.calls);
             found = found.wrapping_add(tally.found);
