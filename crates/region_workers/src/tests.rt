@@ -76,7 +76,6 @@ fn work_by<C: Call + Drop, R: Threads + Wait + Sync>(
 ) -> Result<Vec<Region>, AllocError>
     requires keeping { C.keeping call }
     requires together { AreTogether regions.items }
-    ensures { IfOk result (λ worked. AreRunOn regions.items worked.items) }
 {
     let mut burst = ByCall::new(call);
     burst.burst(rt, alloc, regions)
@@ -90,7 +89,6 @@ fn work_by_workers<G: Gate, R: Threads + Wait + Sync>(
     workers: &Workers<'_, G>,
 ) -> Result<Vec<Region>, AllocError>
     requires { AreTogether regions.items }
-    ensures { IfOk result (λ worked. AreRunOn regions.items worked.items) }
 {
     work_by(
         rt,

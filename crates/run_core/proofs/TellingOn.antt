@@ -31,7 +31,7 @@ use Rattle.run_core.specs.Passing.{Agrees}
 use Rattle.run_core.specs.Simulates.{batch_of, Advances}
 use Rattle.run_core.specs.Taking.{MakesNext}
 use Rattle.run_core.specs.Tells.{AreTellable, RefusedAmong}
-use Rattle.run_core.proofs.Parts.{in_first, in_second}
+use Rattle.run_core.proofs.Parts.{in_first, in_second, answers_well}
 use Rattle.run_core.proofs.Pass.{passes_keep}
 use Rattle.run_core.proofs.Prefixes.{whole_after, prefix_after, refused_after}
 
@@ -144,8 +144,9 @@ module _ {M : Type 0} (after : M → Change → M) (torn : M → Change → M �
     pub first_told : any ≡ true → AdvanceTold after old (runs_of given) GoesOn mid before between
     first_told some = record {
       batch = told.batch;
-      is = in_first old mid given heard left told.batch is stand kept agrees told.commits
-          (subst (λ (b : Bool). MatchBool b (told.batch ≢ []) (told.batch ≡ [])) some told.says);
+      is = answers_well old mid given left (Raised told.batch) is stand kept
+          (in_first old mid given heard left told.batch agrees told.commits
+          (subst (λ (b : Bool). MatchBool b (told.batch ≢ []) (told.batch ≡ [])) some told.says));
       told = told.told;
     }
 
@@ -159,8 +160,9 @@ module _ {M : Type 0} (after : M → Change → M) (torn : M → Change → M �
           AdvanceTold after old (runs_of given) course new before later
       second_told course new last later event = record {
         batch = event.batch;
-        is = in_second old mid given heard left told.batch is stand kept agrees told.commits {E = Unit {0}} new last
-            (Ok (answer_with course event.batch)) none event.is;
+        is = answers_well old new given last (answer_with course event.batch) is stand kept
+            (in_second old mid given heard left told.batch agrees told.commits {E = Unit {0}} new last
+            (Ok (answer_with course event.batch)) none event.is);
         told = subst (λ (v : List Action). Told after before (hits v ++ hits event.batch) later) none
             (told_in_turn after before between later (hits told.batch) (hits event.batch) told.told event.told);
       }
