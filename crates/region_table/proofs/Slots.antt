@@ -26,24 +26,8 @@ pub nothing_held : (held : List Hold) → slots_of held ≡ [] → held ≡ []
 nothing_held [] e = refl
 nothing_held (h ∷ hs) e = absurd (cons_isnt h.slot (slots_of hs) e)
 
-pub none_held : (k : ℕ) (slots : List ℕ) → slots ≡ [] → list_any (λ (s : ℕ). k == s) slots ≡ false
-none_held k slots e = ap (list_any (λ (s : ℕ). k == s)) e
-
-pub other_held : (k j : ℕ) (slots rest : List ℕ) → slots ≡ j ∷ rest → rest ≡ [] → k ≢ j → list_any (λ (s : ℕ). k == s) slots ≡ false
-other_held k j slots rest e f other = ap (list_any (λ (s : ℕ). k == s)) (e ∙ ap (λ (z : List ℕ). j ∷ z) f) ∙ rw (ne_eqb k j other) refl
-
-pub one_held : (k : ℕ) (slots rest : List ℕ) → slots ≡ k ∷ rest → list_any (λ (s : ℕ). k == s) slots ≡ true
-one_held k slots rest e = ap (list_any (λ (s : ℕ). k == s)) e ∙ rw (eq-eqb k k refl) refl
-
 pub one_left : (k : ℕ) (slots rest : List ℕ) → slots ≡ k ∷ rest → rest ≡ [] → filter (λ (s : ℕ). not (k == s)) slots ≡ []
 one_left k slots rest e f = ap (filter (λ (s : ℕ). not (k == s))) (e ∙ ap (λ (z : List ℕ). k ∷ z) f) ∙ rw (eq-eqb k k refl) refl
 
--- without the lower of two
-pub second_left : (a b : ℕ) (slots : List ℕ) → slots ≡ b ∷ a ∷ [] → a ≢ b → filter (λ (s : ℕ). not (a == s)) slots ≡ b ∷ []
-second_left a b slots e other = ap (filter (λ (s : ℕ). not (a == s))) e ∙ rw (ne_eqb a b other, eq-eqb a a refl) refl
-
 pub first_left : (a b : ℕ) (slots : List ℕ) → slots ≡ a ∷ b ∷ [] → a ≢ b → filter (λ (s : ℕ). not (a == s)) slots ≡ b ∷ []
 first_left a b slots e other = ap (filter (λ (s : ℕ). not (a == s))) e ∙ rw (ne_eqb a b other, eq-eqb a a refl) refl
-
-pub second_held : (a b : ℕ) (slots : List ℕ) → slots ≡ b ∷ a ∷ [] → a ≢ b → list_any (λ (s : ℕ). a == s) slots ≡ true
-second_held a b slots e other = ap (list_any (λ (s : ℕ). a == s)) e ∙ rw (ne_eqb a b other, eq-eqb a a refl) refl
