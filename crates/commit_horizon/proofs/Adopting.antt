@@ -4,8 +4,8 @@ use Rattle.std.proofs.lemmas.List.{length-append}
 use Rattle.std.proofs.lemmas.Option.{none-some, same_Some, slice_get_within}
 use Rattle.cell_sequence.specs.State.{CellStateData}
 use Rattle.cell_sequence.proofs.Lists.{get_other, get_here}
-use Rattle.region_core.specs.Opening.{RegionData, IsOpened}
-use Rattle.region_core.specs.Standing.{StandsOn}
+use Rattle.local_run.specs.Opening.{RegionData, IsOpened}
+use Rattle.local_run.specs.Standing.{StandsOn}
 use Rattle.commit_horizon.specs.declared.committed.Adopted.{Adopted}
 use Rattle.commit_horizon.specs.declared.committed.Adopted.TheVariants.{Kept, Made}
 use Rattle.commit_horizon.specs.Horizon.{AllStand}

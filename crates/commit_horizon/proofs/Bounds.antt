@@ -1,8 +1,8 @@
 -- Regions that stand on a state go on from it up to each bound.
 use Rattle.event_stamps.specs.declared.Stamp.{Stamp}
 use Rattle.cell_sequence.specs.State.{CellStateData}
-use Rattle.region_core.proofs.Right.{heard_rise}
-use Rattle.region_core.specs.Opening.{home_of}
+use Rattle.local_run.proofs.Right.{heard_rise}
+use Rattle.local_run.specs.Opening.{home_of}
 use Rattle.commit_horizon.specs.Horizon.{Runs, AreStanding, IsBound}
 use Rattle.commit_horizon.proofs.GoesOn.{AllGoOn}
 

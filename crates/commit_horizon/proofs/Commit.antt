@@ -15,11 +15,11 @@ use Rattle.region_messages.proofs.Order.{before_not_before}
 use Rattle.cell_sequence.specs.Run.{CellSteps}
 use Rattle.cell_sequence.specs.State.{CellStateData, followed, followed_by, HasNoneBelow}
 use Rattle.cell_sequence.specs.State.{raised as raised_state}
-use Rattle.region_core.specs.Opening.{RegionData, home_of}
-use Rattle.region_core.specs.Raising.{raised as raised_region}
-use Rattle.region_core.specs.Raising.{raised_run}
-use Rattle.region_core.specs.Standing.{StandsOn}
-use Rattle.region_core.proofs.InTurn.{waiting_in_turn}
+use Rattle.local_run.specs.Opening.{RegionData, home_of}
+use Rattle.local_run.specs.Raising.{raised as raised_region}
+use Rattle.local_run.specs.Raising.{raised_run}
+use Rattle.local_run.specs.Standing.{StandsOn}
+use Rattle.local_run.proofs.InTurn.{waiting_in_turn}
 use Rattle.commit_horizon.specs.Horizon.{runs_of, IsBound, IsHorizon, AllStand, AllKept}
 use Rattle.commit_horizon.specs.Commits.{Commits}
 use Rattle.commit_horizon.specs.Laws.{IsNext}

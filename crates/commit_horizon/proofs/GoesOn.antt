@@ -14,14 +14,15 @@ use Rattle.region_view.specs.Messages.{message_of}
 use Rattle.region_messages.specs.Trails.{is_before, IsAmong, AgreeBelow}
 use Rattle.cell_sequence.specs.State.{CellStateData, IsCandidateOf, ComesTo, HasNoneBelow, followed}
 use Rattle.cell_sequence.specs.Laws.{Sees, IsNextAction, IsHomeOf}
-use Rattle.region_core.specs.declared.entry.Entry.{Entry}
-use Rattle.region_core.specs.declared.entry.Entry.TheVariants.{Native}
-use Rattle.region_core.specs.LocalRun.{Local, entry_stamp, trail_of, after_entry, after_log, start_of, now_of}
-use Rattle.region_core.specs.LocalRun.{Moves, RiseFrom, IsOwn, IsOffered, sent_to}
-use Rattle.region_core.specs.LocalRun.{ComesTo as ComesToIn}
-use Rattle.region_core.specs.Opening.{home_of}
-use Rattle.region_core.proofs.Among.{AllRise}
-use Rattle.region_core.proofs.Logs.{AllBefore}
+use Rattle.local_run.specs.declared.entry.Entry.{Entry}
+use Rattle.local_run.specs.declared.entry.Entry.TheVariants.{Native}
+use Rattle.local_run.specs.Entries.{entry_stamp, RiseFrom}
+use Rattle.local_run.specs.LocalRun.{Local, trail_of, after_entry, after_log, start_of, now_of}
+use Rattle.local_run.specs.LocalRun.{Moves, IsOwn, IsOffered, sent_to}
+use Rattle.local_run.specs.LocalRun.{ComesTo as ComesToIn}
+use Rattle.local_run.specs.Opening.{home_of}
+use Rattle.local_run.proofs.Among.{AllRise}
+use Rattle.local_run.proofs.Logs.{AllBefore}
 use Rattle.commit_horizon.specs.Horizon.{Runs}
 
 -- what a state of the cell run is to its regions

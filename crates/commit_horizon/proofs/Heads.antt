@@ -15,14 +15,14 @@ use Rattle.region_view.specs.declared.action.Action.{Action}
 use Rattle.region_view.specs.Acting.{stamp_of}
 use Rattle.region_messages.specs.Trails.{IsAmong, is_before}
 use Rattle.region_messages.proofs.Order.{is_before_true, is_before_false, before_from_true, not_before_from_false}
-use Rattle.region_core.specs.declared.entry.Entry.{Entry}
-use Rattle.region_core.specs.declared.entry.Entry.TheVariants.{Native, Heard}
-use Rattle.region_core.specs.declared.entry.TheConstants.{MAX_ENTRIES}
-use Rattle.region_core.specs.LocalRun.{RiseFrom}
-use Rattle.region_core.specs.Opening.{RegionData}
-use Rattle.region_core.specs.Keeping.{entries_of, native_in}
-use Rattle.region_core.proofs.Among.{same_or_other}
-use Rattle.region_core.proofs.Logs.{rises_log_tail, among_after}
+use Rattle.local_run.specs.declared.entry.Entry.{Entry}
+use Rattle.local_run.specs.declared.entry.Entry.TheVariants.{Native, Heard}
+use Rattle.local_run.specs.declared.entry.TheConstants.{MAX_ENTRIES}
+use Rattle.local_run.specs.Entries.{RiseFrom, native_in}
+use Rattle.local_run.specs.Opening.{RegionData}
+use Rattle.local_run.specs.Keeping.{entries_of}
+use Rattle.local_run.proofs.Among.{same_or_other}
+use Rattle.local_run.proofs.Logs.{rises_log_tail, among_after}
 use Rattle.commit_horizon.specs.declared.merging.Head.{Head}
 use Rattle.commit_horizon.specs.Horizon.{ActionsRise}
 use Rattle.commit_horizon.specs.Merging.{actions_below, IsLeft, IsHeadAfter, head_before, Heads, head_at, AreHeads, IsLeastHead, nearer_of}

@@ -8,7 +8,7 @@ use Rattle.event_stamps.specs.Order.{Before}
 use Rattle.event_stamps.proofs.StampOrder.{before_trans, not_before_itself}
 use Rattle.region_messages.specs.Trails.{is_before}
 use Rattle.region_messages.proofs.Order.{before_from_true, not_before_from_false}
-use Rattle.region_core.proofs.Among.{same_or_other}
+use Rattle.local_run.proofs.Among.{same_or_other}
 use Rattle.commit_horizon.specs.declared.merging.Head.{Head}
 use Rattle.commit_horizon.specs.Merging.{Heads, head_at, head_with, nearer_of, IsLeastHead}
 use Rattle.commit_horizon.specs.Leading.{NoOtherBefore, IsLeader, least_with}

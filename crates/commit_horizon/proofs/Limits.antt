@@ -11,9 +11,9 @@ use Rattle.region_messages.specs.Trails.{IsAmong}
 use Rattle.region_messages.proofs.Among.{among_left, among_right, among_either}
 use Rattle.cell_sequence.specs.State.{CellStateData}
 use Rattle.cell_sequence.proofs.Exists.{never_both}
-use Rattle.region_core.specs.declared.entry.Entry.{Entry}
-use Rattle.region_core.specs.declared.entry.Entry.TheVariants.{Native, Heard}
-use Rattle.region_core.specs.LocalRun.{entry_stamp}
+use Rattle.local_run.specs.declared.entry.Entry.{Entry}
+use Rattle.local_run.specs.declared.entry.Entry.TheVariants.{Native, Heard}
+use Rattle.local_run.specs.Entries.{entry_stamp}
 use Rattle.commit_horizon.specs.Horizon.{Runs}
 use Rattle.commit_horizon.specs.Laws.{LimitsBound}
 use Rattle.commit_horizon.proofs.GoesOn.{CellLaws, AllGoOn, IsLeastEntry, NoneBefore}

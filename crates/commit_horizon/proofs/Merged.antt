@@ -10,8 +10,9 @@ use Rattle.region_messages.specs.Trails.{IsAmong}
 use Rattle.cell_sequence.specs.State.{CellStateData, IsCellState, followed}
 use Rattle.cell_sequence.specs.Laws.{Sees}
 use Rattle.cell_sequence.proofs.Followed.{followed_is, raised_is}
-use Rattle.region_core.specs.declared.entry.Entry.TheVariants.{Native}
-use Rattle.region_core.specs.LocalRun.{At, Local, start_of, after_log, entries_below}
+use Rattle.local_run.specs.declared.entry.Entry.TheVariants.{Native}
+use Rattle.local_run.specs.Entries.{entries_below}
+use Rattle.local_run.specs.LocalRun.{At, Local, start_of, after_log}
 use Rattle.commit_horizon.specs.Horizon.{Runs, IsDone, IsMerged}
 use Rattle.commit_horizon.specs.Laws.{IsNext, MergedIsNext}
 use Rattle.commit_horizon.proofs.GoesOn.{AllGoOn, HeadNotBefore, IsLeastEntry, IsRestOf, past}

@@ -18,14 +18,15 @@ use Rattle.region_messages.proofs.Among.{among_left, among_right, among_either}
 use Rattle.cell_sequence.specs.State.{CellStateData, IsCellState, followed, followed_by}
 use Rattle.cell_sequence.specs.Laws.{IsNextAction, IsHomeOf}
 use Rattle.cell_sequence.proofs.Followed.{followed_is}
-use Rattle.region_core.specs.declared.entry.Entry.{Entry}
-use Rattle.region_core.specs.declared.entry.Entry.TheVariants.{Native, Heard}
-use Rattle.region_core.specs.LocalRun.{Local, entry_stamp}
-use Rattle.region_core.proofs.Among.{same_or_other}
+use Rattle.local_run.specs.declared.entry.Entry.{Entry}
+use Rattle.local_run.specs.declared.entry.Entry.TheVariants.{Native, Heard}
+use Rattle.local_run.specs.Entries.{entry_stamp, native_in}
+use Rattle.local_run.specs.LocalRun.{Local}
+use Rattle.local_run.proofs.Among.{same_or_other}
 use Rattle.commit_horizon.specs.declared.merging.Head.{Head}
-use Rattle.region_core.specs.declared.entry.TheConstants.{MAX_ENTRIES}
-use Rattle.region_core.specs.Opening.{RegionData}
-use Rattle.region_core.specs.Keeping.{entries_of, native_in}
+use Rattle.local_run.specs.declared.entry.TheConstants.{MAX_ENTRIES}
+use Rattle.local_run.specs.Opening.{RegionData}
+use Rattle.local_run.specs.Keeping.{entries_of}
 use Rattle.commit_horizon.specs.Horizon.{Runs, runs_of, AllStand, AllKept, IsBound, ActionsRise, IsDone, IsMerged}
 use Rattle.commit_horizon.specs.Merging.{actions_below, BeginsAt, IsLeft, IsHeadAfter, Heads, head_at, AreHeads, IsLeastHead, Merges}
 use Rattle.commit_horizon.proofs.GoesOn.{CellLaws, AllGoOn, past, IsLeastEntry, NoneBefore, HeadNotBefore}

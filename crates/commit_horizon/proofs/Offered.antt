@@ -14,9 +14,9 @@ use Rattle.cell_sequence.specs.Laws.{Sees, IsHomeOf}
 use Rattle.cell_sequence.proofs.Exists.{one_action}
 use Rattle.cell_sequence.proofs.Orderly.{cell_states_are_orderly}
 use Rattle.cell_sequence.proofs.Seen.{next_actions_are_seen}
-use Rattle.region_core.specs.LocalRun.{IsOwn}
-use Rattle.region_core.specs.LocalRun.{ComesTo as ComesToIn}
-use Rattle.region_core.specs.Opening.{home_of}
+use Rattle.local_run.specs.LocalRun.{IsOwn}
+use Rattle.local_run.specs.LocalRun.{ComesTo as ComesToIn}
+use Rattle.local_run.specs.Opening.{home_of}
 use Rattle.commit_horizon.proofs.GoesOn.{CellLaws}
 
 -- ---- by the laws of views

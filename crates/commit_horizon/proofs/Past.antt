@@ -9,11 +9,11 @@ use Rattle.region_view.specs.declared.action.Action.{Action}
 use Rattle.region_view.specs.Acting.{stamp_of}
 use Rattle.region_messages.specs.Trails.{is_before, IsAmong}
 use Rattle.region_messages.proofs.Order.{is_before_true, is_before_false}
-use Rattle.region_core.specs.declared.entry.Entry.{Entry}
-use Rattle.region_core.specs.declared.entry.Entry.TheVariants.{Native}
-use Rattle.region_core.specs.LocalRun.{At, Local, entry_stamp, after_entry, start_of}
-use Rattle.region_core.specs.LocalRun.{RiseFrom, entries_below}
-use Rattle.region_core.proofs.Logs.{AllBefore, among_after, after_join, below_in, below_out}
+use Rattle.local_run.specs.declared.entry.Entry.{Entry}
+use Rattle.local_run.specs.declared.entry.Entry.TheVariants.{Native}
+use Rattle.local_run.specs.Entries.{entry_stamp, RiseFrom, entries_below}
+use Rattle.local_run.specs.LocalRun.{At, Local, after_entry, start_of}
+use Rattle.local_run.proofs.Logs.{AllBefore, among_after, after_join, below_in, below_out}
 use Rattle.commit_horizon.proofs.GoesOn.{HeadNotBefore, after_first, past_by, past, IsRestOf}
 
 -- ---- the first entry

@@ -2,8 +2,8 @@
 use Rattle.std.proofs.Common.{◌≡◌, ℕ, zero, suc, ◌<◌, List, [], ◌∷◌, ◌++◌, length, get_or, take, drop, map, sym, ap, ◌∙◌, subst, refl, arith}
 use Rattle.std.proofs.lemmas.Option.{slice_get-get_or}
 use Rattle.event_stamps.specs.declared.Stamp.{Stamp}
-use Rattle.region_core.specs.Opening.{RegionData}
-use Rattle.region_core.specs.Raising.{raised}
+use Rattle.local_run.specs.Opening.{RegionData}
+use Rattle.local_run.specs.Raising.{raised}
 use Rattle.commit_horizon.specs.Raising.{MayRise, AllMayRise}
 
 get_left : {A : Type 0} (f : A → A) (xs : List A) (k : ℕ) (d : A) → k < length xs →

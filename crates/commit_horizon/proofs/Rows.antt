@@ -8,8 +8,8 @@ use Rattle.region_view.specs.declared.action.Placed.{Placed}
 use Rattle.cell_sequence.specs.State.{CellStateData, IsCellState}
 use Rattle.cell_sequence.specs.Laws.{Sees}
 use Rattle.cell_sequence.proofs.Orderly.{known, cell_states_are_orderly}
-use Rattle.region_core.specs.LocalRun.{Local}
-use Rattle.region_core.specs.Opening.{RegionData}
+use Rattle.local_run.specs.LocalRun.{Local}
+use Rattle.local_run.specs.Opening.{RegionData}
 use Rattle.commit_horizon.specs.Horizon.{runs_of, AllStand}
 use Rattle.commit_horizon.specs.Laws.{RowsAreOfOwners, OneListOfRows}
 use Rattle.commit_horizon.proofs.Standing.{region_at}

@@ -9,12 +9,13 @@ use Rattle.cell_grid.specs.Grid.{IsRegion}
 use Rattle.region_messages.specs.Trails.{below}
 use Rattle.cell_sequence.specs.State.{CellStateData, IsCellState}
 use Rattle.cell_sequence.specs.Laws.{Sees}
-use Rattle.region_core.specs.LocalRun.{Local, sent_to, trail_of, RiseFrom}
-use Rattle.region_core.specs.Opening.{RegionData, home_of}
-use Rattle.region_core.specs.Keeping.{IsKept}
-use Rattle.region_core.specs.Standing.{StandsOn}
-use Rattle.region_core.proofs.Among.{below_nil}
-use Rattle.region_core.proofs.Sent.{sent_from}
+use Rattle.local_run.specs.Entries.{RiseFrom}
+use Rattle.local_run.specs.LocalRun.{Local, sent_to, trail_of}
+use Rattle.local_run.specs.Opening.{RegionData, home_of}
+use Rattle.local_run.specs.Keeping.{IsKept}
+use Rattle.local_run.specs.Standing.{StandsOn}
+use Rattle.local_run.proofs.Among.{below_nil}
+use Rattle.local_run.proofs.Sent.{sent_from}
 use Rattle.commit_horizon.specs.Horizon.{run_of, runs_of, AllStand, AllKept, AreStanding, IsBound, IsHorizon}
 use Rattle.commit_horizon.specs.Bounds.{HoldsUpTo, OfAll, IsUpToDue, AgreeOn, AllAgree, IsWithin}
 

@@ -17,16 +17,17 @@ use Rattle.region_messages.proofs.Order.{before_not_before}
 use Rattle.region_messages.proofs.Parts.{among_below, below_among, below_first, first_of_below}
 use Rattle.cell_sequence.specs.State.{CellStateData, HasNoneBelow, followed}
 use Rattle.cell_sequence.specs.Laws.{Sees, IsNextAction, IsHomeOf}
-use Rattle.region_core.specs.declared.home.Home.{Home}
-use Rattle.region_core.specs.declared.entry.Entry.{Entry}
-use Rattle.region_core.specs.declared.entry.Entry.TheVariants.{Native, Heard}
-use Rattle.region_core.specs.LocalRun.{At, Local, Trails, trail_of, rest_of, without_first, entry_stamp}
-use Rattle.region_core.specs.LocalRun.{after_entry, after_log, start_of, Moves, IsMove, IsDue, IsOwn}
-use Rattle.region_core.specs.LocalRun.{IsOffered, IsWaiting, RiseFrom, sent_to, told}
-use Rattle.region_core.specs.Opening.{home_of}
-use Rattle.region_core.proofs.Among.{AllRise, rise_without, same_trail, other_trail, same_or_other}
-use Rattle.region_core.proofs.Among.{among_rest, waits_first}
-use Rattle.region_core.proofs.Sent.{message_stamp, sent_by, sent_after}
+use Rattle.local_run.specs.declared.home.Home.{Home}
+use Rattle.local_run.specs.declared.entry.Entry.{Entry}
+use Rattle.local_run.specs.declared.entry.Entry.TheVariants.{Native, Heard}
+use Rattle.local_run.specs.Entries.{entry_stamp, RiseFrom}
+use Rattle.local_run.specs.LocalRun.{At, Local, Trails, trail_of, rest_of, without_first}
+use Rattle.local_run.specs.LocalRun.{after_entry, after_log, start_of, Moves, IsMove, IsDue, IsOwn}
+use Rattle.local_run.specs.LocalRun.{IsOffered, IsWaiting, sent_to, told}
+use Rattle.local_run.specs.Opening.{home_of}
+use Rattle.local_run.proofs.Among.{AllRise, rise_without, same_trail, other_trail, same_or_other}
+use Rattle.local_run.proofs.Among.{among_rest, waits_first}
+use Rattle.local_run.proofs.Sent.{message_stamp, sent_by, sent_after}
 use Rattle.commit_horizon.specs.Horizon.{Runs}
 use Rattle.commit_horizon.proofs.GoesOn.{CellLaws, GoesOn, Agree, AllGoOn, NoneBefore, IsLeastEntry}
 use Rattle.commit_horizon.proofs.GoesOn.{HeadNotBefore, after_first, past, CentralStep, CentralEnd}

@@ -20,10 +20,11 @@ use Rattle.cell_sequence.specs.Laws.{IsNextAction}
 use Rattle.cell_sequence.proofs.Joins.{hits_join}
 use Rattle.cell_sequence.proofs.Hits.{turn}
 use Rattle.cell_sequence.proofs.Orderly.{known}
-use Rattle.region_core.specs.declared.entry.TheConstants.{MAX_ENTRIES}
-use Rattle.region_core.specs.Opening.{RegionData}
-use Rattle.region_core.specs.Keeping.{entries_of, native_in}
-use Rattle.region_core.specs.Raising.{raised as raised_region}
+use Rattle.local_run.specs.declared.entry.TheConstants.{MAX_ENTRIES}
+use Rattle.local_run.specs.Opening.{RegionData}
+use Rattle.local_run.specs.Entries.{native_in}
+use Rattle.local_run.specs.Keeping.{entries_of}
+use Rattle.local_run.specs.Raising.{raised as raised_region}
 use Rattle.commit_horizon.specs.declared.merging.Head.{Head}
 use Rattle.commit_horizon.specs.Horizon.{runs_of, AllStand, AllKept, IsBound, IsHorizon}
 use Rattle.commit_horizon.specs.Merging.{IsHeadAfter, Heads, AreHeads, IsLeastHead}

@@ -10,9 +10,10 @@ use Rattle.cell_grid.specs.Grid.{IsRegion}
 use Rattle.region_view.specs.declared.action.Action.{Action}
 use Rattle.region_view.specs.Acting.{stamp_of}
 use Rattle.cell_sequence.specs.State.{CellStateData, IsCellState, followed}
-use Rattle.region_core.specs.declared.entry.Entry.{Entry}
-use Rattle.region_core.specs.Opening.{RegionData}
-use Rattle.region_core.specs.Keeping.{entries_of, native_in}
+use Rattle.local_run.specs.declared.entry.Entry.{Entry}
+use Rattle.local_run.specs.Opening.{RegionData}
+use Rattle.local_run.specs.Entries.{native_in}
+use Rattle.local_run.specs.Keeping.{entries_of}
 use Rattle.commit_horizon.specs.declared.merging.Head.{Head}
 use Rattle.commit_horizon.specs.Horizon.{runs_of, AllStand, AllKept, IsBound}
 use Rattle.commit_horizon.specs.Merging.{actions_below, IsHeadAfter, head_before, Heads, head_at, AreHeads, IsLeastHead, nearer_of, Merges}

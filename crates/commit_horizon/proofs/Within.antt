@@ -10,12 +10,12 @@ use Rattle.event_stamps.proofs.StampOrder.{before_trans}
 use Rattle.region_view.specs.declared.rows.Message.{Message}
 use Rattle.region_messages.specs.Trails.{is_before, AgreesUpTo, below}
 use Rattle.region_messages.proofs.Order.{before_from_true, not_before_from_false, not_after_before}
-use Rattle.region_core.specs.declared.home.Home.{Home}
-use Rattle.region_core.specs.LocalRun.{Local, start_of, now_of, IsOffered, IsWaiting, IsRight, sent_to, trail_of}
-use Rattle.region_core.specs.Opening.{RegionData}
-use Rattle.region_core.specs.Keeping.{IsKept, IsDueAt, IsDueIn, IsSent, IsHeard, SendsTo, HearsOf}
-use Rattle.region_core.proofs.Right.{waiting_was_heard}
-use Rattle.region_core.proofs.Valid.{own_before_end}
+use Rattle.local_run.specs.declared.home.Home.{Home}
+use Rattle.local_run.specs.LocalRun.{Local, start_of, now_of, IsOffered, IsWaiting, IsRight, sent_to, trail_of}
+use Rattle.local_run.specs.Opening.{RegionData}
+use Rattle.local_run.specs.Keeping.{IsKept, IsDueAt, IsDueIn, IsSent, IsHeard, SendsTo, HearsOf}
+use Rattle.local_run.proofs.Right.{waiting_was_heard}
+use Rattle.local_run.proofs.Valid.{own_before_end}
 use Rattle.commit_horizon.specs.Bounds.{IsUpTo, HoldsUpTo, OfFirst, OfAll, IsUpToDueOf, IsUpToDue, AgreeOn}
 use Rattle.commit_horizon.specs.Bounds.{AllAgree, IsWithin, later_of}
 

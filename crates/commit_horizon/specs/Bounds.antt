@@ -4,10 +4,10 @@ use Rattle.event_stamps.specs.declared.Stamp.{Stamp}
 use Rattle.event_stamps.specs.Order.{Before, end_stamp}
 use Rattle.region_view.specs.declared.rows.Message.{Message}
 use Rattle.region_messages.specs.Trails.{is_before, AgreeBelow}
-use Rattle.region_core.specs.declared.home.Home.{Home}
-use Rattle.region_core.specs.LocalRun.{Local, now_of, IsOffered}
-use Rattle.region_core.specs.Opening.{RegionData}
-use Rattle.region_core.specs.Keeping.{IsSent, IsHeard}
+use Rattle.local_run.specs.declared.home.Home.{Home}
+use Rattle.local_run.specs.LocalRun.{Local, now_of, IsOffered}
+use Rattle.local_run.specs.Opening.{RegionData}
+use Rattle.local_run.specs.Keeping.{IsSent, IsHeard}
 
 -- not after a stamp, where there is one
 abbrev pub IsUpTo : Option Stamp → Stamp → Type 0

@@ -5,9 +5,9 @@ use Rattle.region_view.specs.declared.action.Action.{Action}
 use Rattle.cell_sequence.specs.Run.{CellSteps}
 use Rattle.cell_sequence.specs.State.{CellStateData, followed_by, HasNoneBelow}
 use Rattle.cell_sequence.specs.State.{raised as raised_state}
-use Rattle.region_core.specs.Opening.{RegionData, IsOpened}
-use Rattle.region_core.specs.Standing.{StandsOn, DiffersBy}
-use Rattle.region_core.specs.Raising.{raised as raised_region}
+use Rattle.local_run.specs.Opening.{RegionData, IsOpened}
+use Rattle.local_run.specs.Standing.{StandsOn, DiffersBy}
+use Rattle.local_run.specs.Raising.{raised as raised_region}
 use Rattle.commit_horizon.specs.declared.committed.Adopted.{Adopted}
 use Rattle.commit_horizon.specs.declared.committed.Adopted.TheVariants.{Kept, Made}
 use Rattle.commit_horizon.specs.Horizon.{runs_of, IsHorizon, IsMerged, AllStand}

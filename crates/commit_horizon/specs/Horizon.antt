@@ -9,11 +9,11 @@ use Rattle.region_view.specs.Acting.{stamp_of}
 use Rattle.region_messages.specs.Trails.{IsAmong, AgreeBelow}
 use Rattle.cell_sequence.specs.State.{CellStateData}
 use Rattle.cell_sequence.specs.Laws.{Sees}
-use Rattle.region_core.specs.declared.entry.Entry.TheVariants.{Native}
-use Rattle.region_core.specs.LocalRun.{Local, now_of, sent_to, trail_of, IsOffered, IsRight}
-use Rattle.region_core.specs.Opening.{RegionData, home_of}
-use Rattle.region_core.specs.Keeping.{IsKept}
-use Rattle.region_core.specs.Standing.{StandsOn}
+use Rattle.local_run.specs.declared.entry.Entry.TheVariants.{Native}
+use Rattle.local_run.specs.LocalRun.{Local, now_of, sent_to, trail_of, IsOffered, IsRight}
+use Rattle.local_run.specs.Opening.{RegionData, home_of}
+use Rattle.local_run.specs.Keeping.{IsKept}
+use Rattle.local_run.specs.Standing.{StandsOn}
 
 -- ---- the regions of a state
 -- the local run of each region, by its number

@@ -6,10 +6,11 @@ use Rattle.region_view.specs.declared.action.Action.{Action}
 use Rattle.region_view.specs.Acting.{stamp_of}
 use Rattle.region_messages.specs.Trails.{is_before}
 use Rattle.cell_sequence.specs.State.{CellStateData, followed_by}
-use Rattle.region_core.specs.declared.entry.Entry.{Entry}
-use Rattle.region_core.specs.declared.entry.Entry.TheVariants.{Native, Heard}
-use Rattle.region_core.specs.Opening.{RegionData}
-use Rattle.region_core.specs.Keeping.{entries_of, native_in}
+use Rattle.local_run.specs.declared.entry.Entry.{Entry}
+use Rattle.local_run.specs.declared.entry.Entry.TheVariants.{Native, Heard}
+use Rattle.local_run.specs.Opening.{RegionData}
+use Rattle.local_run.specs.Entries.{native_in}
+use Rattle.local_run.specs.Keeping.{entries_of}
 use Rattle.commit_horizon.specs.declared.merging.Head.{Head}
 use Rattle.commit_horizon.specs.Horizon.{runs_of, IsMerged}
 use Rattle.commit_horizon.specs.Laws.{IsNext}

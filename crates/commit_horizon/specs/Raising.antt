@@ -2,8 +2,8 @@
 use Rattle.std.specs.Prelude.{◌≡◌, ℕ, List, Some, IfSome, slice_get}
 use Rattle.event_stamps.specs.declared.Stamp.{Stamp}
 use Rattle.event_stamps.specs.Order.{Before, end_stamp}
-use Rattle.region_core.specs.Opening.{RegionData}
-use Rattle.region_core.specs.Raising.{HasNoneWaitingBelow}
+use Rattle.local_run.specs.Opening.{RegionData}
+use Rattle.local_run.specs.Raising.{HasNoneWaitingBelow}
 
 -- the stamp isn't before the floor nor after the end, and no message waits before it
 pub record MayRise (to : Stamp) (region : RegionData) : Type 0 where

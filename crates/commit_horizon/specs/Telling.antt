@@ -9,7 +9,7 @@ use Rattle.region_view.specs.declared.action.Action.{Action}
 use Rattle.region_view.specs.declared.action.Action.TheVariants.{Cross, Hit}
 use Rattle.cell_sequence.specs.Run.{hits}
 use Rattle.cell_sequence.specs.State.{CellStateData}
-use Rattle.region_core.specs.Opening.{RegionData}
+use Rattle.local_run.specs.Opening.{RegionData}
 use Rattle.commit_horizon.specs.Horizon.{runs_of, IsHorizon, IsMerged}
 use Rattle.commit_horizon.specs.Commits.{Commits}
 use Rattle.commit_horizon.specs.Merging.{Merges}

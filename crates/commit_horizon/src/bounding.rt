@@ -3,7 +3,7 @@
 ghost use Rattle.std.specs.Prelude.{◌≡◌};
 ghost use Rattle.commit_horizon.specs.Horizon.{AllKept};
 ghost use Rattle.commit_horizon.specs.Bounds.{HoldsUpTo, OfAll, IsUpToDue, AgreeOn, AllAgreeWith, AllAgree, IsWithin, later_of};
-ghost use Rattle.region_core.specs.Keeping.{IsKept};
+ghost use Rattle.local_run.specs.Keeping.{IsKept};
 
 use event_stamps::{Stamp, earlier};
 use region_core::Region;

@@ -2,7 +2,8 @@
 
 ghost use Rattle.std.specs.Prelude.{◌≡◌, ◌<◌, length, Some, slice_get, IfOk, IfSome};
 ghost use Rattle.std.specs.Option.{IsSome};
-ghost use Rattle.region_core.specs.Keeping.{entries_of, native_in};
+ghost use Rattle.local_run.specs.Entries.{native_in};
+ghost use Rattle.local_run.specs.Keeping.{entries_of};
 ghost use Rattle.commit_horizon.specs.Horizon.{runs_of, AllStand, AllKept, IsBound};
 ghost use Rattle.commit_horizon.specs.Merging.{IsHeadAfter, head_before, head_at, head_with, AreHeads, IsLeastHead, nearer_of, Merges};
 

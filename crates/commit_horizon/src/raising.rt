@@ -1,7 +1,7 @@
 //! Raising the floors of regions.
 
 ghost use Rattle.std.specs.Prelude.{◌≡◌, map, OnOk};
-ghost use Rattle.region_core.specs.Raising.{raised};
+ghost use Rattle.local_run.specs.Raising.{raised};
 ghost use Rattle.commit_horizon.specs.Raising.{AllMayRise};
 
 use event_stamps::Stamp;

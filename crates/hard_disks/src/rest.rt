@@ -2,8 +2,8 @@
 
 ghost use Rattle.std.specs.Prelude.{◌≡◌, ◌≤◌, length, IfOk};
 ghost use Rattle.cell_grid.specs.Grid.{IsAsked};
-ghost use Rattle.region_core.specs.Bursts.{AreTogether};
-ghost use Rattle.region_core.specs.RunOn.{AreRunOn};
+ghost use Rattle.local_run.specs.Bursts.{AreTogether};
+ghost use Rattle.local_run.specs.RunOn.{AreRunOn};
 ghost use Rattle.command_words.specs.Ranges.{AreInRange};
 ghost use Rattle.hard_disks.specs.Output.{format_of, IsCutText};
 ghost use Rattle.hard_disks.specs.Answers.{Wrote, CountsWrites};

@@ -2,8 +2,8 @@
 
 ghost use Rattle.std.specs.Prelude.{◌≡◌, ◌≢◌, ◌≤◌, ◌++◌, ◌∷◌, [], Some, length, codes, decimal, IfOk};
 ghost use Rattle.cell_grid.specs.Grid.{IsAsked};
-ghost use Rattle.region_core.specs.Bursts.{AreTogether};
-ghost use Rattle.region_core.specs.RunOn.{AreRunOn};
+ghost use Rattle.local_run.specs.Bursts.{AreTogether};
+ghost use Rattle.local_run.specs.RunOn.{AreRunOn};
 ghost use Rattle.command_words.specs.Ranges.{AreInRange};
 ghost use Rattle.command_words.specs.declared.settings.Settings.{Settings};
 ghost use Rattle.command_words.specs.declared.settings.Mode.TheVariants.{Audit};

@@ -3,8 +3,8 @@ use Rattle.std.proofs.Common.{◌≡◌, ℕ, ◌+◌, ◌<◌, List, [], ◌∷
 use Rattle.region_view.specs.Views.{ViewData}
 use Rattle.saved_states.specs.Positions.{SavedData, EndsWith, IsAfterLast, Appends, last_of}
 use Rattle.region_view.specs.Setting.{RowList, set_rows}
-use Rattle.region_core.specs.declared.entry.Entry.{Entry}
-use Rattle.region_core.specs.LocalRun.{At, after_entry, after_log}
+use Rattle.local_run.specs.declared.entry.Entry.{Entry}
+use Rattle.local_run.specs.LocalRun.{At, after_entry, after_log}
 use Rattle.region_core.specs.Live.{saved_along}
 
 abbrev end_along : ℕ → At → List Entry → ℕ × ViewData

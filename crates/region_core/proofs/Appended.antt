@@ -15,26 +15,27 @@ use Rattle.region_view.specs.Acting.{stamp_of}
 use Rattle.region_view.specs.Laws.{IsValidAction}
 use Rattle.saved_states.specs.Positions.{SavedData, EndsWith}
 use Rattle.region_queue.specs.Queue.{IsOf, StandsFor}
-use Rattle.region_core.specs.declared.home.Home.{Home}
-use Rattle.region_core.specs.declared.entry.Entry.{Entry}
-use Rattle.region_core.specs.declared.entry.Entry.TheVariants.{Native, Heard}
-use Rattle.region_core.specs.declared.entry.TheConstants.{MAX_ENTRIES}
+use Rattle.local_run.specs.declared.home.Home.{Home}
+use Rattle.local_run.specs.declared.entry.Entry.{Entry}
+use Rattle.local_run.specs.declared.entry.Entry.TheVariants.{Native, Heard}
+use Rattle.local_run.specs.declared.entry.TheConstants.{MAX_ENTRIES}
 use Rattle.region_core.specs.declared.live.Live.{Live}
-use Rattle.region_core.specs.declared.moves.Move.TheVariants.{Run, TakeIn}
-use Rattle.region_core.specs.LocalRun.{At, Local, Trails, trail_of, told, start_of, now_of, after_entry, entry_stamp, IsInPlace, IsRight, IsMove}
-use Rattle.region_core.specs.Answers.{with_entry, IsInTurn}
+use Rattle.local_run.specs.declared.moves.Move.TheVariants.{Run, TakeIn}
+use Rattle.local_run.specs.Entries.{entry_stamp}
+use Rattle.local_run.specs.LocalRun.{At, Local, Trails, trail_of, told, start_of, now_of, after_entry, IsInPlace, IsRight, IsMove}
+use Rattle.local_run.specs.Answers.{with_entry, IsInTurn}
 use Rattle.region_core.specs.Inbox.{InboxData, next_from, taken_from, with_taken}
-use Rattle.region_core.specs.Taken.{is_of, taken_of}
+use Rattle.local_run.specs.Taken.{is_of, taken_of}
 use Rattle.region_core.specs.Live.{run_in, start_in, now_in, saved_along, AreSavedAlong, IsInbox, IsOutbox, IsLive}
-use Rattle.region_core.specs.Keeping.{SendsTo}
-use Rattle.region_core.specs.Moves.{Fits}
-use Rattle.region_core.proofs.Among.{same_or_other}
-use Rattle.region_core.proofs.Logs.{now_appended}
-use Rattle.region_core.proofs.Taken.{taken_native, taken_heard, taken_from_other}
-use Rattle.region_core.proofs.Sent.{sent_native, sent_heard, sent_before_turn}
-use Rattle.region_core.proofs.Right.{right_appended, waiting_was_heard}
+use Rattle.local_run.specs.Keeping.{SendsTo}
+use Rattle.local_run.specs.Moves.{Fits}
+use Rattle.local_run.proofs.Among.{same_or_other}
+use Rattle.local_run.proofs.Logs.{now_appended}
+use Rattle.local_run.proofs.Taken.{taken_native, taken_heard, taken_from_other}
+use Rattle.local_run.proofs.Sent.{sent_native, sent_heard, sent_before_turn}
+use Rattle.local_run.proofs.Right.{right_appended, waiting_was_heard}
 use Rattle.region_core.proofs.Along.{along_appended, along_ends}
-use Rattle.region_core.proofs.Valid.{valid_now, valid_action}
+use Rattle.local_run.proofs.Valid.{valid_now, valid_action}
 use Rattle.region_core.proofs.NextMove.{next_of_waits}
 use Rattle.region_view.proofs.ValidRows.{setting_keeps_valid}
 use Rattle.region_view.specs.Placing.{IsValidPlacing}

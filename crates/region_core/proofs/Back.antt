@@ -4,15 +4,15 @@ use Rattle.std.proofs.Math.Seq.{take-suc}
 use Rattle.std.proofs.lemmas.List.{take-append-drop}
 use Rattle.event_stamps.specs.declared.Stamp.{Stamp}
 use Rattle.region_view.specs.declared.rows.Message.{Message}
-use Rattle.region_core.specs.declared.home.Home.{Home}
-use Rattle.region_core.specs.declared.entry.Entry.{Entry}
-use Rattle.region_core.specs.declared.entry.Entry.TheVariants.{Heard}
+use Rattle.local_run.specs.declared.home.Home.{Home}
+use Rattle.local_run.specs.declared.entry.Entry.{Entry}
+use Rattle.local_run.specs.declared.entry.Entry.TheVariants.{Heard}
 use Rattle.region_core.specs.declared.live.Live.{Live}
-use Rattle.region_core.specs.LocalRun.{Trails, trail_of, start_of}
+use Rattle.local_run.specs.LocalRun.{Trails, trail_of, start_of}
 use Rattle.region_core.specs.Inbox.{taken_from}
-use Rattle.region_core.specs.Taken.{taken_of}
+use Rattle.local_run.specs.Taken.{taken_of}
 use Rattle.region_core.specs.Live.{run_in, IsLive}
-use Rattle.region_core.proofs.Taken.{taken_joined, taken_heard, taken_fits}
+use Rattle.local_run.proofs.Taken.{taken_joined, taken_heard, taken_fits}
 
 pub taken_in_parts : (q n : ℕ) (es : List Entry) →
     taken_of q es ≡ taken_of q (take n es) + taken_of q (drop n es)

@@ -7,7 +7,7 @@ use Rattle.event_stamps.specs.Order.{Before}
 use Rattle.event_stamps.proofs.StampOrder.{before_decides, before_trans, not_before_itself}
 use Rattle.region_view.specs.declared.rows.Message.{Message}
 use Rattle.region_messages.specs.Trails.{is_before}
-use Rattle.region_core.specs.LocalRun.{Trails, trail_of}
+use Rattle.local_run.specs.LocalRun.{Trails, trail_of}
 use Rattle.region_core.specs.Inbox.{InboxData, next_from, taken_from, nearer_of, IsFirstOf, IsLeastHead}
 use Rattle.region_messages.proofs.Order.{is_before_true, is_before_false}
 

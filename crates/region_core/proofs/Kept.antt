@@ -2,12 +2,12 @@
 use Rattle.std.proofs.Common.{◌≡◌, Option, Some, None, subst, refl}
 use Rattle.std.specs.Prelude.{option_map, IfSome}
 use Rattle.event_stamps.specs.declared.Stamp.{Stamp}
-use Rattle.region_core.specs.declared.home.Home.{Home}
+use Rattle.local_run.specs.declared.home.Home.{Home}
 use Rattle.region_core.specs.declared.live.Live.{Live}
-use Rattle.region_core.specs.LocalRun.{IsRight}
-use Rattle.region_core.specs.Opening.{RegionData}
+use Rattle.local_run.specs.LocalRun.{IsRight}
+use Rattle.local_run.specs.Opening.{RegionData}
 use Rattle.region_core.specs.Live.{run_in, IsLive, IsSound}
-use Rattle.region_core.specs.Keeping.{IsKept}
+use Rattle.local_run.specs.Keeping.{IsKept}
 
 pub kept_is : (home : Home) (floor : Stamp) (live : Option Live) (region : RegionData) →
     record { home = home; floor = floor; run = option_map (run_in floor) live } ≡ region →

@@ -12,23 +12,24 @@ use Rattle.region_view.specs.Setting.{set_rows, after_action}
 use Rattle.region_messages.specs.Trails.{from}
 use Rattle.region_queue.specs.Queue.{QueueData, IsOf, StandsFor}
 use Rattle.saved_states.specs.Positions.{SavedData, EndsWith, first_position, dropped_after, dropped_before, lowered}
-use Rattle.region_core.specs.declared.home.Home.{Home}
-use Rattle.region_core.specs.declared.entry.Entry.{Entry}
-use Rattle.region_core.specs.declared.entry.Entry.TheVariants.{Native, Heard}
+use Rattle.local_run.specs.declared.home.Home.{Home}
+use Rattle.local_run.specs.declared.entry.Entry.{Entry}
+use Rattle.local_run.specs.declared.entry.Entry.TheVariants.{Native, Heard}
 use Rattle.region_core.specs.declared.live.Live.{Live}
-use Rattle.region_core.specs.LocalRun.{Local, At, Trails, start_of, now_of, without_first, after_entry, after_log}
-use Rattle.region_core.specs.LocalRun.{IsMove, Moves, entries_below, entries_from, IsInPlace, IsRight}
+use Rattle.local_run.specs.LocalRun.{Local, At, Trails, start_of, now_of, without_first, after_entry, after_log}
+use Rattle.local_run.specs.Entries.{entries_below, entries_from}
+use Rattle.local_run.specs.LocalRun.{IsMove, Moves, IsInPlace, IsRight}
 use Rattle.region_core.specs.Inbox.{InboxData, taken_from}
-use Rattle.region_core.specs.Taken.{taken_of}
+use Rattle.local_run.specs.Taken.{taken_of}
 use Rattle.region_core.specs.Live.{run_in, start_in, saved_along, IsInbox, IsOutbox, IsLive}
-use Rattle.region_core.specs.Raising.{raised_run, HasOrder, HasNoneWaitingBelow, IsRaised}
-use Rattle.region_core.proofs.Logs.{after_join, below_then_from, moves_split}
+use Rattle.local_run.specs.Raising.{raised_run, HasOrder, HasNoneWaitingBelow, IsRaised}
+use Rattle.local_run.proofs.Logs.{after_join, below_then_from, moves_split}
 use Rattle.region_core.proofs.Along.{along_ends}
 use Rattle.region_core.proofs.Back.{no_more_taken}
-use Rattle.region_core.proofs.Raised.{start_raised}
+use Rattle.local_run.proofs.Raised.{start_raised}
 use Rattle.region_core.proofs.Rewound.{is_up_to, is_past, kept_saved}
-use Rattle.region_core.proofs.Taken.{taken_below}
-use Rattle.region_core.proofs.Valid.{HaveValidRows, valid_without, valid_action, valid_along}
+use Rattle.local_run.proofs.Taken.{taken_below}
+use Rattle.local_run.proofs.Valid.{HaveValidRows, valid_without, valid_action, valid_along}
 
 -- ---- saved views
 let_go : (n p : ℕ) (pair : ℕ × ViewData) (a : At) (es : List Entry) → p ≤ n →

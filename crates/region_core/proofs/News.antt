@@ -12,19 +12,19 @@ use Rattle.region_messages.specs.Trails.{IsAmong, AgreeBelow, AgreesUpTo}
 use Rattle.region_messages.proofs.Parts.{agreed_part, rises_below, rises_replaced, among_replaced}
 use Rattle.region_queue.specs.Queue.{QueueData, IsOf, StandsFor}
 use Rattle.saved_states.specs.Positions.{SavedData}
-use Rattle.region_core.specs.declared.home.Home.{Home}
-use Rattle.region_core.specs.declared.entry.Entry.{Entry}
-use Rattle.region_core.specs.declared.entry.Entry.TheVariants.{Native, Heard}
-use Rattle.region_core.specs.declared.answers.Hearing.{Hearing}
-use Rattle.region_core.specs.declared.answers.Hearing.TheVariants.{Same, Rewound, Later, Apart}
+use Rattle.local_run.specs.declared.home.Home.{Home}
+use Rattle.local_run.specs.declared.entry.Entry.{Entry}
+use Rattle.local_run.specs.declared.entry.Entry.TheVariants.{Native, Heard}
+use Rattle.local_run.specs.declared.answers.Hearing.{Hearing}
+use Rattle.local_run.specs.declared.answers.Hearing.TheVariants.{Same, Rewound, Later, Apart}
 use Rattle.region_core.specs.declared.live.Live.{Live}
-use Rattle.region_core.specs.LocalRun.{Local, Trails, trail_of, start_of, now_of, after_log, without_first, entry_stamp, RiseFrom, IsHearable, IsRight, entries_below}
-use Rattle.region_core.specs.Answers.{clock_of, HasHeard, HearsFrom}
-use Rattle.region_core.specs.Keeping.{last_stamp}
+use Rattle.local_run.specs.Entries.{entry_stamp, RiseFrom, entries_below, clock_of, last_stamp}
+use Rattle.local_run.specs.LocalRun.{Local, Trails, trail_of, start_of, now_of, after_log, without_first, IsHearable, IsRight}
+use Rattle.local_run.specs.Answers.{HasHeard, HearsFrom}
 use Rattle.region_core.specs.Live.{run_in, saved_along, IsInbox, IsOutbox, IsLive}
 use Rattle.region_core.specs.Replaced.{mixed, HearsOn, IsReplaced}
-use Rattle.region_core.proofs.Logs.{below_kept, kept_below, all_below, below_whole}
-use Rattle.region_core.proofs.Hears.{hearing, right_heard}
+use Rattle.local_run.proofs.Logs.{below_kept, kept_below, all_below, below_whole}
+use Rattle.local_run.proofs.Hears.{hearing, right_heard}
 
 -- ---- the last entry
 pub none_there : (at : Stamp) (log : List Entry) → None ≡ last_stamp log → entries_below at log ≡ log

@@ -12,25 +12,25 @@ use Rattle.region_view.specs.Acting.{stamp_of}
 use Rattle.region_view.specs.Placing.{IsNative}
 use Rattle.region_view.specs.Views.{ViewData, rows_in}
 use Rattle.region_queue.specs.Queue.{QueueData, IsOf}
-use Rattle.region_core.specs.declared.home.Home.{Home}
-use Rattle.region_core.specs.declared.entry.Entry.{Entry}
+use Rattle.local_run.specs.declared.home.Home.{Home}
+use Rattle.local_run.specs.declared.entry.Entry.{Entry}
 use Rattle.region_core.specs.declared.live.Live.{Live}
-use Rattle.region_core.specs.declared.moves.Move.TheVariants.{Answer, Run, TakeIn}
-use Rattle.region_core.specs.declared.answers.Step.TheVariants.{Tied}
-use Rattle.region_core.specs.LocalRun.{At, Local, trail_of, entry_stamp, IsInPlace, IsOwn, IsWaiting, IsDue, ComesTo}
-use Rattle.region_core.specs.Answers.{clock_of, HasDue, IsInTurn, IsShared}
+use Rattle.local_run.specs.declared.moves.Move.TheVariants.{Answer, Run, TakeIn}
+use Rattle.local_run.specs.declared.answers.Step.TheVariants.{Tied}
+use Rattle.local_run.specs.Entries.{entry_stamp, clock_of, last_stamp}
+use Rattle.local_run.specs.LocalRun.{At, Local, trail_of, IsInPlace, IsOwn, IsWaiting, IsDue, ComesTo}
+use Rattle.local_run.specs.Answers.{HasDue, IsInTurn, IsShared}
 use Rattle.region_core.specs.Inbox.{InboxData, next_from, head_stamp, IsFirstOf, IsLeastHead, IsSharedHead}
-use Rattle.region_core.specs.Taken.{taken_of}
+use Rattle.local_run.specs.Taken.{taken_of}
 use Rattle.region_core.specs.Live.{run_in, start_in, now_in, IsInbox, IsLive}
-use Rattle.region_core.specs.Keeping.{last_stamp}
-use Rattle.region_core.specs.Moves.{Fits, ComesAfter}
-use Rattle.region_core.proofs.Among.{waits_first, same_or_other}
-use Rattle.region_core.proofs.Heads.{NoHeadBefore, due_of_heads, none_waits}
-use Rattle.region_core.proofs.Taken.{next_waits, none_is_next}
-use Rattle.region_core.proofs.Right.{waiting_rise}
-use Rattle.region_core.proofs.Choices.{heard_is_move, heads_are_shared}
+use Rattle.local_run.specs.Moves.{Fits, ComesAfter}
+use Rattle.local_run.proofs.Among.{waits_first, same_or_other}
+use Rattle.local_run.proofs.Heads.{NoHeadBefore, due_of_heads, none_waits}
+use Rattle.local_run.proofs.Taken.{next_waits, none_is_next}
+use Rattle.local_run.proofs.Right.{waiting_rise}
+use Rattle.local_run.proofs.Choices.{heard_is_move, heads_are_shared}
 use Rattle.region_view.proofs.ValidRows.{actions_are_valid}
-use Rattle.region_core.proofs.Valid.{own_candidate, valid_now}
+use Rattle.local_run.proofs.Valid.{own_candidate, valid_now}
 use Rattle.region_core.proofs.Firsts.{none_past, no_trail_past, none_in_nothing}
 
 below_or_past : (q n : ℕ) → (q < n) ⊎ (n ≤ q)

@@ -14,18 +14,18 @@ use Rattle.cell_grid.specs.contracts.grid.Grid as grid_type
 use Rattle.cell_grid.specs.Grid.{GridData, IsRegion, AreLinked}
 use Rattle.region_view.specs.declared.rows.Message.{Message}
 use Rattle.region_messages.proofs.Same.{same_by_code, stamp_eq, stamp_decides}
-use Rattle.region_core.specs.declared.home.Home.{Home}
+use Rattle.local_run.specs.declared.home.Home.{Home}
 use Rattle.region_core.specs.declared.live.Live.{Live}
-use Rattle.region_core.specs.declared.answers.Hearing.{Hearing}
-use Rattle.region_core.specs.declared.answers.Hearing.TheVariants.{Same, Rewound, Later, Apart}
-use Rattle.region_core.specs.LocalRun.{Local, IsInPlace, IsHearable, IsRight, sent_to}
-use Rattle.region_core.specs.Answers.{HearsFrom}
-use Rattle.region_core.specs.Opening.{RegionData, AreApart}
-use Rattle.region_core.specs.Keeping.{SendsTo, IsSent}
+use Rattle.local_run.specs.declared.answers.Hearing.{Hearing}
+use Rattle.local_run.specs.declared.answers.Hearing.TheVariants.{Same, Rewound, Later, Apart}
+use Rattle.local_run.specs.LocalRun.{Local, IsInPlace, IsHearable, IsRight, sent_to}
+use Rattle.local_run.specs.Answers.{HearsFrom}
+use Rattle.local_run.specs.Opening.{RegionData, AreApart}
+use Rattle.local_run.specs.Keeping.{SendsTo, IsSent}
 use Rattle.region_core.specs.Live.{run_in, IsLive, IsSound}
-use Rattle.region_core.specs.Hearing.{AreAlike, HearsRegion}
+use Rattle.local_run.specs.Hearing.{AreAlike, HearsRegion}
 use Rattle.region_core.proofs.Shown.{seen_as}
-use Rattle.region_core.proofs.Valid.{heard_from}
+use Rattle.local_run.proofs.Valid.{heard_from}
 
 -- ---- whether they are alike
 same_rules : (a b : Rules) → Decision (a ≡ b)

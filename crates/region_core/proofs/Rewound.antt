@@ -7,16 +7,17 @@ use Rattle.event_stamps.specs.declared.Stamp.{Stamp}
 use Rattle.region_view.specs.Views.{ViewData}
 use Rattle.region_messages.specs.Trails.{below}
 use Rattle.saved_states.specs.Positions.{SavedData, up_to, dropped_after}
-use Rattle.region_core.specs.declared.home.Home.{Home}
-use Rattle.region_core.specs.declared.entry.Entry.{Entry}
+use Rattle.local_run.specs.declared.home.Home.{Home}
+use Rattle.local_run.specs.declared.entry.Entry.{Entry}
 use Rattle.region_core.specs.declared.live.Live.{Live}
-use Rattle.region_core.specs.LocalRun.{Local, At, Trails, after_entry, RiseFrom, entries_below, entries_from, IsRight}
+use Rattle.local_run.specs.Entries.{RiseFrom, entries_below, entries_from}
+use Rattle.local_run.specs.LocalRun.{Local, At, Trails, after_entry, IsRight}
 use Rattle.region_core.specs.Inbox.{InboxData, taken_from}
-use Rattle.region_core.specs.Taken.{taken_of}
+use Rattle.local_run.specs.Taken.{taken_of}
 use Rattle.region_core.specs.Live.{run_in, saved_along, IsInbox, IsOutbox, IsLive, IsAlong, GoesAlong}
-use Rattle.region_core.proofs.Taken.{taken_below}
-use Rattle.region_core.proofs.Sent.{sent_below}
-use Rattle.region_core.proofs.Right.{right_rewound}
+use Rattle.local_run.proofs.Taken.{taken_below}
+use Rattle.local_run.proofs.Sent.{sent_below}
+use Rattle.local_run.proofs.Right.{right_rewound}
 
 -- ---- saved views
 pub is_up_to : (m n : ℕ) → m ≤ n → nat_le m n ≡ true

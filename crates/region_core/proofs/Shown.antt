@@ -3,13 +3,14 @@ use Rattle.std.proofs.Common.{◌≡◌, ◌⊎◌, inr, ℕ, zero, suc, List, [
 use Rattle.std.specs.Prelude.{option_map}
 use Rattle.event_stamps.specs.declared.Stamp.{Stamp}
 use Rattle.region_view.specs.declared.rows.Message.{Message}
-use Rattle.region_core.specs.declared.home.Home.{Home}
-use Rattle.region_core.specs.declared.entry.Entry.{Entry}
+use Rattle.local_run.specs.declared.home.Home.{Home}
+use Rattle.local_run.specs.declared.entry.Entry.{Entry}
 use Rattle.region_core.specs.declared.live.Live.{Live}
-use Rattle.region_core.specs.LocalRun.{trail_of, sent_to, entry_stamp}
-use Rattle.region_core.specs.Opening.{RegionData}
+use Rattle.local_run.specs.Entries.{entry_stamp, last_stamp}
+use Rattle.local_run.specs.LocalRun.{trail_of, sent_to}
+use Rattle.local_run.specs.Opening.{RegionData}
 use Rattle.region_core.specs.Live.{run_in}
-use Rattle.region_core.specs.Keeping.{last_stamp, SendsTo, HearsOf, IsSent, IsHeard}
+use Rattle.local_run.specs.Keeping.{SendsTo, HearsOf, IsSent, IsHeard}
 
 abbrev pub seen_as : Home → Stamp → Option Live → RegionData
 seen_as home floor live = record { home = home; floor = floor; run = option_map (run_in floor) live }

@@ -9,12 +9,12 @@ use Rattle.cell_grid.specs.Grid.{GridData, Reaches}
 use Rattle.region_view.specs.declared.action.Placed.{Placed}
 use Rattle.region_view.specs.Views.{ViewData, IsViewOf}
 use Rattle.cell_sequence.specs.State.{CellStateData}
-use Rattle.region_core.specs.declared.home.Home.{Home}
+use Rattle.local_run.specs.declared.home.Home.{Home}
 use Rattle.region_core.specs.declared.live.Live.{Live}
-use Rattle.region_core.specs.LocalRun.{Local}
-use Rattle.region_core.specs.Opening.{RegionData}
+use Rattle.local_run.specs.LocalRun.{Local}
+use Rattle.local_run.specs.Opening.{RegionData}
 use Rattle.region_core.specs.Live.{run_in}
-use Rattle.region_core.specs.Standing.{StandsOn, SeesRow, IsSeenAt, IsUnseenFirst, DiffersFirstAt}
+use Rattle.local_run.specs.Standing.{StandsOn, SeesRow, IsSeenAt, IsUnseenFirst, DiffersFirstAt}
 use Rattle.region_core.proofs.Shown.{seen_as}
 
 -- ---- one row

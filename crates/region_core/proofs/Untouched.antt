@@ -19,8 +19,8 @@ use Rattle.region_view.specs.Setting.{RowList, put, set_rows, after_action}
 use Rattle.region_view.specs.Views.{ViewData, rows_in}
 use Rattle.region_view.proofs.Puts.{get_put_here, get_put_other}
 use Rattle.region_queue.specs.Naming.{IsSameButBy, IsMoved}
-use Rattle.region_core.specs.declared.home.Home.{Home}
-use Rattle.region_core.specs.LocalRun.{ComesTo}
+use Rattle.local_run.specs.declared.home.Home.{Home}
+use Rattle.local_run.specs.LocalRun.{ComesTo}
 
 -- what a list of new records sets
 abbrev as_rows : List (ℕ × Placed) → RowList

@@ -4,7 +4,7 @@ use Rattle.event_stamps.specs.declared.Stamp.{Stamp}
 use Rattle.event_stamps.specs.Order.{Before}
 use Rattle.region_view.specs.declared.rows.Message.{Message}
 use Rattle.region_messages.specs.Trails.{is_before}
-use Rattle.region_core.specs.LocalRun.{Trails, trail_of}
+use Rattle.local_run.specs.LocalRun.{Trails, trail_of}
 
 -- by the number of the region: the messages heard from it, and how many of them were taken in
 pub record InboxData : Type 0 where

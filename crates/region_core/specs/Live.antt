@@ -6,12 +6,12 @@ use Rattle.cell_grid.specs.Grid.{IsRegion, AreLinked}
 use Rattle.region_view.specs.Views.{ViewData}
 use Rattle.region_queue.specs.Queue.{QueueData, IsOf, StandsFor}
 use Rattle.saved_states.specs.Positions.{SavedData}
-use Rattle.region_core.specs.declared.home.Home.{Home}
-use Rattle.region_core.specs.declared.entry.Entry.{Entry}
+use Rattle.local_run.specs.declared.home.Home.{Home}
+use Rattle.local_run.specs.declared.entry.Entry.{Entry}
 use Rattle.region_core.specs.declared.live.Live.{Live}
-use Rattle.region_core.specs.LocalRun.{Local, At, Trails, trail_of, start_of, now_of, after_entry, after_log, sent_to, IsInPlace, IsRight}
+use Rattle.local_run.specs.LocalRun.{Local, At, Trails, trail_of, start_of, now_of, after_entry, after_log, sent_to, IsInPlace, IsRight}
 use Rattle.region_core.specs.Inbox.{InboxData, taken_from}
-use Rattle.region_core.specs.Taken.{taken_of}
+use Rattle.local_run.specs.Taken.{taken_of}
 
 -- the local run that is kept
 abbrev pub run_in : Stamp → Live → Local

@@ -5,29 +5,23 @@
 //! states (Jefferson, Virtual Time, 1985).
 #![tactic(auto)]
 
-mod answers;
 mod appending;
 mod burst;
-mod entry;
 mod gate;
 mod hearing;
-mod home;
 mod inbox;
-mod laws;
 mod live;
 mod moves;
 mod raising;
 mod region;
 mod rollback;
 
-pub use answers::{Differs, Hearing, Step};
 pub use burst::Burst;
-pub use entry::{Entry, MAX_ENTRIES};
 pub use gate::{Gate, OpenGate};
-pub use home::Home;
-pub use laws::{
-    entries_were_due, hearings_have_one_answer, hearings_keep_right, logs_go_one_way,
-    messages_are_in_turn, raising_keeps_right, rollbacks_keep_right, sent_may_be_heard,
-    steps_go_one_way, steps_keep_right, views_are_valid, waits_if_not_taken,
+pub use local_run::{
+    Differs, Entry, Hearing, Home, MAX_ENTRIES, Step, entries_were_due, hearings_have_one_answer,
+    hearings_keep_right, logs_go_one_way, messages_are_in_turn, raising_keeps_right,
+    rollbacks_keep_right, sent_may_be_heard, steps_go_one_way, steps_keep_right, views_are_valid,
+    waits_if_not_taken,
 };
 pub use region::Region;

@@ -28,9 +28,9 @@ ghost use Rattle.event_stamps.specs.Order.{Before, end_stamp};
 ghost use Rattle.region_view.specs.Views.{rows_in};
 ghost use Rattle.region_view.specs.Placing.{IsValidPlacing};
 ghost use Rattle.cell_grid.specs.Grid.{IsRegion};
-ghost use Rattle.region_core.specs.LocalRun.{IsInPlace, trail_of, sent_to};
+ghost use Rattle.local_run.specs.LocalRun.{IsInPlace, trail_of, sent_to};
 ghost use Rattle.region_core.specs.Live.{IsLive, IsInbox, IsOutbox};
-ghost use Rattle.region_core.specs.Keeping.{SendsTo, HearsOf};
+ghost use Rattle.local_run.specs.Keeping.{SendsTo, HearsOf};
 
 use crate::Home;
 use crate::inbox::empty_trails;

@@ -5,36 +5,22 @@ ghost use Rattle.event_stamps.specs.Order.{Before};
 ghost use Rattle.event_stamps.specs.Least.{IsLeastOf};
 ghost use Rattle.region_view.specs.Placing.{IsValidPlacing};
 ghost use Rattle.region_view.specs.Views.{rows_in};
-ghost use Rattle.region_core.specs.LocalRun.{IsInPlace, IsOwn, IsOffered, IsDue, IsDueOrEnd, IsWaiting, ComesTo};
-ghost use Rattle.region_core.specs.Answers.{clock_of, HasDue, IsInTurn, StepsTo};
+ghost use Rattle.local_run.specs.LocalRun.{IsInPlace, IsOwn, IsOffered, IsDue, IsDueOrEnd, IsWaiting, ComesTo};
+ghost use Rattle.local_run.specs.Entries.{clock_of};
+ghost use Rattle.local_run.specs.Answers.{HasDue, IsInTurn, StepsTo};
 ghost use Rattle.region_core.specs.Inbox.{head_stamp, IsLeastHead, IsFirstOf};
 ghost use Rattle.region_core.specs.Live.{run_in, now_in, IsLive, HasRun, AreSavedAlong};
-ghost use Rattle.region_core.specs.Moves.{Fits, ComesAfter};
+ghost use Rattle.local_run.specs.Moves.{Fits, ComesAfter};
 
 use crate::live::Live;
 use crate::region::last_stamp;
 use crate::{Entry, Home, MAX_ENTRIES, Step};
 use event_rules::Limit;
 use event_stamps::{Kind, Stamp, compare, earlier};
+use local_run::Move;
 use region_view::{Action, Message, View, act};
 use std::alloc::{AllocError, Global};
 use std::cmp::Ordering;
-
-/// What a region does next.
-#[derive(Clone, Copy)]
-pub(crate) enum Move {
-    /// Nothing: it answers this.
-    Answer(Step),
-    /// It runs an event of its own columns.
-    Run(Action),
-    /// It takes in the first message of a region.
-    TakeIn {
-        /// The number of the region that sent it.
-        from: u32,
-        /// The message.
-        message: Message,
-    },
-}
 
 impl Live {
     /// The view after the whole log.

@@ -4,9 +4,9 @@ ghost use Rattle.std.specs.Prelude.{◌≡◌, ◌≤◌, length, take, drop, Al
 ghost use Rattle.event_stamps.specs.declared.Stamp.{Stamp};
 ghost use Rattle.event_stamps.specs.Order.{Before, end_stamp};
 ghost use Rattle.region_messages.specs.Trails.{from};
-ghost use Rattle.region_core.specs.LocalRun.{Trails, after_entry, after_log, IsInPlace};
+ghost use Rattle.local_run.specs.LocalRun.{Trails, after_entry, after_log, IsInPlace};
 ghost use Rattle.region_core.specs.Live.{run_in, saved_along, IsLive, HasRun};
-ghost use Rattle.region_core.specs.Raising.{raised_run, HasNoneWaitingBelow, HasOrder};
+ghost use Rattle.local_run.specs.Raising.{raised_run, HasNoneWaitingBelow, HasOrder};
 
 use crate::live::Live;
 use crate::rollback::count_before;

@@ -23,8 +23,8 @@ pub struct Region {
 
 impl Model for Region {
     ghost use Rattle.std.specs.Prelude.{option_map};
-    ghost use Rattle.region_core.specs.Opening.{RegionData};
-    ghost use Rattle.region_core.specs.Codes.{region_code};
+    ghost use Rattle.local_run.specs.Opening.{RegionData};
+    ghost use Rattle.local_run.specs.Codes.{region_code};
     ghost use Rattle.region_core.specs.Live.{run_in, IsSound};
 
     ghost Value = { RegionData };
@@ -43,10 +43,11 @@ impl Model for Region {
 ghost use Rattle.std.specs.Prelude.{◌≡◌, ◌↔◌, ◌⊎◌, List, length, slice_get, None, IsTrue, IfOk, OnErr, MatchOption};
 ghost use Rattle.event_stamps.specs.Order.{Before, end_stamp};
 ghost use Rattle.cell_grid.specs.Grid.{IsRegion};
-ghost use Rattle.region_core.specs.LocalRun.{IsInPlace};
-ghost use Rattle.region_core.specs.Opening.{IsOpened, spent};
-ghost use Rattle.region_core.specs.Steps.{Steps};
-ghost use Rattle.region_core.specs.Keeping.{IsKept, entries_of, native_in, last_stamp, IsDueIn, SendsTo, HearsOf, IsSent, IsHeard};
+ghost use Rattle.local_run.specs.LocalRun.{IsInPlace};
+ghost use Rattle.local_run.specs.Opening.{IsOpened, spent};
+ghost use Rattle.local_run.specs.Steps.{Steps};
+ghost use Rattle.local_run.specs.Entries.{native_in, last_stamp};
+ghost use Rattle.local_run.specs.Keeping.{IsKept, entries_of, IsDueIn, SendsTo, HearsOf, IsSent, IsHeard};
 
 use crate::{Entry, Step};
 use cell_grid::Grid;

@@ -6,7 +6,8 @@ ghost use Rattle.region_view.specs.Placing.{IsValidPlacing};
 ghost use Rattle.region_view.specs.Views.{rows_in};
 ghost use Rattle.region_messages.specs.Trails.{below};
 ghost use Rattle.region_queue.specs.Queue.{IsOf, StandsFor};
-ghost use Rattle.region_core.specs.LocalRun.{At, RiseFrom, IsInPlace, IsMove, after_entry, entries_below, entries_from};
+ghost use Rattle.local_run.specs.Entries.{RiseFrom, entries_below, entries_from};
+ghost use Rattle.local_run.specs.LocalRun.{At, IsInPlace, IsMove, after_entry};
 ghost use Rattle.region_core.specs.Live.{IsLive, GoesAlong, HasRun};
 
 use crate::appending::touch;

@@ -9,7 +9,7 @@ use Rattle.std.proofs.lemmas.Map.Steps.{length-le_from_distinct_below}
 use Rattle.std.proofs.lemmas.List.Elements.{All-nil, All-cons, All-head, All-tail, All-filter, All-append, All-take, All-drop}
 use Rattle.std.proofs.lemmas.Bool.{or_parts, or_cases, or_from, eq-eqb, ne_eqb}
 use Rattle.atomic_table.specs.Table.{Me, rest, turned}
-use Rattle.region_core.specs.Opening.{RegionData}
+use Rattle.local_run.specs.Opening.{RegionData}
 use Rattle.region_table.specs.declared.rule.Hold.{Hold}
 use Rattle.region_table.specs.declared.rule.View.{View}
 use Rattle.region_table.specs.Rule.{Content, version_of, last_version, slots_of, is_held, without, seeing, holding, putting, undoing, count_next}

@@ -14,9 +14,9 @@ use Rattle.event_stamps.specs.declared.Stamp.{Stamp}
 use Rattle.fixed_motion.specs.Rules.{IsChecked}
 use Rattle.event_stamps.specs.Order.{Before, end_stamp}
 use Rattle.cell_grid.specs.Grid.{GridData, IsGridOf, columns_of}
-use Rattle.region_core.specs.Keeping.{IsKept}
-use Rattle.region_core.specs.Opening.{RegionData, spent}
-use Rattle.region_core.specs.Bursts.{IsAtPlace, AreTogether}
+use Rattle.local_run.specs.Keeping.{IsKept}
+use Rattle.local_run.specs.Opening.{RegionData, spent}
+use Rattle.local_run.specs.Bursts.{IsAtPlace, AreTogether}
 use Rattle.region_table.specs.declared.rule.View.{View}
 use Rattle.region_table.specs.Bases.{AreReplaced}
 use Rattle.region_table.specs.Rule.{Content, IsHome, IsAtHome, version_of, all_parts, HasAll, no_view, is_held, is_noted, Kept}

@@ -12,7 +12,7 @@ use lib.ListN.{get_elem?}
 use lib.Seq.{set-get_or}
 use Rattle.atomic_table.specs.Table.{State, Me, Act, step, keeps, takes, gives, stepped, Valid, Allows, carried_after, rest}
 use Rattle.atomic_table.proofs.Lists.{at_set, set_here, set_else}
-use Rattle.region_core.specs.Opening.{RegionData}
+use Rattle.local_run.specs.Opening.{RegionData}
 use Rattle.region_table.specs.declared.rule.Sight.{Sight}
 use Rattle.region_table.specs.declared.rule.Hold.{Hold}
 use Rattle.region_table.specs.declared.rule.Note.{Note}

@@ -9,7 +9,7 @@ use native.Mathlib.Decide.{ℕ_discrete}
 use lib.ListN.{get_elem?}
 use Rattle.atomic_table.specs.Table.{State, Splits, Joins, opening}
 use Rattle.atomic_table.proofs.Lists.{at_set, at_snoc, at_longer, set_else}
-use Rattle.region_core.specs.Opening.{RegionData}
+use Rattle.local_run.specs.Opening.{RegionData}
 use Rattle.region_table.specs.declared.rule.Sight.{Sight}
 use Rattle.region_table.specs.declared.rule.Hold.{Hold}
 use Rattle.region_table.specs.declared.rule.Note.{Note}

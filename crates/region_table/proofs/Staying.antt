@@ -4,14 +4,14 @@ use Rattle.std.specs.Prelude.{Some, None, Bool, IsTrue, option_map}
 use Rattle.std.proofs.lemmas.Option.{none-some, same_Some}
 use Rattle.region_view.specs.declared.rows.Message.{Message}
 use Rattle.std.proofs.Common.{Option as StdOption}
-use Rattle.region_core.specs.declared.answers.Hearing.{Hearing}
-use Rattle.region_core.specs.declared.answers.Hearing.TheVariants.{Same, Rewound, Later, Apart}
-use Rattle.region_core.specs.LocalRun.{Local}
-use Rattle.region_core.specs.Opening.{RegionData, spent}
-use Rattle.region_core.specs.Answers.{HearsFrom}
-use Rattle.region_core.specs.Hearing.{HearsAnother, HearsRegion}
-use Rattle.region_core.specs.RunOn.{BeginsAs, AreRunOn}
-use Rattle.region_core.proofs.Begins.{begins_on}
+use Rattle.local_run.specs.declared.answers.Hearing.{Hearing}
+use Rattle.local_run.specs.declared.answers.Hearing.TheVariants.{Same, Rewound, Later, Apart}
+use Rattle.local_run.specs.LocalRun.{Local}
+use Rattle.local_run.specs.Opening.{RegionData, spent}
+use Rattle.local_run.specs.Answers.{HearsFrom}
+use Rattle.local_run.specs.Hearing.{HearsAnother, HearsRegion}
+use Rattle.local_run.specs.RunOn.{BeginsAs, AreRunOn}
+use Rattle.local_run.proofs.Begins.{begins_on}
 use Rattle.region_table.specs.Bases.{IsSpent, MayReplace, MayLieIn, StaysOrSpent, AreReplaced, AreAlive}
 
 from_base : (k : ℕ) (r : Local) (answer : Hearing) (left : Local) (sent : List Message) → HearsFrom k sent r answer left → left.base ≡ r.base

@@ -1,9 +1,9 @@
 -- What may lie where a region lay, and how many entries it counts as.
 use Rattle.std.specs.Prelude.{◌≡◌, ◌≢◌, ◌⊎◌, ℕ, ◌+◌, List, length, slice_get, Option, Some, None}
-use Rattle.region_core.specs.declared.entry.TheConstants.{MAX_ENTRIES}
-use Rattle.region_core.specs.LocalRun.{Local}
-use Rattle.region_core.specs.Opening.{RegionData, spent}
-use Rattle.region_core.specs.RunOn.{BeginsAs}
+use Rattle.local_run.specs.declared.entry.TheConstants.{MAX_ENTRIES}
+use Rattle.local_run.specs.LocalRun.{Local}
+use Rattle.local_run.specs.Opening.{RegionData, spent}
+use Rattle.local_run.specs.RunOn.{BeginsAs}
 
 pub record IsSpent (number : ℕ) (region : RegionData) : Type 0 where
   pub run : region.run ≡ None

@@ -5,7 +5,7 @@ use Rattle.std.specs.List.{filter, list_any}
 use mathlib.Core.Option.{none, some}
 use lib.ListN.{get_elem?}
 use Rattle.atomic_table.specs.Table.{State, Me, Step, rest}
-use Rattle.region_core.specs.Opening.{RegionData}
+use Rattle.local_run.specs.Opening.{RegionData}
 use Rattle.region_table.specs.declared.rule.Sight.{Sight}
 use Rattle.region_table.specs.declared.rule.Hold.{Hold}
 use Rattle.region_table.specs.declared.rule.Note.{Note}

@@ -6,15 +6,15 @@ use Rattle.atomic_table.specs.Seated.{TableId, table_id_coded}
 use Rattle.atomic_table.specs.Table.{State, Me}
 use mathlib.Core.Option.{some}
 use lib.ListN.{get_elem?}
-use Rattle.region_core.specs.Opening.{RegionData, spent}
-use Rattle.region_core.specs.Bursts.{IsAtPlace}
+use Rattle.local_run.specs.Opening.{RegionData, spent}
+use Rattle.local_run.specs.Bursts.{IsAtPlace}
 use Rattle.fixed_motion.specs.declared.rules.Rules.{Rules}
 use Rattle.fixed_motion.specs.Rules.{IsChecked}
 use Rattle.event_stamps.specs.declared.Stamp.{Stamp}
 use Rattle.event_stamps.specs.Order.{Before, end_stamp}
 use Rattle.cell_grid.specs.declared.grid.TheConstants.{MAX_REGIONS}
 use Rattle.cell_grid.specs.Grid.{GridData, IsGridOf}
-use Rattle.region_core.specs.Codes.{region_code}
+use Rattle.local_run.specs.Codes.{region_code}
 use Rattle.region_table.specs.declared.rule.Hold.{Hold}
 use Rattle.region_table.specs.declared.rule.Note.{Note}
 use Rattle.region_table.specs.declared.rule.View.{View}

@@ -5,8 +5,8 @@ ghost use Rattle.std.specs.Slots.{slots_items, slots_len, IsFull};
 ghost use Rattle.fixed_motion.specs.Rules.{IsChecked};
 ghost use Rattle.event_stamps.specs.Order.{Before, end_stamp};
 ghost use Rattle.cell_grid.specs.Grid.{IsGridOf};
-ghost use Rattle.region_core.specs.LocalRun.{IsInPlace};
-ghost use Rattle.region_core.specs.Opening.{RegionData};
+ghost use Rattle.local_run.specs.LocalRun.{IsInPlace};
+ghost use Rattle.local_run.specs.Opening.{RegionData};
 ghost use Rattle.region_table.specs.Rule.{IsHome};
 ghost use Rattle.region_table.specs.Tables.{ComesOf};
 

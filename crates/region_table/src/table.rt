@@ -31,7 +31,7 @@ impl Model for RegionTable {
 
 ghost use Rattle.std.specs.Prelude.{◌≡◌, ◌<◌, ◌≤◌, [], length, map, false, true, Some, IfOk};
 ghost use Rattle.cell_grid.specs.declared.grid.TheConstants.{MAX_REGIONS};
-ghost use Rattle.region_core.specs.Bursts.{AreTogether};
+ghost use Rattle.local_run.specs.Bursts.{AreTogether};
 ghost use Rattle.region_table.specs.Bases.{MayLieIn, AreReplaced};
 ghost use Rattle.region_table.specs.Rule.{HasAll, first_view, is_held, halved, copied, joined};
 ghost use Rattle.region_table.specs.Tables.{IsSeatOf, first_seat, with_view, TakesOut, PutsBack, AreLeft, Closes};

@@ -1,8 +1,8 @@
 //! Workers on regions in one table.
 
 ghost use Rattle.std.specs.Prelude.{◌≡◌, ◌<◌, ◌≤◌, ◌^◌, [], length, All, IfOk, IsFalse};
-ghost use Rattle.region_core.specs.Bursts.{AreTogether};
-ghost use Rattle.region_core.specs.RunOn.{AreRunOn};
+ghost use Rattle.local_run.specs.Bursts.{AreTogether};
+ghost use Rattle.local_run.specs.RunOn.{AreRunOn};
 ghost use Rattle.region_workers.specs.declared.workers.TheConstants.{MAX_WORKERS};
 ghost use Rattle.region_table.specs.Bases.{AreAlive};
 ghost use Rattle.region_table.specs.Rule.{slots_of};

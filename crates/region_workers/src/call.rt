@@ -1,8 +1,8 @@
 //! Calls that work on regions.
 
 ghost use Rattle.std.specs.Prelude.{◌≡◌, length, IfOk};
-ghost use Rattle.region_core.specs.Bursts.{AreTogether};
-ghost use Rattle.region_core.specs.RunOn.{AreRunOn};
+ghost use Rattle.local_run.specs.Bursts.{AreTogether};
+ghost use Rattle.local_run.specs.RunOn.{AreRunOn};
 
 use region_core::Region;
 use std::alloc::AllocError;

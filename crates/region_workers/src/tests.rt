@@ -1,6 +1,6 @@
 ghost use Rattle.std.specs.Prelude.{◌≡◌, length, IfOk};
-ghost use Rattle.region_core.specs.Bursts.{AreTogether};
-ghost use Rattle.region_core.specs.RunOn.{AreRunOn};
+ghost use Rattle.local_run.specs.Bursts.{AreTogether};
+ghost use Rattle.local_run.specs.RunOn.{AreRunOn};
 
 use crate::roll::{Notice, Roll};
 use crate::{ByCall, Call, Workers};

@@ -18,10 +18,10 @@ use Rattle.cell_sequence.specs.Laws.{IsHomeOf}
 use Rattle.cell_sequence.proofs.Orderly.{cell_states_are_orderly}
 use Rattle.cell_sequence.proofs.Followed.{followed_is, raised_is}
 use Rattle.cell_sequence.proofs.Seen.{next_actions_are_seen}
-use Rattle.region_core.specs.declared.answers.Step.TheVariants.{Ran, Halted}
-use Rattle.region_core.specs.LocalRun.{Local, now_of, IsOffered}
-use Rattle.region_core.specs.Answers.{StepsTo}
-use Rattle.region_core.specs.Opening.{RegionData, home_of}
+use Rattle.local_run.specs.declared.answers.Step.TheVariants.{Ran, Halted}
+use Rattle.local_run.specs.LocalRun.{Local, now_of, IsOffered}
+use Rattle.local_run.specs.Answers.{StepsTo}
+use Rattle.local_run.specs.Opening.{RegionData, home_of}
 use Rattle.commit_horizon.specs.Horizon.{Runs, runs_of, AreStanding}
 use Rattle.commit_horizon.specs.Commits.{Commits}
 use Rattle.commit_horizon.proofs.Offered.{cell_laws}

@@ -10,18 +10,18 @@ use Rattle.cell_sequence.specs.State.{CellStateData}
 use Rattle.cell_sequence.proofs.Lists.{get_here, get_other}
 use Rattle.region_view.specs.Views.{IsViewOf}
 use Rattle.region_view.specs.declared.rows.Message.{Message}
-use Rattle.region_core.specs.declared.home.Home.{Home}
-use Rattle.region_core.specs.declared.answers.Step.{Step}
-use Rattle.region_core.specs.declared.answers.Step.TheVariants.{Ran, Heard as Took, Idle, Past, Tied}
-use Rattle.region_core.specs.declared.answers.Step.TheVariants.{Halted, Held, Spent}
-use Rattle.region_core.specs.declared.answers.Hearing.{Hearing}
-use Rattle.region_core.specs.declared.answers.Hearing.TheVariants.{Same, Rewound, Later, Apart}
-use Rattle.region_core.specs.LocalRun.{Local}
-use Rattle.region_core.specs.Answers.{StepsTo, HearsFrom}
-use Rattle.region_core.specs.Opening.{RegionData}
-use Rattle.region_core.specs.Steps.{Steps, StepsOn}
-use Rattle.region_core.specs.Hearing.{HearsAnother, HearsRegion}
-use Rattle.region_core.specs.Standing.{StandsOn}
+use Rattle.local_run.specs.declared.home.Home.{Home}
+use Rattle.local_run.specs.declared.answers.Step.{Step}
+use Rattle.local_run.specs.declared.answers.Step.TheVariants.{Ran, Heard as Took, Idle, Past, Tied}
+use Rattle.local_run.specs.declared.answers.Step.TheVariants.{Halted, Held, Spent}
+use Rattle.local_run.specs.declared.answers.Hearing.{Hearing}
+use Rattle.local_run.specs.declared.answers.Hearing.TheVariants.{Same, Rewound, Later, Apart}
+use Rattle.local_run.specs.LocalRun.{Local}
+use Rattle.local_run.specs.Answers.{StepsTo, HearsFrom}
+use Rattle.local_run.specs.Opening.{RegionData}
+use Rattle.local_run.specs.Steps.{Steps, StepsOn}
+use Rattle.local_run.specs.Hearing.{HearsAnother, HearsRegion}
+use Rattle.local_run.specs.Standing.{StandsOn}
 use Rattle.run_core.specs.declared.playing.CoreStep.{CoreStep}
 use Rattle.run_core.specs.declared.playing.CoreStep.TheVariants.{Turn, Hear}
 use Rattle.run_core.specs.declared.playing.Answer.{Answer}

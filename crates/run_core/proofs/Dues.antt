@@ -6,8 +6,8 @@ use Rattle.event_stamps.specs.declared.Stamp.{Stamp}
 use Rattle.event_stamps.specs.Order.{Before}
 use Rattle.event_stamps.proofs.StampOrder.{before_trans, not_before_itself}
 use Rattle.region_messages.proofs.Order.{before_not_before}
-use Rattle.region_core.specs.Opening.{RegionData}
-use Rattle.region_core.specs.Keeping.{IsDueIn}
+use Rattle.local_run.specs.Opening.{RegionData}
+use Rattle.local_run.specs.Keeping.{IsDueIn}
 use Rattle.run_core.specs.Taking.{IsFirstDue}
 
 -- the first region alone

@@ -17,18 +17,19 @@ use Rattle.cell_sequence.specs.State.{CellStateData, IsCellState, followed}
 use Rattle.cell_sequence.specs.Laws.{Sees, IsNextAction, IsHomeOf}
 use Rattle.cell_sequence.proofs.Orderly.{cell_states_are_orderly}
 use Rattle.cell_sequence.proofs.Seen.{next_actions_are_seen}
-use Rattle.region_core.specs.declared.entry.Entry.{Entry}
-use Rattle.region_core.specs.declared.entry.Entry.TheVariants.{Native, Heard}
-use Rattle.region_core.specs.declared.answers.Step.{Step}
-use Rattle.region_core.specs.declared.answers.Step.TheVariants.{Ran, Heard as Took, Idle, Past, Tied, Halted, Held, Spent}
-use Rattle.region_core.specs.declared.answers.Hearing.{Hearing}
-use Rattle.region_core.specs.declared.answers.Hearing.TheVariants.{Same, Rewound, Later, Apart}
-use Rattle.region_core.specs.LocalRun.{At, Local, trail_of, rest_of, without_first, start_of, now_of}
-use Rattle.region_core.specs.LocalRun.{IsWaiting, IsOwn, IsOffered, IsDue, sent_to, told, entries_below}
-use Rattle.region_core.specs.Answers.{StepsTo, HearsFrom, IsInTurn, IsShared, with_entry}
-use Rattle.region_core.specs.Opening.{home_of}
-use Rattle.region_core.proofs.Among.{same_trail, other_trail, same_or_other}
-use Rattle.region_core.proofs.Sent.{message_stamp}
+use Rattle.local_run.specs.declared.entry.Entry.{Entry}
+use Rattle.local_run.specs.declared.entry.Entry.TheVariants.{Native, Heard}
+use Rattle.local_run.specs.declared.answers.Step.{Step}
+use Rattle.local_run.specs.declared.answers.Step.TheVariants.{Ran, Heard as Took, Idle, Past, Tied, Halted, Held, Spent}
+use Rattle.local_run.specs.declared.answers.Hearing.{Hearing}
+use Rattle.local_run.specs.declared.answers.Hearing.TheVariants.{Same, Rewound, Later, Apart}
+use Rattle.local_run.specs.LocalRun.{At, Local, trail_of, rest_of, without_first, start_of, now_of}
+use Rattle.local_run.specs.Entries.{entries_below}
+use Rattle.local_run.specs.LocalRun.{IsWaiting, IsOwn, IsOffered, IsDue, sent_to, told}
+use Rattle.local_run.specs.Answers.{StepsTo, HearsFrom, IsInTurn, IsShared, with_entry}
+use Rattle.local_run.specs.Opening.{home_of}
+use Rattle.local_run.proofs.Among.{same_trail, other_trail, same_or_other}
+use Rattle.local_run.proofs.Sent.{message_stamp}
 use Rattle.commit_horizon.specs.Horizon.{Runs, IsBound, IsHorizon}
 use Rattle.commit_horizon.proofs.Offered.{cell_laws}
 use Rattle.run_core.specs.Hearings.{sent_by}

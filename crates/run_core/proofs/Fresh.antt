@@ -15,19 +15,20 @@ use Rattle.region_messages.proofs.Order.{before_not_before}
 use Rattle.cell_sequence.specs.State.{CellStateData, IsCellState, IsCandidateOf, IsNextOf, ComesTo}
 use Rattle.cell_sequence.specs.Laws.{Sees, IsNextAction, IsHomeOf}
 use Rattle.cell_sequence.proofs.Orderly.{cell_states_are_orderly}
-use Rattle.region_core.specs.declared.entry.Entry.{Entry}
-use Rattle.region_core.specs.declared.entry.Entry.TheVariants.{Native}
-use Rattle.region_core.specs.declared.entry.TheConstants.{MAX_ENTRIES}
-use Rattle.region_core.specs.declared.answers.Step.{Step}
-use Rattle.region_core.specs.declared.answers.Step.TheVariants.{Ran, Heard as Took, Idle, Past, Tied, Halted, Held, Spent}
-use Rattle.region_core.specs.declared.answers.Hearing.{Hearing}
-use Rattle.region_core.specs.declared.answers.Hearing.TheVariants.{Same, Rewound, Later, Apart}
-use Rattle.region_core.specs.LocalRun.{Trails, At, Local, trail_of, start_of, now_of, IsWaiting, IsOwn, IsOffered}
-use Rattle.region_core.specs.LocalRun.{IsDue, IsDueOrEnd, RiseFrom, entries_below, sent_to}
-use Rattle.region_core.specs.Answers.{StepsTo, HearsFrom, IsInTurn, IsShared, with_entry}
-use Rattle.region_core.specs.Opening.{home_of}
-use Rattle.region_core.proofs.Logs.{below_out}
-use Rattle.region_core.proofs.Right.{right_rewound}
+use Rattle.local_run.specs.declared.entry.Entry.{Entry}
+use Rattle.local_run.specs.declared.entry.Entry.TheVariants.{Native}
+use Rattle.local_run.specs.declared.entry.TheConstants.{MAX_ENTRIES}
+use Rattle.local_run.specs.declared.answers.Step.{Step}
+use Rattle.local_run.specs.declared.answers.Step.TheVariants.{Ran, Heard as Took, Idle, Past, Tied, Halted, Held, Spent}
+use Rattle.local_run.specs.declared.answers.Hearing.{Hearing}
+use Rattle.local_run.specs.declared.answers.Hearing.TheVariants.{Same, Rewound, Later, Apart}
+use Rattle.local_run.specs.LocalRun.{Trails, At, Local, trail_of, start_of, now_of, IsWaiting, IsOwn, IsOffered}
+use Rattle.local_run.specs.Entries.{RiseFrom, entries_below}
+use Rattle.local_run.specs.LocalRun.{IsDue, IsDueOrEnd, sent_to}
+use Rattle.local_run.specs.Answers.{StepsTo, HearsFrom, IsInTurn, IsShared, with_entry}
+use Rattle.local_run.specs.Opening.{home_of}
+use Rattle.local_run.proofs.Logs.{below_out}
+use Rattle.local_run.proofs.Right.{right_rewound}
 use Rattle.commit_horizon.specs.Horizon.{Runs, IsStanding, AreStanding}
 use Rattle.commit_horizon.proofs.GoesOn.{CellLaws}
 use Rattle.run_core.specs.Hearings.{Call, sent_by, Hearings, IsPass, one_if_rewound, rewinds}

@@ -11,22 +11,23 @@ use Rattle.region_messages.specs.Trails.{is_before, IsAmong, Rises, below, Agree
 use Rattle.region_messages.proofs.Order.{is_before_true, is_before_false, before_not_before}
 use Rattle.region_messages.proofs.Parts.{among_below, below_among, below_first, below_none}
 use Rattle.cell_sequence.specs.State.{CellStateData}
-use Rattle.region_core.specs.declared.home.Home.{Home}
-use Rattle.region_core.specs.declared.entry.Entry.{Entry}
-use Rattle.region_core.specs.declared.entry.Entry.TheVariants.{Native, Heard}
-use Rattle.region_core.specs.declared.answers.Hearing.{Hearing}
-use Rattle.region_core.specs.declared.answers.Hearing.TheVariants.{Same, Rewound, Later, Apart}
-use Rattle.region_core.specs.LocalRun.{At, Trails, Local, trail_of, rest_of, without_first, entry_stamp, after_entry, after_log}
-use Rattle.region_core.specs.LocalRun.{start_of, now_of, Moves, IsWaiting, IsOwn, IsOffered, IsRight}
-use Rattle.region_core.specs.LocalRun.{entries_below, entries_from, sent_to}
-use Rattle.region_core.specs.Answers.{HasHeard, HearsFrom}
-use Rattle.region_core.specs.Opening.{home_of}
-use Rattle.region_core.proofs.Among.{same_trail, other_trail, same_or_other}
-use Rattle.region_core.proofs.Logs.{below_then_from, all_before_turn, among_before}
-use Rattle.region_core.proofs.Right.{waiting_was_heard, right_rewound}
-use Rattle.region_core.proofs.InTurn.{waiting_in_turn}
-use Rattle.region_core.proofs.Determined.{entries_were_due}
-use Rattle.region_core.proofs.Sent.{sent_below}
+use Rattle.local_run.specs.declared.home.Home.{Home}
+use Rattle.local_run.specs.declared.entry.Entry.{Entry}
+use Rattle.local_run.specs.declared.entry.Entry.TheVariants.{Native, Heard}
+use Rattle.local_run.specs.declared.answers.Hearing.{Hearing}
+use Rattle.local_run.specs.declared.answers.Hearing.TheVariants.{Same, Rewound, Later, Apart}
+use Rattle.local_run.specs.Entries.{entry_stamp, entries_below, entries_from}
+use Rattle.local_run.specs.LocalRun.{At, Trails, Local, trail_of, rest_of, without_first, after_entry, after_log}
+use Rattle.local_run.specs.LocalRun.{start_of, now_of, Moves, IsWaiting, IsOwn, IsOffered, IsRight}
+use Rattle.local_run.specs.LocalRun.{sent_to}
+use Rattle.local_run.specs.Answers.{HasHeard, HearsFrom}
+use Rattle.local_run.specs.Opening.{home_of}
+use Rattle.local_run.proofs.Among.{same_trail, other_trail, same_or_other}
+use Rattle.local_run.proofs.Logs.{below_then_from, all_before_turn, among_before}
+use Rattle.local_run.proofs.Right.{waiting_was_heard, right_rewound}
+use Rattle.local_run.proofs.InTurn.{waiting_in_turn}
+use Rattle.local_run.proofs.Determined.{entries_were_due}
+use Rattle.local_run.proofs.Sent.{sent_below}
 
 -- ---- what is new
 pub record News (k : ℕ) (sent : List Message) (r new : Local) : Type 0 where

@@ -9,12 +9,12 @@ use Rattle.event_rules.specs.declared.change.Limit.{Limit as Failure}
 use Rattle.cell_grid.specs.Grid.{IsRegion}
 use Rattle.region_view.specs.declared.action.Action.{Action}
 use Rattle.cell_sequence.specs.State.{CellStateData, IsCellState, IsCandidateOf}
-use Rattle.region_core.specs.declared.answers.Step.{Step}
-use Rattle.region_core.specs.declared.answers.Step.TheVariants.{Ran, Halted}
-use Rattle.region_core.specs.LocalRun.{Local, now_of, IsOffered, IsDueOrEnd}
-use Rattle.region_core.specs.Answers.{StepsTo}
-use Rattle.region_core.specs.Opening.{RegionData, home_of}
-use Rattle.region_core.specs.Hearing.{rewound}
+use Rattle.local_run.specs.declared.answers.Step.{Step}
+use Rattle.local_run.specs.declared.answers.Step.TheVariants.{Ran, Halted}
+use Rattle.local_run.specs.LocalRun.{Local, now_of, IsOffered, IsDueOrEnd}
+use Rattle.local_run.specs.Answers.{StepsTo}
+use Rattle.local_run.specs.Opening.{RegionData, home_of}
+use Rattle.local_run.specs.Hearing.{rewound}
 use Rattle.commit_horizon.specs.Horizon.{runs_of, AllStand, AllKept}
 use Rattle.commit_horizon.specs.Commits.{Commits}
 use Rattle.commit_horizon.proofs.Offered.{cell_laws}

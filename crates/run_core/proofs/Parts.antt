@@ -3,7 +3,7 @@ use Rattle.std.proofs.Common.{◌≡◌, ◌≢◌, inl, inr, true, false, List,
 use Rattle.std.specs.Prelude.{◌==◌, IfOk}
 use Rattle.region_view.specs.declared.action.Action.{Action}
 use Rattle.cell_sequence.specs.State.{CellStateData, IsCellState}
-use Rattle.region_core.specs.Opening.{RegionData}
+use Rattle.local_run.specs.Opening.{RegionData}
 use Rattle.commit_horizon.specs.Horizon.{runs_of, AllStand, AllKept}
 use Rattle.commit_horizon.specs.Commits.{Commits}
 use Rattle.commit_horizon.proofs.Standing.{are_standing}

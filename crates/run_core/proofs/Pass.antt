@@ -8,17 +8,18 @@ use Rattle.region_view.specs.Views.{ViewData}
 use Rattle.region_messages.specs.Trails.{is_before, IsAmong}
 use Rattle.cell_sequence.specs.State.{CellStateData, IsCellState}
 use Rattle.cell_sequence.specs.Laws.{Sees}
-use Rattle.region_core.specs.declared.entry.Entry.{Entry}
-use Rattle.region_core.specs.declared.answers.Hearing.{Hearing}
-use Rattle.region_core.specs.declared.answers.Hearing.TheVariants.{Same, Rewound, Later, Apart}
-use Rattle.region_core.specs.LocalRun.{Local, trail_of, entry_stamp, IsRight}
-use Rattle.region_core.specs.LocalRun.{entries_below, sent_to}
-use Rattle.region_core.specs.Answers.{HearsFrom}
-use Rattle.region_core.specs.Opening.{home_of}
-use Rattle.region_core.proofs.Among.{same_or_other}
-use Rattle.region_core.proofs.Keeps.{hearing_keeps_right}
-use Rattle.region_core.proofs.Valid.{heard_from}
-use Rattle.region_core.proofs.Opened.{state_place}
+use Rattle.local_run.specs.declared.entry.Entry.{Entry}
+use Rattle.local_run.specs.declared.answers.Hearing.{Hearing}
+use Rattle.local_run.specs.declared.answers.Hearing.TheVariants.{Same, Rewound, Later, Apart}
+use Rattle.local_run.specs.Entries.{entry_stamp, entries_below}
+use Rattle.local_run.specs.LocalRun.{Local, trail_of, IsRight}
+use Rattle.local_run.specs.LocalRun.{sent_to}
+use Rattle.local_run.specs.Answers.{HearsFrom}
+use Rattle.local_run.specs.Opening.{home_of}
+use Rattle.local_run.proofs.Among.{same_or_other}
+use Rattle.local_run.proofs.Keeps.{hearing_keeps_right}
+use Rattle.local_run.proofs.Valid.{heard_from}
+use Rattle.local_run.proofs.Opened.{state_place}
 use Rattle.commit_horizon.specs.Horizon.{Runs, IsStanding, AreStanding, IsBound}
 use Rattle.run_core.specs.Hearings.{Call, sent_by, Hears, Hearings, IsPass, one_if_rewound, rewinds}
 use Rattle.run_core.specs.Hearings.{entries_of, Passes, AllHeard, SameBases}

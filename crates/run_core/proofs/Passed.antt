@@ -4,11 +4,11 @@ use Rattle.std.specs.Prelude.{nat_lt}
 use Rattle.cell_grid.specs.Grid.{IsRegion, AreLinked}
 use Rattle.region_messages.specs.Trails.{IsAmong}
 use Rattle.cell_sequence.specs.State.{CellStateData}
-use Rattle.region_core.specs.declared.answers.Hearing.{Hearing}
-use Rattle.region_core.specs.declared.answers.Hearing.TheVariants.{Same, Rewound, Later, Apart}
-use Rattle.region_core.specs.LocalRun.{Local}
-use Rattle.region_core.specs.Answers.{HearsFrom}
-use Rattle.region_core.specs.Opening.{RegionData}
+use Rattle.local_run.specs.declared.answers.Hearing.{Hearing}
+use Rattle.local_run.specs.declared.answers.Hearing.TheVariants.{Same, Rewound, Later, Apart}
+use Rattle.local_run.specs.LocalRun.{Local}
+use Rattle.local_run.specs.Answers.{HearsFrom}
+use Rattle.local_run.specs.Opening.{RegionData}
 use Rattle.commit_horizon.specs.Horizon.{Runs, runs_of, AllStand}
 use Rattle.run_core.specs.Hearings.{Call, sent_by, Hearings, IsPass, one_if_rewound, rewinds, entries_of}
 use Rattle.run_core.specs.Passing.{is_rewound, Heard, HearsOne, HearsUpTo, AllHearUpTo, Agrees}

@@ -3,10 +3,10 @@ use Rattle.std.proofs.Common.{◌≡◌, ◌↔◌, ℕ, ◌-◌, ◌<◌, List,
 use Rattle.std.specs.Prelude.{IfOk, OnErr}
 use Rattle.std.proofs.lemmas.List.{get_or_append_left, get_or-append_right, set-append_left, set-append_right}
 use Rattle.std.proofs.lemmas.Option.{slice_get-get_or}
-use Rattle.region_core.specs.declared.answers.Hearing.{Hearing}
-use Rattle.region_core.specs.declared.answers.Hearing.TheVariants.{Apart}
-use Rattle.region_core.specs.Opening.{RegionData, AreApart, spent}
-use Rattle.region_core.specs.Hearing.{HearsRegion}
+use Rattle.local_run.specs.declared.answers.Hearing.{Hearing}
+use Rattle.local_run.specs.declared.answers.Hearing.TheVariants.{Apart}
+use Rattle.local_run.specs.Opening.{RegionData, AreApart, spent}
+use Rattle.local_run.specs.Hearing.{HearsRegion}
 use Rattle.run_core.specs.Turns.{Meets, SpendsOne}
 
 -- ---- lists in two parts

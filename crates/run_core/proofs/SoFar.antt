@@ -21,8 +21,8 @@ use Rattle.region_view.specs.declared.action.Placed.{Placed}
 use Rattle.region_view.specs.declared.action.Action.{Action}
 use Rattle.cell_sequence.proofs.Followed.{start_is}
 use Rattle.cell_sequence.proofs.Orderly.{cell_states_are_orderly}
-use Rattle.region_core.specs.Opening.{RegionData}
-use Rattle.region_core.specs.Bursts.{AreTogether}
+use Rattle.local_run.specs.Opening.{RegionData}
+use Rattle.local_run.specs.Bursts.{AreTogether}
 use Rattle.commit_horizon.specs.Horizon.{AllStand}
 use Rattle.run_core.specs.declared.answers.Advance.{Advance}
 use Rattle.run_core.specs.declared.answers.Advance.TheVariants.{Raised, End, Limit}

@@ -7,18 +7,18 @@ use Rattle.event_stamps.specs.declared.Stamp.{Stamp}
 use Rattle.cell_grid.specs.Grid.{IsRegion, AreLinked}
 use Rattle.region_view.specs.Views.{IsViewOf}
 use Rattle.cell_sequence.specs.State.{CellStateData}
-use Rattle.region_core.specs.declared.answers.Step.{Step}
-use Rattle.region_core.specs.declared.answers.Step.TheVariants.{Ran, Heard as Took, Idle, Past, Tied, Halted, Held, Spent}
-use Rattle.region_core.specs.declared.answers.Hearing.{Hearing}
-use Rattle.region_core.specs.declared.answers.Hearing.TheVariants.{Same, Rewound, Later, Apart}
-use Rattle.region_core.specs.declared.home.Home.{Home}
-use Rattle.region_core.specs.LocalRun.{Local, sent_to}
-use Rattle.region_core.specs.Answers.{StepsTo, HearsFrom}
-use Rattle.region_core.specs.Opening.{RegionData, home_of, AreApart}
-use Rattle.region_core.specs.Steps.{Steps}
-use Rattle.region_core.specs.Hearing.{rewound, HearsAnother, HearsRegion}
-use Rattle.region_core.specs.Standing.{StandsOn}
-use Rattle.region_core.proofs.Among.{same_or_other}
+use Rattle.local_run.specs.declared.answers.Step.{Step}
+use Rattle.local_run.specs.declared.answers.Step.TheVariants.{Ran, Heard as Took, Idle, Past, Tied, Halted, Held, Spent}
+use Rattle.local_run.specs.declared.answers.Hearing.{Hearing}
+use Rattle.local_run.specs.declared.answers.Hearing.TheVariants.{Same, Rewound, Later, Apart}
+use Rattle.local_run.specs.declared.home.Home.{Home}
+use Rattle.local_run.specs.LocalRun.{Local, sent_to}
+use Rattle.local_run.specs.Answers.{StepsTo, HearsFrom}
+use Rattle.local_run.specs.Opening.{RegionData, home_of, AreApart}
+use Rattle.local_run.specs.Steps.{Steps}
+use Rattle.local_run.specs.Hearing.{rewound, HearsAnother, HearsRegion}
+use Rattle.local_run.specs.Standing.{StandsOn}
+use Rattle.local_run.proofs.Among.{same_or_other}
 use Rattle.commit_horizon.specs.Horizon.{run_of, runs_of, AllStand}
 use Rattle.commit_horizon.proofs.Standing.{region_on, region_at}
 use Rattle.run_core.specs.Hearings.{sent_by}

@@ -3,12 +3,12 @@ use Rattle.std.proofs.Common.{◌≡◌, ◌⊎◌, inl, inr, ℕ, ◌+◌, ◌<
 use Rattle.event_stamps.specs.declared.Stamp.{Stamp}
 use Rattle.cell_grid.specs.Grid.{IsRegion, AreLinked}
 use Rattle.cell_sequence.specs.State.{CellStateData}
-use Rattle.region_core.specs.declared.answers.Step.{Step}
-use Rattle.region_core.specs.declared.answers.Hearing.{Hearing}
-use Rattle.region_core.specs.declared.answers.Hearing.TheVariants.{Same, Rewound, Later, Apart}
-use Rattle.region_core.specs.LocalRun.{Local, sent_to}
-use Rattle.region_core.specs.Answers.{StepsTo, HearsFrom}
-use Rattle.region_core.specs.Opening.{RegionData, home_of}
+use Rattle.local_run.specs.declared.answers.Step.{Step}
+use Rattle.local_run.specs.declared.answers.Hearing.{Hearing}
+use Rattle.local_run.specs.declared.answers.Hearing.TheVariants.{Same, Rewound, Later, Apart}
+use Rattle.local_run.specs.LocalRun.{Local, sent_to}
+use Rattle.local_run.specs.Answers.{StepsTo, HearsFrom}
+use Rattle.local_run.specs.Opening.{RegionData, home_of}
 use Rattle.commit_horizon.specs.Horizon.{Runs, runs_of, AllStand}
 use Rattle.run_core.specs.Hearings.{sent_by}
 use Rattle.run_core.specs.Second.{StepsIfLater}

@@ -15,7 +15,7 @@ use Rattle.cell_sequence.specs.Run.{CellSteps, hits}
 use Rattle.cell_sequence.specs.State.{CellStateData, IsCellState, followed, followed_by, raised}
 use Rattle.cell_sequence.proofs.Followed.{followed_is}
 use Rattle.cell_sequence.proofs.Joins.{hits_join}
-use Rattle.region_core.specs.Opening.{RegionData}
+use Rattle.local_run.specs.Opening.{RegionData}
 use Rattle.commit_horizon.specs.Horizon.{Runs, runs_of, AllStand, AllKept}
 use Rattle.commit_horizon.specs.Telling.{HitsCutShort, CommitTold, CommitCutShort}
 use Rattle.commit_horizon.proofs.Merged.{merged_is_next}

@@ -9,10 +9,10 @@ use Rattle.region_view.specs.declared.action.Action.{Action}
 use Rattle.cell_sequence.specs.Run.{CellSteps}
 use Rattle.cell_sequence.specs.State.{CellStateData, IsCellState, IsCandidateOf, IsNextOf, ComesTo, HasNoneBelow}
 use Rattle.cell_sequence.specs.State.{followed_by, raised}
-use Rattle.region_core.specs.declared.answers.Step.TheVariants.{Ran, Halted}
-use Rattle.region_core.specs.LocalRun.{Local}
-use Rattle.region_core.specs.Answers.{StepsTo}
-use Rattle.region_core.specs.Opening.{RegionData, home_of}
+use Rattle.local_run.specs.declared.answers.Step.TheVariants.{Ran, Halted}
+use Rattle.local_run.specs.LocalRun.{Local}
+use Rattle.local_run.specs.Answers.{StepsTo}
+use Rattle.local_run.specs.Opening.{RegionData, home_of}
 use Rattle.commit_horizon.specs.Horizon.{Runs, runs_of, AreStanding, IsBound}
 use Rattle.commit_horizon.specs.Commits.{Commits}
 use Rattle.run_core.specs.declared.answers.Advance.{Advance}

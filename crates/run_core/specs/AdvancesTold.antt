@@ -7,7 +7,7 @@ use Rattle.region_view.specs.declared.action.Placed.{Placed}
 use Rattle.region_view.specs.declared.action.Action.{Action}
 use Rattle.cell_sequence.specs.Run.{CellSteps, hits}
 use Rattle.cell_sequence.specs.State.{CellStateData}
-use Rattle.region_core.specs.Opening.{RegionData}
+use Rattle.local_run.specs.Opening.{RegionData}
 use Rattle.commit_horizon.specs.Horizon.{Runs}
 use Rattle.commit_horizon.specs.Telling.{HitsCutShort}
 use Rattle.run_core.specs.declared.answers.Advance.{Advance}

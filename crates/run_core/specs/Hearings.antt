@@ -4,10 +4,10 @@ use Rattle.cell_grid.specs.Grid.{IsRegion, AreLinked}
 use Rattle.region_view.specs.declared.rows.Message.{Message}
 use Rattle.region_messages.specs.Trails.{IsAmong}
 use Rattle.cell_sequence.specs.State.{CellStateData}
-use Rattle.region_core.specs.declared.answers.Hearing.{Hearing}
-use Rattle.region_core.specs.declared.answers.Hearing.TheVariants.{Same, Rewound, Later, Apart}
-use Rattle.region_core.specs.LocalRun.{trail_of, sent_to}
-use Rattle.region_core.specs.Answers.{HearsFrom}
+use Rattle.local_run.specs.declared.answers.Hearing.{Hearing}
+use Rattle.local_run.specs.declared.answers.Hearing.TheVariants.{Same, Rewound, Later, Apart}
+use Rattle.local_run.specs.LocalRun.{trail_of, sent_to}
+use Rattle.local_run.specs.Answers.{HearsFrom}
 use Rattle.commit_horizon.specs.Horizon.{Runs}
 
 -- ---- calls

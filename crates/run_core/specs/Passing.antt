@@ -3,9 +3,9 @@ use Rattle.std.specs.Prelude.{◌≡◌, ℕ, ◌<◌, Bool, true, false, nat_lt
 use Rattle.cell_grid.specs.Grid.{AreLinked}
 use Rattle.region_messages.specs.Trails.{IsAmong}
 use Rattle.cell_sequence.specs.State.{CellStateData}
-use Rattle.region_core.specs.declared.answers.Hearing.{Hearing}
-use Rattle.region_core.specs.declared.answers.Hearing.TheVariants.{Same, Rewound, Later, Apart}
-use Rattle.region_core.specs.Opening.{RegionData}
+use Rattle.local_run.specs.declared.answers.Hearing.{Hearing}
+use Rattle.local_run.specs.declared.answers.Hearing.TheVariants.{Same, Rewound, Later, Apart}
+use Rattle.local_run.specs.Opening.{RegionData}
 use Rattle.commit_horizon.specs.Horizon.{runs_of, AllStand}
 use Rattle.run_core.specs.Hearings.{Call, Hearings, rewinds, Passes}
 

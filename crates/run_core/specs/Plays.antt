@@ -2,10 +2,10 @@
 use Rattle.std.specs.Prelude.{◌≡◌, ◌≢◌, ◌⊎◌, ℕ, ◌<◌, ◌≤◌, List, [], ◌∷◌, ◌++◌, length, take, slice_get}
 use Rattle.std.specs.Prelude.{Option, Some, None}
 use Rattle.cell_sequence.specs.State.{CellStateData}
-use Rattle.region_core.specs.declared.answers.Step.{Step}
-use Rattle.region_core.specs.declared.answers.Hearing.{Hearing}
-use Rattle.region_core.specs.Opening.{RegionData}
-use Rattle.region_core.specs.Standing.{StandsOn}
+use Rattle.local_run.specs.declared.answers.Step.{Step}
+use Rattle.local_run.specs.declared.answers.Hearing.{Hearing}
+use Rattle.local_run.specs.Opening.{RegionData}
+use Rattle.local_run.specs.Standing.{StandsOn}
 use Rattle.run_core.specs.declared.playing.CoreStep.{CoreStep}
 use Rattle.run_core.specs.declared.playing.CoreStep.TheVariants.{Turn, Hear}
 use Rattle.run_core.specs.declared.playing.Answer.{Answer}

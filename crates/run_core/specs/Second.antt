@@ -4,12 +4,13 @@ use Rattle.event_stamps.specs.declared.Stamp.{Stamp}
 use Rattle.event_stamps.specs.Order.{Before}
 use Rattle.cell_grid.specs.Grid.{IsRegion, AreLinked}
 use Rattle.cell_sequence.specs.State.{CellStateData}
-use Rattle.region_core.specs.declared.answers.Step.{Step}
-use Rattle.region_core.specs.declared.answers.Hearing.{Hearing}
-use Rattle.region_core.specs.declared.answers.Hearing.TheVariants.{Same, Rewound, Later, Apart}
-use Rattle.region_core.specs.LocalRun.{Local, IsDueOrEnd, now_of, entries_below}
-use Rattle.region_core.specs.Answers.{StepsTo, HearsFrom}
-use Rattle.region_core.specs.Opening.{home_of}
+use Rattle.local_run.specs.declared.answers.Step.{Step}
+use Rattle.local_run.specs.declared.answers.Hearing.{Hearing}
+use Rattle.local_run.specs.declared.answers.Hearing.TheVariants.{Same, Rewound, Later, Apart}
+use Rattle.local_run.specs.Entries.{entries_below}
+use Rattle.local_run.specs.LocalRun.{Local, IsDueOrEnd, now_of}
+use Rattle.local_run.specs.Answers.{StepsTo, HearsFrom}
+use Rattle.local_run.specs.Opening.{home_of}
 use Rattle.commit_horizon.specs.Horizon.{Runs}
 use Rattle.run_core.specs.Hearings.{sent_by}
 

@@ -4,9 +4,9 @@ use Rattle.event_stamps.specs.declared.Stamp.{Stamp}
 use Rattle.event_stamps.specs.Order.{Before}
 use Rattle.cell_grid.specs.Grid.{IsRegion, AreLinked}
 use Rattle.cell_sequence.specs.State.{CellStateData}
-use Rattle.region_core.specs.LocalRun.{Local}
-use Rattle.region_core.specs.Opening.{RegionData}
-use Rattle.region_core.specs.Keeping.{IsDueIn}
+use Rattle.local_run.specs.LocalRun.{Local}
+use Rattle.local_run.specs.Opening.{RegionData}
+use Rattle.local_run.specs.Keeping.{IsDueIn}
 use Rattle.commit_horizon.specs.Horizon.{Runs, runs_of, AreStanding, AllStand}
 use Rattle.run_core.specs.declared.answers.Advance.{Advance}
 use Rattle.run_core.specs.Advances.{SecondPart}

@@ -1,11 +1,11 @@
 -- A step or a hearing of one of some regions, by their places.
 use Rattle.std.specs.Prelude.{◌≡◌, ◌↔◌, ℕ, List, Some, slice_get, slice_set}
-use Rattle.region_core.specs.declared.answers.Step.{Step}
-use Rattle.region_core.specs.declared.answers.Hearing.{Hearing}
-use Rattle.region_core.specs.declared.answers.Hearing.TheVariants.{Apart}
-use Rattle.region_core.specs.Opening.{RegionData, AreApart, spent}
-use Rattle.region_core.specs.Steps.{Steps}
-use Rattle.region_core.specs.Hearing.{HearsRegion}
+use Rattle.local_run.specs.declared.answers.Step.{Step}
+use Rattle.local_run.specs.declared.answers.Hearing.{Hearing}
+use Rattle.local_run.specs.declared.answers.Hearing.TheVariants.{Apart}
+use Rattle.local_run.specs.Opening.{RegionData, AreApart, spent}
+use Rattle.local_run.specs.Steps.{Steps}
+use Rattle.local_run.specs.Hearing.{HearsRegion}
 
 -- the region at a place makes a step
 pub record Turns (regions : List RegionData) (k : ℕ) (answer : Step) (after : List RegionData) : Type 0 where

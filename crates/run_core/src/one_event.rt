@@ -3,7 +3,7 @@
 ghost use Rattle.std.specs.Prelude.{◌≡◌, ◌<◌, length, map, IfOk, OnOk};
 ghost use Rattle.cell_grid.specs.Grid.{IsRegion};
 ghost use Rattle.region_messages.specs.Trails.{is_before};
-ghost use Rattle.region_core.specs.Hearing.{rewound};
+ghost use Rattle.local_run.specs.Hearing.{rewound};
 ghost use Rattle.commit_horizon.specs.Horizon.{runs_of, AllStand, AllKept};
 ghost use Rattle.run_core.specs.Second.{AllTakeIn};
 ghost use Rattle.run_core.specs.Taking.{IsHome, OneTookIn, Refreshed, MakesNext};

@@ -2,10 +2,10 @@
 
 ghost use Rattle.std.specs.Prelude.{◌≡◌, ℕ, ◌+◌, ◌<◌, ◌≤◌, length, get_or, slice_set, map, MatchOption, OnOk};
 ghost use Rattle.region_messages.specs.Trails.{AgreesUpTo, from};
-ghost use Rattle.region_core.specs.LocalRun.{trail_of};
+ghost use Rattle.local_run.specs.LocalRun.{trail_of};
 ghost use Rattle.region_core.specs.Inbox.{taken_from};
 ghost use Rattle.region_core.specs.Replaced.{mixed};
-ghost use Rattle.region_core.specs.Taken.{taken_of};
+ghost use Rattle.local_run.specs.Taken.{taken_of};
 
 use crate::Entry;
 use crate::inbox::Inbox;

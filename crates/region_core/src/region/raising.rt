@@ -2,8 +2,8 @@
 
 ghost use Rattle.std.specs.Prelude.{◌≡◌, IfSome, OnOk, OnErr};
 ghost use Rattle.event_stamps.specs.Order.{Before, end_stamp};
-ghost use Rattle.region_core.specs.Opening.{spent};
-ghost use Rattle.region_core.specs.Raising.{raised, HasNoneWaitingBelow};
+ghost use Rattle.local_run.specs.Opening.{spent};
+ghost use Rattle.local_run.specs.Raising.{raised, HasNoneWaitingBelow};
 
 use crate::region::Region;
 use event_stamps::Stamp;

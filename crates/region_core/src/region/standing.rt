@@ -4,8 +4,8 @@ ghost use Rattle.std.specs.Prelude.{◌≡◌, ◌↔◌, ℕ, ◌<◌, ◌≤�
 ghost use Rattle.cell_grid.specs.Grid.{HasSizes, IsRegion, IsCell, IsStripOf, Reaches, column_of};
 ghost use Rattle.region_view.specs.Laws.{HasCells};
 ghost use Rattle.region_view.specs.Views.{IsViewOf};
-ghost use Rattle.region_core.specs.Keeping.{IsKept};
-ghost use Rattle.region_core.specs.Standing.{TellsStanding, SeesRow, IsUnseenFirst};
+ghost use Rattle.local_run.specs.Keeping.{IsKept};
+ghost use Rattle.local_run.specs.Standing.{TellsStanding, SeesRow, IsUnseenFirst};
 
 use crate::Differs;
 use crate::region::Region;

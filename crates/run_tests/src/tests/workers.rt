@@ -1,7 +1,7 @@
 //! What workers do to regions.
 
 ghost use Rattle.std.specs.Prelude.{IfOk};
-ghost use Rattle.region_core.specs.Bursts.{AreTogether};
+ghost use Rattle.local_run.specs.Bursts.{AreTogether};
 
 use commit_horizon::Committed;
 use event_stamps::{Kind, Stamp};

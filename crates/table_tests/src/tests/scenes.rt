@@ -1,7 +1,7 @@
 //! The regions of the scenes.
 
 ghost use Rattle.std.specs.Prelude.{IfOk};
-ghost use Rattle.region_core.specs.Bursts.{AreTogether};
+ghost use Rattle.local_run.specs.Bursts.{AreTogether};
 
 use commit_horizon::Committed;
 use fixed_motion::Scene;

@@ -1,8 +1,8 @@
 //! What seats take out of a table and put back.
 
 ghost use Rattle.std.specs.Prelude.{◌≡◌, ◌<◌, ◌∷◌, [], length, IfSome, OnOk};
-ghost use Rattle.region_core.specs.Bursts.{AreTogether};
-ghost use Rattle.region_core.specs.RunOn.{BeginsAs};
+ghost use Rattle.local_run.specs.Bursts.{AreTogether};
+ghost use Rattle.local_run.specs.RunOn.{BeginsAs};
 ghost use Rattle.region_table.specs.Bases.{MayLieIn};
 ghost use Rattle.region_table.specs.Rule.{slots_of};
 ghost use Rattle.region_table.specs.Tables.{IsSeatOf};

@@ -1,8 +1,8 @@
 //! What workers on a table do to regions, and that two of them work at once.
 
 ghost use Rattle.std.specs.Prelude.{◌≡◌, length, IfOk};
-ghost use Rattle.region_core.specs.Bursts.{AreTogether};
-ghost use Rattle.region_core.specs.RunOn.{AreRunOn};
+ghost use Rattle.local_run.specs.Bursts.{AreTogether};
+ghost use Rattle.local_run.specs.RunOn.{AreRunOn};
 
 use super::scenes::{REGIONS, opened};
 use event_rules::{Change, Deaf, Listener};

@@ -1,5 +1,5 @@
 use Rattle.std.proofs.Common.{sym, subst}
-use Rattle.region_core.specs.Keeping.{IsSent, IsHeard}
+use Rattle.local_run.specs.Keeping.{IsSent, IsHeard}
 use Rattle.commit_horizon.specs.Bounds.{HoldsUpTo, AgreeOn}
 use Rattle.commit_horizon.proofs.Within.{none_sent, none_heard, apart_holds}
 use Rattle.commit_horizon.proofs.bounding.first_apart.Goals as goal

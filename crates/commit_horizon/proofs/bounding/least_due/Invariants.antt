@@ -1,7 +1,7 @@
 use Rattle.std.proofs.Common.{◌≡◌, ℕ, ◌<◌, Some}
 use Rattle.std.specs.Prelude.{slice_get}
-use Rattle.region_core.specs.Opening.{RegionData}
-use Rattle.region_core.specs.Keeping.{IsKept}
+use Rattle.local_run.specs.Opening.{RegionData}
+use Rattle.local_run.specs.Keeping.{IsKept}
 use Rattle.commit_horizon.specs.Bounds.{HoldsUpTo, OfFirst, IsUpToDue}
 use Rattle.commit_horizon.proofs.bounding.least_due.Given as goal
 

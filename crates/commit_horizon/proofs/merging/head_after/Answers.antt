@@ -1,6 +1,6 @@
 use Rattle.std.proofs.Common.{sym, subst, ◌∙◌, arith}
 use Rattle.event_stamps.specs.declared.Stamp.{Stamp}
-use Rattle.region_core.specs.Keeping.{entries_of}
+use Rattle.local_run.specs.Keeping.{entries_of}
 use Rattle.commit_horizon.specs.Merging.{IsHeadAfter, head_before}
 use Rattle.commit_horizon.proofs.Heads.{head_found, head_passed, head_past}
 use Rattle.commit_horizon.proofs.merging.head_after.Goals as goal

@@ -1,5 +1,5 @@
 use Rattle.std.proofs.Common.{◌≡◌, drop}
-use Rattle.region_core.specs.Keeping.{entries_of}
+use Rattle.local_run.specs.Keeping.{entries_of}
 use Rattle.commit_horizon.specs.Merging.{actions_below}
 use Rattle.commit_horizon.proofs.merging.head_after.Given as goal
 

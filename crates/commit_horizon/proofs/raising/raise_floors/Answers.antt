@@ -1,4 +1,4 @@
-use Rattle.region_core.specs.Raising.{raised}
+use Rattle.local_run.specs.Raising.{raised}
 use Rattle.region_core.proofs.Lists.{one_more}
 use Rattle.commit_horizon.proofs.Raises.{may_rise_next}
 use Rattle.commit_horizon.proofs.raising.raise_floors.Goals as goal

@@ -1,5 +1,5 @@
 use Rattle.std.proofs.Common.{◌≡◌, map, ◌++◌, take, drop}
-use Rattle.region_core.specs.Raising.{raised}
+use Rattle.local_run.specs.Raising.{raised}
 use Rattle.commit_horizon.proofs.raising.raise_floors.Given as goal
 
 abbrev pub invariant-loop-region : goal.invariant-loop-region

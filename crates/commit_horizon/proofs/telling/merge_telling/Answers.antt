@@ -2,7 +2,7 @@ use Rattle.std.proofs.Common.{◌∙◌, ◌+◌, ◌<◌, ◌≤◌, length, se
 use Rattle.std.proofs.lemmas.Option.{slice_get_read}
 use Rattle.std.proofs.lemmas.Result.{err_from_is_err_and}
 use Rattle.cell_sequence.specs.State.{CellStateData}
-use Rattle.region_core.specs.declared.entry.TheConstants.{MAX_ENTRIES}
+use Rattle.local_run.specs.declared.entry.TheConstants.{MAX_ENTRIES}
 use Rattle.commit_horizon.specs.Merging.{Heads}
 use Rattle.commit_horizon.specs.Leading.{IsLeader, NoOtherBefore}
 use Rattle.commit_horizon.proofs.Leaders.{others_stay}

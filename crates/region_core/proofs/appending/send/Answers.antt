@@ -4,8 +4,8 @@ use Rattle.std.proofs.lemmas.Bool.{false≢true}
 use Rattle.std.proofs.lemmas.List.{get_or_read}
 use Rattle.region_view.specs.Views.{rows_in}
 use Rattle.region_view.specs.declared.rows.Message.{Message}
-use Rattle.region_core.specs.LocalRun.{trail_of, told}
-use Rattle.region_core.proofs.Sending.{none_sent_yet, all_below_end, one_skipped, one_sent, comes_after_sent}
+use Rattle.local_run.specs.LocalRun.{trail_of, told}
+use Rattle.local_run.proofs.Sending.{none_sent_yet, all_below_end, one_skipped, one_sent, comes_after_sent}
 use Rattle.region_core.proofs.appending.send.Goals as goal
 
 pub loop-to-init : goal.loop-to-init

@@ -1,5 +1,5 @@
 use Rattle.region_view.specs.Views.{rows_in}
-use Rattle.region_core.proofs.Sending.{IsSentBelow}
+use Rattle.local_run.proofs.Sending.{IsSentBelow}
 use Rattle.region_core.proofs.appending.send.Given as goal
 
 abbrev pub invariant-loop-to : goal.invariant-loop-to

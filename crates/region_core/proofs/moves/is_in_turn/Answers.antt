@@ -2,7 +2,7 @@ use Rattle.std.proofs.lemmas.Bool.{false≢true}
 use Rattle.std.proofs.Common.{◌∙◌, Option, true, refl, sym, subst}
 use Rattle.std.specs.Prelude.{IsTrue, ◌↔◌}
 use Rattle.event_stamps.specs.declared.Stamp.{Stamp}
-use Rattle.region_core.specs.Moves.{ComesAfter}
+use Rattle.local_run.specs.Moves.{ComesAfter}
 use Rattle.region_core.proofs.NextMove.{too_early}
 use Rattle.region_core.proofs.moves.is_in_turn.Goals as goal
 

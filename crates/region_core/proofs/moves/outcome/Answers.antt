@@ -1,7 +1,7 @@
 use Rattle.std.proofs.Common.{sym, subst, ◌∙◌}
 use Rattle.std.proofs.lemmas.Option.{none-some, same_Some}
 use Rattle.fixed_motion.specs.Motion.{IsValidDisk}
-use Rattle.region_core.proofs.Outcome.{found_row, first_row, second_row, pair_by, alone_by, pair_comes, alone_comes}
+use Rattle.local_run.proofs.Outcome.{found_row, first_row, second_row, pair_by, alone_by, pair_comes, alone_comes}
 use Rattle.region_core.proofs.moves.outcome.Goals as goal
 
 pub unwrap-row-requires : goal.unwrap-row-requires

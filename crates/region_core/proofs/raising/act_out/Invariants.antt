@@ -1,5 +1,5 @@
 use Rattle.std.proofs.Common.{◌≡◌, take}
-use Rattle.region_core.specs.LocalRun.{Trails, after_log}
+use Rattle.local_run.specs.LocalRun.{Trails, after_log}
 use Rattle.region_core.proofs.raising.act_out.Given as goal
 
 abbrev pub invariant-loop-entry : goal.invariant-loop-entry

@@ -1,8 +1,8 @@
 use Rattle.std.proofs.Common.{rules}
 use Rattle.std.proofs.lemmas.List.Sorted.{IsPartitionPoint-from_clause}
 use Rattle.region_messages.specs.Trails.{is_before}
-use Rattle.region_core.specs.LocalRun.{entry_stamp}
-use Rattle.region_core.proofs.Counted.{IsPlace, partitioned, counted_below, counted_from}
+use Rattle.local_run.specs.Entries.{entry_stamp}
+use Rattle.local_run.proofs.Counted.{IsPlace, partitioned, counted_below, counted_from}
 use Rattle.region_core.proofs.rollback.count_before.Goals as goal
 
 pub returns : goal.returns

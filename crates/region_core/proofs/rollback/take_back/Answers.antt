@@ -1,5 +1,5 @@
 use Rattle.region_core.proofs.News.{on_ok}
-use Rattle.region_core.specs.LocalRun.{after_entry}
+use Rattle.local_run.specs.LocalRun.{after_entry}
 use Rattle.region_core.proofs.Shorter.{least_again, native_leaves, heard_leaves}
 use Rattle.region_core.proofs.rollback.take_back.Goals as goal
 

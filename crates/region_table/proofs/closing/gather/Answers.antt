@@ -5,7 +5,7 @@ use mathlib.Core.Option.{some-injective}
 use native.Mathlib.Decide.{ℕ_discrete}
 use lib.ListN.{get_elem?}
 use Rattle.std.specs.Slots.{slots_items, slots_filled, slots_len, slots_counts}
-use Rattle.region_core.specs.Opening.{RegionData}
+use Rattle.local_run.specs.Opening.{RegionData}
 use Rattle.region_table.specs.Rule.{Content, IsHome}
 use Rattle.region_table.specs.Tables.{ComesOf}
 use Rattle.region_table.proofs.Ends.{pushed_get}

@@ -2,7 +2,7 @@ use Rattle.std.proofs.Common.{◌≡◌, ℕ, ◌<◌, ◌≤◌, false, get_or,
 use Rattle.std.specs.Prelude.{slice_get, vec_capacity, Some}
 use Rattle.std.specs.Slots.{slots_items, slots_filled, slots_len}
 use Rattle.std.specs.Slots.Ownership.{Filled}
-use Rattle.region_core.specs.Opening.{RegionData}
+use Rattle.local_run.specs.Opening.{RegionData}
 use Rattle.region_table.specs.Tables.{ComesOf}
 use Rattle.region_table.proofs.closing.gather.Given as goal
 

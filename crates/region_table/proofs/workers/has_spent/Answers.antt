@@ -3,7 +3,7 @@ use Rattle.std.specs.Prelude.{slice_get}
 use Rattle.std.proofs.lemmas.Option.{slice_get_within}
 use mathlib.Core.Logic.{dite}
 use native.Mathlib.Decide.{ℕ_discrete}
-use Rattle.region_core.specs.Opening.{RegionData}
+use Rattle.local_run.specs.Opening.{RegionData}
 use Rattle.region_table.proofs.Staying.{at_index, not_both}
 use Rattle.region_table.proofs.workers.has_spent.Goals as goal
 

@@ -4,8 +4,8 @@ use Rattle.std.proofs.lemmas.List.{length-append}
 use Rattle.std.proofs.lemmas.Option.{none-some, same_Some}
 use Rattle.cell_grid.specs.Grid.{GridData}
 use Rattle.cell_sequence.specs.State.{CellStateData}
-use Rattle.region_core.specs.Opening.{RegionData, IsOpened}
-use Rattle.region_core.specs.Bursts.{IsAtPlace}
+use Rattle.local_run.specs.Opening.{RegionData, IsOpened}
+use Rattle.local_run.specs.Bursts.{IsAtPlace}
 use Rattle.region_workers.proofs.tests.opened.Goals as goal
 
 get_pushed : {A : Type 0} (xs : List A) (x y : A) (k : ℕ) → slice_get (xs ++ x ∷ []) k ≡ Some y →

@@ -1,7 +1,7 @@
 use Rattle.std.proofs.Common.{◌≡◌, ℕ, length, Some}
 use Rattle.std.specs.Prelude.{slice_get}
-use Rattle.region_core.specs.Opening.{RegionData}
-use Rattle.region_core.specs.Bursts.{IsAtPlace}
+use Rattle.local_run.specs.Opening.{RegionData}
+use Rattle.local_run.specs.Bursts.{IsAtPlace}
 use Rattle.region_workers.proofs.tests.opened.Given as goal
 
 abbrev pub invariant-loop-number : goal.invariant-loop-number

@@ -1,6 +1,6 @@
 use Rattle.std.proofs.Common.{map, ap, ◌∙◌}
 use Rattle.event_stamps.specs.declared.Stamp.{Stamp}
-use Rattle.region_core.specs.Hearing.{rewound}
+use Rattle.local_run.specs.Hearing.{rewound}
 use Rattle.run_core.proofs.Homes.{refreshed}
 use Rattle.run_core.proofs.Standing.{all_rewound}
 use Rattle.run_core.proofs.one_event.refresh.Goals as goal

@@ -1,4 +1,4 @@
-use Rattle.region_core.specs.Hearing.{rewound}
+use Rattle.local_run.specs.Hearing.{rewound}
 use Rattle.region_core.proofs.Lists.{one_more}
 use Rattle.run_core.proofs.one_event.rewind_all.Goals as goal
 

@@ -1,5 +1,5 @@
 use Rattle.std.proofs.Common.{◌≡◌, map, ◌++◌, take, drop}
-use Rattle.region_core.specs.Hearing.{rewound}
+use Rattle.local_run.specs.Hearing.{rewound}
 use Rattle.run_core.proofs.one_event.rewind_all.Given as goal
 
 abbrev pub invariant-loop-region : goal.invariant-loop-region

@@ -1,5 +1,5 @@
 use Rattle.std.proofs.Common.{List}
-use Rattle.region_core.specs.Opening.{RegionData}
+use Rattle.local_run.specs.Opening.{RegionData}
 use Rattle.commit_horizon.specs.Horizon.{AllStand}
 use Rattle.run_core.specs.Passing.{Agrees}
 use Rattle.run_core.proofs.Passed.{entries_left}

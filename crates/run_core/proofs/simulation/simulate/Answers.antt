@@ -6,7 +6,7 @@ use Rattle.run_core.proofs.SoFar.{at_start, all_so_far, cut_so_far, told_on, row
 use Rattle.run_core.proofs.SoFar.{ends, fails, cell_at_start, cell_after, less_left}
 use Rattle.run_core.specs.declared.answers.Course.{Course}
 use Rattle.run_core.specs.AdvancesTold.{answer_with}
-use Rattle.region_core.specs.Opening.{RegionData}
+use Rattle.local_run.specs.Opening.{RegionData}
 use Rattle.event_rules.specs.declared.outcome.Outcome.{Outcome}
 use Rattle.event_rules.specs.Tellings.{CountsRun}
 use Rattle.run_core.proofs.TellingOn.{batch_in, advance_in, counts_of_err}

@@ -1,7 +1,7 @@
 use Rattle.std.proofs.Common.{subst}
 use Rattle.cell_sequence.specs.State.{CellStateData}
-use Rattle.region_core.specs.Opening.{IsOpened}
-use Rattle.region_core.specs.Standing.{DiffersBy}
+use Rattle.local_run.specs.Opening.{IsOpened}
+use Rattle.local_run.specs.Standing.{DiffersBy}
 use Rattle.commit_horizon.proofs.committed.Committed.adopt.Goals as goal
 
 pub returns-in_ok-made-in-Err : goal.returns-in_ok-made-in-Err

@@ -1,6 +1,6 @@
 use Rattle.std.proofs.Common.{◌+◌, sym, subst}
 use Rattle.cell_sequence.specs.State.{CellStateData}
-use Rattle.region_core.specs.Opening.{IsOpened}
+use Rattle.local_run.specs.Opening.{IsOpened}
 use Rattle.commit_horizon.proofs.Adopting.{StandUpTo, one_more_stands, opened_stands}
 use Rattle.commit_horizon.proofs.committed.Committed.open_all.Goals as goal
 

@@ -1,7 +1,7 @@
 use Rattle.std.proofs.Common.{subst, refl}
 use Rattle.cell_sequence.specs.State.{CellStateData}
-use Rattle.region_core.specs.Opening.{IsOpened}
-use Rattle.region_core.specs.Standing.{StandsOn, DiffersBy}
+use Rattle.local_run.specs.Opening.{IsOpened}
+use Rattle.local_run.specs.Standing.{StandsOn, DiffersBy}
 use Rattle.commit_horizon.specs.declared.committed.Adopted.TheVariants.{Kept, Made}
 use Rattle.commit_horizon.proofs.committed.Committed.renew.Goals as goal
 

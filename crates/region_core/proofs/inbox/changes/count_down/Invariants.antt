@@ -1,5 +1,5 @@
 use Rattle.std.proofs.Common.{◌≡◌, ℕ, ◌+◌, take, get_or}
-use Rattle.region_core.specs.Taken.{taken_of}
+use Rattle.local_run.specs.Taken.{taken_of}
 use Rattle.region_core.proofs.inbox.changes.count_down.Given as goal
 
 abbrev pub invariant-loop-entry : goal.invariant-loop-entry

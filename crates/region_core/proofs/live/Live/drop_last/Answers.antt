@@ -2,7 +2,7 @@ use Rattle.std.proofs.Common.{◌≡◌, length, ◌∙◌, sym, subst, arith}
 use Rattle.region_view.specs.Placing.{IsValidPlacing}
 use Rattle.region_view.specs.Views.{ViewData, rows_in}
 use Rattle.region_queue.specs.Queue.{StandsFor}
-use Rattle.region_core.specs.LocalRun.{start_of, after_log}
+use Rattle.local_run.specs.LocalRun.{start_of, after_log}
 use Rattle.region_core.specs.Live.{run_in}
 use Rattle.region_core.proofs.News.{on_ok}
 use Rattle.region_core.proofs.Shorter.{shorter_is, newest_before}

@@ -1,10 +1,10 @@
 use Rattle.std.proofs.Common.{Option, None, sym, subst}
 use Rattle.event_stamps.specs.declared.Stamp.{Stamp}
 use Rattle.event_stamps.specs.Least.{IsLeastOf, earlier_of}
-use Rattle.region_core.specs.LocalRun.{IsOffered}
+use Rattle.local_run.specs.LocalRun.{IsOffered}
 use Rattle.region_core.specs.Inbox.{head_stamp, IsLeastHead}
 use Rattle.region_core.specs.Live.{now_in}
-use Rattle.region_core.proofs.Heads.{due_of_both}
+use Rattle.local_run.proofs.Heads.{due_of_both}
 use Rattle.region_core.proofs.NextMove.{least_waiting, alone_is_earlier}
 use Rattle.region_core.proofs.live.Live.due_beside.Goals as goal
 

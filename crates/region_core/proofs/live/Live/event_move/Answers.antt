@@ -1,10 +1,10 @@
 use Rattle.std.proofs.Common.{Ok, Err, refl, sym, subst}
 use Rattle.region_view.specs.Placing.{IsValidPlacing}
 use Rattle.region_view.specs.Views.{ViewData, rows_in}
-use Rattle.region_core.specs.LocalRun.{IsOwn, ComesTo}
+use Rattle.local_run.specs.LocalRun.{IsOwn, ComesTo}
 use Rattle.region_core.specs.Live.{run_in, now_in}
-use Rattle.region_core.proofs.Valid.{valid_now}
-use Rattle.region_core.proofs.Choices.{not_shared}
+use Rattle.local_run.proofs.Valid.{valid_now}
+use Rattle.local_run.proofs.Choices.{not_shared}
 use Rattle.region_core.proofs.NextMove.{own_due, event_fits}
 use Rattle.region_core.proofs.live.Live.event_move.Goals as goal
 

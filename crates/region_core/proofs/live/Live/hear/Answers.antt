@@ -1,6 +1,6 @@
 use Rattle.event_stamps.specs.declared.Stamp.{Stamp}
-use Rattle.region_core.specs.LocalRun.{trail_of}
-use Rattle.region_core.specs.Answers.{HearsFrom}
+use Rattle.local_run.specs.LocalRun.{trail_of}
+use Rattle.local_run.specs.Answers.{HearsFrom}
 use Rattle.region_core.specs.Live.{run_in}
 use Rattle.region_core.specs.Replaced.{mixed, HearsOn}
 use Rattle.region_core.proofs.News.{if_ok, hears_all}

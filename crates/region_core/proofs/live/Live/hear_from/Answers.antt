@@ -1,8 +1,9 @@
 use Rattle.std.proofs.Common.{◌≡◌, ◌<◌, ℕ, Bool, false, List, length, sym, subst, refl}
 use Rattle.std.specs.Prelude.{IsTrue}
 use Rattle.region_messages.proofs.Parts.{below_replaced}
-use Rattle.region_core.specs.declared.entry.Entry.{Entry}
-use Rattle.region_core.specs.LocalRun.{Trails, trail_of, entries_below}
+use Rattle.local_run.specs.declared.entry.Entry.{Entry}
+use Rattle.local_run.specs.Entries.{entries_below}
+use Rattle.local_run.specs.LocalRun.{Trails, trail_of}
 use Rattle.region_core.specs.Replaced.{mixed, IsReplaced}
 use Rattle.region_core.proofs.News.{nothing_more, has_heard, news_live, mixed_hearable}
 use Rattle.region_core.proofs.live.Live.hear_from.Goals as goal

@@ -2,11 +2,11 @@ use Rattle.std.proofs.Common.{◌≡◌, Some, ap, ◌∙◌, sym, subst}
 use Rattle.std.specs.Prelude.{option_copied}
 use Rattle.std.proofs.lemmas.Bool.{false≢true}
 use Rattle.event_stamps.specs.declared.Stamp.{Stamp}
-use Rattle.region_core.specs.Answers.{HasDue, IsInTurn}
-use Rattle.region_core.specs.LocalRun.{IsOwn}
+use Rattle.local_run.specs.Answers.{HasDue, IsInTurn}
+use Rattle.local_run.specs.LocalRun.{IsOwn}
 use Rattle.region_core.specs.Inbox.{next_from, IsSharedHead}
 use Rattle.region_core.specs.Live.{run_in, now_in}
-use Rattle.region_core.proofs.Outcome.{found_message}
+use Rattle.local_run.proofs.Outcome.{found_message}
 use Rattle.region_core.proofs.NextMove.{tied_by_own, tied_by_other, take_fits, first_has}
 use Rattle.region_core.proofs.live.Live.message_move.Goals as goal
 use Rattle.region_core.proofs.live.Live.message_move.Goals.{then-is_own, else-is_own}

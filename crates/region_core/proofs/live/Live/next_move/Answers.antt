@@ -1,10 +1,9 @@
 use Rattle.std.proofs.Common.{Option, refl, ap, ◌∙◌, sym, subst, arith}
 use Rattle.std.proofs.lemmas.Bool.{false≢true}
 use Rattle.event_stamps.specs.declared.Stamp.{Stamp}
-use Rattle.region_core.specs.Answers.{clock_of}
+use Rattle.local_run.specs.Entries.{clock_of, last_stamp}
 use Rattle.region_core.specs.Live.{run_in}
-use Rattle.region_core.specs.Keeping.{last_stamp}
-use Rattle.region_core.specs.Moves.{ComesAfter}
+use Rattle.local_run.specs.Moves.{ComesAfter}
 use Rattle.region_core.proofs.NextMove.{turn_by}
 use Rattle.region_core.proofs.live.Live.next_move.Goals as goal
 

@@ -1,13 +1,14 @@
 use Rattle.std.proofs.Common.{◌≡◌, ◌+◌, ◌≤◌, List, length, map, take, drop, sym, ap, subst, ◌∙◌, arith, refl}
 use Rattle.std.proofs.lemmas.List.{length-map, with_items_is}
 use Rattle.region_messages.specs.Trails.{from}
-use Rattle.region_core.specs.declared.entry.Entry.{Entry}
-use Rattle.region_core.specs.LocalRun.{entries_below, entries_from, after_log}
+use Rattle.local_run.specs.declared.entry.Entry.{Entry}
+use Rattle.local_run.specs.Entries.{entries_below, entries_from}
+use Rattle.local_run.specs.LocalRun.{after_log}
 use Rattle.region_core.specs.Inbox.{taken_from}
-use Rattle.region_core.specs.Taken.{taken_of}
+use Rattle.local_run.specs.Taken.{taken_of}
 use Rattle.region_core.specs.Live.{run_in, start_in, saved_along}
 use Rattle.saved_states.specs.Positions.{lowered}
-use Rattle.region_core.proofs.Raised.{raised_right}
+use Rattle.local_run.proofs.Raised.{raised_right}
 use Rattle.region_core.proofs.Rewound.{kept_are, kept_count}
 use Rattle.region_core.proofs.LetGo.{gone_ordered, gone_taken, first_saved, first_left, raised_run_is, raised_is}
 use Rattle.region_core.proofs.live.Live.raise_floor.Goals as goal

@@ -1,11 +1,11 @@
 use Rattle.std.proofs.Common.{◌≡◌, ◌+◌, List, length, map, sym, ap, ◌∙◌, arith}
 use Rattle.std.proofs.lemmas.List.{length-map, with_items_is}
 use Rattle.region_messages.specs.Trails.{below}
-use Rattle.region_core.specs.declared.entry.Entry.{Entry}
-use Rattle.region_core.specs.LocalRun.{entries_from}
+use Rattle.local_run.specs.declared.entry.Entry.{Entry}
+use Rattle.local_run.specs.Entries.{entries_from}
 use Rattle.region_core.specs.Inbox.{InboxData, taken_from}
-use Rattle.region_core.specs.Taken.{taken_of}
-use Rattle.region_core.proofs.Taken.{taken_below}
+use Rattle.local_run.specs.Taken.{taken_of}
+use Rattle.local_run.proofs.Taken.{taken_below}
 use Rattle.region_core.proofs.Back.{no_more_taken}
 use Rattle.region_core.proofs.Rewound.{dropped_are, kept_are, still_along, rewound_is}
 use Rattle.region_core.proofs.live.Live.rewind.Goals as goal

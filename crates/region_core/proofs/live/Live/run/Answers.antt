@@ -2,12 +2,12 @@ use Rattle.std.proofs.Common.{◌≡◌, ◌∷◌, [], ◌++◌, ap, ◌∙◌,
 use Rattle.region_view.specs.Laws.{HasCells}
 use Rattle.region_view.specs.Setting.{set_rows, rows_set}
 use Rattle.region_view.specs.Views.{ViewData, rows_in}
-use Rattle.region_core.specs.declared.entry.Entry.TheVariants.{Native}
+use Rattle.local_run.specs.declared.entry.Entry.TheVariants.{Native}
 use Rattle.region_core.specs.Inbox.{InboxData}
-use Rattle.region_core.specs.LocalRun.{trail_of, told}
+use Rattle.local_run.specs.LocalRun.{trail_of, told}
 use Rattle.region_view.specs.Messages.{message_of}
 use Rattle.region_core.specs.Live.{run_in, now_in, IsInbox, IsOutbox}
-use Rattle.region_core.proofs.Valid.{valid_now}
+use Rattle.local_run.proofs.Valid.{valid_now}
 use Rattle.region_core.proofs.Appended.{further_is, newest_is, native_action, native_valid, after_what_was_sent, inbox_native, outbox_native}
 use Rattle.region_core.proofs.live.Live.run.Goals as goal
 

@@ -1,6 +1,6 @@
 use Rattle.std.proofs.Common.{◌≡◌, sym, subst}
 use Rattle.region_view.specs.Acting.{stamp_of}
-use Rattle.region_core.specs.Answers.{HasDue, IsInTurn}
+use Rattle.local_run.specs.Answers.{HasDue, IsInTurn}
 use Rattle.region_core.specs.Live.{run_in}
 use Rattle.region_core.proofs.live.Live.step.Goals as goal
 

@@ -1,7 +1,7 @@
 use Rattle.std.proofs.Common.{◌<◌, ◌∷◌, [], ◌++◌, ap, ◌∙◌, sym, subst, refl}
 use Rattle.std.specs.Prelude.{IsSome}
-use Rattle.region_core.specs.declared.entry.Entry.TheVariants.{Heard}
-use Rattle.region_core.specs.declared.entry.TheConstants.{MAX_ENTRIES}
+use Rattle.local_run.specs.declared.entry.Entry.TheVariants.{Heard}
+use Rattle.local_run.specs.declared.entry.TheConstants.{MAX_ENTRIES}
 use Rattle.region_core.specs.Inbox.{InboxData, next_from, taken_from, with_taken}
 use Rattle.region_core.specs.Live.{IsInbox, IsOutbox}
 use Rattle.region_core.proofs.Appended.{further_is, heard_valid, waits_in, few_taken, inbox_heard, outbox_heard, sender_is_region}

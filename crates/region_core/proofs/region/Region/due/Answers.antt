@@ -1,9 +1,9 @@
 use Rattle.std.proofs.Common.{Option, sym, subst}
 use Rattle.std.specs.Prelude.{option_map, IfSome}
 use Rattle.region_core.specs.declared.live.Live.{Live}
-use Rattle.region_core.specs.Opening.{RegionData}
+use Rattle.local_run.specs.Opening.{RegionData}
 use Rattle.region_core.specs.Live.{run_in, IsLive}
-use Rattle.region_core.specs.Keeping.{IsDueIn, IsDueAt}
+use Rattle.local_run.specs.Keeping.{IsDueIn, IsDueAt}
 use Rattle.region_core.proofs.Kept.{kept_is}
 use Rattle.region_core.proofs.region.Region.due.Goals as goal
 

@@ -1,7 +1,7 @@
 use Rattle.std.proofs.Common.{◌≡◌, Option, sym, subst, ap, ◌∙◌}
 use Rattle.std.specs.Prelude.{IfSome}
 use Rattle.region_core.specs.declared.live.Live.{Live}
-use Rattle.region_core.specs.declared.answers.Hearing.TheVariants.{Apart}
+use Rattle.local_run.specs.declared.answers.Hearing.TheVariants.{Apart}
 use Rattle.region_core.specs.Live.{run_in, IsLive}
 use Rattle.region_core.proofs.Shown.{seen_as}
 use Rattle.region_core.proofs.Pairs.{heard_region, heard_hearable, no_apart, region_of}

@@ -9,9 +9,9 @@ use Rattle.region_view.specs.Placing.{IsValidPlacing}
 use Rattle.region_view.specs.Views.{rows_in, IsViewOf}
 use Rattle.cell_sequence.proofs.Followed.{few_rows}
 use Rattle.cell_sequence.proofs.Orderly.{cell_states_are_orderly}
-use Rattle.region_core.specs.declared.home.Home.{Home}
-use Rattle.region_core.specs.LocalRun.{IsInPlace}
-use Rattle.region_core.proofs.Opened.{view_valid, state_place, empty_run}
+use Rattle.local_run.specs.declared.home.Home.{Home}
+use Rattle.local_run.specs.LocalRun.{IsInPlace}
+use Rattle.local_run.proofs.Opened.{view_valid, state_place, empty_run}
 use Rattle.region_core.specs.Live.{run_in}
 use Rattle.region_core.proofs.region.Region.open.Goals as goal
 

@@ -1,5 +1,5 @@
 use Rattle.std.proofs.Common.{Some, ap, ◌∙◌}
-use Rattle.region_core.specs.Raising.{raised}
+use Rattle.local_run.specs.Raising.{raised}
 use Rattle.region_core.proofs.Shown.{seen_as}
 use Rattle.region_core.proofs.region.Region.raise_floor.Goals as goal
 

@@ -1,4 +1,4 @@
-use Rattle.region_core.proofs.Running.{IsUnderWay}
+use Rattle.local_run.proofs.Running.{IsUnderWay}
 use Rattle.region_core.proofs.region.Region.run.Given as goal
 
 abbrev pub invariant-loop : goal.invariant-loop

@@ -1,9 +1,9 @@
 use Rattle.std.proofs.Common.{Option, Some, ap, refl, sym, subst}
 use Rattle.std.specs.Prelude.{option_map}
 use Rattle.region_core.specs.declared.live.Live.{Live}
-use Rattle.region_core.specs.Opening.{RegionData}
+use Rattle.local_run.specs.Opening.{RegionData}
 use Rattle.region_core.specs.Live.{run_in}
-use Rattle.region_core.specs.Steps.{StepsOn}
+use Rattle.local_run.specs.Steps.{StepsOn}
 use Rattle.region_core.proofs.region.Region.step.Goals as goal
 
 pub returns-in-Ok-clause-step : goal.returns-in-Ok-clause-step

@@ -2,7 +2,7 @@ use Rattle.std.proofs.Common.{ℕ, slice_get, get_or, option_copied, sym, ◌∙
 use Rattle.std.proofs.lemmas.Bool.{false≢true}
 use Rattle.region_view.proofs.Seen.{no_row, row_at}
 use Rattle.region_view.specs.Views.{IsViewOf}
-use Rattle.region_core.specs.Standing.{IsUnseenFirst}
+use Rattle.local_run.specs.Standing.{IsUnseenFirst}
 use Rattle.region_core.proofs.Stands.{seen_at, sees_all, unseen_past}
 use Rattle.region_core.proofs.region.standing.first_apart.Goals as goal
 

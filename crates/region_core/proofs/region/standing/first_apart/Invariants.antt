@@ -1,5 +1,5 @@
 use Rattle.std.proofs.Common.{ℕ, ◌<◌, slice_get}
-use Rattle.region_core.specs.Standing.{IsSeenAt}
+use Rattle.local_run.specs.Standing.{IsSeenAt}
 use Rattle.region_core.proofs.region.standing.first_apart.Given as goal
 
 abbrev pub invariant-loop-i : goal.invariant-loop-i

@@ -1,0 +1,75 @@
+-- Members of lists of messages and entries, and trails that rise.
+use Rattle.std.proofs.Common.{drop, ◌≡◌, ◌≢◌, ◌⊎◌, inl, inr, ℕ, zero, suc, List}
+use Rattle.std.proofs.Common.{[], ◌∷◌, sym, ap, subst, refl, arith}
+use Rattle.event_stamps.specs.declared.Stamp.{Stamp}
+use Rattle.event_stamps.specs.Order.{Before}
+use Rattle.event_stamps.proofs.StampOrder.{before_trans}
+use Rattle.event_stamps.proofs.StampOrder.{not_before_itself}
+use Rattle.region_view.specs.declared.rows.Message.{Message}
+use Rattle.region_messages.specs.Trails.{IsAmong, Rises, below}
+use Rattle.region_messages.proofs.Among.{rises_tail, among_rises}
+use Rattle.region_messages.proofs.Parts.{below_none}
+use Rattle.local_run.specs.LocalRun.{Trails, trail_of, rest_of, without_first, IsWaiting}
+
+-- ---- trails that rise
+pub rises_rest : (ms : List Message) → Rises ms → Rises (rest_of ms)
+rises_rest [] h = tt
+rises_rest (m ∷ ms) h = rises_tail m.stamp ms h
+
+-- none is before the first
+pub none_before_first : (m : Message) (ms : List Message) (n : Message) → Rises (m ∷ ms) →
+    IsAmong n (m ∷ ms) → ¬ Before n.stamp m.stamp
+none_before_first m ms n rises (inl same) less =
+    not_before_itself m.stamp (subst (λ (v : Message). Before v.stamp m.stamp) same less)
+none_before_first m ms n rises (inr more) less =
+    not_before_itself m.stamp (before_trans m.stamp n.stamp m.stamp (among_rises m.stamp ms n rises more) less)
+
+pub among_drop : (k : ℕ) (ms : List Message) (n : Message) → IsAmong n (drop k ms) → IsAmong n ms
+among_drop zero ms n among = among
+among_drop (suc k) [] n among = among
+among_drop (suc k) (m ∷ ms) n among = inr (among_drop k ms n among)
+
+pub among_rest : (ms : List Message) (n : Message) → IsAmong n (rest_of ms) → IsAmong n ms
+among_rest [] n h = h
+among_rest (m ∷ ms) n h = inr h
+
+pub below_nil : (s : Stamp) (ms : List Message) →
+    ((m : Message) → IsAmong m ms → ¬ Before m.stamp s) → below s ms ≡ []
+below_nil s [] late = refl
+below_nil s (m ∷ ms) late = below_none s m ms (late m (inl refl))
+
+-- ---- the trails of the regions
+pub same_trail : (ts : Trails) (q : ℕ) → trail_of (without_first ts q) q ≡ rest_of (trail_of ts q)
+same_trail [] q = refl
+same_trail (t ∷ ts) zero = refl
+same_trail (t ∷ ts) (suc q) = same_trail ts q
+
+pub other_trail : (ts : Trails) (q k : ℕ) → k ≢ q → trail_of (without_first ts q) k ≡ trail_of ts k
+other_trail [] q k ne = refl
+other_trail (t ∷ ts) zero zero ne = absurd (ne refl)
+other_trail (t ∷ ts) zero (suc k) ne = refl
+other_trail (t ∷ ts) (suc q) zero ne = refl
+other_trail (t ∷ ts) (suc q) (suc k) ne = other_trail ts q k (λ e. ne (ap suc e))
+
+pub same_or_other : (m n : ℕ) → (m ≡ n) ⊎ (m ≢ n)
+same_or_other m n = grind arith
+
+pub waits_among : (ts : Trails) (q : ℕ) (m : Message) → IsAmong m (trail_of ts q) →
+    IsWaiting ts m.stamp
+unfolding IsWaiting
+waits_among ts q m among = (q, m, among, refl)
+
+pub waits_first : (ts : Trails) (q : ℕ) (m : Message) (rest : List Message) →
+    trail_of ts q ≡ m ∷ rest → IsWaiting ts m.stamp
+waits_first ts q m rest is = waits_among ts q m (subst (IsAmong m) (sym is) (inl refl))
+
+-- trails of which each rises
+abbrev pub AllRise : Trails → Type 0
+AllRise ts = (q : ℕ) → Rises (trail_of ts q)
+
+pub rise_without : (ts : Trails) (q : ℕ) → AllRise ts → AllRise (without_first ts q)
+rise_without ts q rise k = elim (same_or_other k q) [
+  | inl is ↦ subst (λ (x : ℕ). Rises (trail_of (without_first ts q) x)) (sym is)
+      (subst Rises (sym (same_trail ts q)) (rises_rest (trail_of ts q) (rise q)))
+  | inr other ↦ subst Rises (sym (other_trail ts q k other)) (rise k)
+]

@@ -1,0 +1,22 @@
+-- The lemmas of the crate.
+pub mod Among
+pub mod Logs
+pub mod Taken
+pub mod Sent
+pub mod Heads
+pub mod Right
+pub mod Choices
+pub mod Hears
+pub mod InTurn
+pub mod Waiting
+pub mod Determined
+pub mod Keeps
+pub mod OneStep
+pub mod Valid
+pub mod Counted
+pub mod Outcome
+pub mod Sending
+pub mod Raised
+pub mod Running
+pub mod Begins
+pub mod Opened

@@ -1,0 +1,53 @@
+-- The entries of a log, their stamps, and the parts of a log before a stamp and from it on.
+use Rattle.std.specs.Prelude.{List, [], ◌∷◌, ⊤, Option, Some, None, if◌then◌else◌}
+use Rattle.event_stamps.specs.declared.Stamp.{Stamp}
+use Rattle.event_stamps.specs.Order.{Before}
+use Rattle.region_view.specs.declared.action.Action.{Action}
+use Rattle.region_view.specs.Acting.{stamp_of}
+use Rattle.region_messages.specs.Trails.{is_before}
+use Rattle.local_run.specs.declared.entry.Entry.{Entry}
+use Rattle.local_run.specs.declared.entry.Entry.TheVariants.{Native, Heard}
+
+abbrev pub entry_stamp : Entry → Stamp
+entry_stamp (Native action) = stamp_of action
+entry_stamp (Heard q m) = m.stamp
+
+abbrev pub native_of : Entry → Option Action
+native_of (Native action) = Some action
+native_of (Heard q m) = None
+
+-- the action, where there is an entry and it is a native one
+abbrev pub native_in : Option Entry → Option Action
+native_in None = None
+native_in (Some entry) = native_of entry
+
+-- ---- the last
+-- the last entry's stamp, or the floor where there is no entry
+abbrev pub clock_of : Stamp → List Entry → Stamp
+clock_of floor [] = floor
+clock_of floor (e ∷ es) = clock_of (entry_stamp e) es
+
+-- the last entry's stamp, where there is an entry
+abbrev pub last_stamp : List Entry → Option Stamp
+last_stamp [] = None
+last_stamp (e ∷ es) = Some (clock_of (entry_stamp e) es)
+
+-- ---- stamps of entries
+-- they rise strictly, all after one
+abbrev pub RiseAfter : Stamp → List Entry → Type 0
+RiseAfter s [] = ⊤
+RiseAfter s (e ∷ es) = Before s (entry_stamp e) × RiseAfter (entry_stamp e) es
+
+-- they rise strictly, none before one
+abbrev pub RiseFrom : Stamp → List Entry → Type 0
+RiseFrom s [] = ⊤
+RiseFrom s (e ∷ es) = (¬ Before (entry_stamp e) s) × RiseAfter (entry_stamp e) es
+
+-- the entries before a stamp, and those from it on
+abbrev pub entries_below : Stamp → List Entry → List Entry
+entries_below s [] = []
+entries_below s (e ∷ es) = if is_before (entry_stamp e) s then e ∷ entries_below s es else []
+
+abbrev pub entries_from : Stamp → List Entry → List Entry
+entries_from s [] = []
+entries_from s (e ∷ es) = if is_before (entry_stamp e) s then entries_from s es else e ∷ es

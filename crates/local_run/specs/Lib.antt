@@ -1,0 +1,16 @@
+pub mod Entries
+pub mod LocalRun
+pub mod Taken
+pub mod Answers
+pub mod Opening
+pub mod Codes
+pub mod Keeping
+pub mod Laws
+pub mod Hearing
+pub mod Moves
+pub mod Steps
+pub mod Raising
+pub mod Standing
+pub mod Bursts
+pub mod Running
+pub mod RunOn
