@@ -1,5 +1,5 @@
 -- Lists of messages, and where two of them first disagree.
-use Rattle.std.specs.Prelude.{◌≡◌, ◌⊎◌, ℕ, List, [], ◌∷◌, ⊤, Bool, None, if◌then◌else◌, take, slice_get}
+use Rattle.std.specs.Prelude.{◌≡◌, ◌≢◌, ◌⊎◌, ℕ, List, [], ◌∷◌, ◌++◌, ⊤, Bool, None, if◌then◌else◌, take, slice_get}
 use Rattle.std.specs.Ordering.{is_lt}
 use Rattle.event_stamps.specs.declared.Stamp.{Stamp}
 use Rattle.event_stamps.specs.Order.{Before, stamp_cmp}
@@ -31,6 +31,14 @@ below s (m ∷ ms) = if is_before m.stamp s then m ∷ below s ms else []
 abbrev pub from : Stamp → List Message → List Message
 from s [] = []
 from s (m ∷ ms) = if is_before m.stamp s then from s ms else m ∷ ms
+
+-- the messages with one more, at its place
+abbrev pub with_message : Message → List Message → List Message
+with_message m ms = below m.stamp ms ++ m ∷ from m.stamp ms
+
+-- none of them has this stamp
+abbrev pub IsFree : Stamp → List Message → Type 0
+IsFree s ms = (m : Message) → IsAmong m ms → m.stamp ≢ s
 
 -- a stamp is after all of them
 abbrev pub IsAfterAll : List Message → Stamp → Type 0

@@ -29,8 +29,8 @@ impl Model for Trail {
     ghost invariant = { λ a. Rises a.messages.items };
 }
 
-ghost use Rattle.std.specs.Prelude.{◌≡◌, ◌≤◌, ◌++◌, ◌∷◌, [], length, take, drop, slice_get, option_copied, OnOk, OnErr, MatchOption, option_map, IsTrue, ◌↔◌};
-ghost use Rattle.region_messages.specs.Trails.{Rises, IsAfterAll, below, from, AgreesUpTo, IsFirstDisagreement, StartAlike};
+ghost use Rattle.std.specs.Prelude.{◌≡◌, ◌≤◌, ◌++◌, ◌∷◌, [], length, take, drop, slice_get, Some, option_copied, OnOk, OnErr, MatchOption, option_map, IsTrue, ◌↔◌};
+ghost use Rattle.region_messages.specs.Trails.{Rises, IsAmong, IsAfterAll, IsFree, with_message, below, from, AgreesUpTo, IsFirstDisagreement, StartAlike};
 
 use event_stamps::{Stamp, earlier};
 use std::alloc::{AllocError, Global};
@@ -81,6 +81,25 @@ impl Trail {
         self.messages.get(i)
     }
 
+    /// The message with this stamp; none exactly where no message has it.
+    pub fn at(&self, stamp: Stamp) -> Option<&Message>
+        ensures { MatchOption (option_copied result) (IsFree stamp self.now) (λ m. IsAmong m self.now × (m.stamp ≡ stamp)) }
+    {
+        let place = count_below(&self.messages, stamp);
+        if is_stamp(stamp_at(&self.messages, place), &stamp) {
+            self.get(place)
+        } else {
+            None
+        }
+    }
+
+    /// Whether no message has this stamp.
+    pub fn is_free(&self, stamp: Stamp) -> bool
+        ensures { IsTrue result ↔ IsFree stamp self.now }
+    {
+        self.at(stamp).is_none()
+    }
+
     /// Takes away the messages from the stamp `at` on. Takes no memory.
     pub fn cut_from(&mut self, at: Stamp)
         ensures { self.new ≡ below at self.old }
@@ -111,6 +130,21 @@ impl Trail {
         self.cut_from(at);
         let start = count_below(&other.messages, at);
         self.messages.extend_from_slice(&other.messages[start..])
+    }
+
+    /// Puts a message at its place, where no other has its stamp.
+    ///
+    /// # Errors
+    /// Out of memory: the trail stays as it is.
+    pub fn insert(&mut self, message: Message) -> Result<(), AllocError>
+        requires { IsFree message.stamp self.old }
+        ensures inserted { OnOk result (self.new ≡ with_message message self.old) }
+        ensures unchanged { OnErr result (self.new ≡ self.old) }
+    {
+        let place = count_below(&self.messages, message.stamp);
+        self.messages.insert(place, message)?;
+        self.kept = self.kept.min(place);
+        Ok(())
     }
 
     /// Marks what stands now: a hearer that has heard all of it needs to look at the rest alone
@@ -178,6 +212,16 @@ fn stamp_at(messages: &[Message], i: usize) -> Option<Stamp>
     ensures { result ≡ option_map (λ m. m.stamp) (slice_get messages.now i) }
 {
     messages.get(i).map(|m| m.stamp)
+}
+
+// Whether there is a stamp, and it is this one.
+fn is_stamp(stamp: Option<Stamp>, at: &Stamp) -> bool
+    ensures { IsTrue result ↔ (stamp ≡ Some at.now) }
+{
+    match stamp {
+        Some(own) => own == *at,
+        None => false,
+    }
 }
 
 // How many messages are before a stamp.
