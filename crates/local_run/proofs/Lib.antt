@@ -20,3 +20,5 @@ pub mod Raised
 pub mod Running
 pub mod Begins
 pub mod Opened
+pub mod Touched
+pub mod Untouched

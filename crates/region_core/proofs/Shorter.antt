@@ -7,22 +7,21 @@ use Rattle.region_view.specs.declared.rows.Message.{Message}
 use Rattle.region_view.specs.Acting.{stamp_of}
 use Rattle.region_view.specs.Placing.{IsNative, IsValidPlacing}
 use Rattle.region_view.specs.Views.{ViewData, rows_in}
-use Rattle.region_view.specs.Setting.{set_rows, after_action}
-use Rattle.region_queue.specs.Naming.{IsSameBut, IsSameButBy}
+use Rattle.region_view.specs.Setting.{set_rows, after_action, numbers_of}
+use Rattle.region_view.specs.Naming.{IsSameBut, IsSameButBy}
 use Rattle.region_queue.specs.Queue.{QueueData, IsOf, StandsFor}
 use Rattle.saved_states.specs.Positions.{SavedData, EndsWith, dropped_after}
 use Rattle.local_run.specs.declared.home.Home.{Home}
 use Rattle.local_run.specs.declared.entry.Entry.{Entry}
 use Rattle.local_run.specs.declared.entry.Entry.TheVariants.{Native, Heard}
 use Rattle.local_run.specs.LocalRun.{At, Local, start_of, after_entry, after_log, IsInPlace, IsOwn, IsMove, Moves, IsRight}
-use Rattle.region_core.specs.Touched.{numbers_of}
 use Rattle.region_core.specs.Live.{saved_along, IsAlong}
 use Rattle.local_run.proofs.Logs.{moves_split, after_join}
 use Rattle.local_run.proofs.Right.{right_before}
 use Rattle.region_core.proofs.Along.{along_ends}
 use Rattle.region_core.proofs.Rewound.{kept_saved}
-use Rattle.region_core.proofs.Touched.{same_but}
-use Rattle.region_core.proofs.Untouched.{action_leaves}
+use Rattle.local_run.proofs.Touched.{same_but}
+use Rattle.local_run.proofs.Untouched.{action_leaves}
 use Rattle.local_run.proofs.Valid.{valid_after}
 
 -- ---- the queue

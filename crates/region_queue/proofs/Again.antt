@@ -1,5 +1,5 @@
 -- Loops that take what is kept of each disk again.
-use Rattle.std.proofs.Common.{◌≡◌, ◌≢◌, ◌⊎◌, inl, inr, ℕ, ◌<◌, List, [], ◌∷◌, ◌++◌, length, take, ◌≤◌, arith, refl, sym, subst, ap, ◌∙◌, true, false, cond}
+use Rattle.std.proofs.Common.{◌≡◌, ◌≢◌, ◌⊎◌, inl, inr, ℕ, List, [], ◌∷◌, ◌++◌, length, take, ◌≤◌, arith, refl, sym, subst, ap, ◌∙◌, true, false, cond}
 use Rattle.std.specs.Prelude.{Some, None, option_map, Result, Ok, Err, OnOk}
 use Rattle.std.specs.List.{Contains}
 use Rattle.std.specs.Ordering.{nat_cmp, eq_by_cmp}
@@ -7,32 +7,14 @@ use Rattle.std.specs.Cmp.{nat_cmp_total}
 use Rattle.std.specs.FinMap as map
 use Rattle.std.proofs.lemmas.Bool.{cases_eq}
 use Rattle.std.proofs.lemmas.Grind.{common_steps}
-use Rattle.std.proofs.lemmas.List.Elements.{Contains-push_cases, Contains-append_right, Contains-append_cases}
+use Rattle.std.proofs.lemmas.List.Elements.{Contains-push_cases}
 use Rattle.cell_lists.specs.Listing.{ListsData, with_disk, without_disk}
 use Rattle.region_view.specs.declared.action.Placed.{Placed}
 use Rattle.region_view.specs.Views.{ViewData, rows_in}
+use Rattle.region_view.proofs.Naming.{none_among}
 use Rattle.region_queue.specs.declared.finder.Finder.{Finder}
 use Rattle.region_queue.specs.declared.keys.Keys.{Keys}
 use Rattle.region_queue.specs.Finding.{Cells, cell_in, IsTakenOff, IsRelisted, AreRelisted, AreRetaken, AreRetakenOf, IsTaken, IsTakenAt, entry_at}
-
-pub none_among : (i : ℕ) → ¬ Contains {X = ℕ} [] i
-none_among i h = let lt = h.1 in absurd (omega arith)
-
-pub among_or_not : (xs : List ℕ) (i : ℕ) → Contains xs i ⊎ ¬ Contains xs i
-among_or_not [] i = inr (none_among i)
-among_or_not (x ∷ xs) i = elim (cases_eq x i) [
-  | inl same ↦ inl (subst (λ (n : ℕ). Contains (x ∷ xs) n) same (0, first x xs, refl))
-  | inr other ↦ elim (among_or_not xs i) [
-    | inl later ↦ inl (Contains-append_right (x ∷ []) xs i later)
-    | inr none ↦ inr (λ h. elim (Contains-append_cases (x ∷ []) xs i h) [
-      | inl here ↦ elim (Contains-push_cases [] x i here) [ inl never ↦ none_among i never | inr same ↦ other same ]
-      | inr later ↦ none later
-    ])
-  ]
-]
-  where
-    first : (x : ℕ) (xs : List ℕ) → 0 < length (x ∷ xs)
-    first x xs = omega arith
 
 pub take_whole : (xs : List ℕ) (n : ℕ) → length xs ≤ n → take n xs ≡ xs
 take_whole xs n le = grind (arith, common_steps)

@@ -11,11 +11,11 @@ use Rattle.cell_lists.specs.declared.near.Block.{Block}
 use Rattle.cell_lists.specs.Listing.{ListsData}
 use Rattle.cell_lists.specs.Nearby.{IsWithin, IsListedWithin, AreGathered}
 use Rattle.region_view.specs.Views.{ViewData}
+use Rattle.region_view.proofs.Naming.{none_among}
 use Rattle.region_queue.specs.declared.finder.Finder.{Finder}
 use Rattle.region_queue.specs.declared.parts.Parts.{Parts}
 use Rattle.region_queue.specs.Outside.{IsListedInParts}
 use Rattle.region_queue.specs.Finding.{IsReady, IsNativePair, IsNativeWith, IsNearby, AreAllWithin, IsBlockBeside, AreListed}
-use Rattle.region_queue.proofs.Again.{none_among}
 use Rattle.region_queue.proofs.Candidates.{listed_at, with_more, with_same}
 
 -- ---- one after the other

@@ -7,12 +7,12 @@ use Rattle.event_stamps.specs.declared.Kind.TheVariants.{Pair}
 use Rattle.event_stamps.specs.Least.{IsLeast}
 use Rattle.event_stamps.proofs.StampOrder.{not_before_itself}
 use Rattle.event_tree.specs.Keys.{Key, IsNotAfter, key_at}
-use Rattle.region_queue.specs.Naming.{Names}
+use Rattle.region_view.specs.Naming.{Names}
+use Rattle.region_view.proofs.Naming.{by_itself, is_pair_or_not}
 use Rattle.region_queue.specs.declared.keys.Keys.{Keys}
 use Rattle.region_queue.specs.Finding.{AreGiven}
 use Rattle.region_queue.specs.Covering.{IsKey, Covers}
-use Rattle.region_queue.proofs.Candidates.{by_itself}
-use Rattle.region_queue.proofs.Covered.{is_pair_or_not, key_stays}
+use Rattle.region_queue.proofs.Covered.{key_stays}
 
 -- no disk of the one is a disk of the other
 abbrev pub AreApart : Stamp → Stamp → Type 0

@@ -14,9 +14,10 @@ use Rattle.cell_lists.specs.Nearby.{IsBlock, IsWithin}
 use Rattle.region_view.specs.declared.action.Placed.{Placed}
 use Rattle.region_view.specs.Events.{IsNear}
 use Rattle.region_view.specs.Views.{ViewData, rows_in}
+use Rattle.region_view.proofs.Naming.{same_row, near_pair}
 use Rattle.region_queue.specs.declared.finder.Finder.{Finder}
 use Rattle.region_queue.specs.Finding.{IsNativeOf, IsNativePair, IsNearby, IsBlockBeside, AreListed}
-use Rattle.region_queue.proofs.Candidates.{same_row, near_pair, native_is, pair_low, pair_high, adjacent_back, listed_at}
+use Rattle.region_queue.proofs.Candidates.{native_is, pair_low, pair_high, adjacent_back, listed_at}
 
 -- ---- cells
 -- a cell of the block, by its row and column

@@ -17,35 +17,12 @@ use Rattle.cell_lists.specs.Nearby.{IsWithin, IsListedWithin, columns_to}
 use Rattle.cell_lists.proofs.Blocks.{rows_to, split_column, wider_column, in_last_column, split_row, join_row}
 use Rattle.region_view.specs.declared.action.Placed.{Placed}
 use Rattle.region_view.specs.Events.{IsAlone, IsNear}
-use Rattle.region_view.specs.Placing.{IsCellCandidate, IsNearPair, IsNative}
+use Rattle.region_view.specs.Placing.{IsCellCandidate, IsNearPair}
 use Rattle.region_view.specs.Views.{ViewData, rows_in}
 use Rattle.region_queue.specs.declared.finder.Finder.{Finder}
-use Rattle.region_queue.specs.Naming.{Names, IsPairOf}
+use Rattle.region_view.specs.Naming.{Names, IsPairOf}
+use Rattle.region_view.proofs.Naming.{same_row, near_pair, pair_kind, by_itself}
 use Rattle.region_queue.specs.Finding.{IsReady, IsFound, IsAloneAt, IsNativeOf, IsNativePair, IsNativeWith, IsSingle, IsPaired, IsBest, IsBestSingle, IsBestPair, AreListed}
-
-pub same_row : (view : ViewData) (i j : ℕ) (p q : Placed) → rows_in view i ≡ Some p → rows_in view j ≡ Some q → i ≡ j → p ≡ q
-same_row view i j p q a b e = let at : Some p ≡ Some q = sym a ∙ ap (rows_in view) e ∙ b in cc
-
--- ---- kinds
-pub near_pair : (rules : Rules) (grid : GridData) (region : ℕ) (view : ViewData) (s : Stamp) →
-    IsNative rules grid region (rows_in view) s → s.kind ≡ Pair → IsNearPair rules grid (rows_in view) s
-near_pair rules grid region view s native pair = from native.0
-  where
-    from : IsCellCandidate rules grid (rows_in view) s → IsNearPair rules grid (rows_in view) s
-    from (inl cross) =
-        let kind : s.kind ≡ Cross = ap (λ (v : Stamp). v.kind) cross.2.2 in
-        absurd (let no : Cross ≡ Pair = sym kind ∙ pair in cc)
-    from (inr (inl wall)) =
-        let kind : s.kind ≡ Wall = ap (λ (v : Stamp). v.kind) wall.2.2 in
-        absurd (let no : Wall ≡ Pair = sym kind ∙ pair in cc)
-    from (inr (inr near)) = near
-
-pub pair_kind : (rules : Rules) (grid : GridData) (view : ViewData) (s : Stamp) → IsNearPair rules grid (rows_in view) s → s.kind ≡ Pair
-pair_kind rules grid view s near = ap (λ (v : Stamp). v.kind) near.1.2.3.2
-
-pub by_itself : (s : Stamp) (disk : ℕ) → ¬ (s.kind ≡ Pair) → Names s disk → s.first ≡ disk
-by_itself s disk alone (inl first) = first
-by_itself s disk alone (inr pair) = absurd (alone pair.0)
 
 -- ---- a disk by itself
 pub alone_found : (finder : Finder) (view : ViewData) (disk : ℕ) (p : Placed) (s : Stamp) → rows_in view disk ≡ Some p →

@@ -3,17 +3,15 @@ use Rattle.std.proofs.Common.{◌≡◌, ◌⊎◌, ◌↔◌, inl, inr, ℕ, Li
 use Rattle.std.specs.Prelude.{Some, None}
 use Rattle.std.specs.List.{Contains}
 use Rattle.event_stamps.specs.declared.Stamp.{Stamp}
-use Rattle.event_stamps.specs.declared.Kind.{Kind}
-use Rattle.event_stamps.specs.declared.Kind.TheVariants.{Cross, Wall, Pair}
+use Rattle.event_stamps.specs.declared.Kind.TheVariants.{Pair}
 use Rattle.event_stamps.specs.Least.{IsLeastOf}
 use Rattle.event_tree.specs.Keys.{Key, IsNotAfter, IsLeastKey, key_at}
 use Rattle.event_tree.proofs.Trees.{not_after_trans}
-use Rattle.region_queue.specs.Naming.{Names, NamesAny}
+use Rattle.region_view.specs.Naming.{Names, NamesAny}
+use Rattle.region_view.proofs.Naming.{none_among, by_itself, is_pair_or_not, names_or_not, one_named, names_none}
 use Rattle.region_queue.specs.declared.keys.Keys.{Keys}
 use Rattle.region_queue.specs.Finding.{entry_at}
 use Rattle.region_queue.specs.Covering.{IsKey, Covers}
-use Rattle.region_queue.proofs.Again.{among_or_not, none_among}
-use Rattle.region_queue.proofs.Candidates.{by_itself}
 
 -- a disk's candidates, those of it by itself, and its pairs
 abbrev pub CandidatesOf : (Stamp → Type 0) → ℕ → Stamp → Type 0
@@ -62,37 +60,6 @@ key_stays C D i key bound stay is = record {
   single = λ s d not first. is.single s ((stay s not first).1 d) not first;
   below = is.below;
 }
-
--- ---- which disks an event names
-pub is_pair_or_not : (kind : Kind) → (kind ≡ Pair) ⊎ ¬ (kind ≡ Pair)
-is_pair_or_not Cross = inr (λ e. cc)
-is_pair_or_not Wall = inr (λ e. cc)
-is_pair_or_not Pair = inl refl
-
-names_or_not : (s : Stamp) (ids : List ℕ) → NamesAny s ids ⊎ ¬ NamesAny s ids
-names_or_not s ids = elim (among_or_not ids s.first) [
-  | inl first ↦ inl (inl first)
-  | inr not_first ↦ elim (is_pair_or_not s.kind) [
-    | inr alone ↦ inr (λ h. elim h [ inl first ↦ not_first first | inr pair ↦ alone pair.0 ])
-    | inl pair ↦ elim (among_or_not ids s.second) [
-      | inl second ↦ inl (inr (pair, second))
-      | inr not_second ↦ inr (λ h. elim h [ inl first ↦ not_first first | inr both ↦ not_second both.1 ])
-    ]
-  ]
-]
-
-one_named : (s : Stamp) (ids : List ℕ) → NamesAny s ids → (i : ℕ) × Names s i × Contains ids i
-one_named s ids (inl first) = (s.first, inl refl, first)
-one_named s ids (inr pair) = (s.second, inr (pair.0, refl), pair.1)
-
-pub any_named : (s : Stamp) (ids : List ℕ) (i : ℕ) → Names s i → Contains ids i → NamesAny s ids
-any_named s ids i (inl first) among = inl (subst (λ (n : ℕ). Contains ids n) (sym first) among)
-any_named s ids i (inr pair) among = inr (pair.0, subst (λ (n : ℕ). Contains ids n) (sym pair.1) among)
-
--- what names one disk alone, which isn't touched, names none that is
-names_none : (s : Stamp) (ids : List ℕ) (i : ℕ) → ¬ (s.kind ≡ Pair) → Names s i → ¬ Contains ids i → ¬ NamesAny s ids
-names_none s ids i alone names not (inl first) = not (subst (λ (n : ℕ). Contains ids n) (by_itself s i alone names) first)
-names_none s ids i alone names not (inr pair) = alone pair.0
 
 -- ---- the theorem: where the keys of all touched disks are taken again, and the others are too or are kept, the keys cover
 -- the candidates again

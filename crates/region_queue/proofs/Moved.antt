@@ -16,15 +16,15 @@ use Rattle.region_view.specs.Placing.{IsNearPair}
 use Rattle.region_view.specs.Views.{ViewData, rows_in}
 use Rattle.region_queue.specs.declared.finder.Finder.{Finder}
 use Rattle.region_queue.specs.declared.keys.Keys.{Keys}
-use Rattle.region_queue.specs.Naming.{Names, IsPairOf, IsMoved}
+use Rattle.region_view.specs.Naming.{Names, IsPairOf, IsMoved}
+use Rattle.region_view.proofs.Naming.{same_row, near_pair, native_stays, natives_stay}
 use Rattle.region_queue.specs.Finding.{IsFound, IsPaired, IsPairedBeyond, IsExtended, IsEntered, IsTakenAt, cell_in}
 use Rattle.region_queue.specs.Covering.{IsKey, Covers}
 use Rattle.region_queue.proofs.Again.{retaken_one}
 use Rattle.region_queue.proofs.Back.{names_decides}
-use Rattle.region_queue.proofs.Candidates.{near_pair, same_row, adjacent_back, names_pair}
+use Rattle.region_queue.proofs.Candidates.{adjacent_back, names_pair}
 use Rattle.region_queue.proofs.Covered.{SinglesOf, PairsOf, least_not_after, key_stays, covers_again}
 use Rattle.region_queue.proofs.Outside.{placed_in}
-use Rattle.region_queue.proofs.Standing.{native_stays, natives_stay}
 use Rattle.region_queue.proofs.Unchanged.{all_but_moved, the_only}
 
 -- ---- which pairs are new

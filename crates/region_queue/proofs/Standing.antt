@@ -1,56 +1,28 @@
 -- The queue stands for a view again after changes.
-use Rattle.std.proofs.Common.{◌≡◌, ◌⊎◌, ◌↔◌, inl, inr, ℕ, List, [], ◌∷◌, refl, sym, ap, ◌∙◌}
+use Rattle.std.proofs.Common.{◌≡◌, ◌⊎◌, inl, inr, ℕ, List, [], ◌∷◌, refl, sym, ap, ◌∙◌}
 use Rattle.std.specs.Prelude.{Option, Some, None, option_map, ⊤, Result, Ok, Err, OnOk}
 use Rattle.std.specs.List.{Contains}
 use Rattle.std.specs.Ordering.{nat_cmp}
 use Rattle.std.specs.FinMap as map
 use Rattle.fixed_motion.specs.declared.rules.Rules.{Rules}
 use Rattle.event_stamps.specs.declared.Stamp.{Stamp}
-use Rattle.event_stamps.specs.declared.Kind.TheVariants.{Pair}
 use Rattle.event_stamps.specs.Least.{IsLeast, IsLeastOf}
 use Rattle.event_tree.specs.Keys.{Key, IsLeastKey}
 use Rattle.cell_grid.specs.Grid.{GridData}
 use Rattle.region_view.specs.declared.action.Placed.{Placed}
-use Rattle.region_view.specs.Placing.{IsCellCandidate, IsNearPair, IsNative}
+use Rattle.region_view.specs.Placing.{IsNative}
 use Rattle.region_view.specs.Views.{ViewData, rows_in}
 use Rattle.region_queue.specs.declared.finder.Finder.{Finder}
 use Rattle.region_queue.specs.declared.keys.Keys.{Keys}
-use Rattle.region_queue.specs.Naming.{Names, IsSameBut, IsSameButBy, IsMoved, NativesStay}
+use Rattle.region_view.specs.Naming.{Names, IsSameBut, IsSameButBy, IsMoved}
+use Rattle.region_view.proofs.Naming.{native_stays, natives_stay}
 use Rattle.region_queue.specs.Finding.{Cells, cell_in, AreListed, AreRelisted, AreRelistedOf, AreRetaken, AreGiven, IsFound}
 use Rattle.region_queue.specs.Queue.{QueueData, queue_of, StandsFor}
 use Rattle.region_queue.specs.Covering.{Covers, IsSettled}
-use Rattle.region_queue.proofs.Candidates.{pair_kind}
-use Rattle.region_queue.proofs.Covered.{covers_again, any_named}
+use Rattle.region_queue.proofs.Covered.{covers_again}
 use Rattle.region_queue.proofs.Back.{covers_back}
 use Rattle.region_queue.proofs.Settled.{settled_least}
 use Rattle.region_queue.proofs.Unchanged.{all_but_moved}
-
--- ---- what names no changed disk
-moved_pair : (rules : Rules) (grid : GridData) (x y : ViewData) (s : Stamp) → rows_in y s.first ≡ rows_in x s.first →
-    (s.kind ≡ Pair → rows_in y s.second ≡ rows_in x s.second) → IsNearPair rules grid (rows_in x) s → IsNearPair rules grid (rows_in y) s
-moved_pair rules grid x y s first second h =
-    (h.0, (h.1.0, first ∙ h.1.1, (h.1.2.0, second (pair_kind rules grid x s h) ∙ h.1.2.1, h.1.2.2, h.1.2.3)))
-
-moved : (rules : Rules) (grid : GridData) (region : ℕ) (x y : ViewData) (s : Stamp) → rows_in y s.first ≡ rows_in x s.first →
-    (s.kind ≡ Pair → rows_in y s.second ≡ rows_in x s.second) → IsNative rules grid region (rows_in x) s → IsNative rules grid region (rows_in y) s
-moved rules grid region x y s first second h = (candidate h.0, (h.1.0, first ∙ h.1.1, h.1.2))
-  where
-    candidate : IsCellCandidate rules grid (rows_in x) s → IsCellCandidate rules grid (rows_in y) s
-    candidate (inl cross) = inl (cross.0, first ∙ cross.1, cross.2)
-    candidate (inr (inl wall)) = inr (inl (wall.0, first ∙ wall.1, wall.2))
-    candidate (inr (inr pair)) = inr (inr (moved_pair rules grid x y s first second pair))
-
-pub native_stays : (rules : Rules) (grid : GridData) (region : ℕ) (before after : ViewData) (s : Stamp) →
-    ((i : ℕ) → Names s i → rows_in after i ≡ rows_in before i) →
-    (IsNative rules grid region (rows_in before) s ↔ IsNative rules grid region (rows_in after) s)
-native_stays rules grid region before after s same =
-    let first : rows_in after s.first ≡ rows_in before s.first = same s.first (inl refl) in
-    let second : s.kind ≡ Pair → rows_in after s.second ≡ rows_in before s.second = λ pair. same s.second (inr (pair, refl)) in
-    (moved rules grid region before after s first second, moved rules grid region after before s (sym first) (λ pair. sym (second pair)))
-
-pub natives_stay : NativesStay
-natives_stay rules grid region before after ids s same none =
-    native_stays rules grid region before after s (λ i names. same i (λ among. none (any_named s ids i names among)))
 
 -- ---- lists
 lists_again : (before after : ViewData) (Such : ℕ → Type 0) (old new : Cells) → AreListed before old →

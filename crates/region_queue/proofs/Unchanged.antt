@@ -5,10 +5,9 @@ use Rattle.std.proofs.lemmas.List.Elements.{Contains-push, Contains-push_cases, 
 use Rattle.event_stamps.specs.declared.Stamp.{Stamp}
 use Rattle.event_stamps.specs.declared.Kind.TheVariants.{Pair}
 use Rattle.region_view.specs.Views.{ViewData}
-use Rattle.region_queue.specs.Naming.{Names, IsSameBut, IsMoved}
+use Rattle.region_view.specs.Naming.{Names, IsSameBut, IsMoved}
+use Rattle.region_view.proofs.Naming.{none_among, by_itself}
 use Rattle.region_queue.specs.Finding.{Cells, AreRelisted, AreRelistedOf}
-use Rattle.region_queue.proofs.Again.{none_among}
-use Rattle.region_queue.proofs.Candidates.{by_itself}
 
 the_one : (disk i : ℕ) → disk ≡ i → Contains (disk ∷ []) i
 the_one disk i same = subst (λ (n : ℕ). Contains (disk ∷ []) n) same (Contains-push [] disk)

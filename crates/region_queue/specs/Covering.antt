@@ -3,7 +3,7 @@ use Rattle.std.specs.Prelude.{◌≡◌, ℕ, List, Some, IfSome}
 use Rattle.event_stamps.specs.declared.Stamp.{Stamp}
 use Rattle.event_stamps.specs.declared.Kind.TheVariants.{Pair}
 use Rattle.event_tree.specs.Keys.{Key, IsNotAfter, IsLeastKey, key_at}
-use Rattle.region_queue.specs.Naming.{Names}
+use Rattle.region_view.specs.Naming.{Names}
 
 -- a disk's key, and the bound of its pairs, both of which name it: the key is a candidate unless it is of a pair, and is
 -- after none of the disk's candidates by itself, nor after the bound

@@ -19,7 +19,7 @@ use Rattle.region_view.specs.Placing.{IsNative, IsValidPlacing}
 use Rattle.region_view.specs.Views.{ViewData, rows_in}
 use Rattle.region_queue.specs.declared.finder.Finder.{Finder}
 use Rattle.region_queue.specs.declared.keys.Keys.{Keys}
-use Rattle.region_queue.specs.Naming.{Names, IsPairOf}
+use Rattle.region_view.specs.Naming.{Names, IsPairOf}
 
 -- ---- where disks are listed
 abbrev pub Cells : Type 0

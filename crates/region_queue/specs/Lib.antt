@@ -1,4 +1,3 @@
-pub mod Naming
 pub mod Finding
 pub mod Outside
 pub mod Covering

@@ -7,7 +7,7 @@ ghost use Rattle.event_tree.specs.Packing.{HasRoom};
 ghost use Rattle.cell_grid.specs.Grid.{IsCell, Owns};
 ghost use Rattle.region_view.specs.declared.action.Placed.{Placed};
 ghost use Rattle.region_view.specs.Views.{ViewData, rows_in};
-ghost use Rattle.region_queue.specs.Naming.{IsMoved};
+ghost use Rattle.region_view.specs.Naming.{IsMoved};
 ghost use Rattle.region_queue.specs.Covering.{Covers, IsSettled};
 ghost use Rattle.region_queue.specs.Finding.{IsReady, IsFound, AreListed, AreRetaken, AreRetakenOf, AreGiven};
 ghost use Rattle.region_queue.specs.Finding.{IsEntered, IsTakenAt, IsExtended, HasKey, IsHolder, cell_in};

@@ -13,10 +13,8 @@
 mod bounds;
 mod finder;
 mod keys;
-mod laws;
 mod listing;
 mod parts;
 mod queue;
 
-pub use laws::natives_stay;
 pub use queue::Queue;

@@ -3,7 +3,7 @@
 ghost use Rattle.std.specs.Prelude.{◌≡◌, OnOk};
 ghost use Rattle.region_view.specs.Laws.{HasCells};
 ghost use Rattle.region_view.specs.Views.{rows_in};
-ghost use Rattle.region_queue.specs.Naming.{Names};
+ghost use Rattle.region_view.specs.Naming.{Names};
 ghost use Rattle.region_queue.specs.Finding.{IsTakenOff, IsRelisted, AreRelisted, AreRelistedOf};
 
 use crate::keys::is_of_pair;

@@ -42,7 +42,7 @@ ghost use Rattle.cell_grid.specs.Grid.{IsGridOf, IsRegion};
 ghost use Rattle.region_view.specs.declared.action.Placed.{Placed};
 ghost use Rattle.region_view.specs.Placing.{IsNative, IsValidPlacing};
 ghost use Rattle.region_view.specs.Views.{ViewData, rows_in};
-ghost use Rattle.region_queue.specs.Naming.{IsSameBut, IsSameButBy, IsMoved};
+ghost use Rattle.region_view.specs.Naming.{IsSameBut, IsSameButBy, IsMoved};
 ghost use Rattle.region_queue.specs.Queue.{IsOf, StandsFor};
 
 impl Queue {

@@ -4,6 +4,7 @@ mod First
 pub mod Homes
 mod InSlots
 mod Marks
+pub mod Naming
 pub mod Puts
 pub mod SamePlaced
 pub mod Seen

@@ -6,4 +6,5 @@ pub mod Setting
 pub mod Compact
 pub mod Slots
 pub mod Messages
+pub mod Naming
 pub mod Laws

@@ -22,6 +22,10 @@ AreRows (r ∷ []) = ⊤
 AreRows (r ∷ s ∷ []) = r.0 < s.0
 AreRows (r ∷ s ∷ t ∷ rows) = ⊥
 
+-- the numbers of some rows
+abbrev pub numbers_of : RowList → List ℕ
+numbers_of rows = each (λ r. r.0) rows
+
 abbrev pub put : ViewData → ℕ → Option Placed → ViewData
 put view i None = map.remove view i
 put view i (Some p) = map.insert view i p

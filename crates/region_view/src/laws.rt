@@ -2,6 +2,7 @@
 //! alone.
 
 ghost use Rattle.region_view.specs.Laws.{EachEventHasOneHome, NativesAreHome, NativesActAlike, SetRowsArePutOver, SwapIsUndone, SettingKeepsValid, ActionsHaveRows, ActionsAreValid, MessagesAreFaithful, HomeSees, ToldSees};
+ghost use Rattle.region_view.specs.Naming.{NativesStay};
 
 /// Each event of placed disks has exactly one home.
 pub fn each_event_has_one_home()
@@ -16,6 +17,11 @@ pub fn natives_are_home()
 /// Such an event comes to the same in the view and in the state.
 pub fn natives_act_alike()
     ensures { NativesActAlike }
+{}
+
+/// What names no changed disk is a native candidate exactly where it was one before.
+pub fn natives_stay()
+    ensures { NativesStay }
 {}
 
 /// Looking up after rows are set is looking up with the rows put over: a later row of a number wins.

@@ -17,8 +17,8 @@ pub use action::{Action, Placed};
 pub use events::{act, first_alone, near_event};
 pub use laws::{
     actions_are_valid, actions_have_rows, each_event_has_one_home, home_sees,
-    messages_are_faithful, natives_act_alike, natives_are_home, set_rows_are_put_over,
-    setting_keeps_valid, swap_is_undone, told_sees,
+    messages_are_faithful, natives_act_alike, natives_are_home, natives_stay,
+    set_rows_are_put_over, setting_keeps_valid, swap_is_undone, told_sees,
 };
 pub use messages::{message_for, rows_of};
 pub use rows::{Message, Rows};

@@ -1,14 +1,14 @@
 use Rattle.std.proofs.Common.{◌≡◌, sym, ap, subst, ◌∙◌}
 use Rattle.region_view.specs.declared.action.Action.{Action}
 use Rattle.region_view.specs.declared.action.Action.TheVariants.{Cross}
-use Rattle.region_queue.specs.Naming.{IsSameBut, IsMoved}
+use Rattle.region_view.specs.Naming.{IsSameBut, IsMoved}
 use Rattle.local_run.specs.declared.entry.Entry.{Entry}
 use Rattle.local_run.specs.declared.entry.Entry.TheVariants.{Native}
 use Rattle.local_run.specs.LocalRun.{after_entry}
-use Rattle.region_core.specs.Touched.{numbers_of}
+use Rattle.region_view.specs.Setting.{numbers_of}
 use Rattle.region_core.proofs.News.{on_ok}
-use Rattle.region_core.proofs.Touched.{same_but}
-use Rattle.region_core.proofs.Untouched.{crossing_moves}
+use Rattle.local_run.proofs.Touched.{same_but}
+use Rattle.local_run.proofs.Untouched.{crossing_moves}
 use Rattle.region_core.proofs.appending.tell.Goals as goal
 
 pub returns-in-Native-Cross-clause-stands : goal.returns-in-Native-Cross-clause-stands

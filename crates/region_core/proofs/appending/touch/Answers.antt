@@ -1,7 +1,7 @@
 use Rattle.std.proofs.Common.{[], sym, subst}
 use Rattle.region_view.specs.Setting.{AreRows}
 use Rattle.region_core.proofs.News.{on_ok}
-use Rattle.region_core.proofs.Touched.{no_number, one_number, two_numbers, same_but_at}
+use Rattle.local_run.proofs.Touched.{no_number, one_number, two_numbers, same_but_at}
 use Rattle.region_core.proofs.appending.touch.Goals as goal
 
 pub returns-in-empty-clause-stands : goal.returns-in-empty-clause-stands

@@ -1,8 +1,9 @@
 -- The least key rises, up to one that is a candidate.
 use Rattle.std.proofs.Common.{sym, subst}
 use Rattle.event_tree.specs.Keys.{Key, IsLeastKey}
+use Rattle.region_view.proofs.Naming.{is_pair_or_not}
 use Rattle.region_queue.specs.Finding.{IsFound, IsHolder}
-use Rattle.region_queue.proofs.Covered.{covers_still, is_pair_or_not}
+use Rattle.region_queue.proofs.Covered.{covers_still}
 use Rattle.region_queue.proofs.Settled.{rises, fresh_settled}
 use Rattle.region_queue.proofs.keys.settle.Goals as goal
 

@@ -4,7 +4,7 @@ use Rattle.std.specs.Prelude.{IfSome}
 use Rattle.event_stamps.specs.declared.Kind.TheVariants.{Pair}
 use Rattle.event_tree.specs.Keys.{Key}
 use Rattle.region_view.specs.Views.{ViewData}
-use Rattle.region_queue.specs.Naming.{IsMoved}
+use Rattle.region_view.specs.Naming.{IsMoved}
 use Rattle.region_queue.specs.Finding.{AreListed, IsFound, IsTakenAt, IsExtended, cell_in}
 use Rattle.region_queue.specs.Covering.{Covers}
 use Rattle.region_queue.proofs.Again.{on_ok}

@@ -1,6 +1,6 @@
 -- An event has one disk or two.
 use Rattle.std.proofs.Common.{◌≡◌, true, false, [], ◌∷◌, sym, ◌∙◌}
-use Rattle.region_queue.specs.Naming.{Names}
+use Rattle.region_view.specs.Naming.{Names}
 use Rattle.region_queue.specs.Finding.{AreRelisted, AreRelistedOf}
 use Rattle.region_queue.proofs.Again.{on_ok}
 use Rattle.region_queue.proofs.Unchanged.{relisted_one, relisted_two}

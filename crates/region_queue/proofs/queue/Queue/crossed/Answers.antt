@@ -6,7 +6,7 @@ use Rattle.region_queue.specs.declared.finder.Finder.{Finder}
 use Rattle.region_queue.specs.Finding.{AreListed, IsFound}
 use Rattle.region_queue.specs.Covering.{Covers}
 use Rattle.region_queue.specs.Queue.{QueueData, queue_of, StandsFor}
-use Rattle.region_queue.specs.Naming.{IsMoved}
+use Rattle.region_view.specs.Naming.{IsMoved}
 use Rattle.region_queue.proofs.Again.{on_ok}
 use Rattle.region_queue.proofs.Standing.{stands_settled, stands_moved}
 use Rattle.region_queue.proofs.queue.Queue.crossed.Goals as goal

@@ -1,7 +1,7 @@
 -- An empty queue takes in all disks of the view.
 use Rattle.std.proofs.Common.{List, ℕ, ◌∙◌, sym, subst}
 use Rattle.std.specs.FinMap as map
-use Rattle.region_queue.specs.Naming.{IsSameBut}
+use Rattle.region_view.specs.Naming.{IsSameBut}
 use Rattle.region_queue.proofs.Standing.{none_in_empty}
 use Rattle.region_queue.proofs.queue.Queue.open.Goals as goal
 

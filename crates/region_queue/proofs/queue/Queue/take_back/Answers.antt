@@ -9,7 +9,7 @@ use Rattle.region_view.specs.Placing.{IsNative}
 use Rattle.region_view.specs.Views.{ViewData, rows_in}
 use Rattle.region_queue.specs.declared.finder.Finder.{Finder}
 use Rattle.region_queue.specs.Queue.{QueueData, queue_of, StandsFor}
-use Rattle.region_queue.specs.Naming.{IsSameButBy}
+use Rattle.region_view.specs.Naming.{IsSameButBy}
 use Rattle.region_queue.proofs.InRange.{native_in_range}
 use Rattle.region_queue.proofs.Standing.{stands_settled, stands_back}
 use Rattle.region_queue.proofs.Again.{on_ok}

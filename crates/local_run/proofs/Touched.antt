@@ -4,15 +4,14 @@ use Rattle.std.specs.Prelude.{if◌then◌else◌}
 use Rattle.std.specs.List.{Contains}
 use Rattle.region_view.specs.declared.action.Placed.{Placed}
 use Rattle.region_view.specs.Views.{ViewData, rows_in}
-use Rattle.region_view.specs.Setting.{RowList, AreRows, set_rows, get_over}
+use Rattle.region_view.specs.Setting.{RowList, AreRows, set_rows, get_over, numbers_of}
 use Rattle.region_view.proofs.Puts.{set_rows_are_put_over}
-use Rattle.region_queue.specs.Naming.{IsSameBut}
-use Rattle.region_core.specs.Touched.{numbers_of}
+use Rattle.region_view.specs.Naming.{IsSameBut}
 
 other_number : (i j : ℕ) → i ≢ j → (i == j) ≡ false
 other_number i j other = grind arith
 
-over_others : (rows : RowList) (i : ℕ) (before : Option Placed) → ¬ Contains (numbers_of rows) i →
+pub over_others : (rows : RowList) (i : ℕ) (before : Option Placed) → ¬ Contains (numbers_of rows) i →
     get_over rows i before ≡ before
 over_others [] i before none = refl
 over_others (r ∷ rows) i before none =

@@ -18,12 +18,12 @@ use Rattle.region_view.specs.Acting.{stamp_of, action_of, hit_of, partner_in, re
 use Rattle.region_view.specs.Setting.{RowList, put, set_rows, after_action}
 use Rattle.region_view.specs.Views.{ViewData, rows_in}
 use Rattle.region_view.proofs.Puts.{get_put_here, get_put_other}
-use Rattle.region_queue.specs.Naming.{IsSameButBy, IsMoved}
+use Rattle.region_view.specs.Naming.{IsSameButBy, IsMoved}
 use Rattle.local_run.specs.declared.home.Home.{Home}
 use Rattle.local_run.specs.LocalRun.{ComesTo}
 
 -- what a list of new records sets
-abbrev as_rows : List (ℕ × Placed) → RowList
+abbrev pub as_rows : List (ℕ × Placed) → RowList
 as_rows rows = each (λ r. (r.0, Some r.1)) rows
 
 -- ---- crossings
@@ -84,7 +84,7 @@ hit_leaves view change i other both =
         ∙ get_put_other view first (with_disk change.first o) i other
 
 -- a collision that changes two disks is that of a pair
-two_are_a_pair : (h : Home) (view : ViewData) (change : Change) →
+pub two_are_a_pair : (h : Home) (view : ViewData) (change : Change) →
     ComesTo h view change.stamp (Ok (Hit change)) → IfSome change.second (λ _. change.stamp.kind ≡ Pair)
 two_are_a_pair h view change (p, there, comes) = by_kind s.kind refl comes
   where
