@@ -22,3 +22,7 @@ pub mod Begins
 pub mod Opened
 pub mod Touched
 pub mod Untouched
+pub mod Aside
+pub mod Staying
+pub mod Inserted
+pub mod Woven

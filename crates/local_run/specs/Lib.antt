@@ -14,3 +14,4 @@ pub mod Standing
 pub mod Bursts
 pub mod Running
 pub mod RunOn
+pub mod Weaving

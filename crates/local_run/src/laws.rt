@@ -1,6 +1,7 @@
 //! Laws of local runs, for those who read the definitions alone.
 
 ghost use Rattle.local_run.specs.Laws.{EntriesWereDue, WaitsIfNotTaken, MessagesAreInTurn, LogsGoOneWay, StepsGoOneWay, HearingsHaveOneAnswer, StepsKeepRight, HearingsKeepRight, RollbacksKeepRight, ViewsAreValid, SentMayBeHeard, RaisingKeepsRight};
+ghost use Rattle.local_run.specs.Weaving.{WeavingKeepsRight};
 
 /// Each entry of a right log was due at its place: nothing that was offered there came before it.
 pub fn entries_were_due()
@@ -65,4 +66,10 @@ pub fn sent_may_be_heard()
 /// it was at, and sends what it sent from there on.
 pub fn raising_keeps_right()
     ensures { RaisingKeepsRight }
+{}
+
+/// A message that comes late may be taken in at its place: where the entries after it have nothing to do with its
+/// disks, the log stays right with it in the middle, comes to the same view with its rows set, and sends the same.
+pub fn weaving_keeps_right()
+    ensures { WeavingKeepsRight }
 {}
