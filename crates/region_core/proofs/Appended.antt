@@ -87,7 +87,7 @@ further_is home floor live new e kept room turn move is = record {
         ∙ ap (λ s. s ++ (0 + length live.log.items + 1, (after_entry (now_in live) e).view) ∷ []) kept.saved
         ∙ sym (along_appended 0 (start_in live) live.log.items e)
 
-few_of : (q : ℕ) (log : List Entry) → taken_of q log ≤ length log
+pub few_of : (q : ℕ) (log : List Entry) → taken_of q log ≤ length log
 few_of q log = count_by-le-length (is_of q) log
 
 -- ---- the inbox

@@ -50,7 +50,7 @@ nothing_more at log left is =
     ap (entries_below at) is ∙ below_whole at (entries_below at log) (all_below at log) ∙ sym is
 
 -- ---- views don't depend on what waits
-saved_by_view : (p : ℕ) (view : ViewData) (w v : Trails) (log : List Entry) →
+pub saved_by_view : (p : ℕ) (view : ViewData) (w v : Trails) (log : List Entry) →
     saved_along p (record { view = view; waiting = w }) log
     ≡ saved_along p (record { view = view; waiting = v }) log
 saved_by_view p view w v [] = refl
@@ -59,7 +59,7 @@ saved_by_view p view w v (Native x ∷ es) =
 saved_by_view p view w v (Heard q m ∷ es) = ap (λ (s : SavedData). (p, view) ∷ s)
     (saved_by_view (p + 1) (set_rows view m.rows) (without_first w q) (without_first v q) es)
 
-view_by_view : (view : ViewData) (w v : Trails) (log : List Entry) →
+pub view_by_view : (view : ViewData) (w v : Trails) (log : List Entry) →
     (after_log (record { view = view; waiting = w }) log).view
     ≡ (after_log (record { view = view; waiting = v }) log).view
 view_by_view view w v [] = refl

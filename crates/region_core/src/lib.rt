@@ -6,6 +6,7 @@
 #![tactic(auto)]
 
 mod appending;
+mod aside;
 mod burst;
 mod gate;
 mod hearing;
@@ -15,6 +16,7 @@ mod moves;
 mod raising;
 mod region;
 mod rollback;
+mod weaving;
 
 pub use burst::Burst;
 pub use gate::{Gate, OpenGate};

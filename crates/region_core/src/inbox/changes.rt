@@ -1,17 +1,18 @@
 //! What a rollback and a hearing make of the input queue.
 
-ghost use Rattle.std.specs.Prelude.{◌≡◌, ℕ, ◌+◌, ◌<◌, ◌≤◌, length, get_or, slice_set, map, MatchOption, OnOk};
-ghost use Rattle.region_messages.specs.Trails.{AgreesUpTo, from};
+ghost use Rattle.std.specs.Prelude.{◌≡◌, ◌↔◌, ℕ, ◌+◌, ◌<◌, ◌≤◌, length, get_or, slice_set, map, MatchOption, OnOk, IsTrue};
+ghost use Rattle.region_messages.specs.Trails.{AgreesUpTo, IsFree, with_message, from};
 ghost use Rattle.local_run.specs.LocalRun.{trail_of};
 ghost use Rattle.region_core.specs.Inbox.{taken_from};
 ghost use Rattle.region_core.specs.Replaced.{mixed};
 ghost use Rattle.local_run.specs.Taken.{taken_of};
 
-use crate::Entry;
 use crate::inbox::Inbox;
 use crate::raising::drop_before;
+use crate::{Entry, MAX_ENTRIES};
 use event_stamps::Stamp;
 use region_messages::{Trail, first_disagreement, first_news};
+use region_view::Message;
 use std::alloc::{AllocError, Global};
 
 impl Inbox {
@@ -53,6 +54,33 @@ impl Inbox {
         requires { from < length self.now.heard }
     {
         first_news(&self.heard[from as usize], sent, clock)
+    }
+
+    /// Whether no message that was heard from a region has this stamp.
+    pub(crate) fn is_free(&self, from: u32, at: Stamp) -> bool
+        requires { from < length self.now.heard }
+        ensures { IsTrue result ↔ IsFree at (trail_of self.now.heard from) }
+    {
+        self.heard[from as usize].is_free(at)
+    }
+
+    /// Hears a message of a region at its place, and takes it in.
+    ///
+    /// # Errors
+    /// Out of memory.
+    pub(crate) fn weave(&mut self, from: u32, message: Message) -> Result<(), AllocError>
+        requires heard { from < length self.old.heard }
+        requires taken { from < length self.old.taken }
+        requires room { taken_from self.old from < MAX_ENTRIES }
+        requires free { IsFree message.stamp (trail_of self.old.heard from) }
+        ensures heard { OnOk result (self.new.heard
+            ≡ slice_set self.old.heard from (with_message message (trail_of self.old.heard from))) }
+        ensures taken { OnOk result (self.new.taken
+            ≡ slice_set self.old.taken from (taken_from self.old from + 1)) }
+    {
+        self.heard[from as usize].insert(message)?;
+        self.taken[from as usize] += 1;
+        Ok(())
     }
 
     /// Hears from a region what it sends from a stamp on, in place of what was heard from there on.

@@ -1,0 +1,157 @@
+-- What the tests of weaving tell.
+use Rattle.std.proofs.Common.{◌≡◌, inl, inr, ℕ, zero, suc, ◌+◌, ◌==◌, ◌∙◌, ◌<◌, ◌≤◌, Bool, List, [], ◌∷◌, length, drop, get_or, Option, Some, None, sym, ap, subst, refl, arith}
+use Rattle.std.specs.Prelude.{if◌then◌else◌, IfSome, All}
+use Rattle.std.specs.List.{Contains}
+use Rattle.std.proofs.lemmas.Bool.{cases_lt}
+use Rattle.cell_grid.specs.Grid.{GridData}
+use Rattle.region_view.specs.declared.action.Placed.{Placed}
+use Rattle.fixed_motion.specs.declared.rules.Rules.{Rules}
+use Rattle.event_stamps.specs.declared.Stamp.{Stamp}
+use Rattle.event_stamps.specs.Order.{Before}
+use Rattle.event_stamps.specs.Least.{IsLeastOf}
+use Rattle.region_view.specs.declared.rows.Message.{Message}
+use Rattle.region_view.specs.Placing.{IsValidPlacing}
+use Rattle.region_view.specs.Setting.{RowList, AreRows, AreValidRows, IsValidPlaced, set_rows, rows_at, numbers_of}
+use Rattle.region_view.specs.Views.{ViewData, rows_in}
+use Rattle.region_view.proofs.Puts.{swap_is_undone, same_is}
+use Rattle.region_messages.specs.Trails.{IsAmong}
+use Rattle.region_messages.proofs.Order.{before_not_before}
+use Rattle.region_view.specs.Naming.{IsSameBut}
+use Rattle.region_queue.specs.Queue.{QueueData, IsOf}
+use Rattle.saved_states.specs.Steps.{StepList}
+use Rattle.local_run.specs.declared.home.Home.{Home}
+use Rattle.local_run.specs.declared.entry.Entry.{Entry}
+use Rattle.local_run.specs.Entries.{entry_stamp}
+use Rattle.local_run.specs.LocalRun.{Trails, trail_of}
+use Rattle.local_run.proofs.Touched.{over_others, same_but}
+use Rattle.region_core.specs.Weaving.{IsStepAside, AreStepsAside, IsValidBack}
+
+-- ---- at most two rows
+pub of_one : (P : ℕ × Option Placed → Type 0) (slice : RowList) (d : ℕ × Option Placed) → 1 ≤ length slice →
+    length slice < 2 → P (get_or slice 0 d) → (row : ℕ × Option Placed) → IsAmong row slice → P row
+of_one P [] d some few one row among = absurd (omega arith)
+of_one P (r ∷ []) d some few one row (inl same) = subst P (sym same) one
+of_one P (r ∷ []) d some few one row (inr none) = absurd none
+of_one P (r ∷ s ∷ rest) d some few one row among = absurd (omega arith)
+
+pub of_two : (P : ℕ × Option Placed → Type 0) (slice : RowList) (d : ℕ × Option Placed) → AreRows slice →
+    2 ≤ length slice → P (get_or slice 0 d) → P (get_or slice 1 d) → (row : ℕ × Option Placed) →
+    IsAmong row slice → P row
+of_two P [] d are some one two row among = absurd (omega arith)
+of_two P (r ∷ []) d are some one two row among = absurd (omega arith)
+of_two P (r ∷ s ∷ []) d are some one two row (inl same) = subst P (sym same) one
+of_two P (r ∷ s ∷ []) d are some one two row (inr (inl same)) = subst P (sym same) two
+of_two P (r ∷ s ∷ []) d are some one two row (inr (inr none)) = absurd none
+of_two P (r ∷ s ∷ t ∷ rest) d are some one two row among = absurd are
+
+-- ---- valid rows
+pub first_valid : (rules : Rules) (grid : GridData) (rows : RowList) (d : ℕ × Option Placed) →
+    AreValidRows rules grid rows → 1 ≤ length rows → IsValidPlaced rules grid (get_or rows 0 d).1
+first_valid rules grid [] d valid some = absurd (omega arith)
+first_valid rules grid (r ∷ rows) d valid some = valid.1
+
+pub second_valid : (rules : Rules) (grid : GridData) (rows : RowList) (d : ℕ × Option Placed) →
+    AreValidRows rules grid rows → 2 ≤ length rows → IsValidPlaced rules grid (get_or rows 1 d).1
+second_valid rules grid [] d valid some = absurd (omega arith)
+second_valid rules grid (r ∷ []) d valid some = absurd (omega arith)
+second_valid rules grid (r ∷ s ∷ rows) d valid some = valid.2.1
+
+-- the same of rows that lead back
+by_placed : (rules : Rules) (grid : GridData) (o : Option Placed) →
+    ((p : Placed) → o ≡ Some p → IsValidPlaced rules grid (Some p)) → IsValidPlaced rules grid o
+by_placed rules grid None valid = tt
+by_placed rules grid (Some p) valid = valid p refl
+
+pub first_back : (h : Home) (rows : RowList) (d : ℕ × Option Placed) → AreRows rows → IsValidBack h rows →
+    1 ≤ length rows → IsValidPlaced h.rules h.grid (get_or rows 0 d).1
+first_back h [] d are valid some = absurd (omega arith)
+first_back h (r ∷ []) d are valid some = by_placed h.rules h.grid r.1
+    (λ p is. valid r.0 p (ap (λ (b : Bool). if b then r.1 else None) (same_is r.0 r.0 refl) ∙ is))
+first_back h (r ∷ s ∷ []) d are valid some = by_placed h.rules h.grid r.1
+    (λ p is. valid r.0 p (over_others (s ∷ []) r.0 (if r.0 == r.0 then r.1 else None) apart
+    ∙ ap (λ (b : Bool). if b then r.1 else None) (same_is r.0 r.0 refl) ∙ is))
+  where
+    apart : ¬ Contains (s.0 ∷ []) r.0
+    apart (zero, lt, same) = omega arith
+    apart (suc k, lt, same) = omega arith
+first_back h (r ∷ s ∷ t ∷ rows) d are valid some = absurd are
+
+pub second_back : (h : Home) (rows : RowList) (d : ℕ × Option Placed) → AreRows rows → IsValidBack h rows →
+    2 ≤ length rows → IsValidPlaced h.rules h.grid (get_or rows 1 d).1
+second_back h [] d are valid some = absurd (omega arith)
+second_back h (r ∷ []) d are valid some = absurd (omega arith)
+second_back h (r ∷ s ∷ []) d are valid some = by_placed h.rules h.grid s.1
+    (λ p is. valid s.0 p (ap (λ (b : Bool). if b then s.1 else (if s.0 == r.0 then r.1 else None))
+    (same_is s.0 s.0 refl) ∙ is))
+second_back h (r ∷ s ∷ t ∷ rows) d are valid some = absurd are
+
+-- ---- all of a slice
+read_or : {A : Type 0} (xs : List A) (n : ℕ) (d e : A) → n < length xs → get_or xs n d ≡ get_or xs n e
+read_or [] n d e lt = absurd (omega arith)
+read_or (x ∷ xs) zero d e lt = refl
+read_or (x ∷ xs) (suc n) d e lt = read_or xs n d e (omega arith)
+
+-- ---- steps one by one
+pub one_step_more : (h : Home) (rows : RowList) (es : List Entry) (steps : StepList) (n : ℕ) (e : Entry)
+    (step : ℕ × RowList) → AreStepsAside h rows es steps n → n < length steps → length steps ≡ length es →
+    e ≡ get_or es n e → IsStepAside h rows (entry_stamp e) (get_or steps n step).1 →
+    AreStepsAside h rows es steps (n + 1)
+one_step_more h rows es steps n e step all lt sizes at here k x d low = elim (cases_lt k n) [
+  | inl less ↦ all k x d less
+  | inr past ↦
+      let same : n ≡ k = omega arith in
+      subst (λ (m : ℕ). IsStepAside h rows (entry_stamp (get_or es m x)) (get_or steps m d).1) same
+      (subst (λ (y : Entry). IsStepAside h rows (entry_stamp y) (get_or steps n d).1)
+      (at ∙ read_or es n e x (omega arith))
+      (subst (λ (y : ℕ × RowList). IsStepAside h rows (entry_stamp e) y.1) (read_or steps n step d lt) here))
+]
+
+pub all_dropped : {A : Type 0} (P : A → Type 0) (n : ℕ) (xs : List A) → All P xs → All P (drop n xs)
+all_dropped P zero xs all = all
+all_dropped P (suc n) [] all = all
+all_dropped P (suc n) (x ∷ xs) all = all_dropped P n xs (λ k d lt. all (suc k) d (omega arith))
+
+pub dropped_sizes : {A B : Type 0} (n : ℕ) (xs : List A) (ys : List B) → length xs ≡ length ys →
+    length (drop n xs) ≡ length (drop n ys)
+dropped_sizes zero xs ys same = same
+dropped_sizes (suc n) [] [] same = same
+dropped_sizes (suc n) [] (y ∷ ys) same = absurd (omega arith)
+dropped_sizes (suc n) (x ∷ xs) [] same = absurd (omega arith)
+dropped_sizes (suc n) (x ∷ xs) (y ∷ ys) same = dropped_sizes n xs ys (omega arith)
+
+-- a trail of the inbox
+pub item_is : (ts seen : Trails) (k : ℕ) (x : List Message) → ts ≡ seen → k < length seen →
+    x ≡ get_or ts k x → x ≡ trail_of seen k
+item_is ts seen k x same lt is = is ∙ ap (λ (v : Trails). get_or v k x) same ∙ read_or seen k x [] lt
+
+-- ---- rows that are set and set back
+pub swapped_back : (view new again : ViewData) (rows back : RowList) → new ≡ set_rows view rows →
+    back ≡ rows_at (rows_in view) rows → again ≡ set_rows new back → again ≡ view
+swapped_back view new again rows back set was is =
+    is ∙ (λ i. set_rows (set i) (was i)) ∙ swap_is_undone view rows
+
+pub set_differs : (view new : ViewData) (rows : RowList) → new ≡ set_rows view rows →
+    IsSameBut (numbers_of rows) view new
+set_differs view new rows set i not = ap (λ (v : ViewData). rows_in v i) set ∙ same_but view rows i not
+
+pub back_differs : (view new again : ViewData) (rows : RowList) → new ≡ set_rows view rows → again ≡ view →
+    IsSameBut (numbers_of rows) new again
+back_differs view new again rows set back i not =
+    ap (λ (v : ViewData). rows_in v i) back ∙ sym (set_differs view new rows set i not)
+
+pub after_least : (P : Stamp → Type 0) (o : Option Stamp) (last s : Stamp) → IsLeastOf P o →
+    IfSome o (Before last) → P s → Before last s
+after_least P None last s none after p = absurd (none s p)
+after_least P (Some t) last s least after p = before_not_before last s t after (least.1 s p)
+
+pub still_valid : (queue : QueueData) (rules : Rules) (grid : GridData) (region : ℕ) (view again : ViewData) →
+    IsOf queue rules grid region → again ≡ view → IsValidPlacing rules grid (rows_in view) →
+    IsValidPlacing queue.rules queue.grid (rows_in again)
+still_valid queue rules grid region view again of same valid =
+    subst (λ (v : ViewData). IsValidPlacing queue.rules queue.grid (rows_in v)) (sym same)
+    (subst (λ (r : Rules). IsValidPlacing r queue.grid (rows_in view)) (sym of.rules)
+    (subst (λ (g : GridData). IsValidPlacing rules g (rows_in view)) (sym of.grid) valid))
+
+-- ---- steps
+abbrev pub raise_step : ℕ × RowList → ℕ × RowList
+raise_step step = (step.0 + 1, step.1)

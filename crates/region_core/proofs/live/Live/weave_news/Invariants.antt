@@ -1,0 +1,6 @@
+use Rattle.std.proofs.Common.{◌≡◌}
+use Rattle.region_core.specs.Live.{IsLive}
+use Rattle.region_core.proofs.live.Live.weave_news.Given as goal
+
+abbrev pub invariant-loop : goal.invariant-loop
+invariant-loop l = IsLive l.home l.floor l.live × (l.live.base ≡ l.fn.self.base)

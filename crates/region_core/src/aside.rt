@@ -1,0 +1,184 @@
+//! What keeps a message from coming before entries of a log: that they have one of its disks, or change one that
+//! these would meet.
+
+ghost use Rattle.std.specs.Prelude.{◌≡◌, ◌≤◌, ℕ, length, drop, All, Option, None, Some, false};
+ghost use Rattle.std.specs.List.{Contains};
+ghost use Rattle.event_stamps.specs.declared.Stamp.{Stamp};
+ghost use Rattle.event_stamps.specs.Order.{Before};
+ghost use Rattle.region_view.specs.declared.action.Placed.{Placed};
+ghost use Rattle.region_view.specs.Setting.{AreValidRows, IsValidPlaced, numbers_of};
+ghost use Rattle.region_messages.specs.Trails.{IsAmong};
+ghost use Rattle.region_view.specs.Naming.{Names};
+ghost use Rattle.local_run.specs.LocalRun.{IsInPlace};
+ghost use Rattle.local_run.specs.Weaving.{IsApart, AreOthers};
+ghost use Rattle.region_core.specs.Weaving.{IsMeeting, MeetAfter, AllMeetAfter, IsStepAside, AreStepsAside, IsValidBack};
+
+use crate::moves::is_before;
+use crate::{Entry, Home};
+use event_stamps::{Kind, Stamp};
+use region_view::{Placed, Rows, near_event};
+
+/// The stamp of the first entry that has one of the disks of some rows.
+pub(crate) fn first_with_disk(entries: &[Entry], rows: &Rows) -> Option<Stamp>
+    ensures { result ≡ None → All (IsApart rows.now) entries.now }
+{
+    for entry in entries {
+        if has_disk(entry, rows) {
+            return Some(entry.stamp());
+        }
+    }
+    None
+}
+
+// Whether one of the disks of some rows is the entry's.
+fn has_disk(entry: &Entry, rows: &Rows) -> bool
+    ensures { result ≡ false → IsApart rows.now entry.now }
+{
+    match entry {
+        Entry::Native(action) => names_any(&action.stamp(), rows),
+        Entry::Heard { message, .. } => have_common(&message.rows, rows),
+    }
+}
+
+// Whether an event has one of the disks of some rows.
+fn names_any(stamp: &Stamp, rows: &Rows) -> bool
+    ensures { result ≡ false → (i : ℕ) → Names stamp.now i → ¬ Contains (numbers_of rows.now) i }
+{
+    has_row(rows, stamp.first) || (stamp.kind == Kind::Pair && has_row(rows, stamp.second))
+}
+
+// Whether some rows have a disk in common with others.
+fn have_common(a: &Rows, b: &Rows) -> bool
+    ensures { result ≡ false → AreOthers a.now b.now }
+{
+    match a.as_slice() {
+        [] => false,
+        [row] => has_row(b, row.0),
+        [first, second, ..] => has_row(b, first.0) || has_row(b, second.0),
+    }
+}
+
+// Whether there is a row of a disk.
+fn has_row(rows: &Rows, disk: u32) -> bool
+    ensures { result ≡ false → ¬ Contains (numbers_of rows.now) disk }
+{
+    match rows.as_slice() {
+        [] => false,
+        [row] => row.0 == disk,
+        [first, second, ..] => first.0 == disk || second.0 == disk,
+    }
+}
+
+/// The stamp of the first entry from a place on whose step back touches some rows.
+pub(crate) fn first_met_from(
+    entries: &[Entry],
+    steps: &[(u64, Rows)],
+    kept: usize,
+    rows: &Rows,
+    home: &Home,
+) -> Option<Stamp>
+    requires place { IsInPlace home.now }
+    requires sizes { length steps.now ≡ length entries.now }
+    requires kept { kept ≤ length steps.now }
+    requires valid { All (λ step. IsValidBack home.now step.1) steps.now }
+    requires rows { AreValidRows home.now.rules home.now.grid rows.now }
+    ensures { result ≡ None → AreStepsAside home.now rows.now (drop kept entries.now) (drop kept steps.now)
+        (length (drop kept steps.now)) }
+{
+    first_met(&entries[kept..], &steps[kept..], rows, home)
+}
+
+// The same of all of them.
+fn first_met(entries: &[Entry], steps: &[(u64, Rows)], rows: &Rows, home: &Home) -> Option<Stamp>
+    requires place { IsInPlace home.now }
+    requires sizes { length steps.now ≡ length entries.now }
+    requires valid { All (λ step. IsValidBack home.now step.1) steps.now }
+    requires rows { AreValidRows home.now.rules home.now.grid rows.now }
+    ensures { result ≡ None → AreStepsAside home.now rows.now entries.now steps.now (length steps.now) }
+{
+    for k in 0..steps.len() {
+        let at = entries[k].stamp();
+        if touches(&at, &steps[k].1, rows, home) {
+            return Some(at);
+        }
+    }
+    None
+}
+
+// Whether rows that lead back are of the same disks as some rows, or what stood in them would meet these up to a
+// stamp.
+fn touches(at: &Stamp, back: &Rows, rows: &Rows, home: &Home) -> bool
+    requires place { IsInPlace home.now }
+    requires back { IsValidBack home.now back.now }
+    requires rows { AreValidRows home.now.rules home.now.grid rows.now }
+    ensures { result ≡ false → IsStepAside home.now rows.now at.now back.now }
+{
+    have_common(rows, back) || is_one_met(at, back, rows, home)
+}
+
+// Whether what stands in one of some rows would meet others up to a stamp.
+fn is_one_met(at: &Stamp, back: &Rows, rows: &Rows, home: &Home) -> bool
+    requires place { IsInPlace home.now }
+    requires back { IsValidBack home.now back.now }
+    requires rows { AreValidRows home.now.rules home.now.grid rows.now }
+    ensures { result ≡ false → AllMeetAfter home.now at.now back.now rows.now }
+{
+    match back.as_slice() {
+        [] => false,
+        [row] => is_met(at, *row, rows, home),
+        [first, second, ..] => { is_met(at, *first, rows, home) || is_met(at, *second, rows, home) }
+    }
+}
+
+// Whether what stands in a row would meet one of some rows up to a stamp.
+fn is_met(at: &Stamp, row: (u32, Option<Placed>), rows: &Rows, home: &Home) -> bool
+    requires place { IsInPlace home.now }
+    requires row { IsValidPlaced home.now.rules home.now.grid row.1 }
+    requires rows { AreValidRows home.now.rules home.now.grid rows.now }
+    ensures { result ≡ false → (other : ℕ × Option Placed) → IsAmong other rows.now →
+        MeetAfter home.now at.now row other }
+{
+    match rows.as_slice() {
+        [] => false,
+        [other] => do_meet(at, row, *other, home),
+        [first, second, ..] => { do_meet(at, row, *first, home) || do_meet(at, row, *second, home) }
+    }
+}
+
+// Whether what stands in two rows would meet up to a stamp.
+fn do_meet(
+    at: &Stamp,
+    row: (u32, Option<Placed>),
+    other: (u32, Option<Placed>),
+    home: &Home,
+) -> bool
+    requires place { IsInPlace home.now }
+    requires row { IsValidPlaced home.now.rules home.now.grid row.1 }
+    requires other { IsValidPlaced home.now.rules home.now.grid other.1 }
+    ensures { result ≡ false → MeetAfter home.now at.now row other }
+{
+    let Some(p) = row.1 else {
+        return false;
+    };
+    let Some(q) = other.1 else {
+        return false;
+    };
+    meets_by(at, row.0, &p, other.0, &q, home) || meets_by(at, other.0, &q, row.0, &p, home)
+}
+
+// Whether the region runs an event of two disks, the first of the lesser number, up to a stamp.
+fn meets_by(at: &Stamp, i: u32, first: &Placed, j: u32, second: &Placed, home: &Home) -> bool
+    requires place { IsInPlace home.now }
+    requires first { IsValidPlaced home.now.rules home.now.grid (Some first.now) }
+    requires second { IsValidPlaced home.now.rules home.now.grid (Some second.now) }
+    ensures { result ≡ false → (s : Stamp) → IsMeeting home.now i first.now j second.now s →
+        Before at.now s }
+{
+    if i >= j {
+        return false;
+    }
+    match near_event(&home.rules, &home.grid, i, first, j, second) {
+        Some(event) => !is_before(at, &event) && home.grid.owner(first.cell) == home.number,
+        None => false,
+    }
+}
