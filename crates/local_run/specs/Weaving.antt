@@ -29,16 +29,16 @@ abbrev pub IsApart : RowList → Entry → Type 0
 IsApart rows e = (i : ℕ) → HasDisk e i → ¬ Contains (numbers_of rows) i
 
 -- what a disk does with the disks of the rows, where these are set, comes after a stamp
-abbrev pub MeetsAfter : Home → RowList → ViewData → Stamp → ℕ → Type 0
-MeetsAfter h rows view t i = (s : Stamp) → IsOwn h (set_rows view rows) s → Names s i →
+abbrev pub TouchesAfter : Home → RowList → ViewData → Stamp → ℕ → Type 0
+TouchesAfter h rows view t i = (s : Stamp) → IsOwn h (set_rows view rows) s → Names s i →
     NamesAny s (numbers_of rows) → Before t s
 
--- each disk of a view stays as it is, or meets the disks of the rows after a stamp alone
+-- each disk of a view stays as it is, or touches the disks of the rows after a stamp alone
 abbrev pub LeavesNear : Home → RowList → Stamp → ViewData → ViewData → Type 0
 LeavesNear h rows t before after = (i : ℕ) (p : Placed) → rows_in before i ≡ Some p →
-    (rows_in after i ≡ Some p) ⊎ MeetsAfter h rows before t i
+    (rows_in after i ≡ Some p) ⊎ TouchesAfter h rows before t i
 
--- the entries have nothing to do with the rows: neither with their disks, nor with what these would meet up to then
+-- the entries have nothing to do with the rows: neither with their disks, nor with what these would touch up to then
 abbrev pub AreAside : Home → RowList → At → List Entry → Type 0
 AreAside h rows a [] = ⊤
 AreAside h rows a (e ∷ es) = IsApart rows e

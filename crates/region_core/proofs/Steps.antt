@@ -24,7 +24,7 @@ use Rattle.local_run.specs.LocalRun.{At, Trails, after_entry, after_log, IsOwn, 
 use Rattle.region_core.specs.Live.{saved_along}
 use Rattle.region_core.proofs.News.{saved_by_view, view_by_view}
 use Rattle.local_run.specs.Weaving.{IsApart, LeavesNear, AreAside, AreOthers}
-use Rattle.region_core.specs.Weaving.{IsMeeting, AllMeetAfter, AreStepsAside, IsValidBack}
+use Rattle.region_core.specs.Weaving.{IsOwnTouch, AllTouchAfter, AreStepsAside, IsValidBack}
 use Rattle.local_run.proofs.Touched.{over_others, same_but}
 use Rattle.local_run.proofs.Valid.{HaveValidRows, valid_without, valid_along}
 use Rattle.local_run.proofs.Aside.{here_first, later_still, crosswise, over_among, over_here}
@@ -264,12 +264,12 @@ steps_below p q view (step ∷ steps) a (e ∷ es) is (suc k) d lt =
     omega arith
 
 -- ---- what the steps tell of the entries
--- what stood in the rows that they set meets the disks of the rows after the stamps of the entries alone
+-- what stood in the rows that they set touches the disks of the rows after the stamps of the entries alone
 abbrev pub AreLaterSteps : Home → RowList → List Entry → StepList → Type 0
 AreLaterSteps h rows es [] = ⊤
 AreLaterSteps h rows [] (step ∷ steps) = ⊤
 AreLaterSteps h rows (e ∷ es) (step ∷ steps) =
-    AllMeetAfter h (entry_stamp e) step.1 rows × AreLaterSteps h rows es steps
+    AllTouchAfter h (entry_stamp e) step.1 rows × AreLaterSteps h rows es steps
 
 -- no entry has one of the disks
 abbrev pub AreApart : RowList → List Entry → Type 0
@@ -277,11 +277,11 @@ AreApart rows [] = ⊤
 AreApart rows (e ∷ es) = IsApart rows e × AreApart rows es
 
 -- a pair that the region runs, by what stands in a view
-meeting_of : (h : Home) (view : ViewData) (s : Stamp) → IsOwn h view s → s.kind ≡ Pair →
+touch_of : (h : Home) (view : ViewData) (s : Stamp) → IsOwn h view s → s.kind ≡ Pair →
     (a : Placed) × (rows_in view s.first ≡ Some a)
-    × ((b : Placed) × (rows_in view s.second ≡ Some b) × IsMeeting h s.first a s.second b s)
+    × ((b : Placed) × (rows_in view s.second ≡ Some b) × IsOwnTouch h s.first a s.second b s)
 unfolding IsOwn
-meeting_of h view s own pair =
+touch_of h view s own pair =
     let near = near_pair h.rules h.grid h.number view s own pair in
     let same = same_row view s.first s.first own.1.0 near.1.0 own.1.1 near.1.1 refl in (
       near.1.0,
@@ -298,11 +298,11 @@ meeting_of h view s own pair =
     )
 
 -- a native candidate of a disk with the disks of the rows is such a pair
-pub meets : (h : Home) (rows : RowList) (view : ViewData) (s : Stamp) (i : ℕ) (p : Placed) →
+pub touch_of_rows : (h : Home) (rows : RowList) (view : ViewData) (s : Stamp) (i : ℕ) (p : Placed) →
     IsOwn h (set_rows view rows) s → ¬ Contains (numbers_of rows) i → rows_in view i ≡ Some p →
     Names s i → NamesAny s (numbers_of rows) → (j : ℕ) × (q : Placed) × IsAmong (j, Some q) rows
-    × (IsMeeting h i p j q s ⊎ IsMeeting h j q i p s)
-meets h rows view s i p own not there named names = by_names names named
+    × (IsOwnTouch h i p j q s ⊎ IsOwnTouch h j q i p s)
+touch_of_rows h rows view s i p own not there named names = by_names names named
   where
     here : rows_in (set_rows view rows) i ≡ Some p
     here = same_but view rows i not ∙ there
@@ -313,36 +313,36 @@ meets h rows view s i p own not there named names = by_names names named
         over_among rows j (rows_in view j) q has (sym (set_rows_are_put_over view rows j) ∙ is)
 
     by_names : NamesAny s (numbers_of rows) → Names s i → (j : ℕ) × (q : Placed) × IsAmong (j, Some q) rows
-        × (IsMeeting h i p j q s ⊎ IsMeeting h j q i p s)
+        × (IsOwnTouch h i p j q s ⊎ IsOwnTouch h j q i p s)
     by_names (inl has) (inl first) = absurd (not (subst (Contains (numbers_of rows)) first has))
     by_names (inl has) (inr (pair, second)) =
-        let m = meeting_of h (set_rows view rows) s own pair in
+        let m = touch_of h (set_rows view rows) s own pair in
         let same = same_row (set_rows view rows) s.second i m.2.0 p m.2.1 here second in (
           s.first,
           m.0,
           row_of s.first m.0 has m.1,
-          inr (subst (λ (x : Placed). IsMeeting h s.first m.0 i x s) same
-              (subst (λ (n : ℕ). IsMeeting h s.first m.0 n m.2.0 s) second m.2.2)),
+          inr (subst (λ (x : Placed). IsOwnTouch h s.first m.0 i x s) same
+              (subst (λ (n : ℕ). IsOwnTouch h s.first m.0 n m.2.0 s) second m.2.2)),
         )
     by_names (inr (pair, has)) (inl first) =
-        let m = meeting_of h (set_rows view rows) s own pair in
+        let m = touch_of h (set_rows view rows) s own pair in
         let same = same_row (set_rows view rows) s.first i m.0 p m.1 here first in (
           s.second,
           m.2.0,
           row_of s.second m.2.0 has m.2.1,
-          inl (subst (λ (x : Placed). IsMeeting h i x s.second m.2.0 s) same
-              (subst (λ (n : ℕ). IsMeeting h n m.0 s.second m.2.0 s) first m.2.2)),
+          inl (subst (λ (x : Placed). IsOwnTouch h i x s.second m.2.0 s) same
+              (subst (λ (n : ℕ). IsOwnTouch h n m.0 s.second m.2.0 s) first m.2.2)),
         )
     by_names (inr (pair, has)) (inr (also, second)) =
         absurd (not (subst (Contains (numbers_of rows)) second has))
 
 -- a step that leads from one view to another leaves what is near the rows
 leaves_near : (h : Home) (rows back : RowList) (t : Stamp) (before after : ViewData) →
-    set_rows after back ≡ before → AreOthers rows back → AllMeetAfter h t back rows →
+    set_rows after back ≡ before → AreOthers rows back → AllTouchAfter h t back rows →
     LeavesNear h rows t before after
 leaves_near h rows back t before after is others later i p there = elim (among_or_not (numbers_of back) i) [
   | inl has ↦ inr (λ s own named names.
-      let m = meets h rows before s i p own (λ also. others i also has) there named names in
+      let m = touch_of_rows h rows before s i p own (λ also. others i also has) there named names in
       later (i, Some p) (m.0, Some m.1) (over_among back i (rows_in after i) p has
       (sym (set_rows_are_put_over after back i) ∙ here)) m.2 s m.3)
   | inr not ↦ inl (sym (same_but after back i not) ∙ here)

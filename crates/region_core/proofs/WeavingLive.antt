@@ -214,8 +214,8 @@ last_is_clock f last [] is = cc
 last_is_clock f last (e ∷ es) is = same_Some last (clock_of (entry_stamp e) es) is
 
 -- what the test of the entries from a place on tells
-abbrev pub AreMetLate : Home → Live → ℕ → Message → StepList → Type 0
-AreMetLate home live kept m steps = AreStepsAside home m.rows (drop kept live.log.items) (drop kept steps)
+abbrev pub AreTouchedLate : Home → Live → ℕ → Message → StepList → Type 0
+AreTouchedLate home live kept m steps = AreStepsAside home m.rows (drop kept live.log.items) (drop kept steps)
     (length (drop kept steps))
 
 steps_halved : (home : Home) (floor : Stamp) (live : Live) (kept : ℕ) (m : Message) (first : ℕ)
@@ -232,12 +232,12 @@ steps_halved home floor live kept m first view steps is parts parted =
     (sizes_parted home floor live kept m first view steps is parts parted)
     (steps_parted home floor live kept m first view steps is parts)
 
-steps_met : (home : Home) (floor : Stamp) (live : Live) (kept : ℕ) (m : Message) (first : ℕ)
+steps_touched : (home : Home) (floor : Stamp) (live : Live) (kept : ℕ) (m : Message) (first : ℕ)
     (view : ViewData) (steps : StepList) → IsLive home floor live → AreStepsOf live first view steps →
-    IsParted live kept m → AreMetLate home live kept m steps →
+    IsParted live kept m → AreTouchedLate home live kept m steps →
     AreOfOthers m.rows (drop kept steps)
     × AreLaterSteps home m.rows (entries_from m.stamp live.log.items) (drop kept steps)
-steps_met home floor live kept m first view steps is parts parted met =
+steps_touched home floor live kept m first view steps is parts parted touched =
     let xs = entries_below m.stamp live.log.items in
     let ys = entries_from m.stamp live.log.items in
     let halves = steps_halved home floor live kept m first view steps is parts parted in
@@ -245,7 +245,7 @@ steps_met home floor live kept m first view steps is parts parted met =
     (after_log (start_in live) xs) ys halves.1 in
     steps_aside home m.rows ys (drop kept steps) (omega arith)
     (subst (λ (es : List Entry). AreStepsAside home m.rows es (drop kept steps) (length (drop kept steps)))
-    parted.rest met)
+    parted.rest touched)
 
 -- what the steps lead back to is valid
 pub back_valid : (home : Home) (floor : Stamp) (live : Live) (first : ℕ) (view : ViewData)
@@ -259,7 +259,7 @@ back_valid home floor live first view steps place is parts =
 pub may_be_woven : (home : Home) (floor : Stamp) (live : Live) (q kept : ℕ) (m : Message) (first : ℕ)
     (view : ViewData) (steps : StepList) (last : Stamp) → IsLive home floor live →
     AreStepsOf live first view steps → IsParted live kept m → IsTried q kept m live →
-    AreMetLate home live kept m steps → Some last ≡ last_stamp live.log.items →
+    AreTouchedLate home live kept m steps → Some last ≡ last_stamp live.log.items →
     ((s : Stamp) → IsOwn home (set_rows (now_in live).view m.rows) s → Before last s) →
     MayWeave home (run_in floor live) m
 may_be_woven home floor live q kept m first view steps last is parts parted tried far ends later = record {
@@ -290,7 +290,7 @@ may_be_woven home floor live q kept m first view steps last is parts parted trie
     halves = steps_halved home floor live kept m first view steps is parts parted
 
     aside : AreOfOthers m.rows (drop kept steps) × AreLaterSteps home m.rows ys (drop kept steps)
-    aside = steps_met home floor live kept m first view steps is parts parted far
+    aside = steps_touched home floor live kept m first view steps is parts parted far
 
 -- ---- the whole
 -- the log with the message at its place
@@ -317,7 +317,7 @@ pub record IsPutInto (home : Home) (q kept : ℕ) (m : Message) (first : ℕ) (v
 pub put_live : (home : Home) (floor : Stamp) (q kept : ℕ) (m : Message) (first : ℕ) (view : ViewData)
     (steps : StepList) (old new : Live) → IsRegion home.grid q → IsLive home floor old →
     AreStepsOf old first view steps → IsParted old kept m → IsTried q kept m old →
-    AreMetLate home old kept m steps → MayWeave home (run_in floor old) m →
+    AreTouchedLate home old kept m steps → MayWeave home (run_in floor old) m →
     IsHearable home floor q (m ∷ []) → IsPutInto home q kept m first view steps old new →
     IsLive home floor new × IsWoven q m (run_in floor old) (run_in floor new)
 put_live home floor q kept m first view steps old new region is parts parted tried far may one put = (
@@ -359,7 +359,7 @@ put_live home floor q kept m first view steps old new region is parts parted tri
     }
 
     others : AreOfOthers m.rows (drop kept steps)
-    others = (steps_met home floor old kept m first view steps is parts parted far).0
+    others = (steps_touched home floor old kept m first view steps is parts parted far).0
 
     set : rebuilt 0 (set_rows view m.rows)
         (take kept steps ++ (length xs + 1, rows_at (rows_in view) m.rows) ∷ raised (drop kept steps))

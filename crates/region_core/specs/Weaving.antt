@@ -21,22 +21,22 @@ use Rattle.region_core.specs.declared.live.Live.{Live}
 
 -- ---- what tells that entries have nothing to do with the rows of a message
 -- an event of two disks placed so, which the region runs
-abbrev pub IsMeeting : Home → ℕ → Placed → ℕ → Placed → Stamp → Type 0
-IsMeeting h i p j q s = (i < j) × IsNear h.rules h.grid i p j q s × Owns h.grid h.number p.cell
+abbrev pub IsOwnTouch : Home → ℕ → Placed → ℕ → Placed → Stamp → Type 0
+IsOwnTouch h i p j q s = (i < j) × IsNear h.rules h.grid i p j q s × Owns h.grid h.number p.cell
 
 -- what stands in two rows has such an event after a stamp alone
-abbrev pub MeetAfter : Home → Stamp → ℕ × Option Placed → ℕ × Option Placed → Type 0
-MeetAfter h t row other = IfSome row.1 (λ p. IfSome other.1 (λ q. (s : Stamp) →
-    IsMeeting h row.0 p other.0 q s ⊎ IsMeeting h other.0 q row.0 p s → Before t s))
+abbrev pub TouchAfter : Home → Stamp → ℕ × Option Placed → ℕ × Option Placed → Type 0
+TouchAfter h t row other = IfSome row.1 (λ p. IfSome other.1 (λ q. (s : Stamp) →
+    IsOwnTouch h row.0 p other.0 q s ⊎ IsOwnTouch h other.0 q row.0 p s → Before t s))
 
-abbrev pub AllMeetAfter : Home → Stamp → RowList → RowList → Type 0
-AllMeetAfter h t back rows = (row other : ℕ × Option Placed) → IsAmong row back → IsAmong other rows →
-    MeetAfter h t row other
+abbrev pub AllTouchAfter : Home → Stamp → RowList → RowList → Type 0
+AllTouchAfter h t back rows = (row other : ℕ × Option Placed) → IsAmong row back → IsAmong other rows →
+    TouchAfter h t row other
 
--- the rows that lead back from a step are of other disks, and what stood in them meets these after a stamp alone
+-- the rows that lead back from a step are of other disks, and what stood in them touches these after a stamp alone
 pub record IsStepAside (h : Home) (rows : RowList) (t : Stamp) (back : RowList) : Type 0 where
   pub others : AreOthers rows back
-  pub later : AllMeetAfter h t back rows
+  pub later : AllTouchAfter h t back rows
 
 -- so it is with each of the first steps, so many, up to the stamp of its entry
 abbrev pub AreStepsAside : Home → RowList → List Entry → List (ℕ × RowList) → ℕ → Type 0

@@ -1,5 +1,5 @@
 //! What keeps a message from coming before entries of a log: that they have one of its disks, or change one that
-//! these would meet.
+//! these would touch.
 
 ghost use Rattle.std.specs.Prelude.{◌≡◌, ◌≤◌, ℕ, length, drop, All, Option, None, Some, false};
 ghost use Rattle.std.specs.List.{Contains};
@@ -11,7 +11,7 @@ ghost use Rattle.region_messages.specs.Trails.{IsAmong};
 ghost use Rattle.region_view.specs.Naming.{Names};
 ghost use Rattle.local_run.specs.LocalRun.{IsInPlace};
 ghost use Rattle.local_run.specs.Weaving.{IsApart, AreOthers};
-ghost use Rattle.region_core.specs.Weaving.{IsMeeting, MeetAfter, AllMeetAfter, IsStepAside, AreStepsAside, IsValidBack};
+ghost use Rattle.region_core.specs.Weaving.{IsOwnTouch, TouchAfter, AllTouchAfter, IsStepAside, AreStepsAside, IsValidBack};
 
 use crate::moves::is_before;
 use crate::{Entry, Home};
@@ -70,7 +70,7 @@ fn has_row(rows: &Rows, disk: u32) -> bool
 }
 
 /// The stamp of the first entry from a place on whose step back touches some rows.
-pub(crate) fn first_met_from(
+pub(crate) fn first_touched_from(
     entries: &[Entry],
     steps: &[(u64, Rows)],
     kept: usize,
@@ -85,11 +85,11 @@ pub(crate) fn first_met_from(
     ensures { result ≡ None → AreStepsAside home.now rows.now (drop kept entries.now) (drop kept steps.now)
         (length (drop kept steps.now)) }
 {
-    first_met(&entries[kept..], &steps[kept..], rows, home)
+    first_touched(&entries[kept..], &steps[kept..], rows, home)
 }
 
 // The same of all of them.
-fn first_met(entries: &[Entry], steps: &[(u64, Rows)], rows: &Rows, home: &Home) -> Option<Stamp>
+fn first_touched(entries: &[Entry], steps: &[(u64, Rows)], rows: &Rows, home: &Home) -> Option<Stamp>
     requires place { IsInPlace home.now }
     requires sizes { length steps.now ≡ length entries.now }
     requires valid { All (λ step. IsValidBack home.now step.1) steps.now }
@@ -98,55 +98,55 @@ fn first_met(entries: &[Entry], steps: &[(u64, Rows)], rows: &Rows, home: &Home)
 {
     for k in 0..steps.len() {
         let at = entries[k].stamp();
-        if touches(&at, &steps[k].1, rows, home) {
+        if is_in_way(&at, &steps[k].1, rows, home) {
             return Some(at);
         }
     }
     None
 }
 
-// Whether rows that lead back are of the same disks as some rows, or what stood in them would meet these up to a
+// Whether rows that lead back are of the same disks as some rows, or what stood in them would touch these up to a
 // stamp.
-fn touches(at: &Stamp, back: &Rows, rows: &Rows, home: &Home) -> bool
+fn is_in_way(at: &Stamp, back: &Rows, rows: &Rows, home: &Home) -> bool
     requires place { IsInPlace home.now }
     requires back { IsValidBack home.now back.now }
     requires rows { AreValidRows home.now.rules home.now.grid rows.now }
     ensures { result ≡ false → IsStepAside home.now rows.now at.now back.now }
 {
-    have_common(rows, back) || is_one_met(at, back, rows, home)
+    have_common(rows, back) || is_one_touched(at, back, rows, home)
 }
 
-// Whether what stands in one of some rows would meet others up to a stamp.
-fn is_one_met(at: &Stamp, back: &Rows, rows: &Rows, home: &Home) -> bool
+// Whether what stands in one of some rows would touch others up to a stamp.
+fn is_one_touched(at: &Stamp, back: &Rows, rows: &Rows, home: &Home) -> bool
     requires place { IsInPlace home.now }
     requires back { IsValidBack home.now back.now }
     requires rows { AreValidRows home.now.rules home.now.grid rows.now }
-    ensures { result ≡ false → AllMeetAfter home.now at.now back.now rows.now }
+    ensures { result ≡ false → AllTouchAfter home.now at.now back.now rows.now }
 {
     match back.as_slice() {
         [] => false,
-        [row] => is_met(at, *row, rows, home),
-        [first, second, ..] => { is_met(at, *first, rows, home) || is_met(at, *second, rows, home) }
+        [row] => is_touched(at, *row, rows, home),
+        [first, second, ..] => { is_touched(at, *first, rows, home) || is_touched(at, *second, rows, home) }
     }
 }
 
-// Whether what stands in a row would meet one of some rows up to a stamp.
-fn is_met(at: &Stamp, row: (u32, Option<Placed>), rows: &Rows, home: &Home) -> bool
+// Whether what stands in a row would touch one of some rows up to a stamp.
+fn is_touched(at: &Stamp, row: (u32, Option<Placed>), rows: &Rows, home: &Home) -> bool
     requires place { IsInPlace home.now }
     requires row { IsValidPlaced home.now.rules home.now.grid row.1 }
     requires rows { AreValidRows home.now.rules home.now.grid rows.now }
     ensures { result ≡ false → (other : ℕ × Option Placed) → IsAmong other rows.now →
-        MeetAfter home.now at.now row other }
+        TouchAfter home.now at.now row other }
 {
     match rows.as_slice() {
         [] => false,
-        [other] => do_meet(at, row, *other, home),
-        [first, second, ..] => { do_meet(at, row, *first, home) || do_meet(at, row, *second, home) }
+        [other] => do_touch(at, row, *other, home),
+        [first, second, ..] => { do_touch(at, row, *first, home) || do_touch(at, row, *second, home) }
     }
 }
 
-// Whether what stands in two rows would meet up to a stamp.
-fn do_meet(
+// Whether what stands in two rows would touch up to a stamp.
+fn do_touch(
     at: &Stamp,
     row: (u32, Option<Placed>),
     other: (u32, Option<Placed>),
@@ -155,7 +155,7 @@ fn do_meet(
     requires place { IsInPlace home.now }
     requires row { IsValidPlaced home.now.rules home.now.grid row.1 }
     requires other { IsValidPlaced home.now.rules home.now.grid other.1 }
-    ensures { result ≡ false → MeetAfter home.now at.now row other }
+    ensures { result ≡ false → TouchAfter home.now at.now row other }
 {
     let Some(p) = row.1 else {
         return false;
@@ -163,15 +163,15 @@ fn do_meet(
     let Some(q) = other.1 else {
         return false;
     };
-    meets_by(at, row.0, &p, other.0, &q, home) || meets_by(at, other.0, &q, row.0, &p, home)
+    touches_by(at, row.0, &p, other.0, &q, home) || touches_by(at, other.0, &q, row.0, &p, home)
 }
 
 // Whether the region runs an event of two disks, the first of the lesser number, up to a stamp.
-fn meets_by(at: &Stamp, i: u32, first: &Placed, j: u32, second: &Placed, home: &Home) -> bool
+fn touches_by(at: &Stamp, i: u32, first: &Placed, j: u32, second: &Placed, home: &Home) -> bool
     requires place { IsInPlace home.now }
     requires first { IsValidPlaced home.now.rules home.now.grid (Some first.now) }
     requires second { IsValidPlaced home.now.rules home.now.grid (Some second.now) }
-    ensures { result ≡ false → (s : Stamp) → IsMeeting home.now i first.now j second.now s →
+    ensures { result ≡ false → (s : Stamp) → IsOwnTouch home.now i first.now j second.now s →
         Before at.now s }
 {
     if i >= j {

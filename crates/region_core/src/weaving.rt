@@ -13,7 +13,7 @@ ghost use Rattle.region_core.specs.Live.{run_in, IsLive};
 ghost use Rattle.region_core.specs.Weaving.{Weaves, IsSetLate, BeginsAfter, IsTried};
 
 use crate::appending::touch;
-use crate::aside::{first_met_from, first_with_disk};
+use crate::aside::{first_touched_from, first_with_disk};
 use crate::live::Live;
 use crate::moves::is_before;
 use crate::region::last_stamp;
@@ -191,7 +191,7 @@ impl Live {
         };
         let mut live = self;
         let (first, mut newest, mut steps) = live.saved.into_parts();
-        if let Some(at) = first_met_from(&live.log, &steps, kept, &message.rows, home) {
+        if let Some(at) = first_touched_from(&live.log, &steps, kept, &message.rows, home) {
             live.saved = Saved::from_parts(first, newest, steps);
             return Ok((live, Some(at)));
         }

@@ -8,31 +8,31 @@ use Rattle.local_run.specs.Entries.{last_stamp}
 use Rattle.region_core.specs.Live.{now_in}
 use Rattle.region_core.specs.Weaving.{AreStepsAside, IsValidBack}
 use Rattle.region_core.proofs.Steps.{raised}
-use Rattle.region_core.proofs.WeavingLive.{AreMetLate, IsParted, back_valid, put_live, may_be_woven, set_valid, same_live, small_steps, as_many_steps, newest_view, of_again, set_is, stands_first, all_later, few_taken, put_step_rises}
+use Rattle.region_core.proofs.WeavingLive.{AreTouchedLate, IsParted, back_valid, put_live, may_be_woven, set_valid, same_live, small_steps, as_many_steps, newest_view, of_again, set_is, stands_first, all_later, few_taken, put_step_rises}
 use Rattle.region_core.proofs.live.Live.weave_at.Goals as goal
 
-pub first_met_from-requires-clause-sizes : goal.first_met_from-requires-clause-sizes
-first_met_from-requires-clause-sizes c = ap length c.deref-3.ensures.value
+pub first_touched_from-requires-clause-sizes : goal.first_touched_from-requires-clause-sizes
+first_touched_from-requires-clause-sizes c = ap length c.deref-3.ensures.value
     ∙ as_many_steps c.args.home.now c.args.floor c.args.self c.into_parts-first.result.0
     c.into_parts-first.result.1 c.into_parts-first.result.2.items c.requires.live c.into_parts-first.ensures.parts
     ∙ sym (ap length c.deref-2.ensures.value)
 
-pub first_met_from-requires-clause-kept : goal.first_met_from-requires-clause-kept
-first_met_from-requires-clause-kept c =
+pub first_touched_from-requires-clause-kept : goal.first_touched_from-requires-clause-kept
+first_touched_from-requires-clause-kept c =
     let same = as_many_steps c.args.home.now c.args.floor c.args.self c.into_parts-first.result.0
     c.into_parts-first.result.1 c.into_parts-first.result.2.items c.requires.live c.into_parts-first.ensures.parts in
     let le = c.requires.within in
     let slice = ap length c.deref-3.ensures.value in
     omega arith
 
-pub first_met_from-requires-clause-valid : goal.first_met_from-requires-clause-valid
-first_met_from-requires-clause-valid c = subst (All (λ step. IsValidBack c.args.home.now step.1))
+pub first_touched_from-requires-clause-valid : goal.first_touched_from-requires-clause-valid
+first_touched_from-requires-clause-valid c = subst (All (λ step. IsValidBack c.args.home.now step.1))
     (sym c.deref-3.ensures.value)
     (back_valid c.args.home.now c.args.floor c.args.self c.into_parts-first.result.0 c.into_parts-first.result.1
     c.into_parts-first.result.2.items c.requires.place c.requires.live c.into_parts-first.ensures.parts)
 
-pub first_met_from-requires-clause-rows : goal.first_met_from-requires-clause-rows
-first_met_from-requires-clause-rows c = (c.requires.hearable.rows c.args.message (inl refl)).1
+pub first_touched_from-requires-clause-rows : goal.first_touched_from-requires-clause-rows
+first_touched_from-requires-clause-rows c = (c.requires.hearable.rows c.args.message (inl refl)).1
 
 pub set_late-requires-clause-valid : goal.set_late-requires-clause-valid
 set_late-requires-clause-valid c = (set_valid c.args.home.now c.args.floor c.args.self c.args.from c.args.message
@@ -99,12 +99,12 @@ returns c =
     (c.in_ok-at.ensures.late (stands_first home c.args.floor live first view steps c.requires.live parts))
     c.in_default-2.is in
     let of = of_again live.queue c.set_late.new.queue home c.set_late.ensures.queue c.requires.live.queue in
-    let far : AreMetLate home live c.args.kept m steps =
+    let far : AreTouchedLate home live c.args.kept m steps =
     subst (λ (v : StepList). AreStepsAside home m.rows (drop c.args.kept live.log.items) (drop c.args.kept v)
     (length (drop c.args.kept v))) c.deref-3.ensures.value
     (subst (λ (es : List Entry). AreStepsAside home m.rows (drop c.args.kept es)
     (drop c.args.kept c.deref-3.result.now) (length (drop c.args.kept c.deref-3.result.now))) c.deref-2.ensures.value
-    (c.first_met_from.ensures c.in_default-first_met_from.is)) in
+    (c.first_touched_from.ensures c.in_default-first_touched_from.is)) in
     let parted : IsParted live c.args.kept m = record {
       below = c.requires.below;
       rest = c.requires.rest;

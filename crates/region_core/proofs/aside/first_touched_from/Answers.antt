@@ -5,15 +5,15 @@ use Rattle.saved_states.specs.Steps.{StepList}
 use Rattle.local_run.specs.declared.entry.Entry.{Entry}
 use Rattle.region_core.specs.Weaving.{AreStepsAside, IsValidBack}
 use Rattle.region_core.proofs.Tests.{all_dropped, dropped_sizes}
-use Rattle.region_core.proofs.aside.first_met_from.Goals as goal
+use Rattle.region_core.proofs.aside.first_touched_from.Goals as goal
 
-pub first_met-requires-clause-sizes : goal.first_met-requires-clause-sizes
-first_met-requires-clause-sizes c = ap length (take_rest c.args.steps.now c.args.kept)
+pub first_touched-requires-clause-sizes : goal.first_touched-requires-clause-sizes
+first_touched-requires-clause-sizes c = ap length (take_rest c.args.steps.now c.args.kept)
     ∙ dropped_sizes c.args.kept c.args.steps.now c.args.entries.now c.requires.sizes
     ∙ sym (ap length (take_rest c.args.entries.now c.args.kept))
 
-pub first_met-requires-clause-valid : goal.first_met-requires-clause-valid
-first_met-requires-clause-valid c = subst (All (λ step. IsValidBack c.args.home.now step.1))
+pub first_touched-requires-clause-valid : goal.first_touched-requires-clause-valid
+first_touched-requires-clause-valid c = subst (All (λ step. IsValidBack c.args.home.now step.1))
     (sym (take_rest c.args.steps.now c.args.kept))
     (all_dropped (λ step. IsValidBack c.args.home.now step.1) c.args.kept c.args.steps.now c.requires.valid)
 
@@ -25,4 +25,4 @@ returns c = λ none.
     subst (λ (v : StepList). AreStepsAside home rows (drop c.args.kept c.args.entries.now) v (length v))
     (take_rest c.args.steps.now c.args.kept)
     (subst (λ (es : List Entry). AreStepsAside home rows es first (length first))
-    (take_rest c.args.entries.now c.args.kept) (c.first_met.ensures none))
+    (take_rest c.args.entries.now c.args.kept) (c.first_touched.ensures none))

@@ -1,7 +1,7 @@
-use Rattle.region_core.proofs.aside.touches.Goals as goal
+use Rattle.region_core.proofs.aside.is_in_way.Goals as goal
 
 pub returns-else-have_common : goal.returns-else-have_common
 returns-else-have_common c = λ off. record {
   others = c.have_common.ensures c.if-have_common.false;
-  later = c.is_one_met.ensures off;
+  later = c.is_one_touched.ensures off;
 }
