@@ -13,7 +13,7 @@ const BASES: u64 = 1 << 43;
 // The time of no row.
 const NO_TIME: u64 = u64::MAX;
 
-// What stands at a number: a placed disk of small numbers, or none.
+/// What stands at a number, in narrow form: a placed disk of small numbers, or none.
 #[derive(Clone, Copy)]
 pub struct Compact {
     x: i32,
@@ -48,10 +48,10 @@ impl Model for Compact {
 }
 
 ghost use Rattle.std.specs.Prelude.{◌≡◌, ◌↔◌, ◌/◌, ◌%◌, ◌^◌, IfSome, IsTrue, None, Some, is_some, option_copied};
-ghost use Rattle.region_view.specs.Compact.{IsNarrow, HasSmallCourse, HasSmallTime, IsSmall};
+ghost use Rattle.region_view.specs.Compact.{recelled_row, IsNarrow, HasSmallCourse, HasSmallTime, IsSmall};
 
 impl Compact {
-    // No disk.
+    /// No disk.
     pub fn none() -> Compact
         ensures { result ≡ None }
     {
@@ -66,7 +66,7 @@ impl Compact {
         }
     }
 
-    // A placed disk of small numbers.
+    /// A placed disk of small numbers.
     pub fn some(row: &Placed) -> Compact
         requires small { IsSmall row.now }
         ensures { result ≡ Some row.now }
@@ -84,7 +84,7 @@ impl Compact {
     }
 
     // A placed disk of small numbers, or none.
-    pub fn new(row: Option<&Placed>) -> Compact
+    pub(crate) fn new(row: Option<&Placed>) -> Compact
         requires small { IfSome (option_copied row) IsSmall }
         ensures { result ≡ option_copied row.entry }
     {
@@ -94,7 +94,27 @@ impl Compact {
         }
     }
 
-    // What stands there. Nearly each look into a view comes here.
+    /// The same disk in another cell; none where there is none.
+    #[inline(always)]
+    pub fn with_cell(&self, cell: u32) -> Compact
+        ensures { result ≡ recelled_row cell self.now }
+    {
+        if self.time == NO_TIME {
+            return Compact::none();
+        }
+        Compact {
+            x: self.x,
+            y: self.y,
+            vx: self.vx,
+            vy: self.vy,
+            size: self.size,
+            cell,
+            time: self.time,
+        }
+    }
+
+    /// What stands there.
+    // Nearly each look into a view comes here.
     #[inline(always)]
     pub fn get(&self) -> Option<Placed>
         ensures { result ≡ self.now }
@@ -119,7 +139,7 @@ impl Compact {
     // Whether there is a row. The time alone would tell, and x is 0 where there is none. Both are read, since
     // they are the two ends of a row, which may lie across two lines of the cache: so all of it comes from memory.
     #[inline(always)]
-    pub fn is_there(&self) -> bool
+    pub(crate) fn is_there(&self) -> bool
         ensures { result ≡ is_some self.now }
     {
         (self.time != NO_TIME) | (self.x != 0)
@@ -127,7 +147,7 @@ impl Compact {
 
     // Whether this row stands there. It mostly does, so all numbers are compared, with no branch between.
     #[inline(always)]
-    pub fn is(&self, row: &Placed) -> bool
+    pub(crate) fn is(&self, row: &Placed) -> bool
         ensures { IsTrue result ↔ (self.now ≡ Some row.now) }
     {
         let disk = &row.disk;
@@ -169,7 +189,8 @@ fn has_size(disk: &Disk, size: i32) -> bool
     size as i64 == disk.size
 }
 
-// Whether each number of a row is small enough.
+/// Whether each number of a row has room in the narrow form: coordinates, velocity and size in 32 bits each, with
+/// their signs, the base tick in 43 and the mark in 20.
 pub fn is_small(row: &Placed) -> bool
     ensures { IsTrue result ↔ IsSmall row.now }
 {

@@ -14,6 +14,7 @@ mod slots;
 mod view;
 
 pub use action::{Action, Placed};
+pub use compact::{Compact, is_small};
 pub use events::{act, first_alone, near_event};
 pub use laws::{
     actions_are_valid, actions_have_rows, each_event_has_one_home, home_sees,

@@ -1,5 +1,6 @@
 //! What a region sees of a state.
 
+use crate::compact::Compact;
 use crate::slots::Slots;
 use crate::{Action, Message, Placed, Rows, rows_of};
 use std::marker::Model;
@@ -30,10 +31,11 @@ impl Model for View {
     ghost view = { λ v. placed_in v.slots };
 }
 
-ghost use Rattle.std.specs.Prelude.{◌≡◌, ◌↔◌, ℕ, ◌<◌, ◌≤◌, [], ◌∷◌, length, slice_get, None, is_some, option_copied, IsTrue, IfOk, OnOk, OnErr};
+ghost use Rattle.std.specs.Prelude.{◌≡◌, ◌↔◌, ℕ, ◌<◌, ◌≤◌, [], ◌∷◌, length, slice_get, None, is_some, option_copied, IsTrue, IfSome, IfOk, OnOk, OnErr};
 ghost use Rattle.std.specs.FinMap as map;
 ghost use Rattle.cell_grid.specs.Grid.{IsRegion};
 ghost use Rattle.region_view.specs.Laws.{HasCells};
+ghost use Rattle.region_view.specs.Compact.{IsRowThere};
 ghost use Rattle.region_view.specs.Views.{rows_in, IsNextRow, IsViewOf};
 ghost use Rattle.region_view.specs.Setting.{put, set_rows, rows_at, after_action, IsInOrder};
 
@@ -47,6 +49,25 @@ impl View {
         ensures { result ≡ map.get self.now disk }
     {
         self.slots.get(disk)
+    }
+
+    /// The row of a disk as it is kept. None where there is none, and where the view has a row whose numbers are
+    /// too great for the narrow form.
+    #[inline(always)]
+    pub fn narrow(&self, disk: u32) -> Option<Compact>
+        ensures { IfSome result (IsRowThere (map.get self.now disk)) }
+    {
+        self.slots.narrow(disk)
+    }
+
+    /// Sets the row of a disk that has one. Takes no memory.
+    #[inline(always)]
+    pub fn set_narrow(&mut self, disk: u32, row: &Compact)
+        requires there { IsTrue (is_some (map.get self.old disk)) }
+        requires row { IsTrue (is_some row.now) }
+        ensures { self.new ≡ put self.old disk row.now }
+    {
+        self.slots.set_narrow(disk, row)
     }
 
     /// Whether a disk has a row.
