@@ -1,0 +1,10 @@
+-- The lemmas of the crate.
+pub mod Cuts
+pub mod Alike
+pub mod Laid
+pub mod Read
+pub mod Mapped
+pub mod Counted
+pub mod Undone
+pub mod Woven
+pub mod AtFloor

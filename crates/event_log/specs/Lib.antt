@@ -1,0 +1,6 @@
+pub mod Logged
+pub mod Heads
+pub mod Narrow
+pub mod Undoing
+pub mod Running
+pub mod AtFloor

@@ -1,0 +1,24 @@
+-- Actions that are run in the view after a log.
+use Rattle.std.specs.Prelude.{◌≡◌, Option, Some, None, IsTrue, is_some}
+use Rattle.fixed_motion.specs.declared.disk.Disk.{Disk}
+use Rattle.region_view.specs.declared.action.Placed.{Placed}
+use Rattle.region_view.specs.declared.action.Action.{Action}
+use Rattle.region_view.specs.Views.{ViewData, rows_in}
+use Rattle.region_view.specs.Setting.{rows_at, rows_set}
+use Rattle.local_run.specs.declared.entry.Entry.TheVariants.{Native}
+use Rattle.event_log.specs.Logged.{Logged}
+
+-- an action with what stood at the numbers of the rows that it sets
+abbrev pub acted : ViewData → Action → Logged
+acted view action = (Native action, rows_at (rows_in view) (rows_set (rows_in view) action))
+
+-- another record in the same cell
+abbrev pub redisked_row : Disk → Option Placed → Option Placed
+redisked_row disk None = None
+redisked_row disk (Some p) = Some (record { disk = disk; cell = p.cell })
+
+-- a row that is there, and the one with another record
+pub record IsMoved (there : Option Placed) (disk : Disk) (rows : Option Placed × Option Placed) : Type 0 where
+  pub before : rows.0 ≡ there
+  pub after : rows.1 ≡ redisked_row disk there
+  pub is_there : IsTrue (is_some there)

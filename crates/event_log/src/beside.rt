@@ -1,0 +1,102 @@
+//! A log beside the view after it.
+
+ghost use Rattle.std.specs.Prelude.{◌≡◌, ◌-◌, ◌<◌, [], ◌∷◌, ◌++◌, length, take, slice_get, None, IsTrue, IfOk, OnOk, OnErr};
+ghost use Rattle.std.specs.FinMap as map;
+ghost use Rattle.region_view.specs.Views.{rows_in};
+ghost use Rattle.region_view.specs.Setting.{set_rows, rows_at, get_over};
+ghost use Rattle.event_log.specs.Logged.{entries_in, backs_in, sets};
+ghost use Rattle.event_log.specs.Undoing.{undone, last_back};
+
+use crate::EventLog;
+use local_run::{Entry, MAX_ENTRIES};
+use region_view::{Placed, Rows, View};
+use std::alloc::AllocError;
+
+impl EventLog {
+    /// Sets the rows of an entry in the view after the whole log, and appends the entry with what stood there.
+    ///
+    /// # Errors
+    /// Out of memory: nothing changes.
+    pub fn append(&mut self, view: &mut View, entry: &Entry, rows: &Rows) -> Result<(), AllocError>
+        requires room { length self.old < MAX_ENTRIES }
+        ensures log { OnOk result
+            (self.new ≡ self.old ++ (entry.now, rows_at (rows_in view.old) rows.now) ∷ []) }
+        ensures view { OnOk result (view.new ≡ set_rows view.old rows.now) }
+        ensures log_unchanged { OnErr result (self.new ≡ self.old) }
+        ensures view_unchanged { OnErr result (view.new ≡ view.old) }
+    {
+        let count = self.len();
+        self.push(entry, &rows_before(view, rows))?;
+        let mut changed = *rows;
+        match view.swap(&mut changed) {
+            Ok(()) => Ok(()),
+            Err(error) => {
+                self.truncate(count);
+                Err(error)
+            }
+        }
+    }
+
+    /// Takes the last entry back, in the view after the whole log too, and answers it; none where there is no
+    /// entry.
+    ///
+    /// # Errors
+    /// Out of memory: nothing changes.
+    pub fn take_back(&mut self, view: &mut View) -> Result<Option<Entry>, AllocError>
+        ensures log { OnOk result (self.new ≡ take (length self.old - 1) self.old) }
+        ensures view { OnOk result (view.new ≡ set_rows view.old (last_back self.old)) }
+        ensures entry { IfOk result (λ e. e ≡ slice_get (entries_in self.old) (length self.old - 1)) }
+        ensures log_unchanged { OnErr result (self.new ≡ self.old) }
+        ensures view_unchanged { OnErr result (view.new ≡ view.old) }
+    {
+        let count = self.len();
+        if count == 0 {
+            return Ok(None);
+        }
+        let last = count - 1;
+        let entry = self.entry(last);
+        let mut back = self.back(last);
+        view.swap(&mut back)?;
+        self.truncate(last);
+        Ok(Some(entry))
+    }
+
+    /// The row of a disk in the view before the log, from the view after it: what the first entry that sets it
+    /// found there.
+    pub fn first_row(&self, newest: &View, disk: u32) -> Option<Placed>
+        ensures { result ≡ map.get (undone newest.now (backs_in self.now)) disk }
+    {
+        for i in 0..self.len() {
+            if self.sets(i, disk) {
+                return row_of(&self.back(i), disk);
+            }
+        }
+        newest.get(disk)
+    }
+}
+
+// What stands at the numbers of some rows.
+#[inline(always)]
+fn rows_before(view: &View, rows: &Rows) -> Rows
+    ensures { result ≡ rows_at (rows_in view.now) rows.now }
+{
+    match rows.as_slice() {
+        [] => Rows::none(),
+        [row] => Rows::one((row.0, view.get(row.0))),
+        [first, second, ..] => {
+            Rows::two((first.0, view.get(first.0)), (second.0, view.get(second.0)))
+        }
+    }
+}
+
+// What some rows say of a disk.
+fn row_of(rows: &Rows, disk: u32) -> Option<Placed>
+    requires { IsTrue (sets disk rows.now) }
+    ensures { result ≡ get_over rows.now disk None }
+{
+    match rows.as_slice() {
+        [] => None,
+        [row] => row.1,
+        [first, second, ..] => { if second.0 == disk { second.1 } else { first.1 } }
+    }
+}

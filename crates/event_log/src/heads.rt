@@ -1,0 +1,89 @@
+//! What is kept of each entry in one place: its stamp, and where the rest is.
+
+ghost use Rattle.std.specs.Prelude.{◌≡◌, ◌+◌, ◌<◌, ◌≤◌, ◌^◌, length, take, drop, ◌++◌, map, All, true, false};
+ghost use Rattle.std.specs.List.Sorted.{IsPartitionedBy, IsPartitionPoint};
+ghost use Rattle.region_messages.specs.Trails.{is_before};
+ghost use Rattle.event_log.specs.Heads.{edge_of, row_place, whole_place, raised, lowered};
+
+use event_stamps::Stamp;
+
+/// How an entry is kept.
+#[derive(Clone, Copy)]
+pub enum Form {
+    /// A crossing: the row before it is kept, and the cell after it is in the head.
+    Crossing,
+    /// A collision of one disk: the row before it is kept, and the record after it.
+    Single,
+    /// A collision of two disks: both rows before it are kept, and both records after it.
+    Double,
+    /// Anything else: a message, or what has a number that is too great for a narrow row.
+    Whole,
+}
+
+/// The head of an entry.
+#[derive(Clone, Copy)]
+pub struct Head {
+    /// The stamp of the entry.
+    pub stamp: Stamp,
+    /// The cell after a crossing.
+    pub cell: u32,
+    /// How many narrow rows the entries before it have: the place of its first one.
+    pub row: u32,
+    /// How many of the entries before it are kept whole: its place among these.
+    pub whole: u32,
+    /// How it is kept.
+    pub form: Form,
+}
+
+/// Where the narrow rows of an entry begin, and where it is kept whole if it is: past the last entry, the numbers
+/// of all there are.
+#[inline(always)]
+pub fn edge(heads: &[Head], at: usize, rows: usize, wholes: usize) -> (usize, usize)
+    ensures row { result.0 ≡ edge_of row_place rows heads.now at }
+    ensures whole { result.1 ≡ edge_of whole_place wholes heads.now at }
+{
+    match heads.get(at) {
+        Some(head) => (head.row as usize, head.whole as usize),
+        None => (rows, wholes),
+    }
+}
+
+/// How many heads are before a stamp, where all that are come first.
+pub fn count_earlier(heads: &[Head], at: Stamp) -> usize
+    requires { IsPartitionedBy (λ h. is_before h.stamp at) heads.now }
+    ensures within { result ≤ length heads.now }
+    ensures place { IsPartitionPoint (λ h. is_before h.stamp at ≡ true) (λ h. is_before h.stamp at ≡ false)
+        heads.now result }
+{
+    heads.partition_point(|head| head.stamp < at)
+}
+
+/// One entry more is kept whole before those from a place on.
+pub fn raise_from(heads: &mut [Head], at: usize)
+    requires place { at ≤ length heads.old }
+    requires room { All (λ h. h.whole + 1 < 2 ^ 32) heads.old }
+    ensures { heads.new ≡ take at heads.old ++ map raised (drop at heads.old) }
+{
+    raise(&mut heads[at..]);
+}
+
+// One entry more is kept whole before these.
+fn raise(heads: &mut [Head])
+    requires room { All (λ h. h.whole + 1 < 2 ^ 32) heads.old }
+    ensures { heads.new ≡ map raised heads.old }
+{
+    for head in heads.iter_mut() {
+        head.whole += 1;
+    }
+}
+
+/// So many rows and entries that are kept whole are no more before these.
+pub fn lower(heads: &mut [Head], rows: u32, wholes: u32)
+    requires places { All (λ h. (rows ≤ h.row) × (wholes ≤ h.whole)) heads.old }
+    ensures { heads.new ≡ map (lowered rows wholes) heads.old }
+{
+    for head in heads.iter_mut() {
+        head.row -= rows;
+        head.whole -= wholes;
+    }
+}

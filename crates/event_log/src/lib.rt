@@ -1,0 +1,20 @@
+//! The log of what a region did: each entry, and the rows that lead back over it, in small records.
+//!
+//! It is the queue of processed events and the state queue of Time Warp in one: an entry and what undoes it lie
+//! side by side.
+#![tactic(auto)]
+
+mod beside;
+mod heads;
+mod laws;
+mod narrow;
+mod processed;
+mod running;
+#[cfg(test)]
+mod tests;
+
+pub use laws::{
+    base_is_undone, base_views_are_found, changes_lead_back, firsts_are_found, sparing_is_aside,
+    woven_leads_back,
+};
+pub use processed::EventLog;

@@ -1,0 +1,426 @@
+//! The log itself.
+
+use crate::heads::Head;
+use local_run::Entry;
+use region_view::{Compact, Rows};
+use std::marker::Model;
+
+/// What a region did, oldest first: entries, and the rows that lead back over each of them.
+///
+/// An entry takes 40 bytes, and beside them 32 (a crossing), 64 (a collision of one disk) or 128 (of two), if
+/// its numbers are small, as those of valid disks are. A message takes 40 and the size of an entry and its rows.
+#[derive(Drop)]
+pub struct EventLog {
+    heads: Vec<Head>,
+    // Those of the crossings and collisions, in the order of the entries.
+    rows: Vec<Compact>,
+    // Entries that are kept as they are, in their order, with the rows that lead back.
+    wholes: Vec<(Entry, Rows)>,
+}
+
+impl Model for EventLog {
+    ghost use Rattle.std.specs.Prelude.{List};
+    ghost use Rattle.std.specs.Coded.{coded_list, coded×, coded_ℕ, coded_option};
+    ghost use Rattle.local_run.specs.contracts.entry.Entry as entry;
+    ghost use Rattle.region_view.specs.contracts.action.Placed as placed;
+    ghost use Rattle.event_log.specs.Logged.{Logged};
+
+    ghost Value = { List Logged };
+
+    ghost coded = { coded_list (coded× entry.the_row.coded
+        (coded_list (coded× coded_ℕ (coded_option placed.the_row.coded)))) };
+
+    ghost use Rattle.event_log.specs.Heads.{AreLaid, log_of};
+
+    ghost view = { λ a. log_of a.rows.items a.wholes.items a.heads.items };
+
+    ghost invariant = { λ a. AreLaid a.rows.items a.wholes.items a.heads.items };
+}
+
+ghost use Rattle.std.specs.Prelude.{◌≡◌, ◌-◌, ◌<◌, ◌≤◌, [], ◌∷◌, ◌++◌, length, take, drop, slice_get, option_map, Some, None, OnOk, OnErr};
+ghost use Rattle.std.specs.List.{insert};
+ghost use Rattle.event_stamps.specs.declared.Stamp.{Stamp};
+ghost use Rattle.region_view.specs.Acting.{stamp_of};
+ghost use Rattle.region_view.specs.declared.action.Action.TheVariants.{Cross, Hit};
+ghost use Rattle.local_run.specs.declared.entry.Entry.TheVariants.{Native};
+ghost use Rattle.local_run.specs.Entries.{native_of, RiseFrom, entries_below, entries_from};
+ghost use Rattle.event_log.specs.Logged.{entries_in, backs_in, stamps_in, senders_in, setters_in, sets, native_at};
+ghost use Rattle.event_log.specs.Heads.{row_count, whole_count, logged, IsOrdered};
+
+use crate::heads::{Form, count_earlier, edge, lower, raise_from};
+use crate::narrow::{both_rows, disk_in, narrow_disk, only_row, row_in};
+use event_rules::Change;
+use event_stamps::Stamp;
+use local_run::MAX_ENTRIES;
+use region_view::Action;
+use std::alloc::{AllocError, Global};
+
+impl EventLog {
+    /// No entries.
+    pub fn new(alloc: Global) -> EventLog
+        ensures { result ≡ [] }
+    {
+        EventLog {
+            heads: Vec::new(alloc),
+            rows: Vec::new(alloc),
+            wholes: Vec::new(alloc),
+        }
+    }
+
+    /// The number of entries.
+    #[inline(always)]
+    pub fn len(&self) -> usize
+        ensures { result ≡ length self.now }
+    {
+        self.heads.len()
+    }
+
+    /// The stamp of an entry, by its place.
+    #[inline(always)]
+    pub fn stamp(&self, i: usize) -> Stamp
+        requires within { i < length self.now }
+        ensures { slice_get (stamps_in self.now) i ≡ Some result }
+    {
+        self.heads[i].stamp
+    }
+
+    /// The stamp of the last entry; none where there is no entry.
+    #[inline(always)]
+    pub fn last_stamp(&self) -> Option<Stamp>
+        ensures { result ≡ slice_get (stamps_in self.now) (length self.now - 1) }
+    {
+        match self.heads.last() {
+            Some(head) => Some(head.stamp),
+            None => None,
+        }
+    }
+
+    /// How many entries of a log, whose stamps rise, are before a stamp.
+    pub fn count_before(&self, at: Stamp) -> usize
+        requires { (floor : Stamp) × RiseFrom floor (entries_in self.now) }
+        ensures within { result ≤ length self.now }
+        ensures before { take result (entries_in self.now) ≡ entries_below at (entries_in self.now) }
+        ensures from { drop result (entries_in self.now) ≡ entries_from at (entries_in self.now) }
+    {
+        count_earlier(&self.heads, at)
+    }
+
+    /// An entry, by its place.
+    pub fn entry(&self, i: usize) -> Entry
+        requires within { i < length self.now }
+        ensures { slice_get (entries_in self.now) i ≡ Some result }
+    {
+        let head = self.heads[i];
+        let row = head.row as usize;
+        match head.form {
+            Form::Crossing => Entry::Native(Action::Cross {
+                stamp: head.stamp,
+                cell: head.cell,
+            }),
+            Form::Single => Entry::Native(Action::Hit(Change {
+                stamp: head.stamp,
+                first: disk_in(&self.rows, row + 1),
+                second: None,
+            })),
+            Form::Double => Entry::Native(Action::Hit(Change {
+                stamp: head.stamp,
+                first: disk_in(&self.rows, row + 2),
+                second: Some(disk_in(&self.rows, row + 3)),
+            })),
+            Form::Whole => self.wholes[head.whole as usize].0,
+        }
+    }
+
+    /// The rows that lead back over an entry, by its place.
+    pub fn back(&self, i: usize) -> Rows
+        requires within { i < length self.now }
+        ensures { slice_get (backs_in self.now) i ≡ Some result }
+    {
+        let head = self.heads[i];
+        let row = head.row as usize;
+        match head.form {
+            Form::Crossing | Form::Single => {
+                Rows::one((head.stamp.first, row_in(&self.rows, row)))
+            }
+            Form::Double => Rows::two(
+                (head.stamp.first, row_in(&self.rows, row)),
+                (head.stamp.second, row_in(&self.rows, row + 1)),
+            ),
+            Form::Whole => self.wholes[head.whole as usize].1,
+        }
+    }
+
+    /// The action of an entry, by its place; none exactly where there is no such entry, or it is a message.
+    pub fn native(&self, i: usize) -> Option<Action>
+        ensures { result ≡ native_at self.now i }
+    {
+        if i < self.len() {
+            native_of(&self.entry(i))
+        } else {
+            None
+        }
+    }
+
+    /// The stamp of the action of an entry, by its place: none exactly where [`native`](EventLog::native) is none.
+    #[inline(always)]
+    pub fn native_stamp(&self, i: usize) -> Option<Stamp>
+        ensures { result ≡ option_map stamp_of (native_at self.now i) }
+    {
+        let head = self.heads.get(i)?;
+        match head.form {
+            Form::Crossing | Form::Single | Form::Double => Some(head.stamp),
+            Form::Whole => match &self.wholes[head.whole as usize].0 {
+                Entry::Native(action) => Some(action.stamp()),
+                Entry::Heard { .. } => None,
+            },
+        }
+    }
+
+    /// The region that sent what an entry took in, by its place; none where it is an event of the region's own
+    /// columns.
+    #[inline(always)]
+    pub fn sender(&self, i: usize) -> Option<u32>
+        requires within { i < length self.now }
+        ensures { slice_get (senders_in self.now) i ≡ Some result }
+    {
+        let head = self.heads[i];
+        match head.form {
+            Form::Crossing | Form::Single | Form::Double => None,
+            Form::Whole => match &self.wholes[head.whole as usize].0 {
+                Entry::Native(_) => None,
+                Entry::Heard { from, .. } => Some(*from),
+            },
+        }
+    }
+
+    /// Whether an entry, by its place, sets the row of a disk. It looks at the head alone, but where the entry is
+    /// kept whole.
+    #[inline(always)]
+    pub fn sets(&self, i: usize, disk: u32) -> bool
+        requires within { i < length self.now }
+        ensures { slice_get (setters_in disk self.now) i ≡ Some result }
+    {
+        let head = self.heads[i];
+        match head.form {
+            Form::Crossing | Form::Single => head.stamp.first == disk,
+            Form::Double => head.stamp.first == disk || head.stamp.second == disk,
+            Form::Whole => has_row(&self.wholes[head.whole as usize].1, disk),
+        }
+    }
+
+    /// Appends an entry with the rows that lead back over it.
+    ///
+    /// # Errors
+    /// Out of memory: nothing changes.
+    #[inline(always)]
+    pub fn push(&mut self, entry: &Entry, back: &Rows) -> Result<(), AllocError>
+        requires room { length self.old < MAX_ENTRIES }
+        ensures pushed { OnOk result (self.new ≡ self.old ++ (entry.now, back.now) ∷ []) }
+        ensures unchanged { OnErr result (self.new ≡ self.old) }
+    {
+        match entry {
+            Entry::Native(Action::Cross { stamp, cell }) => self.push_crossing(*stamp, *cell, back),
+            Entry::Native(Action::Hit(change)) => self.push_collision(change, back),
+            Entry::Heard { .. } => self.push_whole(entry, back),
+        }
+    }
+
+    #[inline(always)]
+    fn push_crossing(&mut self, stamp: Stamp, cell: u32, back: &Rows) -> Result<(), AllocError>
+        requires room { length self.old < MAX_ENTRIES }
+        ensures pushed { OnOk result (self.new ≡ self.old ++ (Native (Cross stamp cell), back.now) ∷ []) }
+        ensures unchanged { OnErr result (self.new ≡ self.old) }
+    {
+        match only_row(back, stamp.first) {
+            Some(before) => self.keep(stamp, cell, Form::Crossing, &[before]),
+            None => self.push_whole(&Entry::Native(Action::Cross { stamp, cell }), back),
+        }
+    }
+
+    #[inline(always)]
+    fn push_collision(&mut self, change: &Change, back: &Rows) -> Result<(), AllocError>
+        requires room { length self.old < MAX_ENTRIES }
+        ensures pushed { OnOk result (self.new ≡ self.old ++ (Native (Hit change.now), back.now) ∷ []) }
+        ensures unchanged { OnErr result (self.new ≡ self.old) }
+    {
+        match narrow_collision(change, back) {
+            Some(Collision::Single(rows)) => self.keep(change.stamp, 0, Form::Single, &rows),
+            Some(Collision::Double(rows)) => self.keep(change.stamp, 0, Form::Double, &rows),
+            None => self.push_whole(&Entry::Native(Action::Hit(*change)), back),
+        }
+    }
+
+    // Appends an entry that has narrow rows.
+    #[inline(always)]
+    pub(crate) fn keep(
+        &mut self,
+        stamp: Stamp,
+        cell: u32,
+        form: Form,
+        rows: &[Compact],
+    ) -> Result<(), AllocError>
+        requires room { length self.old < MAX_ENTRIES }
+        requires rows { length rows.now ≡ row_count form }
+        requires narrow { whole_count form ≡ 0 }
+        requires order { IsOrdered stamp form }
+        ensures pushed { OnOk result (self.new ≡ self.old ++ logged rows.now [] (record {
+          stamp = stamp;
+          cell = cell;
+          row = 0;
+          whole = 0;
+          form = form;
+        }) ∷ []) }
+        ensures unchanged { OnErr result (self.new ≡ self.old) }
+    {
+        let head = Head {
+            stamp,
+            cell,
+            row: self.rows.len() as u32,
+            whole: self.wholes.len() as u32,
+            form,
+        };
+        // There is room before anything changes.
+        self.heads.reserve(1)?;
+        self.rows.extend_from_slice(rows)?;
+        self.heads.push(head)?;
+        Ok(())
+    }
+
+    // Appends an entry as it is.
+    #[cold]
+    #[inline(never)]
+    fn push_whole(&mut self, entry: &Entry, back: &Rows) -> Result<(), AllocError>
+        requires room { length self.old < MAX_ENTRIES }
+        ensures pushed { OnOk result (self.new ≡ self.old ++ (entry.now, back.now) ∷ []) }
+        ensures unchanged { OnErr result (self.new ≡ self.old) }
+    {
+        let end = self.len();
+        self.insert(end, entry, back)
+    }
+
+    /// Puts an entry at a place, before those from there on, with the rows that lead back over it.
+    ///
+    /// # Errors
+    /// Out of memory: nothing changes.
+    pub fn insert(&mut self, at: usize, entry: &Entry, back: &Rows) -> Result<(), AllocError>
+        requires place { at ≤ length self.old }
+        requires room { length self.old < MAX_ENTRIES }
+        ensures inserted { OnOk result (self.new ≡ insert self.old at (entry.now, back.now)) }
+        ensures unchanged { OnErr result (self.new ≡ self.old) }
+    {
+        let (row, whole) = edge(&self.heads, at, self.rows.len(), self.wholes.len());
+        let head = Head {
+            stamp: entry.stamp(),
+            cell: 0,
+            row: row as u32,
+            whole: whole as u32,
+            form: Form::Whole,
+        };
+        // There is room before anything changes.
+        self.heads.reserve(1)?;
+        self.wholes.insert(whole, (*entry, *back))?;
+        raise_from(&mut self.heads, at);
+        self.heads.insert(at, head)?;
+        Ok(())
+    }
+
+    /// Takes the last entry away, and answers it with the rows that lead back over it; none where there is no
+    /// entry. Takes no memory.
+    pub fn drop_last(&mut self) -> Option<(Entry, Rows)>
+        ensures log { self.new ≡ take (length self.old - 1) self.old }
+        ensures last { result ≡ slice_get self.old (length self.old - 1) }
+    {
+        if self.heads.is_empty() {
+            return None;
+        }
+        let last = self.heads.len() - 1;
+        let answer = (self.entry(last), self.back(last));
+        self.truncate(last);
+        Some(answer)
+    }
+
+    /// Takes all entries away but the first ones, so many. Takes no memory.
+    pub fn truncate(&mut self, kept: usize)
+        requires place { kept ≤ length self.old }
+        ensures { self.new ≡ take kept self.old }
+    {
+        let (row, whole) = edge(&self.heads, kept, self.rows.len(), self.wholes.len());
+        self.heads.truncate(kept);
+        self.rows.truncate(row);
+        self.wholes.truncate(whole);
+    }
+
+    /// Takes the first entries away, so many. Takes no memory.
+    pub fn drop_first(&mut self, gone: usize)
+        requires place { gone ≤ length self.old }
+        ensures { self.new ≡ drop gone self.old }
+    {
+        let (row, whole) = edge(&self.heads, gone, self.rows.len(), self.wholes.len());
+        drop_front(&mut self.heads, gone);
+        drop_front(&mut self.rows, row);
+        drop_front(&mut self.wholes, whole);
+        lower(&mut self.heads, row as u32, whole as u32);
+    }
+}
+
+// The rows of a collision, in narrow form: those before it, and then those after it, in any cell.
+enum Collision {
+    Single([Compact; 2]),
+    Double([Compact; 4]),
+}
+
+ghost use Rattle.std.specs.Prelude.{IfSome};
+ghost use Rattle.event_log.specs.Narrow.{IsNarrowFor};
+
+// The narrow rows of a collision; none where it can't be kept so.
+#[inline(always)]
+fn narrow_collision(change: &Change, back: &Rows) -> Option<Collision>
+    ensures { IfSome result (IsNarrowFor change.now back.now) }
+{
+    match &change.second {
+        None => {
+            let before = only_row(back, change.stamp.first)?;
+            Some(Collision::Single([before, narrow_disk(&change.first)?]))
+        }
+        Some(second) => {
+            let (before, other) = both_rows(back, change.stamp.first, change.stamp.second)?;
+            Some(Collision::Double([
+                before,
+                other,
+                narrow_disk(&change.first)?,
+                narrow_disk(second)?,
+            ]))
+        }
+    }
+}
+
+// The action of an entry; none where it is a message.
+#[inline(always)]
+fn native_of(entry: &Entry) -> Option<Action>
+    ensures { result ≡ native_of entry.now }
+{
+    match entry {
+        Entry::Native(action) => Some(*action),
+        Entry::Heard { .. } => None,
+    }
+}
+
+// Whether one of some rows is that of a disk.
+fn has_row(rows: &Rows, disk: u32) -> bool
+    ensures { result ≡ sets disk rows.now }
+{
+    match rows.as_slice() {
+        [] => false,
+        [row] => row.0 == disk,
+        [first, second, ..] => first.0 == disk || second.0 == disk,
+    }
+}
+
+// Takes the first items away, so many. Where all go, as they mostly do, none moves.
+fn drop_front<T: Copy>(items: &mut Vec<T>, gone: usize)
+    requires { gone ≤ length items.old.items }
+    ensures { items.new.items ≡ drop gone items.old.items }
+{
+    items.rotate_left(gone);
+    items.truncate(items.len() - gone);
+}
