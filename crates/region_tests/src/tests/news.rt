@@ -1,4 +1,4 @@
-//! What a region makes of it, in a burst, that another takes back what it sent.
+//! What a region makes of it, in a burst, that another takes back what it sent, or tells it late.
 
 use super::scripts::Answer::{Entries, Heard, News, Ran, Same};
 use super::scripts::Call::{CatchesUp, HasNews, Hears, Rewinds, Runs};
@@ -59,5 +59,25 @@ const NEWS: &[Script] = &[(
 #[test]
 fn there_is_news_until_it_is_heard(rt: HostRuntime) -> Result<(), Fail> {
     assert_eq!(rt; first_wrong(rt.alloc(), NEWS)?, None);
+    Ok(())
+}
+
+// Disk 0 goes up and down in region 1, at the border of region 2, and disk 1 far from it in region 2.
+const FAR_APART: &str = "[190, 10, 0, 8], [250, 10, 0, 8]";
+
+const LATE: &[Script] = &[(
+    "what comes late from disks far away is taken in, and what was done since stays",
+    &[(FAR_APART, 20, 1, false), (FAR_APART, 20, 2, false)],
+    &[
+        (1, Runs(HITS), Ran(LAST_HIT)),
+        (0, Runs(HITS), Ran((19, 0, Wall, 0, DOWN))),
+        (1, CatchesUp(0), Entries(20)),
+        (1, Hears(0), Same),
+    ],
+)];
+
+#[test]
+fn what_comes_late_is_taken_in(rt: HostRuntime) -> Result<(), Fail> {
+    assert_eq!(rt; first_wrong(rt.alloc(), LATE)?, None);
     Ok(())
 }
