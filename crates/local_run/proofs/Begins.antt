@@ -1,13 +1,14 @@
 -- What stays of a region that makes steps.
 use Rattle.std.proofs.Common.{◌≡◌, inl, inr, ℕ, zero, suc, Option, Some, None, ap, ◌∙◌}
 use Rattle.std.specs.Prelude.{option_map}
+use Rattle.event_stamps.specs.declared.Stamp.{Stamp}
 use Rattle.local_run.specs.declared.home.Home.{Home}
 use Rattle.local_run.specs.declared.answers.Step.{Step}
 use Rattle.local_run.specs.declared.answers.Step.TheVariants.{Ran, Heard, Idle, Past, Tied, Halted, Held, Spent}
 use Rattle.local_run.specs.LocalRun.{Local}
 use Rattle.local_run.specs.Answers.{StepsTo}
 use Rattle.local_run.specs.Opening.{RegionData}
-use Rattle.local_run.specs.Running.{Runs}
+use Rattle.local_run.specs.Running.{Runs, RunsBefore}
 use Rattle.local_run.specs.RunOn.{BeginsAs}
 use Rattle.local_run.specs.Steps.{StepsOn, Steps}
 
@@ -48,3 +49,10 @@ runs_begin zero old new answer runs = absurd runs
 runs_begin (suc rest) old new answer (inl (step, last)) = step_begins old new answer step
 runs_begin (suc rest) old new answer (inr (first, mid, step, on, more)) =
     begins_on old mid new (step_begins old mid first step) (runs_begin rest mid new answer more)
+
+pub runs_before_begin : (bound : Stamp) (steps : ℕ) (old new : RegionData) (answer : Step) →
+    RunsBefore bound steps old answer new → BeginsAs old new
+runs_before_begin bound zero old new answer runs = absurd runs
+runs_before_begin bound (suc rest) old new answer (due, inl (step, last)) = step_begins old new answer step
+runs_before_begin bound (suc rest) old new answer (due, inr (first, mid, step, on, more)) =
+    begins_on old mid new (step_begins old mid first step) (runs_before_begin bound rest mid new answer more)

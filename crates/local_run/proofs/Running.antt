@@ -4,7 +4,7 @@ use Rattle.event_stamps.specs.declared.Stamp.{Stamp}
 use Rattle.local_run.specs.declared.answers.Step.{Step}
 use Rattle.local_run.specs.declared.answers.Step.TheVariants.{Ran, Heard, Idle, Past, Tied, Halted, Held, Spent}
 use Rattle.local_run.specs.Opening.{RegionData, spent}
-use Rattle.local_run.specs.Running.{GoesOn, Runs}
+use Rattle.local_run.specs.Running.{GoesOn, Runs, IsDueBefore, IsDueLater, RunsBefore}
 use Rattle.local_run.specs.Steps.{Steps}
 
 -- so many steps were made: the run ends with them, or goes on from where they came to
@@ -41,6 +41,40 @@ one_more_made made old mid new first answer before on step = record {
       before.goes (suc left) steps last after (omega arith) on (inr (answer, new, step, goes, rest));
 }
 
+-- ---- while what is due is before a bound
+-- the same of steps that were each made before a bound
+pub record IsUnderWayBefore (bound : Stamp) (made : ℕ) (old : RegionData) (answer : Step) (mid : RegionData) :
+    Type 0 where
+  pub same : spent mid ≡ spent old
+  pub ends : (left steps : ℕ) → made + left ≡ steps →
+      (GoesOn answer → (left ≡ 0) ⊎ IsDueLater bound mid) → RunsBefore bound steps old answer mid
+  pub goes : (left steps : ℕ) (last : Step) (new : RegionData) → made + left ≡ steps →
+      GoesOn answer → RunsBefore bound left mid last new → RunsBefore bound steps old last new
+
+pub first_made_before : (bound : Stamp) (old new : RegionData) (answer : Step) → IsDueBefore bound old →
+    Steps old answer new → IsUnderWayBefore bound 1 old answer new
+first_made_before bound old new answer due step = record {
+  same = spent_same old new answer step;
+  ends = λ left steps e last.
+      let one : suc left ≡ steps = omega arith in
+      subst (λ (n : ℕ). RunsBefore bound n old answer new) one (due, inl (step, last));
+  goes = λ left steps last after e on rest.
+      let one : suc left ≡ steps = omega arith in
+      subst (λ (n : ℕ). RunsBefore bound n old last after) one (due, inr (answer, new, step, on, rest));
+}
+
+pub one_more_made_before : (bound : Stamp) (made : ℕ) (old mid new : RegionData) (first answer : Step) →
+    IsUnderWayBefore bound made old first mid → GoesOn first → IsDueBefore bound mid →
+    Steps mid answer new → IsUnderWayBefore bound (made + 1) old answer new
+one_more_made_before bound made old mid new first answer before on due step = record {
+  same = spent_same mid new answer step ∙ before.same;
+  ends = λ left steps e last.
+      before.goes (suc left) steps answer new (omega arith) on (due, inl (step, last));
+  goes = λ left steps last after e goes rest.
+      before.goes (suc left) steps last after (omega arith) on (due, inr (answer, new, step, goes, rest));
+}
+
+-- ---- which answers are the last
 -- after any other answer no step follows
 pub stops : (answer : Step) → ((s : Stamp) → answer ≡ Ran s → ⊥) →
     ((s : Stamp) → answer ≡ Heard s → ⊥) → ¬ GoesOn answer

@@ -9,7 +9,7 @@ use Rattle.saved_states.specs.Positions.{SavedData}
 use Rattle.local_run.specs.declared.home.Home.{Home}
 use Rattle.local_run.specs.declared.entry.Entry.{Entry}
 use Rattle.region_core.specs.declared.live.Live.{Live}
-use Rattle.local_run.specs.LocalRun.{Local, At, Trails, trail_of, start_of, now_of, after_entry, after_log, sent_to, IsInPlace, IsRight}
+use Rattle.local_run.specs.LocalRun.{Local, At, Trails, trail_of, start_of, now_of, after_entry, after_log, sent_to, IsDueOrEnd, IsInPlace, IsRight}
 use Rattle.region_core.specs.Inbox.{InboxData, taken_from}
 use Rattle.local_run.specs.Taken.{taken_of}
 
@@ -61,6 +61,14 @@ pub record IsLive (home : Home) (floor : Stamp) (live : Live) : Type 0 where
 -- the same from some floor on
 abbrev pub HasRun : Home → Live → Type 0
 HasRun home live = (floor : Stamp) × IsLive home floor live
+
+-- what is due, or the end stamp where nothing is, is before a bound
+abbrev pub HasDueBefore : Home → Stamp → Live → Type 0
+HasDueBefore home bound live = (s : Stamp) × IsDueOrEnd home (now_in live) s × Before s bound
+
+-- it isn't before the bound
+abbrev pub HasDueLater : Home → Stamp → Live → Type 0
+HasDueLater home bound live = (s : Stamp) × IsDueOrEnd home (now_in live) s × ¬ Before s bound
 
 -- a right local run, the views along it, and the queue of the last
 pub record IsAlong (home : Home) (run : Local) (views : SavedData) (events : QueueData) : Type 0 where

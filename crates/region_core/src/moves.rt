@@ -5,11 +5,11 @@ ghost use Rattle.event_stamps.specs.Order.{Before};
 ghost use Rattle.event_stamps.specs.Least.{IsLeastOf};
 ghost use Rattle.region_view.specs.Placing.{IsValidPlacing};
 ghost use Rattle.region_view.specs.Views.{rows_in};
-ghost use Rattle.local_run.specs.LocalRun.{IsInPlace, IsOwn, IsOffered, IsDue, IsDueOrEnd, IsWaiting, ComesTo};
+ghost use Rattle.local_run.specs.LocalRun.{At, IsInPlace, IsOwn, IsOffered, IsDue, IsDueOrEnd, IsWaiting, ComesTo};
 ghost use Rattle.local_run.specs.Entries.{clock_of};
 ghost use Rattle.local_run.specs.Answers.{HasDue, IsInTurn, StepsTo};
 ghost use Rattle.region_core.specs.Inbox.{head_stamp, IsLeastHead, IsFirstOf};
-ghost use Rattle.region_core.specs.Live.{run_in, now_in, IsLive, HasRun, AreSavedAlong};
+ghost use Rattle.region_core.specs.Live.{run_in, now_in, IsLive, HasRun, AreSavedAlong, HasDueBefore, HasDueLater};
 ghost use Rattle.local_run.specs.Moves.{Fits, ComesAfter};
 
 use crate::live::Live;
@@ -67,23 +67,27 @@ impl Live {
         requires { HasRun home.now self.now }
         ensures { IsDueOrEnd home.now (now_in self.now) result }
     {
-        match self.due(home) {
-            Some(due) => due,
-            None => Stamp::end_of(home.rules.end),
-        }
+        or_end(home, self.due(home))
     }
 
-    /// What comes next.
-    pub(crate) fn next_move(&self, home: &Home, floor: Stamp) -> Move
+    // What comes next, where the least of the first messages and the stamp that is due are known.
+    fn next_move(
+        &self,
+        home: &Home,
+        floor: Stamp,
+        head: Option<(u32, Stamp)>,
+        due: Option<Stamp>,
+    ) -> Move
         requires place { IsInPlace home.now }
         requires live { IsLive home.now floor self.now }
+        requires head { IsLeastHead self.now.inbox head }
+        requires due { IsLeastOf (IsOffered home.now (now_in self.now)) due }
         ensures { Fits home.now (run_in floor self.now) result }
     {
         if self.log.len() >= MAX_ENTRIES {
             return Move::Answer(Step::Held);
         }
-        let head = self.inbox.least();
-        let Some(due) = self.due_beside(home, head) else {
+        let Some(due) = due else {
             return Move::Answer(Step::Idle);
         };
         if !is_in_turn(&floor, last_stamp(&self.log), &due) {
@@ -112,7 +116,60 @@ impl Live {
         ensures steps { IfOk result
             (λ step. StepsTo home.now (run_in floor self.old) step (run_in floor self.new)) }
     {
-        match self.next_move(home, floor) {
+        let head = self.inbox.least();
+        let due = self.due_beside(home, head);
+        self.step_at(alloc, home, floor, head, due)
+    }
+
+    /// One step where the stamp that is due, or the end stamp, is before a bound: what it answers. None exactly
+    /// where it isn't: then nothing changes.
+    ///
+    /// # Errors
+    /// Out of memory: what is left is to be dropped.
+    pub(crate) fn step_before(
+        &mut self,
+        alloc: Global,
+        home: &Home,
+        floor: Stamp,
+        bound: &Stamp,
+    ) -> Result<Option<Step>, AllocError>
+        requires place { IsInPlace home.now }
+        requires live { IsLive home.now floor self.old }
+        ensures live { OnOk result (IsLive home.now floor self.new) }
+        ensures steps { IfOk result (λ answer. MatchOption answer
+            (HasDueLater home.now bound.now self.old × (self.new ≡ self.old))
+            (λ step. HasDueBefore home.now bound.now self.old
+            × StepsTo home.now (run_in floor self.old) step (run_in floor self.new))) }
+    {
+        let head = self.inbox.least();
+        let due = self.due_beside(home, head);
+        if !is_before(&or_end(home, due), bound) {
+            return Ok(None);
+        }
+        let step = self.step_at(alloc, home, floor, head, due)?;
+        Ok(Some(step))
+    }
+
+    // One step, where the least of the first messages and the stamp that is due are known: what it answers. Not put
+    // into those that call it, since all that it calls is put into it.
+    #[inline(never)]
+    fn step_at(
+        &mut self,
+        alloc: Global,
+        home: &Home,
+        floor: Stamp,
+        head: Option<(u32, Stamp)>,
+        due: Option<Stamp>,
+    ) -> Result<Step, AllocError>
+        requires place { IsInPlace home.now }
+        requires live { IsLive home.now floor self.old }
+        requires head { IsLeastHead self.old.inbox head }
+        requires due { IsLeastOf (IsOffered home.now (now_in self.old)) due }
+        ensures live { OnOk result (IsLive home.now floor self.new) }
+        ensures steps { IfOk result
+            (λ step. StepsTo home.now (run_in floor self.old) step (run_in floor self.new)) }
+    {
+        match self.next_move(home, floor, head, due) {
             Move::Answer(step) => Ok(step),
             Move::Run(action) => {
                 let stamp = action.stamp();
@@ -200,6 +257,16 @@ fn clock(floor: Stamp, log: &[Entry]) -> Stamp
     match last_stamp(log) {
         Some(stamp) => stamp,
         None => floor,
+    }
+}
+
+// A stamp that is due, or the end stamp where nothing is.
+fn or_end(home: &Home, due: Option<Stamp>) -> Stamp
+    ensures { (a : At) → IsLeastOf (IsOffered home.now a) due → IsDueOrEnd home.now a result }
+{
+    match due {
+        Some(due) => due,
+        None => Stamp::end_of(home.rules.end),
     }
 }
 

@@ -239,7 +239,7 @@ impl Region {
 // Lets a run go. Kept apart, since all of its room is filled here, and a step seldom comes here.
 #[cold]
 #[inline(never)]
-fn let_go(live: &mut Option<Live>)
+pub(crate) fn let_go(live: &mut Option<Live>)
     ensures { live.new ≡ None }
 {
     *live = None;

@@ -2,7 +2,7 @@ use Rattle.std.proofs.Common.{◌≡◌, sym, subst}
 use Rattle.region_view.specs.Acting.{stamp_of}
 use Rattle.local_run.specs.Answers.{HasDue, IsInTurn}
 use Rattle.region_core.specs.Live.{run_in}
-use Rattle.region_core.proofs.live.Live.step.Goals as goal
+use Rattle.region_core.proofs.live.Live.step_at.Goals as goal
 
 pub returns-in_ok-run-in-Run-clause-steps : goal.returns-in_ok-run-in-Run-clause-steps
 returns-in_ok-run-in-Run-clause-steps c =
