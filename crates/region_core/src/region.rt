@@ -161,6 +161,15 @@ impl Region {
         self.live.is_none()
     }
 
+    /// For how many disks it has room, whose numbers begin at 0: no more than there are in all, and of all regions
+    /// the greatest such number is that. 0 where it is spent. Nothing is claimed of it.
+    pub fn room(&self) -> usize {
+        match &self.live {
+            Some(live) => live.base.room(),
+            None => 0,
+        }
+    }
+
     /// The number of entries of its log, at most [`MAX_ENTRIES`](crate::MAX_ENTRIES); 0 where it is spent.
     pub fn entries(&self) -> usize
         ensures value { result ≡ length (entries_of self.now) }

@@ -4,8 +4,10 @@
 mod by_call;
 mod call;
 mod job;
+mod pace;
 mod rendezvous;
 mod roll;
+mod virtual_time;
 mod workers;
 
 pub use by_call::ByCall;

@@ -2,11 +2,15 @@ ghost use Rattle.std.specs.Prelude.{◌≡◌, length, IfOk};
 ghost use Rattle.local_run.specs.Bursts.{AreTogether};
 ghost use Rattle.local_run.specs.RunOn.{AreRunOn};
 
+use crate::pace::Pace;
 use crate::roll::{Notice, Roll};
+use crate::virtual_time::{from_parts, to_parts};
 use crate::{ByCall, Call, Workers};
 use cell_sequence::CellState;
+use event_stamps::{Kind, Stamp};
 use fixed_motion::{Rules, Scene};
 use region_core::{Burst, Gate, Region};
+use region_locks::Progress;
 use std::alloc::{AllocError, Global};
 use std::sync::Wait;
 use std::sync::atomic::{AtomicBool, AtomicU32, Ordering};
@@ -186,4 +190,77 @@ fn who_has_begun_is_waited_for(rt: HostRuntime) {
         assert_eq!(rt; roll.shares, shares);
         assert_eq!(rt; roll.hears, hears);
     }
+}
+
+fn stamp(tick: u64, round: u32, kind: Kind, first: u32) -> Stamp {
+    Stamp {
+        tick,
+        round,
+        kind,
+        first,
+        second: 1,
+    }
+}
+
+// Stamps in their order.
+fn rising() -> [Stamp; 9] {
+    [
+        stamp(0, 0, Kind::Cross, 0),
+        stamp(2, 0, Kind::Cross, 999),
+        stamp(2, 0, Kind::Wall, 0),
+        stamp(2, 0, Kind::Wall, 999),
+        stamp(2, 0, Kind::Pair, 0),
+        stamp(2, 0, Kind::Pair, 998),
+        stamp(2, 1, Kind::Wall, 3),
+        stamp(2, 7, Kind::Pair, 5),
+        stamp(1 << 40, 0, Kind::Cross, 999),
+    ]
+}
+
+#[test]
+fn parts_are_in_the_order_of_stamps(rt: HostRuntime) {
+    for &disks in &[1u64, 1000, 65_536] {
+        let mut before = 0;
+        for stamp in &rising() {
+            let part = to_parts(stamp, disks);
+            assert!(rt; part >= before);
+            assert!(rt; *stamp < from_parts(part.saturating_add(1), disks));
+            before = part;
+        }
+    }
+}
+
+// A region that made so many steps, where what is due next is at a tick.
+fn progress(steps: u32, tick: u64) -> Progress {
+    Progress {
+        steps,
+        due: Stamp::end_of(tick),
+    }
+}
+
+#[test]
+fn a_slice_goes_as_far_as_its_steps_took_lately(rt: HostRuntime) -> Result<(), AllocError> {
+    let alloc = rt.alloc();
+    let Some(scene) = empty_scene(alloc) else {
+        assert!(rt; false, "the rules are refused");
+        return Ok(());
+    };
+    let state = CellState::open(alloc, &scene, 4)?;
+    let pace = Pace::new(alloc, &opened(alloc, &state)?)?;
+    // Nothing is known at first.
+    assert_eq!(rt; pace.next_slice(64).steps, 16);
+    assert!(rt; pace.next_slice(64).bound > Stamp::end_of(RULES.end));
+    // Sixteen steps took eight ticks, so that the next go seven ticks on. A region without events is no matter.
+    pace.heard(0, &Stamp::end_of(2));
+    pace.ran(0, &progress(16, 10));
+    pace.ran(1, &progress(0, 20));
+    assert_eq!(rt; pace.next_slice(64).bound, Stamp::end_of(17));
+    assert_eq!(rt; pace.next_slice(3).steps, 3);
+    // A message makes an earlier stamp due.
+    pace.heard(2, &Stamp::end_of(9));
+    assert_eq!(rt; pace.next_slice(64).bound, Stamp::end_of(16));
+    // Then all go to the farthest bound.
+    assert_eq!(rt; pace.settling_slice(9).steps, 5);
+    assert_eq!(rt; pace.next_slice(64).bound, Stamp::end_of(17));
+    Ok(())
 }

@@ -1,0 +1,12 @@
+//! How far a region came.
+
+use event_stamps::Stamp;
+
+/// How far a region came when it ran. Nothing is claimed of it.
+#[derive(Clone, Copy, Debug)]
+pub struct Progress {
+    /// How many events it ran and messages it took in.
+    pub steps: u32,
+    /// What is due there next: see [`Region::due`](region_core::Region::due).
+    pub due: Stamp,
+}

@@ -1,0 +1,190 @@
+//! How far regions run before they hear each other.
+//!
+//! What a region runs on old news is done again or put right later, so no region runs far ahead of the last one; but
+//! each slice costs two waits. So all regions run to a bound that is so far after the least due stamp of them all
+//! as a slice's steps lately took in virtual time. It goes by what is due and not by what was done last, since a
+//! region without events would hold up all others.
+//!
+//! Nothing is claimed of it: the locks keep the regions right, however far they run.
+
+ghost use Rattle.std.specs.Prelude.{◌<◌, ◌≤◌};
+
+use crate::virtual_time::{from_parts, to_parts};
+use crossbeam_utils::CachePadded;
+use event_stamps::Stamp;
+use region_core::Region;
+use region_locks::Progress;
+use std::alloc::{AllocError, Global};
+use std::sync::atomic::{AtomicBool, AtomicU64, Ordering};
+
+// How many disks of a region there are for each step of a slice: few disks are touched twice in one then.
+const DISKS_A_STEP: u64 = 32;
+
+// How many steps of a region a slice has at least, however few disks there are, and at most. The first slice, from
+// which one learns how far to run, has the least.
+const LEAST_STEPS: u32 = 16;
+
+const MOST_STEPS: u32 = 128;
+
+// A lead that isn't known yet.
+const UNKNOWN: u64 = u64::MAX;
+
+/// How far the regions of a burst came lately, and how far they run next.
+#[derive(Drop)]
+pub(crate) struct Pace {
+    // How many there are, one at least.
+    disks: u64,
+    // How many steps a region makes in a slice at most.
+    steps: u32,
+    // Padded, since each is written by one worker.
+    marks: Vec<CachePadded<Mark>>,
+    // The farthest bound that there was.
+    farthest: AtomicU64,
+    // Whether regions only run to where any was to run.
+    settles: AtomicBool,
+    ghost some_steps: { 0 < steps },
+}
+
+// How far a region came.
+#[derive(Drop)]
+struct Mark {
+    // What is due, in parts of a tick.
+    due: AtomicU64,
+    // How many parts a slice's steps lately took.
+    lead: AtomicU64,
+}
+
+/// How far a region runs in a slice.
+#[derive(Clone, Copy)]
+pub(crate) struct Slice {
+    /// How many steps at most, at least 1.
+    pub steps: u32,
+    /// What is due has to be before it.
+    pub bound: Stamp,
+}
+
+impl Pace {
+    /// Of these regions.
+    pub(crate) fn new(alloc: Global, regions: &[Region]) -> Result<Pace, AllocError> {
+        let mut disks = 1;
+        for region in regions {
+            disks = disks.max(region.room() as u64);
+        }
+        let mut marks = Vec::with_capacity(alloc, regions.len())?;
+        for region in regions {
+            marks.push(CachePadded::new(Mark {
+                due: AtomicU64::new(to_parts(&region.due(), disks)),
+                lead: AtomicU64::new(UNKNOWN),
+            }))?;
+        }
+        Ok(Pace {
+            disks,
+            steps: steps_of(disks, regions.len() as u64),
+            marks,
+            farthest: AtomicU64::new(0),
+            settles: AtomicBool::new(false),
+        })
+    }
+
+    /// The next slice, where a region has so many steps left, one at least.
+    pub(crate) fn next_slice(&self, left: u32) -> Slice
+        requires { 0 < left }
+        ensures some { 0 < result.steps }
+        ensures most { result.steps ≤ left }
+    {
+        match self.next_bound() {
+            Some(bound) => Slice {
+                steps: left.min(self.steps),
+                bound: from_parts(bound, self.disks),
+            },
+            None => Slice {
+                steps: left.min(LEAST_STEPS),
+                bound: from_parts(u64::MAX, self.disks),
+            },
+        }
+    }
+
+    /// A slice to the farthest bound that there was, with half of the steps that are left, one at least. All others
+    /// run no farther from now on.
+    pub(crate) fn settling_slice(&self, left: u32) -> Slice
+        requires { 0 < left }
+        ensures some { 0 < result.steps }
+        ensures most { result.steps ≤ left }
+    {
+        self.settles.store(true, Ordering::SeqCst);
+        let farthest = self.farthest.load(Ordering::SeqCst);
+        Slice {
+            steps: left - left / 2,
+            bound: from_parts(farthest, self.disks),
+        }
+    }
+
+    // The bound of the next slice, in parts; none where no lead is known yet.
+    fn next_bound(&self) -> Option<u64> {
+        if self.settles.load(Ordering::SeqCst) {
+            return Some(self.farthest.load(Ordering::SeqCst));
+        }
+        let (due, lead) = self.least();
+        if lead == UNKNOWN {
+            return None;
+        }
+        let bound = due.saturating_add(lead);
+        self.farthest.fetch_max(bound, Ordering::SeqCst);
+        Some(bound)
+    }
+
+    /// Takes in how far a region came in a slice.
+    pub(crate) fn ran(&self, region: u32, progress: &Progress) {
+        let Some(mark) = self.marks.get(region as usize) else {
+            return;
+        };
+        let due = to_parts(&progress.due, self.disks);
+        let before = mark.due.swap(due, Ordering::SeqCst);
+        let lead = mark.lead.load(Ordering::SeqCst);
+        let span = due.saturating_sub(before);
+        mark.lead.store(
+            self.lead_after(lead, span, progress.steps),
+            Ordering::SeqCst,
+        );
+    }
+
+    /// Takes in what is due in a region after it heard others.
+    pub(crate) fn heard(&self, region: u32, due: &Stamp) {
+        if let Some(mark) = self.marks.get(region as usize) {
+            mark.due.store(to_parts(due, self.disks), Ordering::SeqCst);
+        }
+    }
+
+    // The least of what is due in any region, and the least lead.
+    fn least(&self) -> (u64, u64) {
+        let mut due = u64::MAX;
+        let mut lead = UNKNOWN;
+        for mark in &self.marks {
+            due = due.min(mark.due.load(Ordering::SeqCst));
+            lead = lead.min(mark.lead.load(Ordering::SeqCst));
+        }
+        (due, lead)
+    }
+
+    // The lead of a region that made so many steps in so many parts. Somewhat less than a slice's steps take, so that
+    // slices are seldom cut by their number. A region without steps mustn't hold up the others for long.
+    fn lead_after(&self, lead: u64, span: u64, steps: u32) -> u64 {
+        if steps == 0 {
+            return lead.saturating_mul(2);
+        }
+        let found = span.saturating_mul(u64::from(self.steps)) / u64::from(steps.max(1)) / 8 * 7;
+        if lead == UNKNOWN {
+            found.max(1)
+        } else {
+            (lead / 2 + found / 2).max(1)
+        }
+    }
+}
+
+// How many steps of a region a slice has at most, where there are so many disks and regions.
+fn steps_of(disks: u64, regions: u64) -> u32
+    ensures { 0 < result }
+{
+    let share = disks / DISKS_A_STEP.saturating_mul(regions).max(1);
+    share.clamp(u64::from(LEAST_STEPS), u64::from(MOST_STEPS)) as u32
+}
