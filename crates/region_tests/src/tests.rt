@@ -3,3 +3,4 @@
 mod news;
 mod regions;
 mod scripts;
+mod weaving;

@@ -71,3 +71,30 @@ fn wide_row(alloc: Global, numbers: &mut Numbers, column: u32) -> Result<String,
     let (vx, vy) = (numbers.next(-4, 9), numbers.next(-4, 9));
     format!(in alloc; "[{x}, {y}, {vx}, {vy}],")
 }
+
+/// The text of a scene of three rows of 24 disks in a box of 30 columns, up to tick 400; none is refused.
+pub fn crowd(alloc: Global, numbers: &mut Numbers) -> Result<String, AllocError> {
+    let mut rows = String::new(alloc);
+    for place in 0u32..72 {
+        rows.push_str(crowd_row(alloc, numbers, place)?.as_str())?;
+    }
+    scene(
+        alloc,
+        "width = 600\nheight = 60\ndiameter = 4\n",
+        8,
+        400,
+        rows.as_str(),
+    )
+}
+
+// The row of the disk at a place, from 0 on: each has a field of 25 units by 20 of its own.
+fn crowd_row(alloc: Global, numbers: &mut Numbers, place: u32) -> Result<String, AllocError> {
+    let x = i64::from(place % 24)
+        .wrapping_mul(25)
+        .wrapping_add(numbers.next(2, 20));
+    let y = i64::from(place / 24)
+        .wrapping_mul(20)
+        .wrapping_add(numbers.next(2, 15));
+    let (vx, vy) = (numbers.next(-4, 9), numbers.next(-4, 9));
+    format!(in alloc; "[{x}, {y}, {vx}, {vy}],")
+}

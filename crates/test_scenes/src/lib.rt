@@ -7,7 +7,7 @@ mod drawn;
 mod numbers;
 mod texts;
 
-pub use drawn::{generated, wide};
+pub use drawn::{crowd, generated, wide};
 pub use numbers::Numbers;
 pub use texts::{
     BOUNCING, BOUNCING_SUMMARY, FOUR_IN_A_ROW, FOUR_IN_A_ROW_REPORT, LONG, MISLED, MISLED_REPORT,
