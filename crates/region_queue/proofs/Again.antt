@@ -1,16 +1,16 @@
 -- Loops that take what is kept of each disk again.
 use Rattle.std.proofs.Common.{◌≡◌, ◌≢◌, ◌⊎◌, inl, inr, ℕ, List, [], ◌∷◌, ◌++◌, length, take, ◌≤◌, arith, refl, sym, subst, ap, ◌∙◌, true, false, cond}
-use Rattle.std.specs.Prelude.{Some, None, option_map, Result, Ok, Err, OnOk}
+use Rattle.std.specs.Option.{option_eq}
+use Rattle.std.specs.Prelude.{eqb, Option, Some, None, Result, Ok, Err, OnOk}
 use Rattle.std.specs.List.{Contains}
 use Rattle.std.specs.Ordering.{nat_cmp, eq_by_cmp}
 use Rattle.std.specs.Cmp.{nat_cmp_total}
 use Rattle.std.specs.FinMap as map
-use Rattle.std.proofs.lemmas.Bool.{cases_eq}
+use Rattle.std.proofs.lemmas.Bool.{cases_eq, true≢false, eqb-true}
 use Rattle.std.proofs.lemmas.Grind.{common_steps}
 use Rattle.std.proofs.lemmas.List.Elements.{Contains-push_cases}
 use Rattle.cell_lists.specs.Listing.{ListsData, with_disk, without_disk}
-use Rattle.region_view.specs.declared.action.Placed.{Placed}
-use Rattle.region_view.specs.Views.{ViewData, rows_in}
+use Rattle.region_view.specs.Views.{ViewData}
 use Rattle.region_view.proofs.Naming.{none_among}
 use Rattle.region_queue.specs.declared.finder.Finder.{Finder}
 use Rattle.region_queue.specs.declared.keys.Keys.{Keys}
@@ -81,17 +81,23 @@ taken_off old new disk is = record {
       ∙ ap (λ b. cond b None (map.get old.cells other)) (untied other disk ne);
 }
 
-pub listed_again : (view : ViewData) (disk : ℕ) (row : Placed) (old off new : ListsData) → rows_in view disk ≡ Some row →
-    IsTakenOff disk old off → new ≡ with_disk off disk row.cell → IsRelisted view disk old.cells new.cells
-listed_again view disk row old off new at is put = record {
-  listed = ap (λ (l : ListsData). map.get l.cells disk) put ∙ get_put off.cells disk row.cell
-      ∙ sym (ap (option_map (λ (p : Placed). p.cell)) at);
-  others = λ other ne. ap (λ (l : ListsData). map.get l.cells other) put ∙ get_put_other off.cells disk row.cell other ne ∙ is.others other ne;
+pub listed_again : (view : ViewData) (disk cell : ℕ) (old off new : ListsData) → cell_in view disk ≡ Some cell →
+    IsTakenOff disk old off → new ≡ with_disk off disk cell → IsRelisted view disk old.cells new.cells
+listed_again view disk cell old off new at is put = record {
+  listed = ap (λ (l : ListsData). map.get l.cells disk) put ∙ get_put off.cells disk cell ∙ sym at;
+  others = λ other ne. ap (λ (l : ListsData). map.get l.cells other) put ∙ get_put_other off.cells disk cell other ne ∙ is.others other ne;
 }
 
-pub listed_nowhere : (view : ViewData) (disk : ℕ) (old off : ListsData) → rows_in view disk ≡ None → IsTakenOff disk old off →
+pub listed_nowhere : (view : ViewData) (disk : ℕ) (old off : ListsData) → cell_in view disk ≡ None → IsTakenOff disk old off →
     IsRelisted view disk old.cells off.cells
-listed_nowhere view disk old off at is = record {
-  listed = is.free ∙ sym (ap (option_map (λ (p : Placed). p.cell)) at);
-  others = is.others;
-}
+listed_nowhere view disk old off at is = record { listed = is.free ∙ sym at; others = is.others }
+
+pub listed_still : (view : ViewData) (disk : ℕ) (old : Cells) → map.get old disk ≡ cell_in view disk → IsRelisted view disk old old
+listed_still view disk old at = record { listed = at; others = λ other ne. refl }
+
+-- the machine's test of two cells
+pub same_cell : (a b : Option ℕ) → true ≡ option_eq eqb a b → a ≡ b
+same_cell None None e = refl
+same_cell None (Some n) e = absurd (true≢false e)
+same_cell (Some m) None e = absurd (true≢false e)
+same_cell (Some m) (Some n) e = ap Some (eqb-true m n (sym e))

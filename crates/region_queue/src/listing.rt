@@ -4,7 +4,7 @@ ghost use Rattle.std.specs.Prelude.{◌≡◌, OnOk};
 ghost use Rattle.region_view.specs.Laws.{HasCells};
 ghost use Rattle.region_view.specs.Views.{rows_in};
 ghost use Rattle.region_view.specs.Naming.{Names};
-ghost use Rattle.region_queue.specs.Finding.{IsTakenOff, IsRelisted, AreRelisted, AreRelistedOf};
+ghost use Rattle.region_queue.specs.Finding.{cell_in, IsTakenOff, IsRelisted, AreRelisted, AreRelistedOf};
 
 use crate::keys::is_of_pair;
 use cell_lists::Lists;
@@ -53,11 +53,23 @@ fn list_one(alloc: Global, lists: &mut Lists, view: &View, disk: u32) -> Result<
     ensures grid { lists.new.grid ≡ lists.old.grid }
     ensures listed { OnOk result (IsRelisted view.now disk lists.old.cells lists.new.cells) }
 {
+    let cell = cell_in(view, disk);
+    // Most disks keep their cell.
+    if lists.cell_of(disk) == cell {
+        return Ok(());
+    }
     take_off(lists, disk);
-    if let Some(row) = view.get(disk) {
-        lists.put(alloc, disk, row.cell)?;
+    if let Some(cell) = cell {
+        lists.put(alloc, disk, cell)?;
     }
     Ok(())
+}
+
+// The cell in which a view has a disk.
+fn cell_in(view: &View, disk: u32) -> Option<u32>
+    ensures { result ≡ cell_in view.now disk }
+{
+    Some(view.get(disk)?.cell)
 }
 
 // Takes a disk off its cell, if it is listed.
