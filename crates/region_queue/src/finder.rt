@@ -1,6 +1,6 @@
 //! The native candidates of a region that name a disk.
 
-ghost use Rattle.std.specs.Prelude.{◌≡◌, ◌↔◌, ◌⊎◌, ℕ, ◌<◌, ◌≤◌, Some, IsTrue, IfSome, MatchOption, false};
+ghost use Rattle.std.specs.Prelude.{◌≡◌, ◌↔◌, ◌⊎◌, ℕ, ◌<◌, ◌≤◌, Some, None, IsTrue, IfSome, MatchOption, false};
 ghost use Rattle.std.specs.List.{Contains};
 ghost use Rattle.std.specs.FinMap as map;
 ghost use Rattle.event_stamps.specs.declared.Kind.TheVariants.{Pair};
@@ -8,7 +8,7 @@ ghost use Rattle.event_stamps.specs.Least.{IsLeastOf, HasNone, IsOnly};
 ghost use Rattle.event_stamps.specs.Order.{IsInRange};
 ghost use Rattle.cell_grid.specs.Grid.{IsCell, IsAdjacent, IsStripOf, Owns};
 ghost use Rattle.cell_lists.specs.Listing.{IsListed};
-ghost use Rattle.cell_lists.specs.Nearby.{IsBlock, IsListedWithin, columns_to};
+ghost use Rattle.cell_lists.specs.Nearby.{IsBlock, IsListedWithin, AreGathered, columns_to};
 ghost use Rattle.region_queue.specs.Outside.{IsListedOutside, IsListedInParts};
 ghost use Rattle.region_view.specs.declared.action.Placed.{Placed};
 ghost use Rattle.region_queue.specs.Finding.{IsReady, IsFound, IsAloneAt, IsNativeOf, IsNativePair, IsNativeWith, IsBestSingle, IsBestPair, IsBestBeyond, IsBlockBeside, IsNearby, AreAllWithin, IsOfStrip, AreListed};
@@ -33,44 +33,64 @@ pub(crate) struct Finder {
     pub lists: Lists,
 }
 
-impl Finder {
-    // The least native candidate of a disk by itself.
-    pub fn best_single(&self, view: &View, disk: u32) -> Packed
-        requires { IsReady self.now view.now }
-        ensures { IsBestSingle self.now view.now disk result }
-    {
-        let Some(placed) = view.get(disk) else {
-            return Packed::new(None);
-        };
-        self.best_alone(view, disk, &placed, self.owns(placed.cell))
-    }
+// The least candidates that name a disk; none where there is none.
+#[derive(Clone, Copy)]
+pub(crate) struct Best {
+    // By itself.
+    pub single: Packed,
+    // With another one.
+    pub pair: Packed,
+}
 
-    // The least native pair that names a disk.
-    pub fn best_pairs(&self, view: &View, disk: u32) -> Packed
+impl Best {
+    // Of a disk that isn't there.
+    fn none() -> Best
+        ensures single { result.single ≡ None }
+        ensures pair { result.pair ≡ None }
+    {
+        Best {
+            single: Packed::new(None),
+            pair: Packed::new(None),
+        }
+    }
+}
+
+impl Finder {
+    // The least native candidate of a disk by itself, and the least native pair that names it.
+    pub fn best(&self, view: &View, disk: u32) -> Best
         requires { IsReady self.now view.now }
-        ensures { AreListed view.now self.now.lists.cells → IsBestPair self.now view.now disk result }
+        ensures single { IsBestSingle self.now view.now disk result.single }
+        ensures pair { AreListed view.now self.now.lists.cells → IsBestPair self.now view.now disk result.pair }
     {
         let Some(placed) = view.get(disk) else {
-            return Packed::new(None);
+            return Best::none();
         };
         let own = self.owns(placed.cell);
         let block = block_around(&self.grid, placed.cell);
-        self.best_within(view, disk, &placed, own, block)
+        Best {
+            single: self.best_alone(view, disk, &placed, own),
+            pair: self.best_within(view, disk, &placed, own, block),
+        }
     }
 
-    // The least native pair of a disk with one in a cell that isn't adjacent to this one.
-    pub fn best_beyond(&self, view: &View, disk: u32, old: u32) -> Packed
+    // The least native candidate of a disk by itself, and the least native pair of it with one in a cell that isn't
+    // adjacent to this one.
+    pub fn best_beyond(&self, view: &View, disk: u32, old: u32) -> Best
         requires ready { IsReady self.now view.now }
         requires old { IsCell self.now.grid old }
-        ensures { AreListed view.now self.now.lists.cells → IsBestBeyond self.now view.now disk old result }
+        ensures single { IsBestSingle self.now view.now disk result.single }
+        ensures pair { AreListed view.now self.now.lists.cells → IsBestBeyond self.now view.now disk old result.pair }
     {
         let Some(placed) = view.get(disk) else {
-            return Packed::new(None);
+            return Best::none();
         };
         let own = self.owns(placed.cell);
         let block = block_around(&self.grid, placed.cell);
         let known = block_around(&self.grid, old);
-        self.best_outside(view, disk, &placed, own, block, known)
+        Best {
+            single: self.best_alone(view, disk, &placed, own),
+            pair: self.best_outside(view, disk, &placed, own, block, known),
+        }
     }
 
     // Whether a stamp, where it is that of a pair, is that of a native candidate.
@@ -211,10 +231,19 @@ impl Finder {
         ensures { IsTrue result → (i : ℕ) →
             Contains near.new i ↔ (Contains near.old i ⊎ IsListedInParts self.now.lists parts i) }
     {
-        self.lists.gather(parts.left, near)
-            && self.lists.gather(parts.right, near)
-            && self.lists.gather(parts.low, near)
-            && self.lists.gather(parts.high, near)
+        self.gather_part(parts.left, near)
+            && self.gather_part(parts.right, near)
+            && self.gather_part(parts.low, near)
+            && self.gather_part(parts.high, near)
+    }
+
+    // The same of one part. Most parts have no cell.
+    #[inline(always)]
+    fn gather_part(&self, part: Block, near: &mut Gathered) -> bool
+        requires { IsBlock self.now.lists.grid part }
+        ensures { IsTrue result → AreGathered self.now.lists part near.old near.new }
+    {
+        part.left >= part.right || part.low >= part.high || self.lists.gather(part, near)
     }
 
     // The least native event of a disk with one of some others, which are listed in a block of cells beside

@@ -86,9 +86,9 @@ fn take_key(
     ensures { OnOk result (AreListed view.now finder.now.lists.cells →
         IsTakenAt finder.now view.now disk keys.old keys.new) }
 {
-    let bound = finder.best_pairs(view, disk);
-    let key = finder.best_single(view, disk).earlier(bound);
-    keys.set(alloc, disk, key, bound)
+    let best = finder.best(view, disk);
+    let key = best.single.earlier(best.pair);
+    keys.set(alloc, disk, key, best.pair)
 }
 
 // Takes the key again of a disk that was in this cell, or nowhere, and keeps its course.
@@ -156,8 +156,9 @@ fn extend_key(
         IsExtended finder.now view.now disk cell keys.old keys.new) }
 {
     let known = keys.bounds.get(disk);
-    let bound = known.earlier(finder.best_beyond(view, disk, cell));
-    let key = finder.best_single(view, disk).earlier(bound);
+    let best = finder.best_beyond(view, disk, cell);
+    let bound = known.earlier(best.pair);
+    let key = best.single.earlier(bound);
     keys.set(alloc, disk, key, bound)
 }
 

@@ -13,8 +13,8 @@ returns c =
     let disk = c.args.disk in
     let old = c.args.keys.now in
     let new = c.set.new.self in
-    let single = c.best_single.result in
-    let beyond = c.best_beyond.result in
+    let single = c.best_beyond-best.result.single in
+    let beyond = c.best_beyond-best.result.pair in
     let joined = earlier_of (key_at old.bounds disk) beyond in
     let bound : c.earlier-bound.result ≡ earlier_of (key_at old.bounds disk) beyond =
     c.earlier-bound.ensures ∙ ap (λ (key : Key). earlier_of key beyond) c.get-known.ensures in
@@ -24,8 +24,8 @@ returns c =
     (λ entered listed. (
       single,
       beyond,
-      c.best_single.ensures,
-      c.best_beyond.ensures listed,
+      c.best_beyond-best.ensures.single,
+      c.best_beyond-best.ensures.pair listed,
       subst (λ (k : Key). IsEntered disk (k, joined) old new) key
           (subst (λ (b : Key). IsEntered disk (c.earlier-key.result, b) old new) bound entered),
     ))

@@ -12,15 +12,15 @@ returns c =
     let view = c.args.view.now in
     let disk = c.args.disk in
     let key = c.earlier-key.result in
-    let bound = c.best_pairs-bound.result in
+    let bound = c.best-best.result.pair in
     let old = c.args.keys.now in
     let new = c.set.new.self in
     on_ok c.set.result (IsEntered disk (key, bound) old new) (AreListed view finder.lists.cells → IsTakenAt finder view disk old new)
     (λ entered listed.
-    let pairs = c.best_pairs-bound.ensures listed in
+    let pairs = c.best-best.ensures.pair listed in
     let best =
     subst (λ (o : Key). IsBest finder view disk o) (sym c.earlier-key.ensures)
-    (best_of_both finder view disk c.best_single.result bound c.best_single.ensures pairs) in
+    (best_of_both finder view disk c.best-best.result.single bound c.best-best.ensures.single pairs) in
     record {
       taken = subst (IsTaken finder view disk) (sym entered.set) (best, pairs);
       others = entered.others;
