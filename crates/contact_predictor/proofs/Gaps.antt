@@ -5,8 +5,8 @@ use Rattle.std.proofs.lemmas.Int.{ints}
 use Rattle.std.proofs.Math.Nat.{mul-le-mul}
 use mir.Syntax.{w64}
 use Rattle.plane_vectors.specs.declared.Vector.{Vector}
-use Rattle.plane_vectors.specs.Vectors.{dot, IsWithin}
-use Rattle.plane_vectors.proofs.Sizes.{size_of_product, dot_size, sent, sent_same}
+use Rattle.plane_vectors.specs.Vectors.{sum, dot, IsWithin}
+use Rattle.plane_vectors.proofs.Sizes.{size_of_sum, size_of_product, dot_size, sent, sent_same}
 use Rattle.contact_predictor.specs.Contact.{gap}
 
 -- what is within a bound is within each greater one
@@ -14,6 +14,17 @@ pub within_more : (m n : ℕ) (a : Vector) → m ≤ n → IsWithin m a → IsWi
 within_more m n a le within =
     let x = within.x in
     let y = within.y in
+    record { x = omega arith; y = omega arith }
+
+-- a sum is within the sum of two bounds
+pub sum_within : (m n : ℕ) (a b : Vector) → IsWithin m a → IsWithin n b → IsWithin (m + n) (sum a b)
+sum_within m n a b h k =
+    let x : nat_abs a.x ≤ m = h.x in
+    let y : nat_abs a.y ≤ m = h.y in
+    let v : nat_abs b.x ≤ n = k.x in
+    let w : nat_abs b.y ≤ n = k.y in
+    let along = size_of_sum a.x b.x in
+    let up = size_of_sum a.y b.y in
     record { x = omega arith; y = omega arith }
 
 -- a number of 64 bits keeps its size on its way through them

@@ -9,7 +9,7 @@
 
 ghost use Rattle.std.specs.Prelude.{◌≡◌, ◌↔◌, ◌^◌, ◌+◌, ◌≤◌, ℕ, pos, ◌≤ℤ◌, ◌<ℤ◌, ◌*ℤ◌, ◌-ℤ◌, nat_abs, IsTrue, false, MatchOption, IfSome, IsNone};
 ghost use Rattle.plane_vectors.specs.Vectors.{vector, after, IsWithin};
-ghost use Rattle.contact_predictor.specs.Contact.{coordinate_after, gap, IsApproaching, IsApproachingAfter, IsCollisionCourse, MayTouch, IsContactAfter, IsOnlyContactAfter, StaysUntil};
+ghost use Rattle.contact_predictor.specs.Contact.{coordinate_after, gap, IsApproaching, IsApproachingAfter, IsCollisionCourse, MayTouch, IsContact, IsContactAfter, IsOnlyContactAfter, StaysUntil};
 ghost use Rattle.contact_predictor.specs.Laws.{FarPairsDontTouch};
 
 use plane_vectors::Vector;
@@ -120,6 +120,19 @@ pub fn may_touch(r: Vector, u: Vector, distance: i64) -> bool
     let closing = r.dot(u);
     let crossing = discriminant(u.dot(u), closing, gap) > 0;
     are_all_three(gap >= 0, closing < 0, crossing)
+}
+
+/// Whether two disks are at their last whole tick before they touch.
+///
+/// The separation and the distance are at most 2^30 units, the velocity at most 2^21 units per tick.
+#[inline(always)]
+pub fn is_contact(r: Vector, u: Vector, distance: i64) -> bool
+    requires separation { IsWithin (2 ^ 30) r }
+    requires velocity { IsWithin (2 ^ 21) u }
+    requires distance { nat_abs distance ≤ 2 ^ 30 }
+    ensures { IsTrue result ↔ IsContact r u distance }
+{
+    may_touch(r, u, distance) && !is_approaching(r.plus(u), u, distance)
 }
 
 // By a sum, as none of them can be foretold: `&&`, and `&` too, would be compiled into a branch for each.
