@@ -2,12 +2,13 @@
 use Rattle.std.proofs.Common.{◌≡◌, ℕ, ◌+◌, ◌*◌, ◌/◌, ◌%◌, ◌^◌, ◌<◌, ◌≤◌, ◌⊎◌, arith, refl, sym, ap, subst, ◌∙◌, inl, inr}
 use Rattle.std.specs.Prelude.{Some, None, IfSome, if◌then◌else◌, Bool, true, false}
 use Rattle.std.specs.Ordering.{nat_cmp, is_lt}
+use Rattle.std.specs.declared.cmp.Ordering.TheVariants.{Less}
 use Rattle.std.proofs.lemmas.Nat.{div-mul-add, mod-mul-add}
 use Rattle.std.proofs.lemmas.Bool.Decides.{nat_tests}
 use Rattle.event_stamps.specs.declared.Stamp.{Stamp}
 use Rattle.event_stamps.specs.declared.Kind.{Kind}
 use Rattle.event_stamps.specs.declared.Kind.TheVariants.{Cross, Wall, Pair}
-use Rattle.event_stamps.specs.Order.{stamp_cmp, kind_number, IsInRange}
+use Rattle.event_stamps.specs.Order.{stamp_cmp, kind_number, IsInRange, Before}
 use Rattle.event_stamps.specs.Least.{earlier_of}
 use Rattle.event_stamps.proofs.Ranks.{rank_cmp, kind_below}
 use Rattle.event_tree.specs.Keys.{Key}
@@ -122,3 +123,35 @@ takes_lower m n hm hn lt = takes (unpack m) (unpack n) hm.room hn.room (rw (hm.e
 
 pub keeps_lower : (m n : ℕ) → IsPacked m → IsPacked n → m ≤ n → unpack m ≡ earlier_of (unpack m) (unpack n)
 keeps_lower m n hm hn le = keeps (unpack m) (unpack n) hm.room hn.room (rw (hm.exact, hn.exact) le)
+
+-- ---- the later of two
+less_number : (m n : ℕ) → m < n → nat_cmp m n ≡ Less
+less_number m n lt = grind arith
+
+not_less_number : (m n : ℕ) → n ≤ m → ¬ (nat_cmp m n ≡ Less)
+not_less_number m n le e = grind arith
+
+later : (s : Stamp) (key : Key) → HasRoom s → IfSome key HasRoom → number_of s < pack key → IfSome key (Before s)
+later s None hs hk lt = tt
+later s (Some t) hs hk lt = number_cmp s t hs.in_range hk.in_range ∙ less_number _ _ lt
+
+not_later : (s : Stamp) (key : Key) → HasRoom s → IfSome key HasRoom → pack key ≤ number_of s → IfSome key (Before s) → None ≡ key
+not_later s None hs hk le before = refl
+not_later s (Some t) hs hk le before =
+    absurd (not_less_number (number_of s) (number_of t) le (sym (number_cmp s t hs.in_range hk.in_range) ∙ before))
+
+some_room : (key : Key) (s : Stamp) → IfSome key HasRoom → key ≡ Some s → HasRoom s
+some_room key s room at = subst (λ (k : Key). IfSome k HasRoom) at room
+
+number_is : (m : ℕ) (s : Stamp) → IsPacked m → unpack m ≡ Some s → number_of s ≡ m
+number_is m s hm at = ap (λ (k : Key). pack k) (sym at) ∙ hm.exact
+
+pub comes_after : (m n : ℕ) (s : Stamp) → IsPacked m → IsPacked n → unpack m ≡ Some s → m < n → IfSome (unpack n) (Before s)
+comes_after m n s hm hn at lt =
+    later s (unpack n) (some_room (unpack m) s hm.room at) hn.room (rw (number_is m s hm at, hn.exact) lt)
+
+pub comes_not_after : (m n : ℕ) (s : Stamp) (key : Key) → IsPacked m → IsPacked n → unpack m ≡ Some s → unpack n ≡ key → n ≤ m →
+    IfSome key (Before s) → None ≡ key
+comes_not_after m n s key hm hn at is le before =
+    not_later s (unpack n) (some_room (unpack m) s hm.room at) hn.room (rw (number_is m s hm at, hn.exact) le)
+    (subst (λ (k : Key). IfSome k (Before s)) (sym is) before) ∙ is

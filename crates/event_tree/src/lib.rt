@@ -61,10 +61,18 @@ impl EventTree {
         ensures least { IsLeastKey self.now result }
         ensures room { IfSome result HasRoom }
     {
+        self.top().key()
+    }
+
+    /// The least of the keys, packed.
+    #[inline(always)]
+    pub fn top(&self) -> Packed
+        ensures { IsLeastKey self.now result }
+    {
         if self.nodes.is_empty() {
-            None
+            Packed::new(None)
         } else {
-            least_of_three(&self.nodes).key()
+            least_of_three(&self.nodes)
         }
     }
 

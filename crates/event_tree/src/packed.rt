@@ -39,7 +39,8 @@ impl Model for Packed {
 }
 
 ghost use Rattle.std.specs.Prelude.{◌≡◌, ◌↔◌, ◌<◌, ◌^◌, IfSome, IsTrue};
-ghost use Rattle.event_stamps.specs.Order.{kind_number, IsInRange};
+ghost use Rattle.event_stamps.specs.declared.Stamp.{Stamp};
+ghost use Rattle.event_stamps.specs.Order.{Before, kind_number, IsInRange};
 ghost use Rattle.event_stamps.specs.Least.{earlier_of};
 ghost use Rattle.event_tree.specs.Packing.{pack, unpack, number_of, stamp_of, kind_of};
 ghost use Rattle.event_tree.specs.Packing.{HasRoom, IsPacked};
@@ -69,6 +70,20 @@ impl Packed {
         ensures { IsTrue result ↔ self ≡ other }
     {
         self.number == other.number
+    }
+
+    /// The key, if it comes after another one, which is there; else none.
+    #[inline(always)]
+    pub fn if_after(self, last: Packed) -> Packed
+        ensures same { (s : Stamp) → last ≡ Some s → IfSome self (Before s) → result ≡ self }
+        ensures after { (s : Stamp) → last ≡ Some s → IfSome result (Before s) }
+        ensures room { IfSome result HasRoom }
+    {
+        if last.number < self.number {
+            self
+        } else {
+            Packed::new(None)
+        }
     }
 
     /// The earlier of two keys that are both there; else the one that is there, if any.

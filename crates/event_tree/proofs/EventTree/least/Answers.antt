@@ -1,11 +1,5 @@
--- The least of the topmost keys is the least.
-use Rattle.std.proofs.Common.{◌<◌, length, arith}
-use Rattle.event_tree.proofs.Trees.{top_is_least}
+-- The key is that which is packed.
 use Rattle.event_tree.proofs.EventTree.least.Goals as goal
 
-pub returns-else-is_empty-clause-least : goal.returns-else-is_empty-clause-least
-returns-else-is_empty-clause-least c =
-    let some : 0 < length c.self.inside.nodes.items = grind arith in
-    rw (c.key.ensures.value, ← c.self.view_is)
-    (top_is_least c.self.inside.first c.self.inside.nodes.items c.least_of_three.result some c.self.invariant
-    (rw c.deref.ensures.value at c.least_of_three.ensures))
+pub returns-clause-least : goal.returns-clause-least
+returns-clause-least c = rw c.key.ensures.value c.top.ensures
