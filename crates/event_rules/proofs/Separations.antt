@@ -52,18 +52,18 @@ sizes_at_start rules a b start p q checked va vb e ep eq =
     )
 
 -- the separation of two disks that are inside
-inside_size : (rules : Rules) (a b : Disk) (p q : Vector) → IsChecked rules → IsValidDisk rules a → IsValidDisk rules b →
+pub inside_size : (rules : Rules) (a b : Disk) (p q : Vector) → IsChecked rules → IsValidDisk rules a → IsValidDisk rules b →
     IsInside rules a p → IsInside rules b q → IsWithin (2 ^ 30) (difference p q)
 inside_size rules a b p q checked va vb ia ib =
     difference_size p q (inside_in_box rules a p checked va.size ia) (inside_in_box rules b q checked vb.size ib)
 
-relative_size : (u v : Vector) → IsWithin (2 ^ 20) u → IsWithin (2 ^ 20) v → IsWithin (2 ^ 21) (difference u v)
+pub relative_size : (u v : Vector) → IsWithin (2 ^ 20) u → IsWithin (2 ^ 20) v → IsWithin (2 ^ 21) (difference u v)
 relative_size u v h k = record { x = size u.x v.x h.x k.x; y = size u.y v.y h.y k.y }
   where
     size : (m n : ℤ) → nat_abs m ≤ 2 ^ 20 → nat_abs n ≤ 2 ^ 20 → nat_abs (m -ℤ n) ≤ 2 ^ 21
     size m n h k = omega (arith, ints)
 
-distance_size : (rules : Rules) (a b : Disk) → IsChecked rules → IsValidDisk rules a → IsValidDisk rules b → nat_abs (contact_distance a b) ≤ 2 ^ 30
+pub distance_size : (rules : Rules) (a b : Disk) → IsChecked rules → IsValidDisk rules a → IsValidDisk rules b → nat_abs (contact_distance a b) ≤ 2 ^ 30
 distance_size rules a b checked va vb =
     let least = contact_least rules a b va.size vb.size in
     let most = contact_most rules a b va.size vb.size in
@@ -71,7 +71,7 @@ distance_size rules a b checked va vb =
     let side = checked.width.1 in
     omega (arith, ints)
 
-small_same : (n : ℤ) → nat_abs n ≤ 2 ^ 30 → sent n ≡ n
+pub small_same : (n : ℤ) → nat_abs n ≤ 2 ^ 30 → sent n ≡ n
 small_same n h = sent_same n (omega (arith, ints))
 
 pub record AreSmall (s : Separation) : Type 0 where

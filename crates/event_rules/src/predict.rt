@@ -3,13 +3,14 @@
 ghost use Rattle.std.specs.Prelude.{◌≡◌, ◌↔◌, ℕ, ◌+◌, ◌^◌, ◌<◌, ◌≤◌, pos, nat_abs, IsTrue, false, IsNone, IfSome, MatchOption};
 ghost use Rattle.plane_vectors.specs.Vectors.{IsWithin};
 ghost use Rattle.fixed_motion.specs.Rules.{IsChecked};
-ghost use Rattle.fixed_motion.specs.Motion.{IsValidDisk};
+ghost use Rattle.fixed_motion.specs.Motion.{IsValidDisk, IsInside};
 ghost use Rattle.event_stamps.specs.declared.Stamp.{Stamp};
+ghost use Rattle.event_stamps.specs.declared.Kind.TheVariants.{Pair};
 ghost use Rattle.event_stamps.specs.Least.{IsOnly, IsLeastOf};
-ghost use Rattle.event_rules.specs.Events.{IsWallEvent, IsWallBelow, IsPairEvent, NeverHit, IsContactTick, IsPast, IsLastInside, wall_stamp};
-ghost use Rattle.event_rules.specs.Predict.{IsUpTo, IsFirstPast, IsLastTogether, IsOnlyContactTick, IsTouch, IsSeparation, FitInABox, AreOnCourse, MayHit, IsOnCollisionCourse, PathsTouchAfter};
+ghost use Rattle.event_rules.specs.Events.{IsWallEvent, IsWallBelow, IsPairEvent, NeverHit, IsContactTick, TouchAt, IsPast, IsLastInside, wall_stamp};
+ghost use Rattle.event_rules.specs.Predict.{IsUpTo, HaveBegun, TouchInside, IsFirstPast, IsLastTogether, IsOnlyContactTick, IsTouch, IsSeparation, FitInABox, AreOnCourse, MayHit, IsOnCollisionCourse, PathsTouchAfter};
 
-use contact_predictor::{contact_between, may_touch, quick_contact, stay};
+use contact_predictor::{contact_between, is_contact, may_touch, quick_contact, stay};
 use event_stamps::{Kind, Stamp};
 use fixed_motion::{Disk, Rules};
 use plane_vectors::Vector;
@@ -108,6 +109,83 @@ pub fn event_between(rules: &Rules, i: u32, a: &Disk, j: u32, b: &Disk) -> Optio
         first: min(i, j),
         second: max(i, j),
     })
+}
+
+/// Whether a stamp of a pair is that of the next event of two disks: by what such an event is, with nothing
+/// predicted.
+///
+/// `a` and `b` are the disks of the lower and the higher of its numbers.
+#[inline(always)]
+pub fn is_pair_event(rules: &Rules, a: &Disk, b: &Disk, stamp: &Stamp) -> bool
+    requires checked { IsChecked rules.now }
+    requires first_valid { IsValidDisk rules.now a.now }
+    requires second_valid { IsValidDisk rules.now b.now }
+    requires pair { stamp.now.kind ≡ Pair }
+    ensures { IsTrue result ↔ IsPairEvent rules.now stamp.now.first a.now stamp.now.second b.now stamp.now }
+{
+    if stamp.tick >= rules.end {
+        return false;
+    }
+    let round = max(a.mark_at(stamp.tick), b.mark_at(stamp.tick));
+    stamp.round == round && is_contact_tick(rules, a, b, stamp.tick)
+}
+
+// Whether a tick before the end is the contact tick of two disks.
+#[inline(always)]
+fn is_contact_tick(rules: &Rules, a: &Disk, b: &Disk, tick: u64) -> bool
+    requires checked { IsChecked rules.now }
+    requires first_valid { IsValidDisk rules.now a.now }
+    requires second_valid { IsValidDisk rules.now b.now }
+    requires before { tick < rules.now.end }
+    ensures { IsTrue result ↔ IsContactTick rules.now a.now b.now tick }
+{
+    have_begun(a, b, tick) && touch_inside(rules, a, b, tick)
+}
+
+#[inline(always)]
+fn have_begun(a: &Disk, b: &Disk, tick: u64) -> bool
+    ensures { IsTrue result ↔ HaveBegun a.now b.now tick }
+{
+    a.base <= tick && b.base <= tick
+}
+
+// Whether two disks that have begun their courses are inside the box and in contact.
+#[inline(always)]
+fn touch_inside(rules: &Rules, a: &Disk, b: &Disk, tick: u64) -> bool
+    requires checked { IsChecked rules.now }
+    requires first_valid { IsValidDisk rules.now a.now }
+    requires second_valid { IsValidDisk rules.now b.now }
+    requires before { tick < rules.now.end }
+    requires begun { HaveBegun a.now b.now tick }
+    ensures { IsTrue result ↔ TouchInside rules.now a.now b.now tick }
+{
+    let p = a.centre_at(rules, tick);
+    let q = b.centre_at(rules, tick);
+    are_inside(rules, a, p, b, q) && touch_at(rules, a, p, b, q)
+}
+
+#[inline(always)]
+fn are_inside(rules: &Rules, a: &Disk, p: Vector, b: &Disk, q: Vector) -> bool
+    requires { IsChecked rules.now }
+    ensures { IsTrue result ↔ (IsInside rules.now a.now p × IsInside rules.now b.now q) }
+{
+    a.is_inside(rules, p) && b.is_inside(rules, q)
+}
+
+// Whether two disks that are inside the box at these places are in contact.
+#[inline(always)]
+fn touch_at(rules: &Rules, a: &Disk, p: Vector, b: &Disk, q: Vector) -> bool
+    requires checked { IsChecked rules.now }
+    requires first_valid { IsValidDisk rules.now a.now }
+    requires second_valid { IsValidDisk rules.now b.now }
+    requires first_inside { IsInside rules.now a.now p }
+    requires second_inside { IsInside rules.now b.now q }
+    ensures { IsTrue result ↔ TouchAt a.now p b.now q }
+{
+    let _rules = rules;
+    let places = p.minus(q);
+    let velocities = a.velocity().minus(b.velocity());
+    is_contact(places, velocities, a.contact_distance(b))
 }
 
 /// Whether the courses of two disks may bring them together: at the later of their base ticks they are no
