@@ -1,6 +1,7 @@
 -- What a cell state keeps.
 use Rattle.std.specs.Prelude.{◌≡◌, ℕ, ◌<◌, List, [], ◌∷◌, length, fold, slice_get, ⊤, Option, Some, None}
 use Rattle.std.specs.Prelude.{IfSome, Result, Ok, Err}
+use Rattle.std.specs.Option.{option_or}
 use Rattle.fixed_motion.specs.declared.rules.Rules.{Rules}
 use Rattle.fixed_motion.specs.declared.disk.Disk.{Disk}
 use Rattle.fixed_motion.specs.Motion.{IsInBox, centre_of}
@@ -104,6 +105,17 @@ HasNoneBelow state s = (t : Stamp) → IsCandidateOf state t → ¬ Before t s
 -- the same state with another floor
 abbrev pub raised : Stamp → CellStateData → CellStateData
 raised to state = record state { floor = to }
+
+-- a later state of the same run, by actions of which the last has this stamp, where there is any
+abbrev pub later : CellStateData → List Placed → Option Stamp → Stamp → CellStateData
+later state placed last floor = record {
+  rules = state.rules;
+  grid = state.grid;
+  opening = state.opening;
+  last = option_or last state.last;
+  placed = placed;
+  floor = floor;
+}
 
 -- ---- rows
 -- the rows that an action changes are there

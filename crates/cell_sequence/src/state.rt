@@ -51,7 +51,7 @@ ghost use Rattle.event_stamps.specs.Least.{IsLeastOf};
 ghost use Rattle.cell_grid.specs.Grid.{IsAsked};
 ghost use Rattle.region_view.specs.Acting.{stamp_of};
 ghost use Rattle.cell_sequence.specs.Run.{opened, acted};
-ghost use Rattle.cell_sequence.specs.State.{IsCellState, start_of, followed, HasRows, HasNext, IsNextOf, IsCandidateOf, ComesTo, RunsNext, AreInBox, HasNoneBelow, raised};
+ghost use Rattle.cell_sequence.specs.State.{IsCellState, start_of, followed, HasRows, HasNext, IsNextOf, IsCandidateOf, ComesTo, RunsNext, AreInBox, HasNoneBelow, raised, later};
 
 use crate::search;
 use event_rules::Limit;
@@ -173,6 +173,17 @@ impl CellState {
         ensures { self.new ≡ raised to self.old }
     {
         self.floor = to;
+    }
+
+    /// Becomes a later state of the same run: one with these rows and this floor, by actions of which the last
+    /// has the stamp `last`; none where there was no action.
+    pub fn go_on_to(&mut self, placed: Vec<Placed>, last: Option<Stamp>, floor: Stamp)
+        requires { IsCellState (later self.old placed.items last floor) }
+        ensures { self.new ≡ later self.old placed.items last floor }
+    {
+        self.placed = placed;
+        self.last = last.or(self.last);
+        self.floor = floor;
     }
 }
 
