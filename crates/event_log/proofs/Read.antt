@@ -11,7 +11,7 @@ use Rattle.event_log.specs.declared.heads.Head.{Head}
 use Rattle.event_log.specs.declared.heads.Form.{Form}
 use Rattle.event_log.specs.declared.heads.Form.TheVariants.{Crossing, Single, Double, Whole}
 use Rattle.local_run.specs.Entries.{entry_stamp, native_of, native_in}
-use Rattle.event_log.specs.Logged.{Logged, logged_stamp, entries_in, backs_in, stamps_in, senders_in, native_at, sender_of}
+use Rattle.event_log.specs.Logged.{Logged, logged_stamp, entries_in, backs_in, senders_in, native_at, sender_of}
 use Rattle.event_log.specs.Heads.{NarrowList, edge_of, row_count, whole_count, row_place, whole_place, row_size, whole_size, whole_at, no_whole, entry_as, back_as, logged, log_of, IsOrdered, AreLaid}
 use Rattle.event_log.proofs.Cuts.{piece_at, cut_drop, edge_within, rows_few, wholes_few}
 use Rattle.event_log.proofs.Laid.{head_stamp, ordered_at}
@@ -61,7 +61,7 @@ is_ordered rows wholes heads log i h f head =
     (ordered_at heads i h head.laid.order (within_heads rows wholes heads log i h f head)))
 
 -- what it is read as
-pub read_at : {A : Type 0} (v : Logged → A) (rows : NarrowList) (wholes : List Logged) (heads : List Head)
+read_at : {A : Type 0} (v : Logged → A) (rows : NarrowList) (wholes : List Logged) (heads : List Head)
     (log : List Logged) (i : ℕ) (h : Head) → log_of rows wholes heads ≡ log → i < length heads →
     h ≡ get_or heads i h → slice_get (map v log) i ≡ Some (v (logged rows wholes h))
 read_at v rows wholes heads log i h is lt read =
@@ -89,11 +89,6 @@ pub back_at : (rows : NarrowList) (wholes : List Logged) (heads : List Head) (lo
     slice_get (backs_in log) i ≡ Some (back_as rows wholes h f)
 back_at rows wholes heads log i h f head =
     read_as (λ (l : Logged). l.1) rows wholes heads log i h f head
-
--- the stamps are those in the heads
-pub stamps_are : (rows : NarrowList) (wholes : List Logged) (heads : List Head) (log : List Logged) →
-    AreLaid rows wholes heads → log_of rows wholes heads ≡ log → stamps_in log ≡ map head_stamp heads
-stamps_are rows wholes heads log laid is = ap stamps_in (sym is) ∙ sym laid.stamps
 
 -- ---- numbers that fit
 pub row_edge_fits : (rows : NarrowList) (wholes : List Logged) (heads : List Head) (n : ℕ) →

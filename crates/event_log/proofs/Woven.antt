@@ -149,7 +149,7 @@ sparing_is_aside rows view (Native (Hit change)) spare = record {
 sparing_is_aside rows view (Heard q m) spare = record { same = refl; apart = spare }
 
 -- such entries leave the disks of the rows
-pub left : (rows : RowList) (view : ViewData) (log : List Logged) (disk : ℕ) → AreAside rows view log →
+left : (rows : RowList) (view : ViewData) (log : List Logged) (disk : ℕ) → AreAside rows view log →
     sets disk rows ≡ true → finmap.get (view_after view log) disk ≡ finmap.get view disk
 left rows view [] disk aside e = refl
 left rows view (l ∷ log) disk aside e =
@@ -173,7 +173,7 @@ still_leads rows view l aside is =
     ∙ ap (rows_at (rows_in (set_rows view rows))) (sym aside.same)
 
 -- all of them
-pub still_back : (rows : RowList) (view : ViewData) (log : List Logged) → AreAside rows view log →
+still_back : (rows : RowList) (view : ViewData) (log : List Logged) → AreAside rows view log →
     LeadBack view log → LeadBack (set_rows view rows) log
 still_back rows view [] aside h = tt
 still_back rows view (l ∷ log) aside h = (
@@ -182,7 +182,7 @@ still_back rows view (l ∷ log) aside h = (
       (still_back rows (view_with view l) log aside.1 h.1),
 )
 
-pub still_after : (rows : RowList) (view : ViewData) (log : List Logged) → AreAside rows view log →
+still_after : (rows : RowList) (view : ViewData) (log : List Logged) → AreAside rows view log →
     view_after (set_rows view rows) log ≡ set_rows (view_after view log) rows
 still_after rows view [] aside = refl
 still_after rows view (l ∷ log) aside =
@@ -201,7 +201,7 @@ back_split view [] ys h = (tt, h)
 back_split view (x ∷ xs) ys h =
     let rest = back_split (view_with view x) xs ys h.1 in ((h.0, rest.0), rest.1)
 
-pub back_join : (view : ViewData) (xs ys : List Logged) → LeadBack view xs →
+back_join : (view : ViewData) (xs ys : List Logged) → LeadBack view xs →
     LeadBack (view_after view xs) ys → LeadBack view (xs ++ ys)
 back_join view [] ys h k = k
 back_join view (x ∷ xs) ys h k = (h.0, back_join (view_with view x) xs ys h.1 k)
