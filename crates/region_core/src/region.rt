@@ -46,6 +46,7 @@ ghost use Rattle.cell_grid.specs.Grid.{IsRegion};
 ghost use Rattle.local_run.specs.LocalRun.{IsInPlace};
 ghost use Rattle.local_run.specs.Opening.{IsOpened, spent};
 ghost use Rattle.local_run.specs.Steps.{Steps};
+ghost use Rattle.region_core.specs.FirstRows.{first_row};
 ghost use Rattle.local_run.specs.Entries.{native_in, last_stamp};
 ghost use Rattle.local_run.specs.Keeping.{IsKept, entries_of, IsDueIn, SendsTo, HearsOf, IsSent, IsHeard};
 
@@ -54,7 +55,7 @@ use cell_grid::Grid;
 use cell_sequence::CellState;
 use fixed_motion::Rules;
 use region_messages::Trail;
-use region_view::{Action, opening};
+use region_view::{Action, Placed, opening};
 use std::alloc::{AllocError, Global};
 
 impl Region {
@@ -185,6 +186,18 @@ impl Region {
         ensures kept { IsKept self.now }
     {
         native_at(self.log(), i)
+    }
+
+    /// The row of a disk in the view with which its run begins, at the floor. None exactly where it is spent,
+    /// and where it doesn't see the disk there.
+    pub fn first_row(&self, disk: u32) -> Option<Placed>
+        ensures value { result ≡ first_row self.now disk }
+        ensures kept { IsKept self.now }
+    {
+        match &self.live {
+            Some(live) => live.base.get(disk),
+            None => None,
+        }
     }
 
     /// The stamp of the last entry; none exactly where there is no entry.
