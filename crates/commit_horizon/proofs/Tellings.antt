@@ -1,10 +1,12 @@
 -- What was told of actions as they are merged.
-use Rattle.std.proofs.Common.{◌≡◌, ◌≢◌, ℕ, ◌+◌, ◌<◌, ◌≤◌, Bool, true, false, List, [], ◌∷◌, ◌++◌, length, map, set}
+use Rattle.std.proofs.Common.{◌≡◌, ℕ, ◌+◌, ◌<◌, ◌≤◌, List, [], ◌∷◌, ◌++◌, length, map, set}
 use Rattle.std.proofs.Common.{sym, ap, ◌∙◌, subst, refl, arith, Option, Some, None}
-use Rattle.std.specs.Prelude.{slice_get, MatchBool}
+use Rattle.std.specs.Prelude.{slice_get}
 use Rattle.std.specs.Option.{IsSome}
 use Rattle.std.specs.List.{sum_by}
+use Rattle.fixed_motion.specs.declared.rules.Rules.{Rules}
 use Rattle.event_stamps.specs.declared.Stamp.{Stamp}
+use Rattle.event_stamps.specs.Order.{end_stamp}
 use Rattle.event_rules.specs.declared.change.Change.{Change}
 use Rattle.event_rules.specs.declared.outcome.RunFault.{RunFault}
 use Rattle.event_rules.specs.declared.outcome.RunFault.TheVariants.{Listener, NoMemory}
@@ -13,8 +15,9 @@ use Rattle.event_rules.proofs.Ran.{ran, ran_tellable}
 use Rattle.event_rules.proofs.Telling.{told_none, torn_next, all_told, prefix_longer}
 use Rattle.region_view.specs.declared.action.Action.{Action}
 use Rattle.region_view.specs.declared.action.Action.TheVariants.{Cross, Hit}
+use Rattle.region_view.specs.Acting.{stamp_of}
 use Rattle.cell_sequence.specs.Run.{hits, disks_of}
-use Rattle.cell_sequence.specs.State.{CellStateData, IsCellState, followed}
+use Rattle.cell_sequence.specs.State.{CellStateData, IsCellState, followed, followed_by, last_stamp}
 use Rattle.cell_sequence.specs.State.{raised as raised_state}
 use Rattle.cell_sequence.specs.Laws.{IsNextAction}
 use Rattle.cell_sequence.proofs.Joins.{hits_join}
@@ -26,10 +29,14 @@ use Rattle.local_run.specs.Entries.{native_in}
 use Rattle.local_run.specs.Keeping.{entries_of}
 use Rattle.local_run.specs.Raising.{raised as raised_region}
 use Rattle.commit_horizon.specs.declared.merging.Head.{Head}
-use Rattle.commit_horizon.specs.Horizon.{runs_of, AllStand, AllKept, IsBound, IsHorizon}
-use Rattle.commit_horizon.specs.Merging.{IsHeadAfter, Heads, AreHeads, IsLeastHead}
-use Rattle.commit_horizon.specs.Telling.{MayBeTold, HitRefused, MergeTold, MergeCutShort, CommitTold, CommitCutShort}
-use Rattle.commit_horizon.proofs.Commit.{commits}
+use Rattle.commit_horizon.specs.Horizon.{runs_of, AllKept, IsHorizon}
+use Rattle.commit_horizon.specs.Bounds.{HoldsUpTo, IsWithin}
+use Rattle.commit_horizon.specs.Merging.{IsHeadAfter, Heads, AreHeads, IsLeastHead, Merges}
+use Rattle.commit_horizon.specs.Raising.{AllMayRise}
+use Rattle.commit_horizon.specs.Telling.{IsStateOf, IsMergedFrom, MayBeTold, HitRefused, MergeTold, MergeCutShort, FinalTold, CommitCutShort}
+use Rattle.commit_horizon.proofs.Commit.{commits, may_rise}
+use Rattle.commit_horizon.proofs.Merged.{merged_is_next}
+use Rattle.commit_horizon.proofs.Standing.{are_standing, horizon_is}
 use Rattle.commit_horizon.proofs.Heads.{cost_of}
 use Rattle.commit_horizon.proofs.Merges.{KeepsMerging, keeps_begin, has_action, costs_less, keeps_on, keeps_end, next_of_heads}
 use Rattle.commit_horizon.proofs.Whole.{some_head, merge_ends, merge_whole}
@@ -57,45 +64,51 @@ next_tellable state (Hit change) is next =
     let turned = turn state.rules state.grid state.placed k.from (Hit change) k.checked k.of k.settled next.0 next.1 in
     ran_tellable state.rules disks change (ran state.rules disks change turned.0.0 turned.1)
 
+-- ---- the last of some actions
+last_of_more : (xs : List Action) (x : Action) → Some (stamp_of x) ≡ last_stamp (xs ++ x ∷ [])
+last_of_more [] x = refl
+last_of_more (y ∷ []) x = refl
+last_of_more (y ∷ z ∷ xs) x = last_of_more (z ∷ xs) x
+
 -- ---- as logs are merged
--- the state has followed some actions, exactly whose collisions were told; this says whether there are any
+-- a state would have followed some actions, of which the last has this stamp, and exactly their collisions were told
 pub record KeepsTelling {M : Type 0} (after : M → Change → M) (old : CellStateData) (regions : List RegionData)
-    (h : Stamp) (heads : Heads) (any : Bool) (now : CellStateData) (before later : Option M) : Type 0 where
+    (h : Stamp) (heads : Heads) (last : Option Stamp) (before later : Option M) : Type 0 where
   pub done : List Action
+  pub now : CellStateData
   pub keeps : KeepsMerging old regions h heads done now
   pub told : Told after before (hits done) later
-  pub says : MatchBool any (done ≢ []) (done ≡ [])
-
-some_more : {A : Type 0} (xs : List A) (x : A) → xs ++ x ∷ [] ≢ []
-some_more [] x e = cc
-some_more (y ∷ xs) x e = cc
+  pub is_last : last ≡ last_stamp done
 
 module _ {M : Type 0} (after : M → Change → M) (torn : M → Change → M → Type 0) (old : CellStateData)
-    (regions : List RegionData) (h : Stamp) (is : IsCellState old) (stand : AllStand old regions)
-    (kept : AllKept regions) (bound : IsBound old (runs_of regions) h) (before : Option M) where
+    (regions : List RegionData) (h : Stamp) (from : IsMergedFrom regions h old) (kept : AllKept regions)
+    (before : Option M) where
   pub nothing_told : MergeCutShort after torn old regions h NoMemory before before
   nothing_told =
-      let whole = merge_whole old regions h is stand kept bound in
+      let whole = merge_whole old regions h from.is from.stand kept from.bound in
       (whole.0, whole.2.merged, (0, told_none after before))
 
   pub telling_begins : (heads : Heads) → AreHeads h regions (length regions) heads →
-      KeepsTelling after old regions h heads false old before before
+      KeepsTelling after old regions h heads None before before
   telling_begins heads first = record {
     done = [];
-    keeps = keeps_begin old regions h heads is stand kept bound first;
+    now = old;
+    keeps = keeps_begin old regions h heads from.is from.stand kept from.bound first;
     told = told_none after before;
-    says = refl;
+    is_last = refl;
   }
 
-  module _ (heads : Heads) (any : Bool) (now : CellStateData) (mid : Option M)
-      (so_far : KeepsTelling after old regions h heads any now before mid) where
-    pub telling_ends : IsLeastHead heads None → MergeTold after old regions h any now before mid
-    telling_ends none = record {
-      actions = so_far.done;
-      merges = keeps_end old regions h heads so_far.done now so_far.keeps is stand kept bound none;
-      told = so_far.told;
-      says = so_far.says;
-    }
+  module _ (heads : Heads) (last : Option Stamp) (mid : Option M)
+      (so_far : KeepsTelling after old regions h heads last before mid) where
+    pub telling_ends : IsLeastHead heads None → MergeTold after old regions h last before mid
+    telling_ends none =
+        let merges = keeps_end old regions h heads so_far.done so_far.now so_far.keeps from.is from.stand kept
+        from.bound none in record {
+          actions = so_far.done;
+          merges = subst (Merges old regions h so_far.done) merges.follows merges;
+          told = so_far.told;
+          is_last = so_far.is_last;
+        }
 
     module _ (k : ℕ) (head : Head) (least : IsLeastHead heads (Some (k, head))) where
       -- the place of a head is that of an entry
@@ -108,38 +121,40 @@ module _ {M : Type 0} (after : M → Change → M) (torn : M → Change → M �
 
       module _ (region : RegionData) (at : slice_get regions k ≡ Some region) where
         pub reads_action : IsSome (native_in (slice_get (entries_of region) head.place))
-        reads_action = has_action old regions h heads so_far.done now so_far.keeps stand kept k head least region at
+        reads_action = has_action old regions h heads so_far.done so_far.now so_far.keeps from.stand kept k head
+            least region at
 
         pub tells_less : (new : Option Head) → IsHeadAfter h (entries_of region) (head.place + 1) new →
             sum_by cost_of (set heads k new) < sum_by cost_of heads
-        tells_less new next =
-            costs_less old regions h heads so_far.done now so_far.keeps stand kept k head least region at new next
+        tells_less new next = costs_less old regions h heads so_far.done so_far.now so_far.keeps from.stand kept k
+            head least region at new next
 
     module _ (k : ℕ) (head : Head) (least : IsLeastHead heads (Some (k, head))) (region : RegionData)
         (at : slice_get regions k ≡ Some region) (x : Action)
         (found : native_in (slice_get (entries_of region) head.place) ≡ Some x) where
-      pub goes_on_next : IsNextAction now x
-      goes_on_next =
-          next_of_heads old regions h heads so_far.done now so_far.keeps stand kept k head least region at x found
+      goes_on_next : IsNextAction so_far.now x
+      goes_on_next = next_of_heads old regions h heads so_far.done so_far.now so_far.keeps from.stand kept k head
+          least region at x found
 
       pub may_be_told : MayBeTold x
-      may_be_told = next_tellable now x so_far.keeps.merging.is goes_on_next
+      may_be_told = next_tellable so_far.now x so_far.keeps.merging.is goes_on_next
 
       goes_on : (new : Option Head) → IsHeadAfter h (entries_of region) (head.place + 1) new →
-          KeepsMerging old regions h (set heads k new) (so_far.done ++ x ∷ []) (followed now x)
-      goes_on new next = keeps_on old regions h heads so_far.done now so_far.keeps stand kept k head least region at
-          x found new next
+          KeepsMerging old regions h (set heads k new) (so_far.done ++ x ∷ []) (followed so_far.now x)
+      goes_on new next = keeps_on old regions h heads so_far.done so_far.now so_far.keeps from.stand kept k head
+          least region at x found new next
 
       -- one more action was told
       pub telling_goes_on : (new : Option Head) (later : Option M) →
           IsHeadAfter h (entries_of region) (head.place + 1) new → Told after mid (hits (x ∷ [])) later →
-          KeepsTelling after old regions h (set heads k new) true (followed now x) before later
+          KeepsTelling after old regions h (set heads k new) (Some (stamp_of x)) before later
       telling_goes_on new later next told = record {
         done = so_far.done ++ x ∷ [];
+        now = followed so_far.now x;
         keeps = goes_on new next;
         told = subst (λ (v : List Change). Told after before v later) (sym (hits_join so_far.done (x ∷ [])))
             (told_in_turn after before mid later (hits so_far.done) (hits (x ∷ [])) so_far.told told);
-        says = some_more so_far.done x;
+        is_last = last_of_more so_far.done x;
       }
 
       -- it was refused
@@ -155,8 +170,8 @@ module _ {M : Type 0} (after : M → Change → M) (torn : M → Change → M �
       telling_refused later refused =
           let next = some_head h (entries_of region) (head.place + 1) in
           let done = so_far.done ++ x ∷ [] in
-          let rest = merge_ends old regions h is stand kept bound (set heads k next.0) done (followed now x)
-          (goes_on next.0 next.1) in (
+          let rest = merge_ends old regions h from.is from.stand kept from.bound (set heads k next.0) done
+          (followed so_far.now x) (goes_on next.0 next.1) in (
             done ++ rest.0,
             rest.2.merged,
             subst (λ (v : List Change). PrefixTold after torn before v later) (sym (hits_join done rest.0))
@@ -164,30 +179,67 @@ module _ {M : Type 0} (after : M → Change → M) (torn : M → Change → M �
           )
 
 -- ---- a commit
-module _ {M : Type 0} (after : M → Change → M) (torn : M → Change → M → Type 0) (old : CellStateData)
-    (regions : List RegionData) (h : Stamp) (stand : AllStand old regions)
-    (horizon : IsHorizon old (runs_of regions) h) (before later : Option M) where
-  pub commit_told : (any : Bool) (mid new : CellStateData) (left : List RegionData) →
-      MergeTold after old regions h any mid before later → new ≡ raised_state h mid →
-      left ≡ map (raised_region h) regions → CommitTold after old regions any new left before later
-  commit_told any mid new left telling is_new is_left = record {
-    batch = telling.actions;
-    commits = commits old regions h telling.actions mid new left stand horizon telling.merges is_new is_left;
-    told = telling.told;
-    says = telling.says;
-  }
+-- the horizon of what the regions have due and agree on
+pub horizon_of : (rules : Rules) (regions : List RegionData) (h : Stamp) →
+    HoldsUpTo (IsWithin (end_stamp rules.end) regions) (Some h) → AllKept regions → (state : CellStateData) →
+    IsStateOf rules regions state → IsHorizon state (runs_of regions) h
+horizon_of rules regions h bound kept state of = horizon_is state regions h of.is of.stand kept
+    (subst (λ (r : Rules). HoldsUpTo (IsWithin (end_stamp r.end) regions) (Some h)) (sym of.rules_are) bound)
 
-  -- the merge broke off
-  pub merge_cut : (fault : RunFault) → MergeCutShort after torn old regions h fault before later →
-      CommitCutShort after torn old regions fault before later
-  merge_cut fault cut =
-      (cut.0, record { horizon = h; is_horizon = horizon; merged = cut.1 }, cut.2)
+module _ (rules : Rules) (regions : List RegionData) (h : Stamp)
+    (bound : HoldsUpTo (IsWithin (end_stamp rules.end) regions) (Some h)) (kept : AllKept regions)
+    (old : CellStateData) (of : IsStateOf rules regions old) where
+  horizon : IsHorizon old (runs_of regions) h
+  horizon = horizon_of rules regions h bound kept old of
 
-  -- all was told, and then memory was wanting
-  pub told_and_cut : (any : Bool) (mid : CellStateData) → MergeTold after old regions h any mid before later →
-      CommitCutShort after torn old regions NoMemory before later
-  told_and_cut any mid telling = (
-    telling.actions,
-    record { horizon = h; is_horizon = horizon; merged = telling.merges.merged },
-    all_told after before later (hits telling.actions) telling.told,
-  )
+  pub merged_from : IsMergedFrom regions h old
+  merged_from = record { is = of.is; stand = of.stand; bound = horizon.bound }
+
+  pub may_be_raised : AllMayRise h regions
+  may_be_raised = may_rise old regions h of.stand kept horizon.bound
+
+  module _ {M : Type 0} (after : M → Change → M) (torn : M → Change → M → Type 0) (before later : Option M) where
+    pub final_told : (last : Option Stamp) (left : List RegionData) →
+        MergeTold after old regions h last before later → left ≡ map (raised_region h) regions →
+        FinalTold after old regions (record { last = last; floor = h }) left before later
+    final_told last left telling is_left = record {
+      new = raised_state h (followed_by old telling.actions);
+      cell = telling.merges.next.leads;
+      floor = refl;
+      told = record {
+        batch = telling.actions;
+        commits = commits old regions h telling.actions (followed_by old telling.actions)
+            (raised_state h (followed_by old telling.actions)) left of.stand horizon telling.merges refl is_left;
+        told = telling.told;
+        is_last = telling.is_last;
+      };
+    }
+
+    -- the merge broke off
+    pub merge_cut : (fault : RunFault) → MergeCutShort after torn old regions h fault before later →
+        CommitCutShort after torn old regions fault before later
+    merge_cut fault cut = (
+      cut.0,
+      record {
+        horizon = h;
+        is_horizon = horizon;
+        merged = cut.1;
+        steps = (merged_is_next old (runs_of regions) h cut.0 of.is (are_standing old regions of.stand kept)
+            horizon.bound cut.1).steps;
+      },
+      cut.2,
+    )
+
+    -- all was told, and then memory was wanting
+    pub told_and_cut : (last : Option Stamp) → MergeTold after old regions h last before later →
+        CommitCutShort after torn old regions NoMemory before later
+    told_and_cut last telling = (
+      telling.actions,
+      record {
+        horizon = h;
+        is_horizon = horizon;
+        merged = telling.merges.merged;
+        steps = telling.merges.next.steps;
+      },
+      all_told after before later (hits telling.actions) telling.told,
+    )

@@ -29,7 +29,7 @@ pub enum Adopted {
 
 ghost use Rattle.std.specs.Prelude.{◌≡◌, IfOk};
 ghost use Rattle.cell_grid.specs.Grid.{IsRegion, IsAsked};
-ghost use Rattle.cell_sequence.specs.State.{IsCellState, start_of};
+ghost use Rattle.cell_sequence.specs.State.{IsCellState, start_of, later};
 ghost use Rattle.commit_horizon.specs.Horizon.{runs_of, IsHorizon, AllStand, AllKept};
 ghost use Rattle.commit_horizon.specs.Commits.{Adopts, Commits};
 
@@ -39,6 +39,7 @@ use crate::merging::merge;
 use crate::raising::raise_floors;
 use event_stamps::Stamp;
 use fixed_motion::Scene;
+use region_view::Placed;
 use std::alloc::{AllocError, Global};
 
 impl Committed {
@@ -92,6 +93,15 @@ impl Committed {
         ensures kept { AllKept regions.now }
     {
         least_bound(Stamp::end_of(self.state.rules().end), regions)
+    }
+
+    /// Becomes a later state of the same run: one with these rows and this floor, by actions of which the last
+    /// has the stamp `last`; none where there was no action.
+    pub fn go_on_to(&mut self, placed: Vec<Placed>, last: Option<Stamp>, floor: Stamp)
+        requires { IsCellState (later self.old placed.items last floor) }
+        ensures { self.new ≡ later self.old placed.items last floor }
+    {
+        self.state.go_on_to(placed, last, floor);
     }
 
     /// Makes final what the regions, which stand on the committed state by number, did before the commit

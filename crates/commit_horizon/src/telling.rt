@@ -1,83 +1,90 @@
-//! Commits whose collisions are told while the logs are merged.
+//! Commits whose collisions are told while the logs are merged, and whose rows nobody sets.
 
-ghost use Rattle.std.specs.Prelude.{◌∷◌, [], OnOk, OnErr, IfOk, IfErr};
+ghost use Rattle.std.specs.Prelude.{◌≡◌, ◌∷◌, [], OnOk, OnErr, IfOk, IfErr};
 ghost use Rattle.event_rules.specs.Told.{Told, CountsRefusal};
 ghost use Rattle.event_rules.specs.Tellings.{CountsRun};
 ghost use Rattle.cell_sequence.specs.Run.{hits};
-ghost use Rattle.commit_horizon.specs.Horizon.{runs_of, AllStand, AllKept, IsBound};
-ghost use Rattle.commit_horizon.specs.Telling.{MayBeTold, HitRefused, MergeTold, MergeCutShort, CommitTold, CommitCutShort};
+ghost use Rattle.cell_sequence.specs.State.{CellStateData};
+ghost use Rattle.commit_horizon.specs.Horizon.{AllKept};
+ghost use Rattle.commit_horizon.specs.Telling.{IsStateOf, IsMergedFrom, MayBeTold, HitRefused, MergeTold, MergeCutShort, FinalTold, CommitCutShort};
 
-use crate::Committed;
+use crate::bounding::least_bound;
 use crate::leading::{find_leader, leader_after};
 use crate::merging::{action_at, first_heads, head_after};
 use crate::raising::raise_floors;
-use cell_sequence::CellState;
 use event_rules::{Deaf, Listener, RunFault};
 use event_stamps::Stamp;
+use fixed_motion::Rules;
 use region_core::Region;
 use region_view::Action;
 use std::alloc::Global;
 
-impl Committed {
-    /// Makes the same final as [`Committed::commit`], and tells each collision of the batch while the logs are
-    /// merged, in the order of stamps; answers whether the batch has any action. No list of it is made.
-    ///
-    /// # Errors
-    /// The listener refused a collision, and its count of refusals rose; or out of memory. A prefix of the
-    /// batch's collisions was told. The committed state and the regions are to be given up.
-    pub fn commit_telling<L: Listener>(
-        &mut self,
-        alloc: Global,
-        regions: &mut [Region],
-        listener: &mut L,
-    ) -> Result<bool, RunFault>
-        requires { AllStand self.old regions.old }
-        ensures told { IfOk result (λ any. CommitTold L.after self.old regions.old any self.new regions.new
-            (L.meaning listener.old) (L.meaning listener.new)) }
-        ensures cut_short { IfErr result (λ fault. CommitCutShort L.after L.torn self.old regions.old fault
-            (L.meaning listener.old) (L.meaning listener.new)) }
-        ensures counts { CountsRun (L.faults listener.old) (L.faults listener.new) result }
-    {
-        let horizon = self.horizon(regions);
-        let any = merge_telling(&mut self.state, alloc, regions, horizon, listener)?;
-        raise_floors(alloc, regions, horizon)?;
-        self.state.raise_floor(horizon);
-        Ok(any)
-    }
+/// What a commit makes of the state on which the regions stand. The rows are not in it: the regions have them.
+#[derive(Clone, Copy, Debug, PartialEq, Eq)]
+pub struct Final {
+    /// The stamp of the last action of its batch; none where the batch is empty.
+    pub last: Option<Stamp>,
+    /// The floor: the horizon.
+    pub floor: Stamp,
 }
 
-// Goes on by what the regions ran before a horizon, in the order of stamps, and tells each collision as it is
-// merged; answers whether there was any action.
+/// Makes final what regions, which stand by number on a cell state with these rules, did before the commit
+/// horizon: each collision is told while the logs are merged, in the order of stamps, and all floors are raised
+/// to the horizon. No list of the batch is made, and no rows are set.
+///
+/// # Errors
+/// The listener refused a collision, and its count of refusals rose; or out of memory. A prefix of the
+/// batch's collisions was told. The regions are to be given up.
+pub fn commit_telling<L: Listener>(
+    alloc: Global,
+    rules: &Rules,
+    regions: &mut [Region],
+    listener: &mut L,
+) -> Result<Final, RunFault>
+    requires { (state : CellStateData) × IsStateOf rules.now regions.old state }
+    ensures told { IfOk result (λ made. (state : CellStateData) → IsStateOf rules.now regions.old state →
+        FinalTold L.after state regions.old made regions.new
+        (L.meaning listener.old) (L.meaning listener.new)) }
+    ensures cut_short { IfErr result (λ fault. (state : CellStateData) → IsStateOf rules.now regions.old state →
+        CommitCutShort L.after L.torn state regions.old fault
+        (L.meaning listener.old) (L.meaning listener.new)) }
+    ensures counts { CountsRun (L.faults listener.old) (L.faults listener.new) result }
+{
+    let floor = least_bound(Stamp::end_of(rules.end), regions);
+    let last = merge_telling(alloc, regions, floor, listener)?;
+    raise_floors(alloc, regions, floor)?;
+    Ok(Final { last, floor })
+}
+
+// Tells the collisions among what regions ran before a horizon, in the order of stamps; answers the stamp of the
+// last action, where there was any.
 fn merge_telling<L: Listener>(
-    state: &mut CellState,
     alloc: Global,
     regions: &[Region],
     horizon: Stamp,
     listener: &mut L,
-) -> Result<bool, RunFault>
-    requires stand { AllStand state.old regions.now }
+) -> Result<Option<Stamp>, RunFault>
     requires kept { AllKept regions.now }
-    requires bound { IsBound state.old (runs_of regions.now) horizon }
-    ensures told { IfOk result (λ any. MergeTold L.after state.old regions.now horizon any state.new
+    requires state { (state : CellStateData) × IsMergedFrom regions.now horizon state }
+    ensures told { IfOk result (λ last. (state : CellStateData) → IsMergedFrom regions.now horizon state →
+        MergeTold L.after state regions.now horizon last (L.meaning listener.old) (L.meaning listener.new)) }
+    ensures cut_short { IfErr result (λ fault. (state : CellStateData) → IsMergedFrom regions.now horizon state →
+        MergeCutShort L.after L.torn state regions.now horizon fault
         (L.meaning listener.old) (L.meaning listener.new)) }
-    ensures cut_short { IfErr result (λ fault. MergeCutShort L.after L.torn state.old regions.now horizon
-        fault (L.meaning listener.old) (L.meaning listener.new)) }
     ensures counts { CountsRun (L.faults listener.old) (L.faults listener.new) result }
 {
-    let _floor = state.floor();
     let mut heads = first_heads(alloc, regions, horizon)?;
-    let mut any = false;
+    let mut last = None;
     let mut next = find_leader(&heads, horizon);
     'actions: while let Some(first) = next {
         let region = &regions[first.number];
         let action = action_at(region, first.head.place);
-        state.follow(&action);
         tell_hit(&action, listener)?;
-        any = true;
+        last = Some(action.stamp());
         heads[first.number] = head_after(region, first.head.place + 1, horizon);
         next = leader_after(&heads, &first, horizon);
     }
-    Ok(any)
+    Ok(last)
 }
 
 // Tells a collision; a crossing isn't told.

@@ -1,16 +1,17 @@
 -- The home of the next event runs it.
-use Rattle.std.proofs.Common.{◌≡◌, ◌⊎◌, inl, inr, ℕ, ◌<◌, Bool, List, [], length, sym, subst, refl}
+use Rattle.std.proofs.Common.{◌≡◌, ◌⊎◌, inl, inr, ℕ, ◌<◌, ◌≤◌, Bool, List, [], length, sym, ap, ◌∙◌, subst, refl, arith}
 use Rattle.std.specs.Prelude.{map}
 use Rattle.event_stamps.specs.declared.Stamp.{Stamp}
 use Rattle.event_stamps.specs.Order.{Before, end_stamp}
 use Rattle.event_stamps.specs.Least.{HasNone}
 use Rattle.event_stamps.proofs.Least.{one_least}
 use Rattle.event_rules.specs.declared.change.Limit.{Limit as Failure}
-use Rattle.cell_grid.specs.Grid.{IsRegion}
+use Rattle.cell_grid.specs.Grid.{GridData, IsRegion}
 use Rattle.region_view.specs.declared.action.Action.{Action}
 use Rattle.cell_sequence.specs.State.{CellStateData, IsCellState, IsCandidateOf}
+use Rattle.cell_sequence.proofs.Orderly.{known}
 use Rattle.local_run.specs.declared.answers.Step.{Step}
-use Rattle.local_run.specs.declared.answers.Step.TheVariants.{Ran, Halted}
+use Rattle.local_run.specs.declared.answers.Step.TheVariants.{Ran, Heard as Took, Idle, Past, Tied, Halted, Held, Spent}
 use Rattle.local_run.specs.LocalRun.{Local, now_of, IsOffered, IsDueOrEnd}
 use Rattle.local_run.specs.Answers.{StepsTo}
 use Rattle.local_run.specs.Opening.{RegionData, home_of}
@@ -22,9 +23,9 @@ use Rattle.commit_horizon.proofs.Standing.{region_at, are_standing}
 use Rattle.run_core.specs.declared.answers.Advance.{Advance}
 use Rattle.run_core.specs.declared.answers.Advance.TheVariants.{Raised, End, Limit}
 use Rattle.run_core.specs.Advances.{SecondAnswers}
-use Rattle.run_core.specs.Passing.{Heard, AllHearUpTo}
+use Rattle.run_core.specs.Passing.{StandOn, Heard, AllHearUpTo}
 use Rattle.run_core.specs.Second.{IsLeastDue, AllTakeIn}
-use Rattle.run_core.specs.Taking.{IsHome, Refreshed, MakesNext}
+use Rattle.run_core.specs.Taking.{StandFrom, IsHome, Refreshed, TakenIfRan, RunsEvent, MakesNext}
 use Rattle.run_core.specs.Turns.{Turns}
 use Rattle.run_core.proofs.Fresh.{AllFresh, IsNextAt, RunsNext, pass_makes_fresh, least_due_is_next, home_runs_next}
 use Rattle.run_core.proofs.Passed.{is_pass}
@@ -144,3 +145,60 @@ module _ (state : CellStateData) (regions fresh : List RegionData) (home : ℕ) 
         ended (inr none) = none.1
         ended (inl next) = absurd (by_step (home_runs_next state home (dues home) (runs_of fresh home)
             done.run step (cell_laws state is) (fresh_all home least.within) next done.steps))
+
+-- ---- the event
+-- a cell state has a region
+pub some_regions : (state : CellStateData) (regions : List RegionData) → IsCellState state →
+    AllStand state regions → 0 < length regions
+some_regions state regions is stand =
+    let some : 1 ≤ state.grid.regions = (known state is).sizes.regions in
+    let count = stand.count in
+    omega (arith, some, count)
+
+-- a step that didn't run the event isn't told of
+pub untaken : (state : CellStateData) (stepped : List RegionData) (home : ℕ) (step : Step) →
+    ((s : Stamp) → ¬ (step ≡ Ran s)) → TakenIfRan state stepped home step stepped
+untaken state stepped home (Ran s) not = absurd (not s refl)
+untaken state stepped home (Took s) not = refl
+untaken state stepped home Idle not = refl
+untaken state stepped home (Past s clock) not = refl
+untaken state stepped home (Tied s) not = refl
+untaken state stepped home (Halted limit) not = refl
+untaken state stepped home Held not = refl
+untaken state stepped home Spent not = refl
+
+module _ (state : CellStateData) (is : IsCellState state) (regions left : List RegionData) (step : Step)
+    (event : RunsEvent state regions step left) where
+  pub event_ran : (s : Stamp) → step ≡ Ran s → (batch : List Action) (new : CellStateData)
+      (last : List RegionData) → Commits state left batch new last →
+      MakesNext state regions (Raised batch) new last
+  event_ran s ran_it batch new last commits =
+      let took = subst (λ (v : Step). TakenIfRan state event.stepped event.home v left) ran_it event.taken in
+      ran state regions event.fresh event.home is event.refreshed event.is_home step event.stepped event.turns s
+      ran_it left took.took batch new last commits
+
+  pub event_halted : (limit : Failure) → step ≡ Halted limit → (batch : List Action) → batch ≡ [] →
+      MakesNext state regions (Limit batch limit) state left
+  event_halted limit halts batch none = halted state regions event.fresh event.home is event.refreshed
+      event.is_home step event.stepped event.turns limit halts batch none left
+
+  pub event_idled : ((s : Stamp) → ¬ (step ≡ Ran s)) → ((limit : Failure) → ¬ (step ≡ Halted limit)) →
+      (batch : List Action) → batch ≡ [] → MakesNext state regions (End batch) state left
+  event_idled not_ran not_halted batch none = idled state regions event.fresh event.home is event.refreshed
+      event.is_home step event.stepped event.turns not_ran not_halted batch none left
+
+-- ---- regions of a committed state
+pub of_state : (committed state : CellStateData) (grid : GridData) (floor : Stamp) (regions : List RegionData) →
+    IsCellState committed → state ≡ committed → grid ≡ state.grid → floor ≡ state.floor →
+    AllStand committed regions → StandFrom grid floor regions committed
+of_state committed state grid floor regions is same grid_is floor_is stand = record {
+  is = is;
+  grid_is = sym (grid_is ∙ ap (λ (v : CellStateData). v.grid) same);
+  floor_is = sym (floor_is ∙ ap (λ (v : CellStateData). v.floor) same);
+  stand = stand;
+}
+
+pub on_state : (committed state : CellStateData) (grid : GridData) (regions : List RegionData) →
+    state ≡ committed → grid ≡ state.grid → AllStand committed regions → StandOn grid regions committed
+on_state committed state grid regions same grid_is stand =
+    record { grid_is = sym (grid_is ∙ ap (λ (v : CellStateData). v.grid) same); stand = stand }

@@ -14,7 +14,7 @@ pub mod Advancing
 pub mod Left
 pub mod Simulating
 pub mod Calls
-pub mod Batches
+pub mod OneState
 pub mod SoFar
 pub mod Spots
 pub mod Prefixes

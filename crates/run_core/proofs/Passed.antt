@@ -1,7 +1,7 @@
 -- Calls over regions that stand on a state, and the passes that they make up.
-use Rattle.std.proofs.Common.{◌≡◌, ◌⊎◌, inl, inr, ℕ, ◌+◌, ◌<◌, ◌≤◌, Bool, true, false, ◌||◌, List, [], ◌∷◌, ◌++◌, sym, ap, ◌∙◌, subst, refl, arith}
+use Rattle.std.proofs.Common.{◌≡◌, ◌⊎◌, inl, inr, ℕ, ◌+◌, ◌<◌, ◌≤◌, Bool, true, false, ◌||◌, List, [], ◌∷◌, ◌++◌, length, sym, ap, ◌∙◌, subst, refl, arith}
 use Rattle.std.specs.Prelude.{nat_lt}
-use Rattle.cell_grid.specs.Grid.{IsRegion, AreLinked}
+use Rattle.cell_grid.specs.Grid.{GridData, IsRegion, AreLinked}
 use Rattle.region_messages.specs.Trails.{IsAmong}
 use Rattle.cell_sequence.specs.State.{CellStateData}
 use Rattle.local_run.specs.declared.answers.Hearing.{Hearing}
@@ -11,7 +11,7 @@ use Rattle.local_run.specs.Answers.{HearsFrom}
 use Rattle.local_run.specs.Opening.{RegionData}
 use Rattle.commit_horizon.specs.Horizon.{Runs, runs_of, AllStand}
 use Rattle.run_core.specs.Hearings.{Call, sent_by, Hearings, IsPass, one_if_rewound, rewinds, entries_of}
-use Rattle.run_core.specs.Passing.{is_rewound, Heard, HearsOne, HearsUpTo, AllHearUpTo, Agrees}
+use Rattle.run_core.specs.Passing.{StandOn, is_rewound, Heard, HearsOne, HearsUpTo, AllHearUpTo, Agrees}
 use Rattle.run_core.specs.Turns.{Meets}
 use Rattle.run_core.proofs.Pass.{same_runs, rewinds_take}
 use Rattle.run_core.proofs.Standing.{has_heard}
@@ -40,6 +40,31 @@ rewinds_join (c ∷ cs) ds =
 
 either_rewinds : (m n : ℕ) → (nat_lt 0 m || nat_lt 0 n) ≡ nat_lt 0 (m + n)
 either_rewinds m n = grind arith
+
+-- ---- regions of a grid
+-- a region's number is a place
+pub place_of : (grid : GridData) (regions : List RegionData) (state : CellStateData) (q : ℕ) →
+    StandOn grid regions state → IsRegion grid q → q < length regions
+place_of grid regions state q on is = subst (λ (n : ℕ). q < n)
+    (ap (λ (g : GridData). g.regions) (sym on.grid_is) ∙ sym on.stand.count) is
+
+pub region_of : (grid : GridData) (regions : List RegionData) (state : CellStateData) (q : ℕ) →
+    StandOn grid regions state → IsRegion grid q → IsRegion state.grid q
+region_of grid regions state q on is = subst (λ (g : GridData). IsRegion g q) (sym on.grid_is) is
+
+pub linked_of : (grid : GridData) (regions : List RegionData) (state : CellStateData) (k q : ℕ) →
+    StandOn grid regions state → AreLinked grid k q → AreLinked state.grid k q
+linked_of grid regions state k q on linked = subst (λ (g : GridData). AreLinked g k q) (sym on.grid_is) linked
+
+-- other regions of it stand on the same state
+pub still_on : (grid : GridData) (old new : List RegionData) (state : CellStateData) → StandOn grid old state →
+    AllStand state new → StandOn grid new state
+still_on grid old new state on stand = record { grid_is = on.grid_is; stand = stand }
+
+-- what holds up to the last region holds of all
+pub up_to_all : (grid : GridData) (regions : List RegionData) (state : CellStateData) (P : ℕ → Type 0) (n : ℕ) →
+    StandOn grid regions state → n ≡ grid.regions → P n → P state.grid.regions
+up_to_all grid regions state P n on is p = subst P (is ∙ ap (λ (g : GridData). g.regions) (sym on.grid_is)) p
 
 pub heard_none : (state : CellStateData) (regions : List RegionData) (P : List Call → Type 0) →
     AllStand state regions → P [] → Heard state regions regions false P
@@ -161,13 +186,18 @@ more_passes state old mid new heard rest = record {
   );
 }
 
--- all entries of the regions
-unfoldable pub entries_left : CellStateData → List RegionData → ℕ
-entries_left state regions = entries_of state.grid.regions (runs_of regions)
+-- regions that were made of others by passes, and stand still
+pub record HavePassed (state : CellStateData) (old now : List RegionData) : Type 0 where
+  pub stand : AllStand state now
+  pub so_far : (new : List RegionData) → Agrees state now new → Agrees state old new
+
+-- all entries of the regions of a grid
+unfoldable pub entries_left : GridData → List RegionData → ℕ
+entries_left grid regions = entries_of grid.regions (runs_of regions)
 
 pub entries_fall : (state : CellStateData) (old mid : List RegionData) →
     Heard state old mid true (AllHearUpTo state state.grid.regions) →
-    entries_left state mid < entries_left state old
+    entries_left state.grid mid < entries_left state.grid old
 unfolding entries_left
 entries_fall state old mid heard =
     let some : 0 < rewinds heard.calls = rewinds_some (rewinds heard.calls) heard.tells in

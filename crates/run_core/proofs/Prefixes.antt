@@ -1,27 +1,8 @@
 -- Prefixes of some changes and of more, told one after the other.
 use Rattle.std.proofs.Common.{◌≡◌, inl, inr, ℕ, suc, ◌+◌, List, [], ◌∷◌, ◌++◌, length, take, drop, sym, ap, ◌∙◌, subst, arith, Option}
 use Rattle.std.proofs.lemmas.Grind.{common_steps}
-use Rattle.event_rules.specs.Told.{Told, Torn, PrefixTold}
+use Rattle.event_rules.specs.Told.{Told, PrefixTold}
 use Rattle.commit_horizon.proofs.Tellings.{told_in_turn}
-
--- after some changes were told, one was refused
-pub refused_after : {M C : Type 0} (after : M → C → M) (torn : M → C → M → Type 0) (old mid new : Option M)
-    (xs : List C) (c : C) (rest : List C) → Told after old xs mid → Torn torn mid c new →
-    PrefixTold after torn old (xs ++ c ∷ rest) new
-refused_after {C = C} after torn old mid new xs c rest h k = (
-  length xs,
-  inr (
-    mid,
-    c,
-    rest,
-    grind (arith, common_steps),
-    subst (λ (v : List C). Told after old v mid) (take_front xs (c ∷ rest)) h,
-    k,
-  ),
-)
-  where
-    take_front : (xs ys : List C) → xs ≡ take (length xs) (xs ++ ys)
-    take_front xs ys = grind (arith, common_steps)
 
 take_past : {C : Type 0} (xs ys : List C) (n : ℕ) → take (length xs + n) (xs ++ ys) ≡ xs ++ take n ys
 take_past [] ys n = grind (arith, common_steps)

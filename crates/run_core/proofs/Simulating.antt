@@ -40,7 +40,7 @@ leads_of old new runs (Raised batch) h = h.0
 leads_of old new runs (End batch) h = h.0
 leads_of old new runs (Limit batch limit) h = h.0
 
-grid_after : (xs : List Action) (state : CellStateData) → (followed_by state xs).grid ≡ state.grid
+pub grid_after : (xs : List Action) (state : CellStateData) → (followed_by state xs).grid ≡ state.grid
 grid_after [] state = refl
 grid_after (x ∷ xs) state = grid_after xs (followed state x)
 

@@ -1,8 +1,7 @@
 -- What a listener was told of a scene's run, at each place of its loop.
 use Rattle.std.proofs.Common.{◌≡◌, ℕ, ◌<◌, List}
-use Rattle.std.proofs.Common.{sym, ap, ◌∙◌, subst, Option}
+use Rattle.std.proofs.Common.{sym, ◌∙◌, subst, Option}
 use Rattle.std.proofs.lemmas.Option.{none-some}
-use Rattle.fixed_motion.specs.declared.rules.Rules.{Rules}
 use Rattle.fixed_motion.specs.Scene.{SceneData, IsValidScene}
 use Rattle.event_rules.specs.declared.change.Change.{Change}
 use Rattle.event_rules.specs.declared.change.Limit.{Limit as Failure}
@@ -10,17 +9,15 @@ use Rattle.event_rules.specs.declared.outcome.Spot.{Spot}
 use Rattle.event_rules.specs.declared.outcome.Outcome.TheVariants.{Done, Limit as Passes}
 use Rattle.event_rules.specs.declared.outcome.RunFault.{RunFault}
 use Rattle.event_rules.specs.declared.outcome.RunFault.TheVariants.{NoMemory}
-use Rattle.event_rules.specs.Run.{IsValidState, spots_of}
+use Rattle.event_rules.specs.Run.{spots_of}
 use Rattle.event_rules.specs.Told.{Told}
 use Rattle.event_rules.specs.Tellings.{RunTold, RunCutShort}
 use Rattle.event_rules.proofs.Telling.{all_told}
 use Rattle.cell_grid.specs.Grid.{IsAsked}
 use Rattle.cell_sequence.specs.Run.{disks_of, hits}
 use Rattle.cell_sequence.specs.State.{CellStateData, IsCellState, start_of}
-use Rattle.region_view.specs.declared.action.Placed.{Placed}
 use Rattle.region_view.specs.declared.action.Action.{Action}
 use Rattle.cell_sequence.proofs.Followed.{start_is}
-use Rattle.cell_sequence.proofs.Orderly.{cell_states_are_orderly}
 use Rattle.local_run.specs.Opening.{RegionData}
 use Rattle.local_run.specs.Bursts.{AreTogether}
 use Rattle.commit_horizon.specs.Horizon.{AllStand}
@@ -70,24 +67,13 @@ module _ {M : Type 0} {after : M → Change → M} (torn : M → Change → M �
       told_on = goes_on after torn scene asked valid some state later advance.runs answer old mid new told
           advance.is (subst (λ (v : List Action). Told after mid (hits v) new) same batch_told)
 
-      -- the rows that are left are valid
-      pub rows_valid : {rules : Rules} {placed : List Placed} → rules ≡ scene.rules →
-          placed ≡ later.placed → IsValidState rules (disks_of placed)
-      rows_valid {rules} {placed} rules_is rows =
-          subst (λ (v : List Placed). IsValidState rules (disks_of v)) (sym rows)
-          (subst (λ (v : Rules). IsValidState v (disks_of later.placed)) (told_on.rules ∙ sym rules_is)
-          (cell_states_are_orderly later (cell_after advance)).records)
-
       -- and it was the last one
-      pub ends : {batch : List Action} {rules : Rules} {placed : List Placed} (spots : List Spot) →
-          answer ≡ End batch → rules ≡ scene.rules → placed ≡ later.placed →
-          spots ≡ spots_of rules.end (disks_of placed) → RunTold after scene (Done spots) old new
-      ends {placed = placed} spots is rules_is rows at =
+      pub ends : {batch : List Action} (spots : List Spot) → answer ≡ End batch →
+          spots ≡ spots_of later.rules.end (disks_of later.placed) → RunTold after scene (Done spots) old new
+      ends spots is at =
           let none = (subst (λ (v : Advance). Advances state v later) is advance).is.1 in
           run_told after scene (Done spots) old new valid
-          (done_told after torn scene asked valid some later old new spots told_on none
-          (at ∙ ap (λ (v : Rules). spots_of v.end (disks_of placed)) (rules_is ∙ sym told_on.rules)
-          ∙ ap (λ (v : List Placed). spots_of later.rules.end (disks_of v)) rows))
+          (done_told after torn scene asked valid some later old new spots told_on none at)
 
       pub fails : {batch : List Action} {limit : Failure} → answer ≡ Limit batch limit →
           RunTold after scene (Passes limit) old new

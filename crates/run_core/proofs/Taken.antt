@@ -1,7 +1,9 @@
 -- One region after the other takes in what it is told.
-use Rattle.std.proofs.Common.{◌≡◌, ◌⊎◌, inl, inr, ℕ, ◌+◌, ◌<◌, ◌≤◌, List, sym, ◌∙◌, subst, refl, arith}
+use Rattle.std.proofs.Common.{◌≡◌, ◌⊎◌, inl, inr, ℕ, ◌+◌, ◌<◌, ◌≤◌, List, length, Some, sym, ◌∙◌, subst, refl, arith}
+use Rattle.std.specs.Prelude.{slice_get}
+use Rattle.std.proofs.lemmas.Option.{slice_get_within}
 use Rattle.event_stamps.specs.declared.Stamp.{Stamp}
-use Rattle.cell_grid.specs.Grid.{IsRegion, AreLinked}
+use Rattle.cell_grid.specs.Grid.{GridData, IsRegion, AreLinked}
 use Rattle.cell_sequence.specs.State.{CellStateData}
 use Rattle.local_run.specs.declared.answers.Step.{Step}
 use Rattle.local_run.specs.declared.answers.Hearing.{Hearing}
@@ -12,7 +14,8 @@ use Rattle.local_run.specs.Opening.{RegionData, home_of}
 use Rattle.commit_horizon.specs.Horizon.{Runs, runs_of, AllStand}
 use Rattle.run_core.specs.Hearings.{sent_by}
 use Rattle.run_core.specs.Second.{StepsIfLater}
-use Rattle.run_core.specs.Taking.{TookIn, OneTookIn}
+use Rattle.run_core.specs.Passing.{StandOn}
+use Rattle.run_core.specs.Taking.{TookIn, OneTookIn, AllTookIn}
 use Rattle.run_core.specs.Turns.{Turns, Meets}
 use Rattle.run_core.proofs.Standing.{HasHeardAt, has_heard, HasStepped, has_stepped}
 
@@ -123,3 +126,30 @@ one_more_took state old mid new k i so_far one = record {
   teller = one.teller ∙ so_far.teller;
   stand = one.stand;
 }
+
+-- none of them did at first, and all at last
+pub none_took : (state : CellStateData) (regions : List RegionData) (k : ℕ) → AllStand state regions →
+    TookInUpTo state regions regions k 0
+none_took state regions k stand =
+    record { took = λ q lt. absurd (omega (arith, lt)); rest = λ q le. refl; teller = refl; stand = stand }
+
+pub all_took : (grid : GridData) (old new : List RegionData) (state : CellStateData) (k i : ℕ) →
+    StandOn grid old state → i ≡ grid.regions → TookInUpTo state old new k i → AllTookIn state old k new
+all_took grid old new state k i on is took = record {
+  took = λ q within. took.took q (subst (λ (n : ℕ). q < n) (sym is)
+      (subst (λ (g : GridData). IsRegion g q) on.grid_is within));
+  stand = took.stand;
+}
+
+-- the number of the teller is its place
+pub number_of : (grid : GridData) (regions : List RegionData) (state : CellStateData) (k number : ℕ)
+    (region : RegionData) → StandOn grid regions state → slice_get regions k ≡ Some region →
+    number ≡ region.home.number → (number ≡ k) × IsRegion grid number
+number_of grid regions state k number region on at is =
+    let same : number ≡ k = is ∙ (on.stand.each k region at).number in
+    let within : k < length regions = slice_get_within regions k region at in (
+      same,
+      subst (λ (n : ℕ). n < grid.regions) (sym same)
+          (subst (λ (g : GridData). k < g.regions) on.grid_is
+          (subst (λ (n : ℕ). k < n) on.stand.count within)),
+    )

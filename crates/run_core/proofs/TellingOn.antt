@@ -1,39 +1,44 @@
 -- What is told of what the cell run does next.
-use Rattle.std.proofs.Common.{◌≡◌, ◌≢◌, inl, inr, Ok, Err, ℕ, List, [], ◌∷◌, ◌++◌, take, sym, ap, ◌∙◌, subst, refl, Bool, true, false}
-use Rattle.std.proofs.Common.{Option}
-use Rattle.std.specs.Prelude.{MatchBool, Result, IfOk, IfErr}
+use Rattle.std.proofs.Common.{◌≡◌, ◌≢◌, Ok, Err, ℕ, List, [], ◌∷◌, ◌++◌, take, sym, ap, ◌∙◌, subst, refl, true, false}
+use Rattle.std.proofs.Common.{Option, Some, None}
+use Rattle.std.specs.Prelude.{is_some, Result, IfOk, IfErr}
+use Rattle.std.specs.Option.{option_or}
+use Rattle.fixed_motion.specs.declared.rules.Rules.{Rules}
+use Rattle.event_stamps.specs.declared.Stamp.{Stamp}
 use Rattle.event_rules.specs.declared.change.Change.{Change}
+use Rattle.event_rules.specs.declared.change.Limit.{Limit as Failure}
 use Rattle.event_rules.specs.declared.outcome.RunFault.{RunFault}
 use Rattle.event_rules.specs.declared.outcome.RunFault.TheVariants.{Listener, NoMemory}
-use Rattle.event_rules.specs.Told.{IsTellable, Told, PrefixTold}
+use Rattle.event_rules.specs.Told.{Told, PrefixTold}
 use Rattle.event_rules.specs.Tellings.{CountsRun}
 use Rattle.event_rules.proofs.Telling.{told_none}
-use Rattle.region_view.specs.declared.action.Placed.{Placed}
+use Rattle.cell_grid.specs.Grid.{GridData}
 use Rattle.region_view.specs.declared.action.Action.{Action}
-use Rattle.region_view.specs.declared.action.Action.TheVariants.{Cross, Hit}
+use Rattle.region_view.specs.Acting.{stamp_of}
 use Rattle.cell_sequence.specs.Run.{CellSteps, hits}
-use Rattle.cell_sequence.specs.State.{CellStateData, IsCellState, followed, followed_by, raised}
-use Rattle.cell_sequence.proofs.Followed.{followed_is}
+use Rattle.cell_sequence.specs.State.{CellStateData, IsCellState, followed_by, raised, last_stamp}
 use Rattle.cell_sequence.proofs.Joins.{hits_join}
+use Rattle.local_run.specs.declared.answers.Step.{Step}
+use Rattle.local_run.specs.declared.answers.Step.TheVariants.{Ran, Halted}
 use Rattle.local_run.specs.Opening.{RegionData}
-use Rattle.commit_horizon.specs.Horizon.{Runs, runs_of, AllStand, AllKept}
-use Rattle.commit_horizon.specs.Telling.{HitsCutShort, CommitTold, CommitCutShort}
-use Rattle.commit_horizon.proofs.Merged.{merged_is_next}
-use Rattle.commit_horizon.proofs.Standing.{are_standing}
-use Rattle.commit_horizon.proofs.Tellings.{told_in_turn, next_tellable}
-use Rattle.run_core.specs.declared.answers.Advance.{Advance}
-use Rattle.run_core.specs.declared.answers.Advance.TheVariants.{Raised, End, Limit}
+use Rattle.commit_horizon.specs.declared.telling.Final.{Final}
+use Rattle.commit_horizon.specs.Horizon.{runs_of, AllStand, AllKept}
+use Rattle.commit_horizon.specs.Telling.{HitsCutShort, IsStateOf, FinalTold, CommitCutShort}
+use Rattle.commit_horizon.proofs.Tellings.{told_in_turn}
+use Rattle.run_core.specs.declared.answers.Advance.TheVariants.{Raised}
 use Rattle.run_core.specs.declared.answers.Course.{Course}
 use Rattle.run_core.specs.declared.answers.Course.TheVariants.{Raised as GoesOn, End as Ends, Limit as Fails}
-use Rattle.run_core.specs.Advances.{SecondPart}
-use Rattle.run_core.specs.AdvancesTold.{answer_with, AdvanceTold, AdvancesTold, EventTold, NextCutShort}
+use Rattle.run_core.specs.Advances.{IsAdvance}
+use Rattle.run_core.specs.AdvancesTold.{answer_with, AdvancesTold, AdvanceMade, EventMade, NextCutShort}
 use Rattle.run_core.specs.Passing.{Agrees}
 use Rattle.run_core.specs.Simulates.{batch_of, Advances}
-use Rattle.run_core.specs.Taking.{MakesNext}
-use Rattle.run_core.specs.Tells.{AreTellable, RefusedAmong}
+use Rattle.run_core.specs.Standing.{GoesOnTo, ComesOf}
+use Rattle.run_core.specs.Taking.{StandFrom, RunsEvent}
+use Rattle.run_core.proofs.OneState.{goes_on_by}
+use Rattle.run_core.proofs.Simulating.{leads_of}
+use Rattle.run_core.proofs.Homes.{event_ran, event_halted, event_idled}
 use Rattle.run_core.proofs.Parts.{in_first, in_second, answers_well}
-use Rattle.run_core.proofs.Pass.{passes_keep}
-use Rattle.run_core.proofs.Prefixes.{whole_after, prefix_after, refused_after}
+use Rattle.run_core.proofs.Prefixes.{whole_after, prefix_after}
 
 -- ---- one answer and another
 pub batch_in : (course : Course) (batch : List Action) → batch ≡ batch_of (answer_with course batch)
@@ -52,65 +57,112 @@ pub counts_of_err : (S T : Type 0) (before after : ℕ) (fault : RunFault) →
 counts_of_err S T before after Listener h = h
 counts_of_err S T before after NoMemory h = h
 
--- what the cell run does next can be told
-pub next_tellable_all : (xs : List Action) (state : CellStateData) (later : List Placed) → IsCellState state →
-    CellSteps state.rules state.grid state.placed xs later → AreTellable xs
-next_tellable_all [] state later is steps change among = absurd among
-next_tellable_all (Cross s cell ∷ xs) state later is steps change among =
-    let x = Cross s cell in
-    next_tellable_all xs (followed state x) later (followed_is state x is steps.0 steps.1) steps.2 change among
-next_tellable_all (Hit c ∷ xs) state later is steps change (inl same) =
-    subst IsTellable (sym same) (next_tellable state (Hit c) is (steps.0, steps.1))
-next_tellable_all (Hit c ∷ xs) state later is steps change (inr more) =
-    next_tellable_all xs (followed state (Hit c)) later (followed_is state (Hit c) is steps.0 steps.1) steps.2
-    change more
-
 -- what the cell run does next was told no further than before
 pub nothing_cut : {M : Type 0} (after : M → Change → M) (torn : M → Change → M → Type 0)
     (state : CellStateData) (m : Option M) → NextCutShort after torn state NoMemory m m
 nothing_cut after torn state m = ([], state.placed, refl, (0, told_none after m))
 
+-- what was told of a commit that broke off
+pub commit_cut : {M : Type 0} (after : M → Change → M) (torn : M → Change → M → Type 0) (state : CellStateData)
+    (regions : List RegionData) (fault : RunFault) (before later : Option M) →
+    CommitCutShort after torn state regions fault before later → NextCutShort after torn state fault before later
+commit_cut after torn state regions fault before later (batch, is_batch, cut) =
+    (batch, (followed_by state batch).placed, is_batch.steps, cut)
+
+-- the floor of a commit is its horizon
+horizon_is : {M : Type 0} {after : M → Change → M} {old : CellStateData} {given left : List RegionData} {made : Final}
+    {before later : Option M} (final : FinalTold after old given made left before later) →
+    final.new ≡ raised made.floor (followed_by old final.told.batch)
+horizon_is {old = old} {made = made} final =
+    let commits = final.told.commits in
+    commits.state ∙ ap (λ (h : Stamp). raised h (followed_by old final.told.batch))
+    (sym (ap (λ (v : CellStateData). v.floor) commits.state) ∙ final.floor)
+
 -- ---- the second part
-no_steps : (old new : CellStateData) (batch : List Action) → batch ≡ [] → new ≡ old →
-    CellSteps old.rules old.grid old.placed batch new.placed
-no_steps old new batch none same =
-    subst (λ (v : List Action). CellSteps old.rules old.grid old.placed v new.placed) (sym none)
-    (ap (λ (v : CellStateData). v.placed) same)
+-- regions on a state that comes of an earlier one are regions of its grid
+pub stand_from : (earlier : CellStateData) (grid : GridData) (floor : Stamp) (regions : List RegionData)
+    (state : CellStateData) → grid ≡ earlier.grid → ComesOf earlier floor regions state →
+    StandFrom grid floor regions state
+stand_from earlier grid floor regions state grid_is of =
+    record { is = of.is; grid_is = of.grid_is ∙ sym grid_is; floor_is = of.floor_is; stand = of.stand }
 
-second_steps : (old new : CellStateData) (runs : Runs) (answer : Advance) (left : List RegionData) →
-    SecondPart old runs answer new left → CellSteps old.rules old.grid old.placed (batch_of answer) new.placed
-second_steps old new runs (Raised batch) left part = part.answers.5.steps
-second_steps old new runs (End batch) left part = no_steps old new batch part.answers.1 part.answers.2
-second_steps old new runs (Limit batch limit) left part = no_steps old new batch part.answers.1 part.answers.2
+-- and others that stand on it have its rules
+pub state_with : (earlier : CellStateData) (rules : Rules) (floor : Stamp) (regions left : List RegionData)
+    (state : CellStateData) → rules ≡ earlier.rules → ComesOf earlier floor regions state → AllStand state left →
+    IsStateOf rules left state
+state_with earlier rules floor regions left state rules_are of stand =
+    record { is = of.is; rules_are = of.rules_are ∙ sym rules_are; stand = stand }
 
-module _ {M : Type 0} (after : M → Change → M) (torn : M → Change → M → Type 0) (old new : CellStateData)
-    (regions left : List RegionData) (answer : Advance) (made : MakesNext old regions answer new left)
-    (actions : List Action) (same : actions ≡ batch_of answer) (before later : Option M) where
-  steps : CellSteps old.rules old.grid old.placed (batch_of answer) new.placed
-  steps = second_steps old new (runs_of regions) answer left made.1
+module _ {M : Type 0} (after : M → Change → M) (old : CellStateData) (floor : Stamp) (is : IsCellState old)
+    (floor_is : old.floor ≡ floor) (regions left : List RegionData) (step : Step)
+    (event : RunsEvent old regions step left) (before : Option M) where
+  -- the event was run, and committed
+  pub made_event : (s : Stamp) → step ≡ Ran s → (made : Final) (last : List RegionData) (later : Option M) →
+      FinalTold after old left made last before later →
+      EventMade after old regions GoesOn made last before later
+  made_event s ran made last later final = record {
+    batch = final.told.batch;
+    new = final.new;
+    is = event_ran old is regions left step event s ran final.told.batch final.new last final.told.commits;
+    told = final.told.told;
+    state = horizon_is final;
+    is_last = final.told.is_last;
+    stand = final.told.commits.stand;
+  }
 
-  pub event_tellable : IsCellState old → AreTellable actions
-  event_tellable is = subst AreTellable (sym same) (next_tellable_all (batch_of answer) old new.placed is steps)
+  abbrev no_batch : Final
+  no_batch = record { last = None; floor = floor }
 
-  pub event_refused : RefusedAmong after torn before actions later →
-      NextCutShort after torn old Listener before later
-  event_refused (done, rest, change, mid, is, told, refused) = (
-    batch_of answer,
-    new.placed,
-    steps,
-    subst (λ (v : List Change). PrefixTold after torn before v later) (sym (ap hits (sym same) ∙ is))
-        (refused_after after torn before mid later done change rest told refused),
-  )
+  stays : old ≡ raised floor old
+  stays = λ i. record old { floor = floor_is i }
 
-  pub event_told : (course : Course) → answer_with course (batch_of answer) ≡ answer →
-      Told after before (hits actions) later → EventTold after old regions course new left before later
-  event_told course with told = record {
-    batch = batch_of answer;
-    is = subst (λ (v : Advance). MakesNext old regions v new left) (sym with) made;
-    told = subst (λ (v : List Action). Told after before (hits v) later) same told;
+  -- it fails a limit
+  pub halts_at : (limit : Failure) → step ≡ Halted limit →
+      EventMade after old regions (Fails limit) no_batch left before before
+  halts_at limit halts = record {
+    batch = [];
+    new = old;
+    is = event_halted old is regions left step event limit halts [] refl;
+    told = told_none after before;
+    state = stays;
+    is_last = refl;
+    stand = event.stand;
+  }
+
+  -- there is none
+  pub ends_all : ((s : Stamp) → ¬ (step ≡ Ran s)) → ((limit : Failure) → ¬ (step ≡ Halted limit)) →
+      EventMade after old regions Ends no_batch left before before
+  ends_all not_ran not_halted = record {
+    batch = [];
+    new = old;
+    is = event_idled old is regions left step event not_ran not_halted [] refl;
+    told = told_none after before;
+    state = stays;
+    is_last = refl;
+    stand = event.stand;
   }
 
 -- ---- both parts
+-- whether a batch has a last action
+abbrev stamp_at : Action → List Action → Stamp
+stamp_at x [] = stamp_of x
+stamp_at x (y ∷ xs) = stamp_at y xs
+
+empty_batch : (last : Option Stamp) (batch : List Action) → last ≡ last_stamp batch → false ≡ is_some last →
+    batch ≡ []
+empty_batch last [] is not = refl
+empty_batch last (x ∷ batch) is not =
+    let wrong = not ∙ ap is_some (is ∙ last_is_some x batch) in cc
+  where
+    last_is_some : (x : Action) (xs : List Action) → last_stamp (x ∷ xs) ≡ Some (stamp_at x xs)
+    last_is_some x [] = refl
+    last_is_some x (y ∷ xs) = last_is_some y xs
+
+not_empty : (last : Option Stamp) (batch : List Action) → last ≡ last_stamp batch → true ≡ is_some last →
+    batch ≢ []
+not_empty last batch is some none =
+    let wrong = some ∙ ap is_some (is ∙ ap last_stamp none) in cc
+
 -- of some actions all collisions were told, and of more a prefix
 hits_cut_after : {M : Type 0} (after : M → Change → M) (torn : M → Change → M → Type 0)
     (before mid later : Option M) (xs ys : List Action) (fault : RunFault) → Told after before (hits xs) mid →
@@ -122,74 +174,104 @@ hits_cut_after after torn before mid later xs ys NoMemory told cut =
     subst (λ (v : List Change). (n : ℕ) × Told after before (take n v) later) (sym (hits_join xs ys))
     (whole_after after before mid later (hits xs) (hits ys) told cut)
 
+-- a floor that is raised before more actions doesn't matter
+raised_before : (h f : Stamp) (xs : List Action) (state : CellStateData) →
+    raised f (followed_by (raised h state) xs) ≡ raised f (followed_by state xs)
+raised_before h f [] state = refl
+raised_before h f (x ∷ xs) state = refl
+
 module _ {M : Type 0} (after : M → Change → M) (torn : M → Change → M → Type 0) (old : CellStateData)
     (given heard : List RegionData) (is : IsCellState old) (stand : AllStand old given) (kept : AllKept given)
-    (agrees : Agrees old given heard) (before : Option M) where
-  -- the first part broke off
-  pub commit_cut : (fault : RunFault) (later : Option M) →
-      CommitCutShort after torn old heard fault before later → NextCutShort after torn old fault before later
-  commit_cut fault later (batch, is_batch, cut) =
-      let standing = (passes_keep old (runs_of given) (runs_of heard) agrees.passes is
-      (are_standing old given stand kept) agrees.hear).standing in (
-        batch,
-        (followed_by old batch).placed,
-        (merged_is_next old (runs_of heard) is_batch.horizon batch is standing is_batch.is_horizon.bound
-            is_batch.merged).steps,
-        cut,
-      )
+    (agrees : Agrees old given heard) (before : Option M) (made : Final) (left : List RegionData)
+    (between : Option M) (final : FinalTold after old heard made left before between) where
+  -- the first part committed some actions
+  pub first_made : true ≡ is_some made.last → AdvanceMade after old given GoesOn made left before between
+  first_made some = record {
+    batch = final.told.batch;
+    new = final.new;
+    is = answers_well old final.new given left (Raised final.told.batch) is stand kept
+        (in_first old final.new given heard left final.told.batch agrees final.told.commits
+        (λ none. not_empty made.last final.told.batch final.told.is_last some none));
+    told = final.told.told;
+    state = horizon_is final;
+    is_last = final.told.is_last;
+    stand = final.told.commits.stand;
+  }
 
-  module _ (any : Bool) (mid : CellStateData) (left : List RegionData) (between : Option M)
-      (told : CommitTold after old heard any mid left before between) where
-    -- it committed some actions
-    pub first_told : any ≡ true → AdvanceTold after old (runs_of given) GoesOn mid before between
-    first_told some = record {
-      batch = told.batch;
-      is = answers_well old mid given left (Raised told.batch) is stand kept
-          (in_first old mid given heard left told.batch agrees told.commits
-          (subst (λ (b : Bool). MatchBool b (told.batch ≢ []) (told.batch ≡ [])) some told.says));
-      told = told.told;
+  -- it committed none
+  module _ (not : false ≡ is_some made.last) where
+    none : final.told.batch ≡ []
+    none = empty_batch made.last final.told.batch final.told.is_last not
+
+    same : final.new ≡ raised made.floor old
+    same = horizon_is final ∙ ap (λ (xs : List Action). raised made.floor (followed_by old xs)) none
+
+    -- the state stays but for its floor
+    pub mid_comes : (earlier : CellStateData) → ComesOf earlier old.floor given old →
+        ComesOf earlier made.floor left final.new
+    mid_comes earlier of = record {
+      is = final.cell;
+      rules_are = ap (λ (v : CellStateData). v.rules) same ∙ of.rules_are;
+      grid_is = ap (λ (v : CellStateData). v.grid) same ∙ of.grid_is;
+      floor_is = final.floor;
+      stand = final.told.commits.stand;
     }
 
-    -- it committed none
-    module _ (not : any ≡ false) where
-      none : told.batch ≡ []
-      none = subst (λ (b : Bool). MatchBool b (told.batch ≢ []) (told.batch ≡ [])) not told.says
+    pub second_made : (course : Course) (then : Final) (last : List RegionData) (later : Option M) →
+        EventMade after final.new left course then last between later →
+        AdvanceMade after old given course then last before later
+    second_made course then last later event = record {
+      batch = event.batch;
+      new = event.new;
+      is = answers_well old event.new given last (answer_with course event.batch) is stand kept
+          (in_second old final.new given heard left final.told.batch agrees final.told.commits {E = Unit {0}}
+          event.new last (Ok (answer_with course event.batch)) none event.is);
+      told = subst (λ (v : List Action). Told after before (hits v ++ hits event.batch) later) none
+          (told_in_turn after before between later (hits final.told.batch) (hits event.batch) final.told.told
+          event.told);
+      state = event.state
+          ∙ ap (λ (v : CellStateData). raised then.floor (followed_by v event.batch)) same
+          ∙ raised_before made.floor then.floor event.batch old;
+      is_last = event.is_last;
+      stand = event.stand;
+    }
 
-      pub second_told : (course : Course) (new : CellStateData) (last : List RegionData) (later : Option M) →
-          EventTold after mid left course new last between later →
-          AdvanceTold after old (runs_of given) course new before later
-      second_told course new last later event = record {
-        batch = event.batch;
-        is = answers_well old new given last (answer_with course event.batch) is stand kept
-            (in_second old mid given heard left told.batch agrees told.commits {E = Unit {0}} new last
-            (Ok (answer_with course event.batch)) none event.is);
-        told = subst (λ (v : List Action). Told after before (hits v ++ hits event.batch) later) none
-            (told_in_turn after before between later (hits told.batch) (hits event.batch) told.told event.told);
-      }
+    -- and then the second part broke off
+    pub second_cut : (fault : RunFault) (later : Option M) →
+        NextCutShort after torn final.new fault between later → NextCutShort after torn old fault before later
+    second_cut fault later (actions, placed, then, cut) = (
+      actions,
+      placed,
+      subst (λ (v : CellStateData). CellSteps v.rules v.grid v.placed actions placed) same then,
+      subst (λ (v : List Action). HitsCutShort after torn (v ++ actions) fault before later) none
+          (hits_cut_after after torn before between later final.told.batch actions fault final.told.told cut),
+    )
 
-      -- and then the second part broke off
-      pub second_cut : (fault : RunFault) (later : Option M) → NextCutShort after torn mid fault between later →
-          NextCutShort after torn old fault before later
-      second_cut fault later (actions, placed, then, cut) =
-          let same : mid ≡ raised told.commits.horizon old = told.commits.state
-          ∙ ap (λ (xs : List Action). raised told.commits.horizon (followed_by old xs)) none in (
-            actions,
-            placed,
-            subst (λ (v : CellStateData). CellSteps v.rules v.grid v.placed actions placed) same then,
-            subst (λ (v : List Action). HitsCutShort after torn (v ++ actions) fault before later) none
-                (hits_cut_after after torn before between later told.batch actions fault told.told cut),
-          )
+-- ---- whatever is answered
+pub if_ok_goes : {T E : Type 0} (r : Result T E) {P Q : T → Type 0} → ((x : T) → P x → Q x) → IfOk r P → IfOk r Q
+if_ok_goes (Ok x) f p = f x p
+if_ok_goes (Err e) f p = tt
 
-      -- whatever the second part answers
-      pub second_told_by : (new : CellStateData) (last : List RegionData) (later : Option M)
-          (r : Result Course RunFault) →
-          IfOk r (λ course. EventTold after mid left course new last between later) →
-          IfOk r (λ course. AdvanceTold after old (runs_of given) course new before later)
-      second_told_by new last later (Ok course) event = second_told course new last later event
-      second_told_by new last later (Err fault) event = tt
+pub if_err_goes : {T E : Type 0} (r : Result T E) {P Q : E → Type 0} → ((e : E) → P e → Q e) → IfErr r P → IfErr r Q
+if_err_goes (Ok x) f p = tt
+if_err_goes (Err e) f p = f e p
 
-      pub second_cut_by : (later : Option M) (r : Result Course RunFault) →
-          IfErr r (λ fault. NextCutShort after torn mid fault between later) →
-          IfErr r (λ fault. NextCutShort after torn old fault before later)
-      second_cut_by later (Ok course) cut = tt
-      second_cut_by later (Err fault) cut = second_cut fault later cut
+-- ---- regions with their state
+module _ {M : Type 0} (after : M → Change → M) (earlier : CellStateData) (last : Option Stamp) (floor : Stamp)
+    (given : List RegionData) (old : CellStateData) (goes : GoesOnTo earlier last floor given old)
+    (left : List RegionData) (course : Course) (made : Final) (before later : Option M)
+    (advance : AdvanceMade after old given course made left before later) where
+  pub goes_to : GoesOnTo earlier (option_or made.last last) made.floor left advance.new
+  goes_to = goes_on_by earlier last floor given old goes advance.batch made.last made.floor left advance.new
+      (leads_of old advance.new (runs_of given) (answer_with course advance.batch) advance.is).cell advance.stand
+      advance.state advance.is_last
+
+  pub advances_to : (new : CellStateData) → new ≡ advance.new → AdvancesTold after old course new before later
+  advances_to new same = (
+    runs_of given,
+    record {
+      batch = advance.batch;
+      is = subst (IsAdvance old (runs_of given) (answer_with course advance.batch)) (sym same) advance.is;
+      told = advance.told;
+    },
+  )

@@ -1,14 +1,15 @@
 -- What an advance comes to whose batch is told at once.
-use Rattle.std.specs.Prelude.{List, Option}
+use Rattle.std.specs.Prelude.{◌≡◌, List, Option}
 use Rattle.event_rules.specs.declared.change.Change.{Change}
 use Rattle.event_rules.specs.declared.outcome.RunFault.{RunFault}
 use Rattle.event_rules.specs.Told.{Told}
 use Rattle.region_view.specs.declared.action.Placed.{Placed}
 use Rattle.region_view.specs.declared.action.Action.{Action}
 use Rattle.cell_sequence.specs.Run.{CellSteps, hits}
-use Rattle.cell_sequence.specs.State.{CellStateData}
+use Rattle.cell_sequence.specs.State.{CellStateData, followed_by, raised, last_stamp}
 use Rattle.local_run.specs.Opening.{RegionData}
-use Rattle.commit_horizon.specs.Horizon.{Runs}
+use Rattle.commit_horizon.specs.declared.telling.Final.{Final}
+use Rattle.commit_horizon.specs.Horizon.{Runs, runs_of, AllStand}
 use Rattle.commit_horizon.specs.Telling.{HitsCutShort}
 use Rattle.run_core.specs.declared.answers.Advance.{Advance}
 use Rattle.run_core.specs.declared.answers.Advance.TheVariants.{Raised, End, Limit}
@@ -35,12 +36,28 @@ abbrev pub AdvancesTold : {M : Type 0} → (M → Change → M) → CellStateDat
     Option M → Option M → Type 0
 AdvancesTold after old course new before later = (runs : Runs) × AdvanceTold after old runs course new before later
 
--- the second part of an advance, exactly the collisions of whose batch were told
-pub record EventTold {M : Type 0} (after : M → Change → M) (old : CellStateData) (regions : List RegionData)
-    (course : Course) (new : CellStateData) (left : List RegionData) (before later : Option M) : Type 0 where
+-- the second part of an advance, exactly the collisions of whose batch were told, and what is answered of the state
+-- that comes of it
+pub record EventMade {M : Type 0} (after : M → Change → M) (old : CellStateData) (regions : List RegionData)
+    (course : Course) (made : Final) (left : List RegionData) (before later : Option M) : Type 0 where
   pub batch : List Action
+  pub new : CellStateData
   pub is : MakesNext old regions (answer_with course batch) new left
   pub told : Told after before (hits batch) later
+  pub state : new ≡ raised made.floor (followed_by old batch)
+  pub is_last : made.last ≡ last_stamp batch
+  pub stand : AllStand new left
+
+-- an advance, exactly the collisions of whose batch were told, and what is answered of the state that comes of it
+pub record AdvanceMade {M : Type 0} (after : M → Change → M) (old : CellStateData) (regions : List RegionData)
+    (course : Course) (made : Final) (left : List RegionData) (before later : Option M) : Type 0 where
+  pub batch : List Action
+  pub new : CellStateData
+  pub is : IsAdvance old (runs_of regions) (answer_with course batch) new
+  pub told : Told after before (hits batch) later
+  pub state : new ≡ raised made.floor (followed_by old batch)
+  pub is_last : made.last ≡ last_stamp batch
+  pub stand : AllStand new left
 
 -- what was told of what the cell run does next, where the telling breaks off
 abbrev pub NextCutShort : {M : Type 0} → (M → Change → M) → (M → Change → M → Type 0) → CellStateData →

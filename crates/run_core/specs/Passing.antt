@@ -1,6 +1,6 @@
 -- Passes of hearings over regions that stand on a state.
 use Rattle.std.specs.Prelude.{◌≡◌, ℕ, ◌<◌, Bool, true, false, nat_lt, List}
-use Rattle.cell_grid.specs.Grid.{AreLinked}
+use Rattle.cell_grid.specs.Grid.{GridData, AreLinked}
 use Rattle.region_messages.specs.Trails.{IsAmong}
 use Rattle.cell_sequence.specs.State.{CellStateData}
 use Rattle.local_run.specs.declared.answers.Hearing.{Hearing}
@@ -8,6 +8,11 @@ use Rattle.local_run.specs.declared.answers.Hearing.TheVariants.{Same, Rewound, 
 use Rattle.local_run.specs.Opening.{RegionData}
 use Rattle.commit_horizon.specs.Horizon.{runs_of, AllStand}
 use Rattle.run_core.specs.Hearings.{Call, Hearings, rewinds, Passes}
+
+-- regions of this grid stand on a state
+pub record StandOn (grid : GridData) (regions : List RegionData) (state : CellStateData) : Type 0 where
+  pub grid_is : state.grid ≡ grid
+  pub stand : AllStand state regions
 
 -- whether the hearer was rewound
 abbrev pub is_rewound : Hearing → Bool
@@ -42,3 +47,8 @@ AllHearUpTo state i calls = (q : ℕ) → q < i → HearsUpTo state q state.grid
 pub record Agrees (state : CellStateData) (old new : List RegionData) : Type 0 where
   pub passes : List (List Call)
   pub hear : Passes state (runs_of old) passes (runs_of new)
+
+-- so they did, and stand on the state still
+pub record AgreeOn (state : CellStateData) (old new : List RegionData) : Type 0 where
+  pub agree : Agrees state old new
+  pub stand : AllStand state new

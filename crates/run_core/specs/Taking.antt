@@ -2,8 +2,10 @@
 use Rattle.std.specs.Prelude.{◌≡◌, ◌≢◌, ◌⊎◌, ℕ, ◌<◌, List, Some, length, slice_get}
 use Rattle.event_stamps.specs.declared.Stamp.{Stamp}
 use Rattle.event_stamps.specs.Order.{Before}
-use Rattle.cell_grid.specs.Grid.{IsRegion, AreLinked}
-use Rattle.cell_sequence.specs.State.{CellStateData}
+use Rattle.cell_grid.specs.Grid.{GridData, IsRegion, AreLinked}
+use Rattle.cell_sequence.specs.State.{CellStateData, IsCellState}
+use Rattle.local_run.specs.declared.answers.Step.{Step}
+use Rattle.local_run.specs.declared.answers.Step.TheVariants.{Ran}
 use Rattle.local_run.specs.LocalRun.{Local}
 use Rattle.local_run.specs.Opening.{RegionData}
 use Rattle.local_run.specs.Keeping.{IsDueIn}
@@ -11,7 +13,8 @@ use Rattle.commit_horizon.specs.Horizon.{Runs, runs_of, AreStanding, AllStand}
 use Rattle.run_core.specs.declared.answers.Advance.{Advance}
 use Rattle.run_core.specs.Advances.{SecondPart}
 use Rattle.run_core.specs.Hearings.{Call, Hearings, IsPass}
-use Rattle.run_core.specs.Second.{rewound_to, TakesIn}
+use Rattle.run_core.specs.Second.{rewound_to, TakesIn, AllTakeIn}
+use Rattle.run_core.specs.Turns.{Turns}
 
 -- ---- what is due
 -- of what the first n regions have due, the one at a place has the least, and none before it has that
@@ -41,7 +44,20 @@ pub record OneTookIn (state : CellStateData) (old new : List RegionData) (k q : 
   pub teller : runs_of new k ≡ runs_of old k
   pub stand : AllStand state new
 
+-- all regions took in what region k sent, and stand on the state
+pub record AllTookIn (state : CellStateData) (old : List RegionData) (k : ℕ) (new : List RegionData) : Type 0 where
+  pub took : AllTakeIn state (runs_of old) k (runs_of new)
+  pub stand : AllStand state new
+
 -- ---- one event
+-- regions of this grid stand on a state with this floor
+pub record StandFrom (grid : GridData) (floor : Stamp) (regions : List RegionData) (state : CellStateData) :
+    Type 0 where
+  pub is : IsCellState state
+  pub grid_is : state.grid ≡ grid
+  pub floor_is : state.floor ≡ floor
+  pub stand : AllStand state regions
+
 -- regions that stand were all taken back to the floor, and heard each other
 pub record Refreshed (state : CellStateData) (regions fresh : List RegionData) : Type 0 where
   pub standing : AreStanding state (runs_of regions)
@@ -51,6 +67,24 @@ pub record Refreshed (state : CellStateData) (regions fresh : List RegionData) :
   pub is_pass : IsPass state pass
   pub hear : Hearings state back pass (runs_of fresh)
   pub stand : AllStand state fresh
+
+-- where the step of region k ran the event, all regions took in what it sent; else they are as it left them
+abbrev pub TakenIfRan : CellStateData → List RegionData → ℕ → Step → List RegionData → Type 0
+TakenIfRan state stepped k (Ran s) left = AllTookIn state stepped k left
+TakenIfRan state stepped k _ left = left ≡ stepped
+
+-- regions that stand ran the next event: all were taken back to the floor and heard each other, and the one with the
+-- least that is due made a step
+pub record RunsEvent (state : CellStateData) (regions : List RegionData) (step : Step) (left : List RegionData) :
+    Type 0 where
+  pub fresh : List RegionData
+  pub refreshed : Refreshed state regions fresh
+  pub home : ℕ
+  pub is_home : IsHome fresh home
+  pub stepped : List RegionData
+  pub turns : Turns fresh home step stepped
+  pub taken : TakenIfRan state stepped home step left
+  pub stand : AllStand state left
 
 -- the second part of an advance, over regions that stand
 abbrev pub MakesNext : CellStateData → List RegionData → Advance → CellStateData → List RegionData → Type 0

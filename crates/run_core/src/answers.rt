@@ -26,7 +26,6 @@ pub(crate) enum Course {
 }
 
 ghost use Rattle.std.specs.Prelude.{◌≡◌};
-ghost use Rattle.run_core.specs.AdvancesTold.{answer_with};
 ghost use Rattle.run_core.specs.Simulates.{batch_of};
 
 impl Advance {
@@ -38,17 +37,6 @@ impl Advance {
             Advance::Raised(batch) => batch,
             Advance::End(batch) => batch,
             Advance::Limit(batch, _) => batch,
-        }
-    }
-
-    /// The same without the actions.
-    pub(crate) fn without_batch(&self) -> Course
-        ensures { answer_with result (batch_of self.now) ≡ self.now }
-    {
-        match self {
-            Advance::Raised(_) => Course::Raised,
-            Advance::End(_) => Course::End,
-            Advance::Limit(_, limit) => Course::Limit(*limit),
         }
     }
 }

@@ -5,13 +5,13 @@ mod advance_telling;
 mod answers;
 mod laws;
 mod one_event;
+mod one_state;
 mod pairs;
 mod passes;
 mod playing;
 mod progress;
 mod scripted;
 mod simulation;
-mod telling;
 
 pub use answers::Advance;
 pub use laws::{

@@ -4,14 +4,15 @@ ghost use Rattle.std.specs.Prelude.{◌≡◌, ◌<◌, length, map, IfOk, OnOk}
 ghost use Rattle.cell_grid.specs.Grid.{IsRegion};
 ghost use Rattle.region_messages.specs.Trails.{is_before};
 ghost use Rattle.local_run.specs.Hearing.{rewound};
-ghost use Rattle.commit_horizon.specs.Horizon.{runs_of, AllStand, AllKept};
-ghost use Rattle.run_core.specs.Second.{AllTakeIn};
-ghost use Rattle.run_core.specs.Taking.{IsHome, OneTookIn, Refreshed, MakesNext};
+ghost use Rattle.cell_sequence.specs.State.{CellStateData};
+ghost use Rattle.commit_horizon.specs.Horizon.{AllStand, AllKept};
+ghost use Rattle.run_core.specs.Passing.{StandOn};
+ghost use Rattle.run_core.specs.Taking.{IsHome, OneTookIn, AllTookIn, Refreshed, RunsEvent, StandFrom, MakesNext};
 
 use crate::Advance;
 use crate::pairs::{hear_at, step_at};
 use crate::passes::pass;
-use cell_sequence::CellState;
+use cell_grid::Grid;
 use commit_horizon::{Batch, Committed};
 use event_stamps::Stamp;
 use region_core::{Hearing, Region, Step};
@@ -32,12 +33,10 @@ pub(crate) fn one_event(
         MakesNext committed.old regions.old answer committed.new regions.new) }
     ensures stand { OnOk result (AllStand committed.new regions.new) }
 {
-    refresh(alloc, committed.state(), regions)?;
-    let home = least_due(regions);
-    let step = step_at(alloc, regions, home)?;
+    let state = committed.state();
+    let step = run_event(alloc, state.grid(), state.floor(), regions)?;
     match step {
         Step::Ran(_) => {
-            tell_all(alloc, committed.state(), regions, home)?;
             let batch = committed.commit(alloc, regions)?;
             Ok(Advance::Raised(batch))
         }
@@ -46,14 +45,48 @@ pub(crate) fn one_event(
     }
 }
 
+/// Has regions of a grid, which stand on a state with this floor, run the state's next event: the region that is
+/// its home makes a step, which is answered, and where that ran the event, those that are linked with it take in
+/// what it sent. What they did since the floor is taken back first.
+///
+/// # Errors
+/// Out of memory.
+pub(crate) fn run_event(
+    alloc: Global,
+    grid: &Grid,
+    floor: Stamp,
+    regions: &mut [Region],
+) -> Result<Step, AllocError>
+    requires { (state : CellStateData) × StandFrom grid.now floor regions.old state }
+    ensures { IfOk result (λ step. (state : CellStateData) → StandFrom grid.now floor regions.old state →
+        RunsEvent state regions.old step regions.new) }
+{
+    refresh(alloc, grid, floor, regions)?;
+    let home = least_due(regions);
+    let step = step_at(alloc, regions, home)?;
+    match step {
+        Step::Ran(_) => {
+            tell_all(alloc, grid, regions, home)?;
+            Ok(step)
+        }
+        _ => Ok(step),
+    }
+}
+
 // All regions take back what they did since the floor, and hear each other.
-fn refresh(alloc: Global, state: &CellState, regions: &mut [Region]) -> Result<(), AllocError>
-    requires { AllStand state.now regions.old }
-    ensures { OnOk result (Refreshed state.now regions.old regions.new) }
+fn refresh(
+    alloc: Global,
+    grid: &Grid,
+    floor: Stamp,
+    regions: &mut [Region],
+) -> Result<(), AllocError>
+    requires { (state : CellStateData) × StandFrom grid.now floor regions.old state }
+    ensures { OnOk result ((state : CellStateData) → StandFrom grid.now floor regions.old state →
+        Refreshed state regions.old regions.new) }
 {
     know(regions);
-    rewind_all(alloc, regions, state.floor())?;
-    pass(alloc, state, regions)?;
+    rewind_all(alloc, regions, floor)?;
+    pass(alloc, grid, regions)?;
     Ok(())
 }
 
@@ -99,21 +132,21 @@ fn comes_before(stamp: &Stamp, other: &Stamp) -> bool
     stamp < other
 }
 
-// The regions that are linked with the one at a place take in what it sent.
+// The regions of a grid that are linked with the one at a place take in what it sent.
 fn tell_all(
     alloc: Global,
-    state: &CellState,
+    grid: &Grid,
     regions: &mut [Region],
     home: usize,
 ) -> Result<(), AllocError>
-    requires stand { AllStand state.now regions.old }
+    requires stand { (state : CellStateData) × StandOn grid.now regions.old state }
     requires teller { home < length regions.old }
-    ensures took { OnOk result (AllTakeIn state.now (runs_of regions.old) home (runs_of regions.new)) }
-    ensures stand { OnOk result (AllStand state.now regions.new) }
+    ensures { OnOk result ((state : CellStateData) → StandOn grid.now regions.old state →
+        AllTookIn state regions.old home regions.new) }
 {
     let number = regions[home].number();
-    for hearer in 0..state.grid().regions() {
-        take_in(alloc, state, regions, hearer, number)?;
+    for hearer in 0..grid.regions() {
+        take_in(alloc, grid, regions, hearer, number)?;
     }
     Ok(())
 }
@@ -121,17 +154,18 @@ fn tell_all(
 // One region takes in what another sent, where they are linked: it hears it, and steps where it is new.
 fn take_in(
     alloc: Global,
-    state: &CellState,
+    grid: &Grid,
     regions: &mut [Region],
     hearer: u32,
     from: u32,
 ) -> Result<(), AllocError>
-    requires stand { AllStand state.now regions.old }
-    requires hearer { IsRegion state.now.grid hearer }
-    requires sender { IsRegion state.now.grid from }
-    ensures { OnOk result (OneTookIn state.now regions.old regions.new from hearer) }
+    requires stand { (state : CellStateData) × StandOn grid.now regions.old state }
+    requires hearer { IsRegion grid.now hearer }
+    requires sender { IsRegion grid.now from }
+    ensures { OnOk result ((state : CellStateData) → StandOn grid.now regions.old state →
+        OneTookIn state regions.old regions.new from hearer) }
 {
-    if !state.grid().linked(from, hearer) {
+    if !grid.linked(from, hearer) {
         return Ok(());
     }
     let hearing = hear_at(alloc, regions, hearer as usize, from as usize)?;

@@ -2,29 +2,25 @@
 
 ghost use Rattle.std.specs.Prelude.{◌≡◌, IfOk, OnOk};
 ghost use Rattle.cell_grid.specs.Grid.{IsRegion};
-ghost use Rattle.commit_horizon.specs.Horizon.{AllStand};
-ghost use Rattle.run_core.specs.Passing.{is_rewound, Heard, HearsOne, HearsUpTo, AllHearUpTo, Agrees};
+ghost use Rattle.cell_sequence.specs.State.{CellStateData};
+ghost use Rattle.run_core.specs.Passing.{StandOn, is_rewound, Heard, HearsOne, HearsUpTo, AllHearUpTo, AgreeOn};
 
 use crate::pairs::hear_at;
-use cell_sequence::CellState;
+use cell_grid::Grid;
 use region_core::{Hearing, Region};
 use std::alloc::{AllocError, Global};
 
-/// Passes of the regions that stand on a state, up to the first that takes nothing back.
+/// Passes of the regions of a grid that stand on a state, up to the first that takes nothing back.
 ///
 /// # Errors
 /// Out of memory.
-pub(crate) fn agree(
-    alloc: Global,
-    state: &CellState,
-    regions: &mut [Region],
-) -> Result<(), AllocError>
-    requires { AllStand state.now regions.old }
-    ensures agree { OnOk result (Agrees state.now regions.old regions.new) }
-    ensures stand { OnOk result (AllStand state.now regions.new) }
+pub(crate) fn agree(alloc: Global, grid: &Grid, regions: &mut [Region]) -> Result<(), AllocError>
+    requires { (state : CellStateData) × StandOn grid.now regions.old state }
+    ensures { OnOk result ((state : CellStateData) → StandOn grid.now regions.old state →
+        AgreeOn state regions.old regions.new) }
 {
     'passes: loop {
-        let more = pass(alloc, state, regions)?;
+        let more = pass(alloc, grid, regions)?;
         if !more {
             return Ok(());
         }
@@ -35,18 +31,14 @@ pub(crate) fn agree(
 ///
 /// # Errors
 /// Out of memory.
-pub(crate) fn pass(
-    alloc: Global,
-    state: &CellState,
-    regions: &mut [Region],
-) -> Result<bool, AllocError>
-    requires { AllStand state.now regions.old }
-    ensures { IfOk result (λ more. Heard state.now regions.old regions.new more
-        (AllHearUpTo state.now state.now.grid.regions)) }
+pub(crate) fn pass(alloc: Global, grid: &Grid, regions: &mut [Region]) -> Result<bool, AllocError>
+    requires { (state : CellStateData) × StandOn grid.now regions.old state }
+    ensures { IfOk result (λ more. (state : CellStateData) → StandOn grid.now regions.old state →
+        Heard state regions.old regions.new more (AllHearUpTo state state.grid.regions)) }
 {
     let mut more = false;
-    for hearer in 0..state.grid().regions() {
-        more |= hear_all(alloc, state, regions, hearer)?;
+    for hearer in 0..grid.regions() {
+        more |= hear_all(alloc, grid, regions, hearer)?;
     }
     Ok(more)
 }
@@ -54,18 +46,18 @@ pub(crate) fn pass(
 // One region hears each that is linked with it; whether it was rewound.
 fn hear_all(
     alloc: Global,
-    state: &CellState,
+    grid: &Grid,
     regions: &mut [Region],
     hearer: u32,
 ) -> Result<bool, AllocError>
-    requires stand { AllStand state.now regions.old }
-    requires hearer { IsRegion state.now.grid hearer }
-    ensures { IfOk result (λ more. Heard state.now regions.old regions.new more
-        (HearsUpTo state.now hearer state.now.grid.regions)) }
+    requires stand { (state : CellStateData) × StandOn grid.now regions.old state }
+    requires hearer { IsRegion grid.now hearer }
+    ensures { IfOk result (λ more. (state : CellStateData) → StandOn grid.now regions.old state →
+        Heard state regions.old regions.new more (HearsUpTo state hearer state.grid.regions)) }
 {
     let mut more = false;
-    for from in 0..state.grid().regions() {
-        more |= hear_one(alloc, state, regions, hearer, from)?;
+    for from in 0..grid.regions() {
+        more |= hear_one(alloc, grid, regions, hearer, from)?;
     }
     Ok(more)
 }
@@ -73,18 +65,18 @@ fn hear_all(
 // One region hears another, where they are linked; whether it was rewound.
 fn hear_one(
     alloc: Global,
-    state: &CellState,
+    grid: &Grid,
     regions: &mut [Region],
     hearer: u32,
     from: u32,
 ) -> Result<bool, AllocError>
-    requires stand { AllStand state.now regions.old }
-    requires hearer { IsRegion state.now.grid hearer }
-    requires sender { IsRegion state.now.grid from }
-    ensures { IfOk result (λ more. Heard state.now regions.old regions.new more
-        (HearsOne state.now hearer from)) }
+    requires stand { (state : CellStateData) × StandOn grid.now regions.old state }
+    requires hearer { IsRegion grid.now hearer }
+    requires sender { IsRegion grid.now from }
+    ensures { IfOk result (λ more. (state : CellStateData) → StandOn grid.now regions.old state →
+        Heard state regions.old regions.new more (HearsOne state hearer from)) }
 {
-    if !state.grid().linked(from, hearer) {
+    if !grid.linked(from, hearer) {
         return Ok(false);
     }
     let hearing = hear_at(alloc, regions, hearer as usize, from as usize)?;

@@ -31,7 +31,7 @@ pub fn advance(
     ensures stand { OnOk result (AllStand committed.new regions.new) }
 {
     know(regions);
-    agree(alloc, committed.state(), regions)?;
+    agree(alloc, committed.state().grid(), regions)?;
     let batch = committed.commit(alloc, regions)?;
     if batch.as_slice().is_empty() {
         one_event(alloc, committed, regions)

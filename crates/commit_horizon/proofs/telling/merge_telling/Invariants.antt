@@ -1,6 +1,8 @@
 use Rattle.std.proofs.Common.{◌≡◌}
 use Rattle.std.specs.List.{sum_by}
+use Rattle.cell_sequence.specs.State.{CellStateData}
 use Rattle.commit_horizon.specs.Leading.{IsLeader}
+use Rattle.commit_horizon.specs.Telling.{IsMergedFrom}
 use Rattle.commit_horizon.proofs.Heads.{cost_of}
 use Rattle.commit_horizon.proofs.Tellings.{KeepsTelling}
 use Rattle.commit_horizon.proofs.telling.merge_telling.Given as goal
@@ -8,7 +10,8 @@ use Rattle.commit_horizon.proofs.telling.merge_telling.Given as goal
 abbrev pub invariant-actions : goal.invariant-actions
 invariant-actions g l = let L = g.L.Listener in record {
   leads : IsLeader l.heads.items l.next;
-  telling : KeepsTelling L.after l.fn.state l.regions l.horizon l.heads.items l.any l.state
+  telling : (state : CellStateData) → IsMergedFrom l.regions l.horizon state →
+      KeepsTelling L.after state l.regions l.horizon l.heads.items l.last
       (L.meaning l.fn.listener) (L.meaning l.listener);
   count : L.faults l.listener ≡ L.faults l.fn.listener;
 }

@@ -1,63 +1,86 @@
-use Rattle.std.proofs.Common.{ℕ, subst}
+use Rattle.std.proofs.Common.{List, length, sym, ap, ◌∙◌, subst, Option}
 use Rattle.std.proofs.lemmas.Result.{err_from_is_err_and}
-use Rattle.event_rules.specs.Tellings.{CountsRun}
-use Rattle.cell_sequence.specs.State.{CellStateData}
-use Rattle.run_core.specs.Passing.{Agrees}
-use Rattle.run_core.proofs.TellingOn.{commit_cut, first_told, second_told_by, second_cut_by}
+use Rattle.event_stamps.specs.declared.Stamp.{Stamp}
+use Rattle.local_run.specs.Opening.{RegionData}
+use Rattle.run_core.specs.Standing.{GoesOnTo}
+use Rattle.run_core.proofs.OneState.{comes_of, written_back}
+use Rattle.run_core.proofs.TellingOn.{goes_to, advances_to}
 use Rattle.run_core.proofs.advance_telling.advance_telling.Goals as goal
 
-pub returns-in_err-commit_telling-clause-cut_short :
-    goal.returns-in_err-commit_telling-clause-cut_short
-returns-in_err-commit_telling-clause-cut_short g c =
-    let L = g.L.Listener in
-    let old = c.args.committed.now in
-    let given = c.args.regions.now in
-    let heard = c.agree.new.regions in
-    let before = L.meaning c.args.listener.now in
-    let between = L.meaning c.commit_telling.new.listener in
-    let agrees = subst (λ (v : CellStateData). Agrees v given heard) c.state.ensures.value
-    c.in_ok-agree.ensures.agree in
-    let fault = err_from_is_err_and c.from_residual-in_err-commit_telling.result
-    c.from_residual-in_err-commit_telling.ensures.1 in
-    rw (fault.1, fault.2) (commit_cut L.after L.torn old given heard c.state.ensures.kept c.requires c.know.ensures
-    agrees before c.in_err-commit_telling.field-0.0 between c.in_err-commit_telling.ensures.cut_short)
+pub make_final-requires : goal.make_final-requires
+make_final-requires g c =
+    let state = c.args.standing in
+    let earlier = c.standing.inside.earlier in
+    let last = c.standing.inside.last in
+    let floor = c.standing.inside.floor in
+    let given = c.deref_mut.result.now in
+    let goes = subst (λ (v : List RegionData). GoesOnTo earlier last floor v state) (sym c.deref_mut.ensures.value)
+    (subst (GoesOnTo earlier last floor c.standing.inside.regions.items) c.standing.view_is c.standing.invariant) in
+    let of = comes_of earlier c.state.result.now last floor given state c.state.ensures.value goes in
+    (state, of)
 
-pub returns-then-branch-clause-told : goal.returns-then-branch-clause-told
-returns-then-branch-clause-told g c =
+pub returns-in_err-course-clause-cut_short : goal.returns-in_err-course-clause-cut_short
+returns-in_err-course-clause-cut_short g c =
     let L = g.L.Listener in
-    let old = c.args.committed.now in
-    let given = c.args.regions.now in
-    let heard = c.agree.new.regions in
+    let state = c.args.standing in
+    let earlier = c.standing.inside.earlier in
+    let last = c.standing.inside.last in
+    let floor = c.standing.inside.floor in
+    let given = c.deref_mut.result.now in
     let before = L.meaning c.args.listener.now in
-    let between = L.meaning c.commit_telling.new.listener in
-    let agrees = subst (λ (v : CellStateData). Agrees v given heard) c.state.ensures.value
-    c.in_ok-agree.ensures.agree in
-    first_told L.after L.torn old given heard c.state.ensures.kept c.requires c.know.ensures agrees before
-    c.in_ok-commit_telling.field-0 c.commit_telling.new.self c.commit_telling.new.regions between
-    c.in_ok-commit_telling.ensures.told c.if-branch.true
+    let goes = subst (λ (v : List RegionData). GoesOnTo earlier last floor v state) (sym c.deref_mut.ensures.value)
+    (subst (GoesOnTo earlier last floor c.standing.inside.regions.items) c.standing.view_is c.standing.invariant) in
+    let of = comes_of earlier c.state.result.now last floor given state c.state.ensures.value goes in
+    let fault = err_from_is_err_and c.from_residual.result c.from_residual.ensures.1 in
+    rw (fault.1, fault.2) (c.in_err-course.ensures.cut_short state of)
 
-pub returns : goal.returns
-returns g c =
+pub after-standing-requires : goal.after-standing-requires
+after-standing-requires g c =
     let L = g.L.Listener in
-    let old = c.args.committed.now in
-    let given = c.args.regions.now in
-    let heard = c.agree.new.regions in
+    let state = c.args.standing in
+    let earlier = c.standing.inside.earlier in
+    let last = c.standing.inside.last in
+    let floor = c.standing.inside.floor in
+    let items = c.standing.inside.regions.items in
+    let given = c.deref_mut.result.now in
     let before = L.meaning c.args.listener.now in
-    let between = L.meaning c.commit_telling.new.listener in
-    let agrees = subst (λ (v : CellStateData). Agrees v given heard) c.state.ensures.value
-    c.in_ok-agree.ensures.agree in
-    let later = L.meaning c.event_telling.new.listener in
-    let new = c.event_telling.new.committed in
-    let r = c.event_telling.result in
-    record {
-      told = second_told_by L.after L.torn old given heard c.state.ensures.kept c.requires c.know.ensures agrees
-          before c.in_ok-commit_telling.field-0 c.commit_telling.new.self c.commit_telling.new.regions between
-          c.in_ok-commit_telling.ensures.told c.if-branch.false new c.event_telling.new.regions later r
-          c.event_telling.ensures.told;
-      cut_short = second_cut_by L.after L.torn old given heard c.state.ensures.kept c.requires c.know.ensures
-          agrees before c.in_ok-commit_telling.field-0 c.commit_telling.new.self c.commit_telling.new.regions
-          between c.in_ok-commit_telling.ensures.told c.if-branch.false later r c.event_telling.ensures.cut_short;
-      counts = subst (λ (n : ℕ). CountsRun n (L.faults c.event_telling.new.listener) r)
-          c.in_ok-commit_telling.ensures.counts c.event_telling.ensures.counts;
-      stand = c.event_telling.ensures.stand;
-    }
+    let goes = subst (λ (v : List RegionData). GoesOnTo earlier last floor v state) (sym c.deref_mut.ensures.value)
+    (subst (GoesOnTo earlier last floor items) c.standing.view_is c.standing.invariant) in
+    let of = comes_of earlier c.state.result.now last floor given state c.state.ensures.value goes in
+    let later = L.meaning c.make_final.new.listener in
+    let left = c.make_final.new.regions in
+    let made = c.in_ok-course.made in
+    let advance = c.in_ok-course.ensures.told state of in
+    let back = written_back left items c.standing.inside.regions.len
+    (c.make_final.auto.regions ∙ c.deref_mut.ensures.len)
+    (ap length (sym c.deref_mut.ensures.value) ∙ c.deref_mut.ensures.len) in
+    let to = subst (λ (v : List RegionData). GoesOnTo earlier c.or.result made.floor v advance.new) back
+    (subst (λ (v : Option Stamp). GoesOnTo earlier v made.floor left advance.new) (sym c.or.ensures)
+    (goes_to L.after earlier last floor given state goes left c.in_ok-course.course made before later advance)) in
+    (advance.new, to)
+
+pub returns-clause-told : goal.returns-clause-told
+returns-clause-told g c =
+    let L = g.L.Listener in
+    let state = c.args.standing in
+    let earlier = c.standing.inside.earlier in
+    let last = c.standing.inside.last in
+    let floor = c.standing.inside.floor in
+    let items = c.standing.inside.regions.items in
+    let given = c.deref_mut.result.now in
+    let before = L.meaning c.args.listener.now in
+    let goes = subst (λ (v : List RegionData). GoesOnTo earlier last floor v state) (sym c.deref_mut.ensures.value)
+    (subst (GoesOnTo earlier last floor items) c.standing.view_is c.standing.invariant) in
+    let of = comes_of earlier c.state.result.now last floor given state c.state.ensures.value goes in
+    let later = L.meaning c.make_final.new.listener in
+    let left = c.make_final.new.regions in
+    let made = c.in_ok-course.made in
+    let advance = c.in_ok-course.ensures.told state of in
+    let back = written_back left items c.standing.inside.regions.len
+    (c.make_final.auto.regions ∙ c.deref_mut.ensures.len)
+    (ap length (sym c.deref_mut.ensures.value) ∙ c.deref_mut.ensures.len) in
+    let to = subst (λ (v : List RegionData). GoesOnTo earlier c.or.result made.floor v advance.new) back
+    (subst (λ (v : Option Stamp). GoesOnTo earlier v made.floor left advance.new) (sym c.or.ensures)
+    (goes_to L.after earlier last floor given state goes left c.in_ok-course.course made before later advance)) in
+    advances_to L.after earlier last floor given state goes left c.in_ok-course.course made before later advance
+    c.after-standing.result (c.after-standing.ensures advance.new to)

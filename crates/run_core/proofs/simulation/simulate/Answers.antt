@@ -1,31 +1,22 @@
-use Rattle.std.proofs.Common.{◌∙◌, ℕ, List, Err, ap, subst, refl}
+use Rattle.std.proofs.Common.{◌∙◌, ℕ, Err, ap, subst, refl}
 use Rattle.std.proofs.lemmas.Result.{err_from_is_err_and}
-use Rattle.fixed_motion.specs.Scene.{SceneData, IsValidScene}
+use Rattle.fixed_motion.specs.Scene.{IsValidScene}
 use Rattle.cell_sequence.specs.State.{CellStateData}
-use Rattle.run_core.proofs.SoFar.{at_start, all_so_far, cut_so_far, told_on, rows_valid}
+use Rattle.run_core.proofs.SoFar.{at_start, all_so_far, cut_so_far, told_on}
 use Rattle.run_core.proofs.SoFar.{ends, fails, cell_at_start, cell_after, less_left}
 use Rattle.run_core.specs.declared.answers.Course.{Course}
 use Rattle.run_core.specs.AdvancesTold.{answer_with}
-use Rattle.local_run.specs.Opening.{RegionData}
 use Rattle.event_rules.specs.declared.outcome.Outcome.{Outcome}
 use Rattle.event_rules.specs.Tellings.{CountsRun}
 use Rattle.run_core.proofs.TellingOn.{batch_in, advance_in, counts_of_err}
 use Rattle.run_core.proofs.simulation.simulate.Goals as goal
 
-pub returns-in_err-committed-clause-cut_short : goal.returns-in_err-committed-clause-cut_short
-returns-in_err-committed-clause-cut_short g c =
-    let L = g.L.Listener in
-    let valid = subst IsValidScene c.scene.view_is c.scene.invariant in
-    let fault = err_from_is_err_and c.from_residual.result c.from_residual.ensures.1 in
-    rw (fault.1, fault.2) (all_so_far {after = L.after} L.torn c.args.regions valid c.requires.asked
-    (at_start L.torn c.args.regions valid c.requires.asked (L.meaning c.args.listener.now) _ refl))
-
 pub returns-in_err-standing-clause-cut_short : goal.returns-in_err-standing-clause-cut_short
 returns-in_err-standing-clause-cut_short g c =
     let L = g.L.Listener in
     let valid = subst IsValidScene c.scene.view_is c.scene.invariant in
-    let fault = err_from_is_err_and c.from_residual-in_err-standing.result
-    c.from_residual-in_err-standing.ensures.1 in
+    let fault = err_from_is_err_and c.from_residual.result
+    c.from_residual.ensures.1 in
     rw (fault.1, fault.2) (all_so_far {after = L.after} L.torn c.args.regions valid c.requires.asked
     (at_start L.torn c.args.regions valid c.requires.asked (L.meaning c.args.listener.now) _ refl))
 
@@ -33,13 +24,12 @@ pub bursts-init : goal.bursts-init
 bursts-init g c =
     let L = g.L.Listener in
     let valid = subst IsValidScene c.scene.view_is c.scene.invariant in
-    let start = c.in_ok-committed.committed in
+    let start = c.in_ok-standing.standing in
     record {
       cell = cell_at_start c.args.scene.now c.args.regions start valid c.requires.asked
-          c.in_ok-committed.ensures;
-      stand = c.in_ok-standing.ensures;
+          c.in_ok-standing.ensures;
       told = at_start L.torn c.args.regions valid c.requires.asked (L.meaning c.args.listener.now) start
-          c.in_ok-committed.ensures;
+          c.in_ok-standing.ensures;
       count = refl;
     }
 
@@ -61,18 +51,8 @@ returns-in_err-course-clause-counts g c =
     let fault = err_from_is_err_and c.from_residual-in_err-course.result
     c.from_residual-in_err-course.ensures.1 in
     rw (fault.1, fault.2) (subst (λ (old : ℕ). CountsRun {T = Outcome} old new (Err c.in_err-course.field-0.0))
-    c.bursts.invariant.count (counts_of_err (Course × List RegionData) Outcome mid new
+    c.bursts.invariant.count (counts_of_err (Course × CellStateData) Outcome mid new
     c.in_err-course.field-0.0 c.in_err-course.ensures.counts))
-
-pub final_state-requires-clause-valid : goal.final_state-requires-clause-valid
-final_state-requires-clause-valid g c =
-    let L = g.L.Listener in
-    let valid = subst IsValidScene c.scene.view_is c.scene.invariant in
-    let told = c.in_ok-course.ensures.told in
-    rows_valid L.torn c.args.regions valid c.requires.asked c.bursts.invariant.told
-    (advance_in told) (batch_in c.in_ok-course.course told.1.batch) (L.meaning c.work.new.listener) told.1.told
-    (ap (λ (v : SceneData). v.rules) c.scene.view_is)
-    (c.placed.ensures.value ∙ ap (λ (v : CellStateData). v.placed) c.state.ensures.value)
 
 pub returns-in_err-spots-in-End-clause-cut_short :
     goal.returns-in_err-spots-in-End-clause-cut_short
@@ -95,10 +75,7 @@ returns-in-End-clause-run g c =
     ends L.torn c.args.regions valid c.requires.asked c.bursts.invariant.told
     (advance_in told) (batch_in c.in_ok-course.course told.1.batch)
     (L.meaning c.work.new.listener) told.1.told c.in_ok-spots-in-End.spots
-    (ap (λ (v : Course). answer_with v told.1.batch) c.in-End.is)
-    (ap (λ (v : SceneData). v.rules) c.scene.view_is)
-    (c.placed.ensures.value ∙ ap (λ (v : CellStateData). v.placed) c.state.ensures.value)
-    c.in_ok-spots-in-End.ensures
+    (ap (λ (v : Course). answer_with v told.1.batch) c.in-End.is) c.in_ok-spots-in-End.ensures
 
 pub returns-in-Limit-clause-run : goal.returns-in-Limit-clause-run
 returns-in-Limit-clause-run g c =
@@ -122,7 +99,6 @@ bursts-preserved g c =
     let told = c.in_ok-course.ensures.told in
     record {
       cell = cell_after (advance_in told);
-      stand = c.in_ok-course.ensures.stand;
       told = told_on L.torn c.args.regions valid c.requires.asked c.bursts.invariant.told
           (advance_in told) (batch_in c.in_ok-course.course told.1.batch)
           (L.meaning c.work.new.listener) told.1.told;

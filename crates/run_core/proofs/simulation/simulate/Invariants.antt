@@ -1,18 +1,16 @@
 use Rattle.std.proofs.Common.{◌≡◌}
 use Rattle.cell_sequence.specs.State.{IsCellState}
-use Rattle.commit_horizon.specs.Horizon.{AllStand}
 use Rattle.run_core.specs.Simulates.{work_left}
 use Rattle.run_core.proofs.Simulating.{IsTold}
 use Rattle.run_core.proofs.simulation.simulate.Given as goal
 
 abbrev pub invariant-bursts : goal.invariant-bursts
 invariant-bursts g l = let L = g.L.Listener in record {
-  cell : IsCellState l.committed;
-  stand : AllStand l.committed l.standing.items;
-  told : IsTold L.after l.fn.scene l.fn.regions l.committed (L.meaning l.fn.listener)
+  cell : IsCellState l.standing;
+  told : IsTold L.after l.fn.scene l.fn.regions l.standing (L.meaning l.fn.listener)
       (L.meaning l.listener);
   count : L.faults l.listener ≡ L.faults l.fn.listener;
 }
 
 abbrev pub decreases-bursts : goal.decreases-bursts
-decreases-bursts g l = work_left l.committed
+decreases-bursts g l = work_left l.standing

@@ -1,0 +1,211 @@
+//! Regions with the one cell state on which they stand.
+
+use commit_horizon::Committed;
+use event_stamps::Stamp;
+use region_core::Region;
+use std::marker::Model;
+
+/// Regions that stand, by number, on one state of the cell run. Its rows are theirs, and are put together only where
+/// somebody asks for the state.
+#[derive(Drop)]
+pub(crate) struct Standing {
+    /// An earlier state of the run.
+    pub(crate) earlier: Committed,
+    /// The stamp of the last action since then; none where there was no action.
+    pub(crate) last: Option<Stamp>,
+    /// The floor.
+    pub(crate) floor: Stamp,
+    /// The regions.
+    pub(crate) regions: Vec<Region>,
+}
+
+impl Model for Standing {
+    ghost use Rattle.cell_sequence.specs.State.{CellStateData};
+    ghost use Rattle.run_core.specs.Standing.{seen_as, GoesOnTo};
+
+    ghost Value = { CellStateData };
+
+    ghost view = { λ s. seen_as s.earlier s.last s.floor s.regions.items };
+
+    ghost invariant = { λ s. GoesOnTo s.earlier s.last s.floor s.regions.items
+        (seen_as s.earlier s.last s.floor s.regions.items) };
+}
+
+ghost use Rattle.std.specs.Prelude.{◌≡◌, ◌<◌, length, slice_get, Some, IfOk};
+ghost use Rattle.fixed_motion.specs.Rules.{IsChecked};
+ghost use Rattle.fixed_motion.specs.Motion.{IsValidDisk};
+ghost use Rattle.event_rules.specs.Run.{spots_of, spot_of};
+ghost use Rattle.cell_grid.specs.Grid.{IsAsked};
+ghost use Rattle.cell_sequence.specs.Run.{disks_of};
+ghost use Rattle.cell_sequence.specs.State.{CellStateData, IsCellState, start_of};
+ghost use Rattle.commit_horizon.specs.Horizon.{AllStand};
+ghost use Rattle.run_core.specs.Standing.{GoesOnTo, row_among};
+
+use event_rules::{FinalState, Spot};
+use fixed_motion::{Disk, Rules, Scene};
+use region_core::Burst;
+use region_view::Placed;
+use std::alloc::{AllocError, Global};
+use std::sync::Wait;
+use std::thread::Threads;
+
+impl Standing {
+    /// The regions of the state with which the cell run of a scene begins, so many as are asked for, 1 to
+    /// [`MAX_REGIONS`](cell_grid::MAX_REGIONS).
+    ///
+    /// # Errors
+    /// Out of memory.
+    pub(crate) fn open(alloc: Global, scene: &Scene, regions: u32) -> Result<Standing, AllocError>
+        requires { IsAsked regions }
+        ensures { IfOk result (λ standing. standing ≡ start_of scene.now regions) }
+    {
+        let committed = Committed::open(alloc, scene, regions)?;
+        let regions = committed.open_all(alloc)?;
+        Ok(Standing::on(committed, regions))
+    }
+
+    /// Regions that stand on a committed state.
+    pub(crate) fn on(committed: Committed, regions: Vec<Region>) -> Standing
+        requires { AllStand committed regions.items }
+        ensures { result ≡ committed }
+    {
+        let floor = committed.state().floor();
+        Standing::after(committed, None, floor, regions)
+    }
+
+    /// Regions that stand on a state with this floor, to which the run goes on from an earlier one by actions of
+    /// which the last has the stamp `last`; none where there is no action.
+    pub(crate) fn after(
+        earlier: Committed,
+        last: Option<Stamp>,
+        floor: Stamp,
+        regions: Vec<Region>,
+    ) -> Standing
+        requires { (state : CellStateData) × GoesOnTo earlier last floor regions.items state }
+        ensures { (state : CellStateData) → GoesOnTo earlier last floor regions.items state → result ≡ state }
+    {
+        Standing {
+            earlier,
+            last,
+            floor,
+            regions,
+        }
+    }
+
+    /// Lets a burst work on the regions. Those that it gives back stand on the same state, or others are opened in
+    /// their place. Where it keeps them, nothing is compared.
+    ///
+    /// # Errors
+    /// Out of memory.
+    pub(crate) fn work<R: Threads + Wait + Sync, B: Burst>(
+        self,
+        rt: &R,
+        alloc: Global,
+        burst: &mut B,
+    ) -> Result<Standing, AllocError>
+        ensures { IfOk result (λ worked. worked ≡ self) }
+    {
+        if burst.keeps() {
+            let Standing {
+                earlier,
+                last,
+                floor,
+                regions,
+            } = self;
+            let worked = burst.burst(rt, alloc, regions)?;
+            Ok(Standing::after(earlier, last, floor, worked))
+        } else {
+            let (committed, regions) = self.settle(alloc)?;
+            let worked = burst.burst(rt, alloc, regions)?;
+            let adopted = committed.adopt_all(alloc, worked)?;
+            Ok(Standing::on(committed, adopted))
+        }
+    }
+
+    // The state, whose rows are put together, and the regions.
+    fn settle(self, alloc: Global) -> Result<(Committed, Vec<Region>), AllocError>
+        ensures state { IfOk result (λ parts. parts.0 ≡ self) }
+        ensures stand { IfOk result (λ parts. AllStand self parts.1.items) }
+    {
+        let placed = self.rows(alloc)?;
+        let Standing {
+            mut earlier,
+            last,
+            floor,
+            regions,
+        } = self;
+        earlier.go_on_to(placed, last, floor);
+        Ok((earlier, regions))
+    }
+
+    // The rows of the state.
+    fn rows(&self, alloc: Global) -> Result<Vec<Placed>, AllocError>
+        ensures { IfOk result (λ placed. placed.items ≡ self.now.placed) }
+    {
+        let mut placed = Vec::new(alloc);
+        for disk in 0..self.count() {
+            placed.push(self.row(disk))?;
+        }
+        Ok(placed)
+    }
+
+    /// Where all disks are in the end.
+    ///
+    /// # Errors
+    /// Out of memory.
+    pub(crate) fn final_state(&self, alloc: Global) -> Result<FinalState, AllocError>
+        ensures { IfOk result (λ spots. spots ≡ spots_of self.now.rules.end (disks_of self.now.placed)) }
+    {
+        let rules = self.earlier.state().rules();
+        let mut spots = Vec::new(alloc);
+        for number in 0..self.count() {
+            let row = self.row(number);
+            spots.push(spot_at_end(rules, &row.disk))?;
+        }
+        Ok(FinalState::new(spots))
+    }
+
+    // How many disks there are.
+    fn count(&self) -> usize
+        ensures { result ≡ length self.now.placed }
+    {
+        self.earlier.state().placed().len()
+    }
+
+    // The row of a disk in the state: that of any region that begins with one, as all of them have the state's.
+    fn row(&self, disk: usize) -> Placed
+        requires { disk < length self.now.placed }
+        ensures value { slice_get self.now.placed disk ≡ Some result }
+        ensures kept { IsCellState self.now }
+    {
+        row_among(&self.regions, disk as u32).unwrap()
+    }
+}
+
+// Where a disk is in the end.
+fn spot_at_end(rules: &Rules, disk: &Disk) -> Spot
+    requires checked { IsChecked rules.now }
+    requires valid { IsValidDisk rules.now disk.now }
+    ensures { result ≡ spot_of rules.now.end disk.now }
+{
+    let centre = disk.centre_at(rules, rules.end);
+    Spot {
+        x: centre.x,
+        y: centre.y,
+        vx: disk.vx,
+        vy: disk.vy,
+    }
+}
+
+// The row of a disk in the first of some regions that begins with one.
+fn row_among(regions: &[Region], disk: u32) -> Option<Placed>
+    ensures { result ≡ row_among regions.now disk }
+{
+    for region in regions {
+        match region.first_row(disk) {
+            Some(row) => return Some(row),
+            None => {}
+        }
+    }
+    None
+}
