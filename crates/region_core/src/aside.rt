@@ -89,7 +89,12 @@ pub(crate) fn first_touched_from(
 }
 
 // The same of all of them.
-fn first_touched(entries: &[Entry], steps: &[(u64, Rows)], rows: &Rows, home: &Home) -> Option<Stamp>
+fn first_touched(
+    entries: &[Entry],
+    steps: &[(u64, Rows)],
+    rows: &Rows,
+    home: &Home,
+) -> Option<Stamp>
     requires place { IsInPlace home.now }
     requires sizes { length steps.now ≡ length entries.now }
     requires valid { All (λ step. IsValidBack home.now step.1) steps.now }
@@ -126,7 +131,9 @@ fn is_one_touched(at: &Stamp, back: &Rows, rows: &Rows, home: &Home) -> bool
     match back.as_slice() {
         [] => false,
         [row] => is_touched(at, *row, rows, home),
-        [first, second, ..] => { is_touched(at, *first, rows, home) || is_touched(at, *second, rows, home) }
+        [first, second, ..] => {
+            is_touched(at, *first, rows, home) || is_touched(at, *second, rows, home)
+        }
     }
 }
 
@@ -141,7 +148,9 @@ fn is_touched(at: &Stamp, row: (u32, Option<Placed>), rows: &Rows, home: &Home) 
     match rows.as_slice() {
         [] => false,
         [other] => do_touch(at, row, *other, home),
-        [first, second, ..] => { do_touch(at, row, *first, home) || do_touch(at, row, *second, home) }
+        [first, second, ..] => {
+            do_touch(at, row, *first, home) || do_touch(at, row, *second, home)
+        }
     }
 }
 
