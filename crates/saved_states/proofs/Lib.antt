@@ -3,3 +3,4 @@ pub mod Rising
 pub mod Rebuilt
 pub mod Cut
 pub mod Lowered
+pub mod First

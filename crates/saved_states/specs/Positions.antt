@@ -1,5 +1,6 @@
 -- Views by position.
-use Rattle.std.specs.Prelude.{◌≡◌, ℕ, ◌-◌, ◌<◌, List, [], ◌∷◌, ◌++◌, ⊤, map, nat_le, if◌then◌else◌}
+use Rattle.std.specs.Prelude.{◌≡◌, ℕ, ◌-◌, ◌<◌, List, [], ◌∷◌, ◌++◌, ⊤, map as each, nat_le, if◌then◌else◌}
+use Rattle.std.specs.FinMap as map
 use Rattle.region_view.specs.Views.{ViewData}
 use Rattle.region_view.specs.Setting.{RowList, set_rows}
 
@@ -21,6 +22,11 @@ AreSaved (pair ∷ pairs) = PositionsRiseAfter pair.0 pairs
 abbrev pub first_position : SavedData → ℕ
 first_position [] = 0
 first_position (pair ∷ pairs) = pair.0
+
+-- the first view; of no pairs, one without rows
+abbrev pub first_view : SavedData → ViewData
+first_view [] = map.empty
+first_view (pair ∷ pairs) = pair.1
 
 abbrev pub last_of : ℕ × ViewData → SavedData → ℕ × ViewData
 last_of pair [] = pair
@@ -60,4 +66,4 @@ dropped_before position (pair ∷ next ∷ pairs) =
 
 -- the same views at positions that are lower by so many
 abbrev pub lowered : ℕ → SavedData → SavedData
-lowered by pairs = map (λ pair. (pair.0 - by, pair.1)) pairs
+lowered by pairs = each (λ pair. (pair.0 - by, pair.1)) pairs
