@@ -1,12 +1,9 @@
 -- What raising the floor makes of a region.
-use Rattle.std.specs.Prelude.{◌≡◌, ℕ, ⊤, map, option_map}
+use Rattle.std.specs.Prelude.{◌≡◌, ℕ, map, option_map}
 use Rattle.event_stamps.specs.declared.Stamp.{Stamp}
 use Rattle.event_stamps.specs.Order.{Before}
-use Rattle.region_view.specs.Setting.{IsInOrder}
 use Rattle.region_messages.specs.Trails.{from}
 use Rattle.local_run.specs.declared.home.Home.{Home}
-use Rattle.local_run.specs.declared.entry.Entry.{Entry}
-use Rattle.local_run.specs.declared.entry.Entry.TheVariants.{Native, Heard}
 use Rattle.local_run.specs.Entries.{entries_below, entries_from}
 use Rattle.local_run.specs.LocalRun.{Local, start_of, now_of, after_log}
 use Rattle.local_run.specs.LocalRun.{IsWaiting, IsRight, sent_to}
@@ -29,11 +26,6 @@ raised to region = record {
   floor = to;
   run = option_map (raised_run to) region.run;
 }
-
--- of two disks that a native entry changes, the lesser number comes first
-abbrev pub HasOrder : Entry → Type 0
-HasOrder (Native action) = IsInOrder action
-HasOrder (Heard q m) = ⊤
 
 -- no message that waits is before a stamp
 abbrev pub HasNoneWaitingBelow : Stamp → Local → Type 0

@@ -1,7 +1,7 @@
 -- The views along a log.
 use Rattle.std.proofs.Common.{◌≡◌, ℕ, ◌+◌, ◌<◌, List, [], ◌∷◌, ◌++◌, length, ◌∙◌, ap, sym, subst, refl, arith}
 use Rattle.region_view.specs.Views.{ViewData}
-use Rattle.saved_states.specs.Positions.{SavedData, EndsWith, IsAfterLast, Appends, last_of}
+use Rattle.saved_states.specs.Positions.{SavedData, EndsWith, IsAfterLast, Appends, last_of, first_view, dropped_after}
 use Rattle.region_view.specs.Setting.{RowList, set_rows}
 use Rattle.local_run.specs.declared.entry.Entry.{Entry}
 use Rattle.local_run.specs.LocalRun.{At, after_entry, after_log}
@@ -79,3 +79,24 @@ pub newest_appended : (a : At) (es : List Entry) (old new : SavedData) (position
 newest_appended a es old new position rows pair saved appends ends =
     ap (λ (p : ℕ × ViewData). p.1) (ends_last old (position, set_rows (after_log a es).view rows) pair
     (subst (λ (s : SavedData). EndsWith s pair) (appended_is a es old new position rows saved appends) ends))
+
+-- ---- the first view
+pub first_of_along : (n : ℕ) (a : At) (es : List Entry) → first_view (saved_along n a es) ≡ a.view
+first_of_along n a [] = refl
+first_of_along n a (e ∷ es) = refl
+
+pub first_of_more : (n : ℕ) (a : At) (es : List Entry) (s : SavedData) →
+    first_view (saved_along n a es ++ s) ≡ a.view
+first_of_more n a [] s = refl
+first_of_more n a (e ∷ es) s = refl
+
+-- it is the same where one is appended, and where the last ones are dropped
+pub first_appended : (old new : SavedData) (position : ℕ) (rows : RowList) → Appends old new position rows →
+    first_view new ≡ first_view old
+first_appended [] new position rows (last, ends, is) = absurd ends
+first_appended (pair ∷ pairs) new position rows (last, ends, is) = ap first_view is
+
+pub first_kept : (n : ℕ) (saved left : SavedData) → left ≡ dropped_after n saved →
+    first_view left ≡ first_view saved
+first_kept n [] left is = ap first_view is
+first_kept n (pair ∷ pairs) left is = ap first_view is

@@ -26,7 +26,7 @@ use Rattle.local_run.specs.LocalRun.{At, Local, Trails, trail_of, told, start_of
 use Rattle.local_run.specs.Answers.{with_entry, IsInTurn}
 use Rattle.region_core.specs.Inbox.{InboxData, next_from, taken_from, with_taken}
 use Rattle.local_run.specs.Taken.{is_of, taken_of}
-use Rattle.region_core.specs.Live.{run_in, start_in, now_in, saved_along, AreSavedAlong, IsInbox, IsOutbox, IsLive}
+use Rattle.region_core.specs.Live.{base_in, run_in, start_in, now_in, saved_along, AreSavedAlong, IsInbox, IsOutbox, IsLive}
 use Rattle.local_run.specs.Keeping.{SendsTo}
 use Rattle.local_run.specs.Moves.{Fits}
 use Rattle.local_run.proofs.Among.{same_or_other}
@@ -42,7 +42,7 @@ use Rattle.region_view.specs.Placing.{IsValidPlacing}
 
 -- the parts of a body that is one entry further
 pub record IsFurther (home : Home) (live new : Live) (e : Entry) : Type 0 where
-  pub base : new.base ≡ live.base
+  pub base : base_in new ≡ base_in live
   pub heard : new.inbox.heard ≡ live.inbox.heard
   pub log : new.log.items ≡ live.log.items ++ e ∷ []
   pub saved : new.saved ≡ live.saved
@@ -50,7 +50,7 @@ pub record IsFurther (home : Home) (live new : Live) (e : Entry) : Type 0 where
   pub queue : IsOf new.queue home.rules home.grid home.number
   pub stands : StandsFor new.queue (after_entry (now_in live) e).view
   pub inbox : IsInbox home (live.log.items ++ e ∷ []) new.inbox
-  pub sent : IsOutbox home live.base (live.log.items ++ e ∷ []) new.sent.items
+  pub sent : IsOutbox home (base_in live) (live.log.items ++ e ∷ []) new.sent.items
 
 pub further_run : (home : Home) (floor : Stamp) (live new : Live) (e : Entry) →
     IsFurther home live new e → run_in floor new ≡ with_entry (run_in floor live) e
@@ -122,18 +122,18 @@ inbox_heard home log inbox q m region is = record {
 
 -- ---- the outbox
 pub outbox_heard : (home : Home) (floor : Stamp) (live : Live) (q : ℕ) (m : Message) →
-    IsOutbox home live.base live.log.items live.sent.items →
-    IsOutbox home live.base (live.log.items ++ Heard q m ∷ []) live.sent.items
+    IsOutbox home (base_in live) live.log.items live.sent.items →
+    IsOutbox home (base_in live) (live.log.items ++ Heard q m ∷ []) live.sent.items
 outbox_heard home floor live q m is = record {
   regions = is.regions;
   each = λ to lt linked. is.each to lt linked ∙ sym (sent_heard home.grid to (run_in floor live) q m);
 }
 
 pub outbox_native : (home : Home) (floor : Stamp) (live : Live) (x : Action) (sent : Trails) →
-    IsOutbox home live.base live.log.items live.sent.items → length sent ≡ length live.sent.items →
+    IsOutbox home (base_in live) live.log.items live.sent.items → length sent ≡ length live.sent.items →
     ((to : ℕ) → SendsTo home to → trail_of sent to ≡ trail_of live.sent.items to
     ++ told (message_of home.grid to (rows_in (now_in live).view) x) []) →
-    IsOutbox home live.base (live.log.items ++ Native x ∷ []) sent
+    IsOutbox home (base_in live) (live.log.items ++ Native x ∷ []) sent
 outbox_native home floor live x sent is size each = record {
   regions = size ∙ is.regions;
   each = λ to lt linked. each to (lt, linked)
@@ -220,5 +220,5 @@ pub after_what_was_sent : (home : Home) (floor : Stamp) (live : Live) (x : Actio
     Fits home (run_in floor live) (Run x) → (to : ℕ) → SendsTo home to →
     IsAfterAll (trail_of live.sent.items to) (stamp_of x)
 after_what_was_sent home floor live x is fits to sends m among =
-    sent_before_turn home.grid to live.base floor (stamp_of x) live.log.items is.right.rises fits.1.1 m
+    sent_before_turn home.grid to (base_in live) floor (stamp_of x) live.log.items is.right.rises fits.1.1 m
     (subst (IsAmong m) (is.sent.each to sends.0 sends.1) among)

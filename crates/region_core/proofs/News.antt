@@ -11,7 +11,7 @@ use Rattle.region_view.specs.Setting.{set_rows, after_action}
 use Rattle.region_messages.specs.Trails.{IsAmong, AgreeBelow, AgreesUpTo}
 use Rattle.region_messages.proofs.Parts.{agreed_part, rises_below, rises_replaced, among_replaced}
 use Rattle.region_queue.specs.Queue.{QueueData, IsOf, StandsFor}
-use Rattle.saved_states.specs.Positions.{SavedData}
+use Rattle.saved_states.specs.Positions.{SavedData, first_view}
 use Rattle.local_run.specs.declared.home.Home.{Home}
 use Rattle.local_run.specs.declared.entry.Entry.{Entry}
 use Rattle.local_run.specs.declared.entry.Entry.TheVariants.{Native, Heard}
@@ -21,7 +21,7 @@ use Rattle.region_core.specs.declared.live.Live.{Live}
 use Rattle.local_run.specs.Entries.{entry_stamp, RiseFrom, entries_below, clock_of, last_stamp}
 use Rattle.local_run.specs.LocalRun.{Local, Trails, trail_of, start_of, now_of, after_log, without_first, IsHearable, IsRight}
 use Rattle.local_run.specs.Answers.{HasHeard, HearsFrom}
-use Rattle.region_core.specs.Live.{run_in, saved_along, IsInbox, IsOutbox, IsLive}
+use Rattle.region_core.specs.Live.{base_in, run_in, saved_along, IsInbox, IsOutbox, IsLive}
 use Rattle.region_core.specs.Replaced.{mixed, HearsOn, IsReplaced}
 use Rattle.local_run.proofs.Logs.{below_kept, kept_below, all_below, below_whole}
 use Rattle.local_run.proofs.Hears.{hearing, right_heard}
@@ -77,11 +77,11 @@ pub heard_elsewhere : (ts : Trails) (k q : ℕ) (sent : List Message) → q ≢ 
 heard_elsewhere ts k q sent other = get_or-set_other ts k q sent [] other
 
 pub has_heard : (floor at : Stamp) (k : ℕ) (sent : List Message) (old mid new : Live) →
-    mid.base ≡ old.base → mid.inbox.heard ≡ old.inbox.heard →
+    base_in mid ≡ base_in old → mid.inbox.heard ≡ old.inbox.heard →
     mid.log.items ≡ entries_below at old.log.items → k < length mid.inbox.heard →
     IsReplaced k sent mid new → HasHeard k sent (run_in floor old) at (run_in floor new)
 has_heard floor at k sent old mid new base heard log lt is = record {
-  base = is.base ∙ base;
+  base = ap first_view is.saved ∙ base;
   floor = refl;
   log = is.log ∙ log;
   trail = ap (λ (ts : Trails). trail_of ts k) is.heard ∙ heard_there mid.inbox.heard k sent lt;
@@ -101,21 +101,24 @@ news_live home floor at k sent mid new live all agree hearable lt is = record {
     counts = ap length is.taken ∙ live.inbox.counts;
     taken = λ q region. ap (λ (v : List ℕ). get_or v q 0) is.taken ∙ live.inbox.taken q region;
   });
-  sent = subst (λ (es : List Entry). IsOutbox home new.base es new.sent.items) (sym is.log)
-      (subst (λ (b : ViewData). IsOutbox home b mid.log.items new.sent.items) (sym is.base)
-      (subst (IsOutbox home mid.base mid.log.items) (sym is.own) live.sent));
+  sent = subst (λ (es : List Entry). IsOutbox home (base_in new) es new.sent.items) (sym is.log)
+      (subst (λ (b : ViewData). IsOutbox home b mid.log.items new.sent.items) (sym base)
+      (subst (IsOutbox home (base_in mid) mid.log.items) (sym is.own) live.sent));
   saved = subst (λ (r : Local). new.saved ≡ saved_along 0 (start_of r) r.log) run
-      (is.saved ∙ live.saved ∙ saved_by_view 0 mid.base mid.inbox.heard heard mid.log.items
-      ∙ ap (saved_along 0 (record { view = mid.base; waiting = heard })) (sym all));
+      (is.saved ∙ live.saved ∙ saved_by_view 0 (base_in mid) mid.inbox.heard heard mid.log.items
+      ∙ ap (saved_along 0 (record { view = base_in mid; waiting = heard })) (sym all));
   queue = subst (λ (q : QueueData). IsOf q home.rules home.grid home.number) (sym is.queue) live.queue;
   stands = subst (λ (r : Local). StandsFor new.queue (now_of r).view) run
       (subst (λ (q : QueueData). StandsFor q (now_of after).view) (sym is.queue)
       (subst (StandsFor mid.queue)
-      (view_by_view mid.base mid.inbox.heard heard mid.log.items
-      ∙ ap (λ (es : List Entry). (after_log (record { view = mid.base; waiting = heard }) es).view) (sym all))
+      (view_by_view (base_in mid) mid.inbox.heard heard mid.log.items
+      ∙ ap (λ (es : List Entry). (after_log (record { view = base_in mid; waiting = heard }) es).view) (sym all))
       live.stands));
 }
   where
+    base : base_in new ≡ base_in mid
+    base = ap first_view is.saved
+
     heard : Trails
     heard = slice_set mid.inbox.heard k sent
 
@@ -125,7 +128,7 @@ news_live home floor at k sent mid new live all agree hearable lt is = record {
     run : hearing at (slice_set mid.inbox.heard k sent) (run_in floor mid) ≡ run_in floor new
     run = λ i. record {
       floor = floor;
-      base = sym is.base i;
+      base = sym base i;
       heard = sym is.heard i;
       log = (all ∙ sym is.log) i;
     }
@@ -172,7 +175,7 @@ pub marked_live : (home : Home) (floor : Stamp) (old new : Live) → new.sent.it
 marked_live home floor old new sent rest live = subst (IsLive home floor) (sym rest) (record {
   right = live.right;
   inbox = live.inbox;
-  sent = subst (IsOutbox home old.base old.log.items) (sym sent) live.sent;
+  sent = subst (IsOutbox home (base_in old) old.log.items) (sym sent) live.sent;
   saved = live.saved;
   queue = live.queue;
   stands = live.stands;

@@ -14,7 +14,7 @@ use Rattle.local_run.specs.Entries.{RiseFrom, entries_below, entries_from}
 use Rattle.local_run.specs.LocalRun.{Local, At, Trails, after_entry, IsRight}
 use Rattle.region_core.specs.Inbox.{InboxData, taken_from}
 use Rattle.local_run.specs.Taken.{taken_of}
-use Rattle.region_core.specs.Live.{run_in, saved_along, IsInbox, IsOutbox, IsLive, IsAlong, GoesAlong}
+use Rattle.region_core.specs.Live.{base_in, run_in, saved_along, IsInbox, IsOutbox, IsLive, IsAlong, GoesAlong}
 use Rattle.local_run.proofs.Taken.{taken_below}
 use Rattle.local_run.proofs.Sent.{sent_below}
 use Rattle.local_run.proofs.Right.{right_rewound}
@@ -81,7 +81,7 @@ abbrev rewound_run : Stamp → Stamp → Live → Local
 rewound_run floor at live = record (run_in floor live) { log = entries_below at live.log.items }
 
 pub rewound_is : (home : Home) (floor at : Stamp) (old new : Live) → IsLive home floor old →
-    new.base ≡ old.base → new.log.items ≡ entries_below at old.log.items →
+    base_in new ≡ base_in old → new.log.items ≡ entries_below at old.log.items →
     new.inbox.heard ≡ old.inbox.heard → length new.inbox.taken ≡ length old.inbox.taken →
     ((q : ℕ) → taken_from new.inbox q + taken_of q (entries_from at old.log.items)
     ≡ taken_from old.inbox q) →
@@ -90,10 +90,10 @@ rewound_is home floor at old new is base log heard counts taken sent along = rec
   right = subst (IsRight home) run (right_rewound home (run_in floor old) at is.right);
   inbox = subst (λ (es : List Entry). IsInbox home es new.inbox) (sym log)
       (inbox_rewound home at old.log.items old.inbox new.inbox is.inbox heard counts taken);
-  sent = subst (λ (es : List Entry). IsOutbox home new.base es new.sent.items) (sym log)
+  sent = subst (λ (es : List Entry). IsOutbox home (base_in new) es new.sent.items) (sym log)
       (subst (λ (b : ViewData). IsOutbox home b (entries_below at old.log.items) new.sent.items) (sym base)
-      (subst (IsOutbox home old.base (entries_below at old.log.items)) (sym sent)
-      (outbox_rewound home old.base floor at old.log.items old.sent.items is.right.rises is.sent)));
+      (subst (IsOutbox home (base_in old) (entries_below at old.log.items)) (sym sent)
+      (outbox_rewound home (base_in old) floor at old.log.items old.sent.items is.right.rises is.sent)));
   saved = along.1.saved;
   queue = along.1.queue;
   stands = along.1.stands;

@@ -9,7 +9,7 @@ use Rattle.region_core.specs.declared.live.Live.{Live}
 use Rattle.local_run.specs.Entries.{entry_stamp, last_stamp}
 use Rattle.local_run.specs.LocalRun.{trail_of, sent_to}
 use Rattle.local_run.specs.Opening.{RegionData}
-use Rattle.region_core.specs.Live.{run_in}
+use Rattle.region_core.specs.Live.{base_in, run_in}
 use Rattle.local_run.specs.Keeping.{SendsTo, HearsOf, IsSent, IsHeard}
 
 abbrev pub seen_as : Home → Stamp → Option Live → RegionData
@@ -19,7 +19,7 @@ pub sent_shown : {R : Type 0} (now : R → List Message) (result : Option R) (ho
     (o : Option Live) (live : Live) (region : RegionData) (to : ℕ) → seen_as home floor o ≡ region →
     o ≡ Some live →
     MatchOption result (¬ SendsTo home to)
-    (λ t. SendsTo home to × (now t ≡ sent_to home.grid to live.base live.log.items)) →
+    (λ t. SendsTo home to × (now t ≡ sent_to home.grid to (base_in live) live.log.items)) →
     MatchOption result ((region.run ≡ None) ⊎ ¬ SendsTo region.home to) (λ t. IsSent region to (now t))
 sent_shown now None home floor o live region to is here h =
     subst (λ (r : RegionData). (r.run ≡ None) ⊎ ¬ SendsTo r.home to) is (inr h)

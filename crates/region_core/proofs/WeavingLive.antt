@@ -16,7 +16,7 @@ use Rattle.region_messages.proofs.Among.{among_either}
 use Rattle.region_messages.proofs.Parts.{below_among, from_among}
 use Rattle.region_messages.proofs.Inserted.{rises_with}
 use Rattle.region_queue.specs.Queue.{QueueData, IsOf, StandsFor}
-use Rattle.saved_states.specs.Positions.{SavedData}
+use Rattle.saved_states.specs.Positions.{SavedData, first_view}
 use Rattle.saved_states.specs.Steps.{StepList, RiseAfter, undone, rebuilt}
 use Rattle.local_run.specs.declared.home.Home.{Home}
 use Rattle.local_run.specs.declared.entry.Entry.{Entry}
@@ -26,14 +26,15 @@ use Rattle.region_core.specs.declared.live.Live.{Live}
 use Rattle.local_run.specs.Entries.{entry_stamp, RiseAfter as RiseOn, RiseFrom, entries_below, entries_from, clock_of, last_stamp}
 use Rattle.local_run.specs.LocalRun.{Local, trail_of, after_log, IsInPlace, IsHearable, IsOwn}
 use Rattle.region_core.specs.Inbox.{taken_from}
-use Rattle.region_core.specs.Live.{run_in, start_in, now_in, saved_along, AreSavedAlong, IsLive}
+use Rattle.region_core.specs.Live.{base_in, run_in, start_in, now_in, saved_along, AreSavedAlong, IsLive}
 use Rattle.local_run.specs.Weaving.{IsWoven, MayWeave, IsApart}
 use Rattle.region_core.specs.Weaving.{Weaves, AreStepsAside, IsValidBack, IsSetLate, BeginsAfter, IsTried}
 use Rattle.local_run.proofs.Logs.{below_then_from}
 use Rattle.region_core.proofs.News.{heard_there, heard_elsewhere}
+use Rattle.region_core.proofs.Along.{first_of_more}
 use Rattle.region_core.proofs.Appended.{few_of}
 use Rattle.local_run.proofs.Valid.{valid_now}
-use Rattle.region_core.proofs.Steps.{AreOfOthers, AreLaterSteps, raised, along_parts, along_set, leads_back, leads_to, steps_count, steps_below, put_rises, steps_aside, steps_valid, all_apart, aside_by_steps}
+use Rattle.region_core.proofs.Steps.{AreOfOthers, AreLaterSteps, raised, raised_with, along_parts, along_set, leads_back, leads_to, steps_count, steps_below, put_rises, steps_aside, steps_valid, all_apart, aside_by_steps}
 use Rattle.region_core.proofs.WovenLive.{woven_views, woven_live}
 
 -- ---- what may be heard
@@ -87,14 +88,15 @@ hearable_one h floor q m ms all among = record {
 pub same_live : (home : Home) (floor : Stamp) (old : Live) (saved : SavedData) (queue : QueueData) →
     IsLive home floor old → saved ≡ old.saved → IsOf queue home.rules home.grid home.number →
     StandsFor queue (now_in old).view → IsLive home floor (record old { saved = saved; queue = queue })
-same_live home floor old saved queue live same of stands = record {
-  right = live.right;
-  inbox = live.inbox;
-  sent = live.sent;
-  saved = same ∙ live.saved;
-  queue = of;
-  stands = stands;
-}
+same_live home floor old saved queue live same of stands =
+    subst (λ (s : SavedData). IsLive home floor (record old { saved = s; queue = queue })) (sym same) (record {
+      right = live.right;
+      inbox = live.inbox;
+      sent = live.sent;
+      saved = live.saved;
+      queue = of;
+      stands = stands;
+    })
 
 -- ---- the steps of a body
 -- these parts are what it saved
@@ -305,7 +307,6 @@ put_step_in kept view rows steps =
 -- what the code makes of the parts
 pub record IsPutInto (home : Home) (q kept : ℕ) (m : Message) (first : ℕ) (view : ViewData)
     (steps : StepList) (old new : Live) : Type 0 where
-  pub base : new.base ≡ old.base
   pub heard : new.inbox.heard ≡ slice_set old.inbox.heard q (with_message m (trail_of old.inbox.heard q))
   pub taken : new.inbox.taken ≡ slice_set old.inbox.taken q (taken_from old.inbox q + 1)
   pub own : new.sent.items ≡ old.sent.items
@@ -322,7 +323,7 @@ pub put_live : (home : Home) (floor : Stamp) (q kept : ℕ) (m : Message) (first
     IsLive home floor new × IsWoven q m (run_in floor old) (run_in floor new)
 put_live home floor q kept m first view steps old new region is parts parted tried far may one put = (
   woven_live home floor q m old new region is may hearable (record {
-    base = put.base;
+    base = base;
     heard = put.heard;
     taken = put.taken;
     own = put.own;
@@ -347,9 +348,30 @@ put_live home floor q kept m first view steps old new region is parts parted tri
     within : q < length old.inbox.heard
     within = let regions = is.inbox.regions in omega arith
 
+    others : AreOfOthers m.rows (drop kept steps)
+    others = (steps_touched home floor old kept m first view steps is parts parted far).0
+
+    -- the views before the message, and those after it with its rows set
+    set : new.saved ≡ saved_along 0 (start_in old) xs ++ raised_with m.rows (saved_along (length xs)
+        (after_log (start_in old) xs) (entries_from m.stamp old.log.items))
+    set = put.saved
+        ∙ ap (λ (n : ℕ). rebuilt n (set_rows view m.rows) (put_step_in kept view m.rows steps))
+        (first_is home floor old first view steps is parts)
+        ∙ ap (λ (n : ℕ). rebuilt 0 (set_rows view m.rows)
+        (take kept steps ++ (n + 1, rows_at (rows_in view) m.rows) ∷ raised (drop kept steps)))
+        (sym (count_below old kept m parted))
+        ∙ along_set view m.rows (take kept steps) (drop kept steps) (start_in old) xs
+        (entries_from m.stamp old.log.items)
+        (sizes_parted home floor old kept m first view steps is parts parted) others
+        (steps_parted home floor old kept m first view steps is parts)
+
+    base : base_in new ≡ base_in old
+    base = ap first_view set ∙ first_of_more 0 (start_in old) xs (raised_with m.rows (saved_along (length xs)
+        (after_log (start_in old) xs) (entries_from m.stamp old.log.items)))
+
     woven : IsWoven q m (run_in floor old) (run_in floor new)
     woven = record {
-      base = put.base;
+      base = base;
       floor = refl;
       log = log;
       trail = ap (λ ts. trail_of ts q) put.heard
@@ -358,25 +380,8 @@ put_live home floor q kept m first view steps old new region is parts parted tri
           ∙ heard_elsewhere old.inbox.heard q k (with_message m (trail_of old.inbox.heard q)) other;
     }
 
-    others : AreOfOthers m.rows (drop kept steps)
-    others = (steps_touched home floor old kept m first view steps is parts parted far).0
-
-    set : rebuilt 0 (set_rows view m.rows)
-        (take kept steps ++ (length xs + 1, rows_at (rows_in view) m.rows) ∷ raised (drop kept steps))
-        ≡ saved_along 0 (start_in new) new.log.items
-    set = along_set view m.rows (take kept steps) (drop kept steps) (start_in old) xs
-        (entries_from m.stamp old.log.items)
-        (sizes_parted home floor old kept m first view steps is parts parted) others
-        (steps_parted home floor old kept m first view steps is parts)
-        ∙ sym (woven_views home (run_in floor old) (run_in floor new) q m is.right may woven)
-
     saved : AreSavedAlong new
-    saved = put.saved
-        ∙ ap (λ (n : ℕ). rebuilt n (set_rows view m.rows) (put_step_in kept view m.rows steps))
-        (first_is home floor old first view steps is parts)
-        ∙ ap (λ (n : ℕ). rebuilt 0 (set_rows view m.rows)
-        (take kept steps ++ (n + 1, rows_at (rows_in view) m.rows) ∷ raised (drop kept steps)))
-        (sym (count_below old kept m parted)) ∙ set
+    saved = set ∙ sym (woven_views home (run_in floor old) (run_in floor new) q m is.right may woven)
 
 -- ---- what the code knows
 pub of_again : (a b : QueueData) (home : Home) → IsOf b a.rules a.grid a.region →

@@ -15,7 +15,7 @@ use Rattle.local_run.specs.Entries.{entries_below, entries_from}
 use Rattle.local_run.specs.LocalRun.{Local, trail_of, start_of, now_of, after_log, Moves, IsHearable, IsRight, sent_to}
 use Rattle.region_core.specs.Inbox.{InboxData, taken_from}
 use Rattle.local_run.specs.Taken.{taken_of}
-use Rattle.region_core.specs.Live.{run_in, now_in, saved_along, AreSavedAlong, IsInbox, IsLive}
+use Rattle.region_core.specs.Live.{base_in, run_in, now_in, saved_along, AreSavedAlong, IsInbox, IsLive}
 use Rattle.local_run.specs.Weaving.{IsWoven, MayWeave}
 use Rattle.local_run.proofs.Among.{same_or_other}
 use Rattle.local_run.proofs.Logs.{below_then_from, moves_split}
@@ -95,7 +95,7 @@ woven_views h r new q m right may woven =
 -- ---- the whole
 -- the parts of a body into which a message of region q is woven
 pub record IsWovenInto (home : Home) (q : ℕ) (m : Message) (old new : Live) : Type 0 where
-  pub base : new.base ≡ old.base
+  pub base : base_in new ≡ base_in old
   pub heard : new.inbox.heard ≡ slice_set old.inbox.heard q (with_message m (trail_of old.inbox.heard q))
   pub taken : new.inbox.taken ≡ slice_set old.inbox.taken q (taken_from old.inbox q + 1)
   pub own : new.sent.items ≡ old.sent.items
@@ -137,5 +137,5 @@ woven_live home floor q m old new region live may hearable is = record {
 
     law : IsRight home (run_in floor new)
         × ((now_of (run_in floor new)).view ≡ set_rows (now_of (run_in floor old)).view m.rows)
-        × ((k : ℕ) → sent_to home.grid k new.base new.log.items ≡ sent_to home.grid k old.base old.log.items)
+        × ((k : ℕ) → sent_to home.grid k (base_in new) new.log.items ≡ sent_to home.grid k (base_in old) old.log.items)
     law = weaving_keeps_right home (run_in floor old) (run_in floor new) q m live.right may hearable woven

@@ -5,7 +5,7 @@ use Rattle.event_stamps.specs.Order.{Before, end_stamp}
 use Rattle.cell_grid.specs.Grid.{IsRegion, AreLinked}
 use Rattle.region_view.specs.Views.{ViewData}
 use Rattle.region_queue.specs.Queue.{QueueData, IsOf, StandsFor}
-use Rattle.saved_states.specs.Positions.{SavedData}
+use Rattle.saved_states.specs.Positions.{SavedData, first_view}
 use Rattle.local_run.specs.declared.home.Home.{Home}
 use Rattle.local_run.specs.declared.entry.Entry.{Entry}
 use Rattle.region_core.specs.declared.live.Live.{Live}
@@ -13,18 +13,22 @@ use Rattle.local_run.specs.LocalRun.{Local, At, Trails, trail_of, start_of, now_
 use Rattle.region_core.specs.Inbox.{InboxData, taken_from}
 use Rattle.local_run.specs.Taken.{taken_of}
 
+-- the view at the floor: the first of the saved ones
+abbrev pub base_in : Live → ViewData
+base_in live = first_view live.saved
+
 -- the local run that is kept
 abbrev pub run_in : Stamp → Live → Local
 run_in floor live = record {
   floor = floor;
-  base = live.base;
+  base = base_in live;
   heard = live.inbox.heard;
   log = live.log.items;
 }
 
 -- what the region is at where it begins, and after its whole log
 abbrev pub start_in : Live → At
-start_in live = record { view = live.base; waiting = live.inbox.heard }
+start_in live = record { view = base_in live; waiting = live.inbox.heard }
 
 abbrev pub now_in : Live → At
 now_in live = after_log (start_in live) live.log.items
@@ -53,7 +57,7 @@ AreSavedAlong live = live.saved ≡ saved_along 0 (start_in live) live.log.items
 pub record IsLive (home : Home) (floor : Stamp) (live : Live) : Type 0 where
   pub right : IsRight home (run_in floor live)
   pub inbox : IsInbox home live.log.items live.inbox
-  pub sent : IsOutbox home live.base live.log.items live.sent.items
+  pub sent : IsOutbox home (base_in live) live.log.items live.sent.items
   pub saved : AreSavedAlong live
   pub queue : IsOf live.queue home.rules home.grid home.number
   pub stands : StandsFor live.queue (now_in live).view

@@ -26,7 +26,6 @@ HearsOn at k trail r Apart new = ⊥
 
 -- what was heard from region k is `sent`, and all else is as it was
 pub record IsReplaced (k : ℕ) (sent : List Message) (old new : Live) : Type 0 where
-  pub base : new.base ≡ old.base
   pub saved : new.saved ≡ old.saved
   pub queue : new.queue ≡ old.queue
   pub heard : new.inbox.heard ≡ slice_set old.inbox.heard k sent

@@ -15,7 +15,7 @@ ghost use Rattle.local_run.specs.declared.entry.Entry.TheVariants.{Native, Heard
 ghost use Rattle.local_run.specs.declared.moves.Move.TheVariants.{Run, TakeIn};
 ghost use Rattle.local_run.specs.LocalRun.{At, IsInPlace, after_entry, trail_of, told};
 ghost use Rattle.local_run.specs.Answers.{with_entry};
-ghost use Rattle.region_core.specs.Live.{run_in, now_in, IsLive, AreSavedAlong};
+ghost use Rattle.region_core.specs.Live.{base_in, run_in, now_in, IsLive, AreSavedAlong};
 ghost use Rattle.local_run.specs.Keeping.{SendsTo};
 ghost use Rattle.local_run.specs.Moves.{Fits};
 
@@ -45,7 +45,7 @@ impl Live {
             self.old.queue.region) }
         ensures stands { OnOk result
             (StandsFor self.new.queue (after_entry (now_in self.old) entry).view) }
-        ensures base { self.new.base ≡ self.old.base }
+        ensures base { OnOk result (base_in self.new ≡ base_in self.old) }
         ensures inbox { self.new.inbox ≡ self.old.inbox }
         ensures sent { self.new.sent ≡ self.old.sent }
     {

@@ -7,12 +7,10 @@ use region_queue::Queue;
 use region_view::View;
 use saved_states::Saved;
 
-/// The body of a region: the view at the floor, the log of what it did from there on, and what this comes
-/// to, kept up to date.
+/// The body of a region: the log of what it did from the floor on, and what this comes to, kept up to date.
 #[derive(Drop)]
 pub(crate) struct Live {
-    pub(crate) base: View,
-    // The saved state queue: the views at the positions of the log.
+    // The saved state queue: the views at the positions of the log, of which the first is that at the floor.
     pub(crate) saved: Saved,
     // The events of its own columns that may come next.
     pub(crate) queue: Queue,
@@ -29,7 +27,7 @@ ghost use Rattle.region_view.specs.Views.{rows_in};
 ghost use Rattle.region_view.specs.Placing.{IsValidPlacing};
 ghost use Rattle.cell_grid.specs.Grid.{IsRegion};
 ghost use Rattle.local_run.specs.LocalRun.{IsInPlace, trail_of, sent_to};
-ghost use Rattle.region_core.specs.Live.{IsLive, IsInbox, IsOutbox};
+ghost use Rattle.region_core.specs.Live.{base_in, IsLive, IsInbox, IsOutbox};
 ghost use Rattle.local_run.specs.Keeping.{SendsTo, HearsOf};
 
 use crate::Home;
@@ -41,7 +39,7 @@ impl Live {
     pub(crate) fn open(alloc: Global, home: &Home, base: View) -> Result<Live, AllocError>
         requires place { IsInPlace home.now }
         requires valid { IsValidPlacing home.now.rules home.now.grid (rows_in base) }
-        ensures base { IfOk result (λ live. live.base ≡ base) }
+        ensures base { IfOk result (λ live. base_in live ≡ base) }
         ensures heard { IfOk result (λ live. live.inbox.heard ≡ replicate home.now.grid.regions []) }
         ensures log { IfOk result (λ live. live.log.items ≡ []) }
         ensures live { IfOk result (λ live. (floor : Stamp) → ¬ Before (end_stamp home.now.rules.end) floor →
@@ -49,22 +47,22 @@ impl Live {
     {
         let regions = home.grid.regions();
         Ok(Live {
-            saved: Saved::open(alloc, 0, &base)?,
             queue: Queue::open(alloc, &base, &home.grid, &home.rules, home.number)?,
             inbox: Inbox::new(alloc, regions)?,
             sent: empty_trails(alloc, regions)?,
             log: Vec::new(alloc),
-            base,
+            // The view itself, not a copy of it.
+            saved: Saved::from_parts(0, base, Vec::new(alloc)),
         })
     }
 
     /// What goes to a region; none where the two aren't linked.
     pub(crate) fn sent_to(&self, home: &Home, to: u32) -> Option<&Trail>
         requires number { IsRegion home.now.grid home.now.number }
-        requires sent { IsOutbox home.now self.now.base self.now.log.items self.now.sent.items }
+        requires sent { IsOutbox home.now (base_in self.now) self.now.log.items self.now.sent.items }
         ensures { MatchOption result (¬ SendsTo home.now to)
             (λ trail. SendsTo home.now to
-            × (trail.now ≡ sent_to home.now.grid to self.now.base self.now.log.items)) }
+            × (trail.now ≡ sent_to home.now.grid to (base_in self.now) self.now.log.items)) }
     {
         if home.sends_to(to) {
             self.sent.get(to as usize)

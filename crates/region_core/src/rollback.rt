@@ -8,7 +8,7 @@ ghost use Rattle.region_messages.specs.Trails.{below};
 ghost use Rattle.region_queue.specs.Queue.{IsOf, StandsFor};
 ghost use Rattle.local_run.specs.Entries.{RiseFrom, entries_below, entries_from};
 ghost use Rattle.local_run.specs.LocalRun.{At, IsInPlace, IsMove, after_entry};
-ghost use Rattle.region_core.specs.Live.{IsLive, GoesAlong, HasRun};
+ghost use Rattle.region_core.specs.Live.{base_in, IsLive, GoesAlong, HasRun};
 
 use crate::appending::touch;
 use crate::live::Live;
@@ -28,7 +28,7 @@ impl Live {
     pub(crate) fn rewind(&mut self, alloc: Global, home: &Home, at: Stamp) -> Result<(), AllocError>
         requires place { IsInPlace home.now }
         requires live { HasRun home.now self.old }
-        ensures base { OnOk result (self.new.base ≡ self.old.base) }
+        ensures base { OnOk result (base_in self.new ≡ base_in self.old) }
         ensures heard { OnOk result (self.new.inbox.heard ≡ self.old.inbox.heard) }
         ensures log { OnOk result (self.new.log.items ≡ entries_below at self.old.log.items) }
         ensures live { OnOk result ((floor : Stamp) → IsLive home.now floor self.old →
@@ -47,7 +47,7 @@ impl Live {
         requires along { GoesAlong home.now self.old }
         ensures along { OnOk result (GoesAlong home.now self.new) }
         ensures log { OnOk result (self.new.log.items ≡ take kept self.old.log.items) }
-        ensures base { self.new.base ≡ self.old.base }
+        ensures base { OnOk result (base_in self.new ≡ base_in self.old) }
         ensures inbox { self.new.inbox ≡ self.old.inbox }
         ensures sent { self.new.sent ≡ self.old.sent }
     {
@@ -64,7 +64,7 @@ impl Live {
         ensures along { OnOk result (GoesAlong home.now self.new) }
         ensures log { OnOk result (self.new.log.items
             ≡ take (length self.old.log.items - 1) self.old.log.items) }
-        ensures base { self.new.base ≡ self.old.base }
+        ensures base { OnOk result (base_in self.new ≡ base_in self.old) }
         ensures inbox { self.new.inbox ≡ self.old.inbox }
         ensures sent { self.new.sent ≡ self.old.sent }
     {

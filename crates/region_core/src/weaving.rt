@@ -9,7 +9,7 @@ ghost use Rattle.region_view.specs.Views.{rows_in};
 ghost use Rattle.region_queue.specs.Queue.{IsOf, StandsFor};
 ghost use Rattle.local_run.specs.Entries.{entries_below, entries_from};
 ghost use Rattle.local_run.specs.LocalRun.{IsInPlace, IsHearable};
-ghost use Rattle.region_core.specs.Live.{run_in, IsLive};
+ghost use Rattle.region_core.specs.Live.{base_in, run_in, IsLive};
 ghost use Rattle.region_core.specs.Weaving.{Weaves, IsSetLate, BeginsAfter, IsTried};
 
 use crate::appending::touch;
@@ -47,7 +47,7 @@ impl Live {
         requires region { IsRegion home.now.grid from }
         requires hearable { IsHearable home.now floor from sent.now }
         ensures live { IfOk result (λ answer. IsLive home.now floor answer.0) }
-        ensures base { IfOk result (λ answer. answer.0.base ≡ self.base) }
+        ensures base { IfOk result (λ answer. base_in answer.0 ≡ base_in self) }
     {
         let mut live = self;
         for _ in 0..MAX_ENTRIES {
@@ -82,7 +82,7 @@ impl Live {
         requires region { IsRegion home.now.grid from }
         requires hearable { IsHearable home.now floor from (message ∷ []) }
         ensures live { IfOk result (λ answer. IsLive home.now floor answer.0) }
-        ensures base { IfOk result (λ answer. answer.0.base ≡ self.base) }
+        ensures base { IfOk result (λ answer. base_in answer.0 ≡ base_in self) }
     {
         let (mut live, hindrance) = self.weave(alloc, home, floor, from, message)?;
         let Some(at) = hindrance else {

@@ -24,13 +24,12 @@ impl Region {
         ensures spent { OnErr result (self.new ≡ spent self.old) }
     {
         let _alloc = alloc;
-        let Some(live) = self.live.take() else {
+        let Some(live) = &mut self.live else {
             self.floor = to;
             return Ok(());
         };
-        let live = live.raise_floor(&self.home, to)?;
+        live.raise_floor(&self.home, to);
         self.floor = to;
-        self.live = Some(live);
         Ok(())
     }
 }

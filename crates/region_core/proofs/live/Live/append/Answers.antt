@@ -5,7 +5,7 @@ use Rattle.region_view.specs.Setting.{set_rows}
 use Rattle.region_queue.specs.Queue.{StandsFor}
 use Rattle.saved_states.specs.Positions.{SavedData, EndsWith}
 use Rattle.region_core.specs.Live.{start_in, now_in}
-use Rattle.region_core.proofs.Along.{along_has, comes_after_last, appended_is, newest_appended}
+use Rattle.region_core.proofs.Along.{along_has, comes_after_last, appended_is, newest_appended, first_appended}
 use Rattle.region_core.proofs.live.Live.append.Goals as goal
 
 pub append-requires : goal.append-requires
@@ -43,3 +43,7 @@ returns-clause-stands c =
     c.args.rows _ c.requires.saved c.in_ok-append.ensures.appended c.newest.ensures.last.1 in
     subst (StandsFor c.tell.new.queue) (is ∙ sym c.requires.rows)
     (c.in_ok-tell.ensures.stands (now_in live) c.requires.stands (is ∙ sym c.requires.rows) is)
+
+pub returns-clause-base : goal.returns-clause-base
+returns-clause-base c = first_appended c.args.self.now.saved c.append.new.self (c.len.result + 1) c.args.rows
+    c.in_ok-append.ensures.appended

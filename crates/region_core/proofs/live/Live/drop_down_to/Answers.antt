@@ -10,7 +10,7 @@ loop-alloc-preserved c =
       left = ap (take c.args.kept) c.in_ok-drop_last.ensures.log
           ∙ take-take c.args.kept (length c.loop-alloc.self.log.items - 1) c.loop-alloc.self.log.items (omega arith)
           ∙ c.loop-alloc.invariant.left;
-      base = c.drop_last.ensures.base ∙ c.loop-alloc.invariant.base;
+      base = c.in_ok-drop_last.ensures.base ∙ c.loop-alloc.invariant.base;
       inbox = c.drop_last.ensures.inbox ∙ c.loop-alloc.invariant.inbox;
       sent = c.drop_last.ensures.sent ∙ c.loop-alloc.invariant.sent;
     }

@@ -3,7 +3,8 @@ use Rattle.region_view.specs.Placing.{IsValidPlacing}
 use Rattle.region_view.specs.Views.{ViewData, rows_in}
 use Rattle.region_queue.specs.Queue.{StandsFor}
 use Rattle.local_run.specs.LocalRun.{start_of, after_log}
-use Rattle.region_core.specs.Live.{run_in}
+use Rattle.region_core.specs.Live.{run_in, IsAlong}
+use Rattle.region_core.proofs.Along.{first_kept}
 use Rattle.region_core.proofs.News.{on_ok}
 use Rattle.region_core.proofs.Shorter.{shorter_is, newest_before}
 use Rattle.region_core.proofs.live.Live.drop_last.Goals as goal
@@ -42,12 +43,22 @@ returns-clause-along c =
     on_ok c.take_back.result _ _
     (λ stands. (
       c.requires.along.0,
-      record {
-        right = shorter.right;
-        saved = c.in_ok-drop_after.ensures.dropped ∙ shorter.left c.len.result size;
-        queue = c.take_back.ensures.queue;
-        stands = subst (StandsFor c.take_back.new.queue) newest
-            (stands (after_log (start_of run) left) (sym newest) shorter.stands);
-      },
+      subst (λ (v : ViewData). IsAlong home
+          (record { floor = c.requires.along.0; base = v; heard = live.inbox.heard; log = left })
+          c.drop_after.new.self c.take_back.new.queue)
+          (sym (first_kept c.len.result live.saved c.drop_after.new.self c.in_ok-drop_after.ensures.dropped))
+          (record {
+            right = shorter.right;
+            saved = c.in_ok-drop_after.ensures.dropped ∙ shorter.left c.len.result size;
+            queue = c.take_back.ensures.queue;
+            stands = subst (StandsFor c.take_back.new.queue) newest
+                (stands (after_log (start_of run) left) (sym newest) shorter.stands);
+          }),
     ))
+    c.take_back.ensures.stands
+
+pub returns-clause-base : goal.returns-clause-base
+returns-clause-base c = on_ok c.take_back.result _ _
+    (λ stands. first_kept c.len.result c.args.self.now.saved c.drop_after.new.self
+    c.in_ok-drop_after.ensures.dropped)
     c.take_back.ensures.stands

@@ -1,52 +1,36 @@
-use Rattle.std.proofs.Common.{◌≡◌, ◌+◌, ◌≤◌, List, length, map, take, drop, sym, ap, subst, ◌∙◌, arith, refl}
+use Rattle.std.proofs.Common.{◌≡◌, ◌+◌, List, length, map, take, drop, sym, ap, ◌∙◌, arith, refl}
 use Rattle.std.proofs.lemmas.List.{length-map, with_items_is}
 use Rattle.region_messages.specs.Trails.{from}
 use Rattle.local_run.specs.declared.entry.Entry.{Entry}
 use Rattle.local_run.specs.Entries.{entries_below, entries_from}
-use Rattle.local_run.specs.LocalRun.{after_log}
 use Rattle.region_core.specs.Inbox.{taken_from}
 use Rattle.local_run.specs.Taken.{taken_of}
-use Rattle.region_core.specs.Live.{run_in, start_in, saved_along}
+use Rattle.region_core.specs.Live.{run_in}
 use Rattle.saved_states.specs.Positions.{lowered}
 use Rattle.local_run.proofs.Raised.{raised_right}
 use Rattle.region_core.proofs.Rewound.{kept_are, kept_count}
-use Rattle.region_core.proofs.LetGo.{gone_ordered, gone_taken, first_saved, first_left, raised_run_is, raised_is}
+use Rattle.region_core.proofs.LetGo.{gone_taken, first_saved, first_left, raised_run_is, first_raised, raised_is}
 use Rattle.region_core.proofs.live.Live.raise_floor.Goals as goal
-
-pub bring_forward-requires : goal.bring_forward-requires
-bring_forward-requires c =
-    let n = c.count_before-gone.result in
-    let is = c.requires.live.1 in
-    let whole = c.deref-2.ensures.value in
-    record {
-      within = subst (λ (es : List Entry). n ≤ length es) (c.deref.ensures.value ∙ sym whole)
-          c.count_before-gone.ensures.within;
-      order = gone_ordered c.args.home.now c.requires.live.0 c.args.to c.args.self
-          (take n c.deref-2.result.now) c.requires.place is
-          (ap (take n) whole ∙ kept_are c.args.to n c.args.self.log.items c.deref.result.now
-          c.deref.ensures.value c.count_before-gone.ensures.before);
-      saved = (c.args.self.inbox.heard, is.saved ∙ ap (saved_along 0 (start_in c.args.self)) (sym whole));
-    }
 
 pub drop_before-requires : goal.drop_before-requires
 drop_before-requires c = λ q.
     let n = c.count_before-gone.result in
-    gone_taken c.args.home.now c.requires.live.0 c.args.to c.args.self (take n c.deref-3.result.now) q
+    gone_taken c.args.home.now c.requires.live.0 c.args.to c.args.self.now (take n c.deref-2.result.now) q
     c.requires.live.1
-    (ap (take n) c.deref-3.ensures.value ∙ kept_are c.args.to n c.args.self.log.items c.deref.result.now
+    (ap (take n) c.deref-2.ensures.value ∙ kept_are c.args.to n c.args.self.now.log.items c.deref.result.now
     c.deref.ensures.value c.count_before-gone.ensures.before)
 
 pub drop_before-requires-3 : goal.drop_before-requires-3
 drop_before-requires-3 c =
-    let first = first_saved c.args.home.now c.requires.live.0 c.args.self c.requires.live.1 in
+    let first = first_saved c.args.home.now c.requires.live.0 c.args.self.now c.requires.live.1 in
     omega arith
 
 pub lower-requires : goal.lower-requires
 lower-requires c =
     let n = c.count_before-gone.result in
-    let first = first_left c.args.home.now c.requires.live.0 c.args.to c.args.self n
+    let first = first_left c.args.home.now c.requires.live.0 c.args.to c.args.self.now n
     c.drop_before-3.new.self c.requires.live.1
-    (kept_count c.args.to n c.args.self.log.items c.deref.result.now c.deref.ensures.value
+    (kept_count c.args.to n c.args.self.now.log.items c.deref.result.now c.deref.ensures.value
     c.count_before-gone.ensures.within c.count_before-gone.ensures.before) c.drop_before-3.ensures in
     omega arith
 
@@ -59,47 +43,41 @@ drop_first-requires c =
 pub returns-clause-run : goal.returns-clause-run
 returns-clause-run c = λ floor.
     let n = c.count_before-gone.result in
-    let log = c.args.self.log.items in
-    let gone : take n c.deref-2.result.now ≡ entries_below c.args.to log =
-    ap (take n) c.deref-2.ensures.value ∙ kept_are c.args.to n log c.deref.result.now
-    c.deref.ensures.value c.count_before-gone.ensures.before in
+    let log = c.args.self.now.log.items in
     let left : drop n log ≡ entries_from c.args.to log =
     ap (drop n) (sym c.deref.ensures.value) ∙ c.count_before-gone.ensures.from
     ∙ ap (entries_from c.args.to) c.deref.ensures.value in
-    raised_run_is c.args.to (run_in floor c.args.self) c.bring_forward.new.view
+    raised_run_is c.args.to (run_in floor c.args.self.now) _
     c.drop_before.new.self.heard c.drop_first.new.log.items
-    (c.in_ok-bring_forward.ensures c.args.self.inbox.heard
-    ∙ ap (λ (es : List Entry). (after_log (start_in c.args.self) es).view) gone)
+    (first_raised c.args.home.now c.requires.live.0 c.args.to c.args.self.now c.lower.new.self n c.requires.live.1
+    (kept_count c.args.to n log c.deref.result.now c.deref.ensures.value
+    c.count_before-gone.ensures.within c.count_before-gone.ensures.before)
+    (c.lower.ensures ∙ ap (lowered n) c.drop_before-3.ensures))
     c.drop_before.ensures.heard (c.drop_first.ensures ∙ left)
 
 pub returns-clause-live : goal.returns-clause-live
 returns-clause-live c =
     let n = c.count_before-gone.result in
-    let log = c.args.self.log.items in
+    let log = c.args.self.now.log.items in
     let floor = c.requires.live.0 in
     let is = c.requires.live.1 in
     let none = c.requires.none_waiting floor in
-    let before = kept_are c.args.to n log c.deref.result.now c.deref.ensures.value
-    c.count_before-gone.ensures.before in
     let gone : take n c.deref-2.result.now ≡ entries_below c.args.to log =
-    ap (take n) c.deref-2.ensures.value ∙ before in
-    let also : take n c.deref-3.result.now ≡ entries_below c.args.to log =
-    ap (take n) c.deref-3.ensures.value ∙ before in
+    ap (take n) c.deref-2.ensures.value ∙ kept_are c.args.to n log c.deref.result.now c.deref.ensures.value
+    c.count_before-gone.ensures.before in
     let left : drop n log ≡ entries_from c.args.to log =
     ap (drop n) (sym c.deref.ensures.value) ∙ c.count_before-gone.ensures.from
     ∙ ap (entries_from c.args.to) c.deref.ensures.value in
-    let sent : c.drop_before-2.new.trails ≡ map (from c.args.to) c.args.self.sent.items =
+    let sent : c.drop_before-2.new.trails ≡ map (from c.args.to) c.args.self.now.sent.items =
     c.drop_before-2.ensures ∙ ap (map (from c.args.to)) c.deref_mut.ensures.value in
-    raised_is c.args.home.now floor c.args.to c.args.self _ n is none
-    (raised_right c.args.home.now (run_in floor c.args.self) c.args.to c.requires.place is.right
+    raised_is c.args.home.now floor c.args.to c.args.self.now _ n is none
+    (raised_right c.args.home.now (run_in floor c.args.self.now) c.args.to c.requires.place is.right
     c.requires.in_time none)
-    (c.in_ok-bring_forward.ensures c.args.self.inbox.heard
-    ∙ ap (λ (es : List Entry). (after_log (start_in c.args.self) es).view) gone)
     (c.drop_first.ensures ∙ left)
     c.drop_before.ensures.heard c.drop_before.ensures.counts
-    (λ q. ap (λ (es : List Entry). taken_from c.drop_before.new.self q + taken_of q es) (sym also)
+    (λ q. ap (λ (es : List Entry). taken_from c.drop_before.new.self q + taken_of q es) (sym gone)
     ∙ c.drop_before.ensures.taken q)
-    (with_items_is c.args.self.sent c.drop_before-2.new.trails
+    (with_items_is c.args.self.now.sent c.drop_before-2.new.trails
     (ap length c.drop_before-2.ensures ∙ length-map c.deref_mut.result.now (from c.args.to)
     ∙ c.deref_mut.ensures.len) ∙ sent)
     (kept_count c.args.to n log c.deref.result.now c.deref.ensures.value

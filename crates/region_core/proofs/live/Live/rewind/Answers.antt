@@ -39,7 +39,7 @@ returns-clause-live c = λ floor is.
     let cut : c.cut_from.new.trails ≡ map (below c.args.at) c.args.self.now.sent.items =
     c.cut_from.ensures ∙ ap (map (below c.args.at)) c.deref_mut.ensures.value in
     rewound_is c.args.home.now floor c.args.at c.args.self.now c.drop_down_to.new.self is
-    c.drop_down_to.ensures.base
+    c.in_ok-drop_down_to.ensures.base
     (c.in_ok-drop_down_to.ensures.log ∙ kept_are c.args.at kept log c.deref.result.now c.deref.ensures.value
     c.count_before-kept.ensures.before)
     (ap (λ (x : InboxData). x.heard) inbox ∙ c.give_back.ensures.heard)

@@ -6,7 +6,7 @@ use Rattle.local_run.specs.declared.entry.Entry.TheVariants.{Native}
 use Rattle.region_core.specs.Inbox.{InboxData}
 use Rattle.local_run.specs.LocalRun.{trail_of, told}
 use Rattle.region_view.specs.Messages.{message_of}
-use Rattle.region_core.specs.Live.{run_in, now_in, IsInbox, IsOutbox}
+use Rattle.region_core.specs.Live.{base_in, run_in, now_in, IsInbox, IsOutbox}
 use Rattle.local_run.proofs.Valid.{valid_now}
 use Rattle.region_core.proofs.Appended.{further_is, newest_is, native_action, native_valid, after_what_was_sent, inbox_native, outbox_native}
 use Rattle.region_core.proofs.live.Live.run.Goals as goal
@@ -62,7 +62,7 @@ returns-clause-live c =
     further_is home c.args.floor live _ e c.requires.live c.requires.fits.0.0 c.requires.fits.1
     c.requires.fits.2
     record {
-      base = c.append.ensures.base;
+      base = c.in_ok-append.ensures.base;
       heard = ap (λ (x : InboxData). x.heard) c.append.ensures.inbox;
       log = c.in_ok-append.ensures.log;
       saved = c.in_ok-append.ensures.saved;
@@ -74,7 +74,7 @@ returns-clause-live c =
       stands = c.in_ok-append.ensures.stands;
       inbox = subst (IsInbox home (live.log.items ++ e ∷ [])) (sym c.append.ensures.inbox)
           (inbox_native home live.log.items live.inbox c.args.action c.requires.live.inbox);
-      sent = subst (IsOutbox home live.base (live.log.items ++ e ∷ []))
+      sent = subst (IsOutbox home (base_in live) (live.log.items ++ e ∷ []))
           (λ i. (sym c.append.ensures.sent i).items)
           (outbox_native home c.args.floor live c.args.action c.send.new.sent.items
           c.requires.live.sent c.in_ok-send.ensures.size

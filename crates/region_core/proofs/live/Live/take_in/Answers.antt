@@ -3,7 +3,7 @@ use Rattle.std.specs.Prelude.{IsSome}
 use Rattle.local_run.specs.declared.entry.Entry.TheVariants.{Heard}
 use Rattle.local_run.specs.declared.entry.TheConstants.{MAX_ENTRIES}
 use Rattle.region_core.specs.Inbox.{InboxData, next_from, taken_from, with_taken}
-use Rattle.region_core.specs.Live.{IsInbox, IsOutbox}
+use Rattle.region_core.specs.Live.{base_in, IsInbox, IsOutbox}
 use Rattle.region_core.proofs.Appended.{further_is, heard_valid, waits_in, few_taken, inbox_heard, outbox_heard, sender_is_region}
 use Rattle.region_core.proofs.live.Live.take_in.Goals as goal
 
@@ -38,7 +38,7 @@ returns-clause-live c =
     further_is home c.args.floor live _ e c.requires.live c.requires.fits.0.0 c.requires.fits.1
     c.requires.fits.2
     record {
-      base = c.append.ensures.base;
+      base = c.in_ok-append.ensures.base;
       heard = ap (λ (x : InboxData). x.heard) inbox;
       log = c.in_ok-append.ensures.log;
       saved = c.in_ok-append.ensures.saved;
@@ -52,7 +52,7 @@ returns-clause-live c =
           (inbox_heard home live.log.items live.inbox c.args.from c.args.message
           (sender_is_region home c.args.floor live c.args.from c.args.message c.requires.live
           c.requires.fits) c.requires.live.inbox);
-      sent = subst (IsOutbox home live.base (live.log.items ++ e ∷ []))
+      sent = subst (IsOutbox home (base_in live) (live.log.items ++ e ∷ []))
           (λ i. (sym c.append.ensures.sent i).items)
           (outbox_heard home c.args.floor live c.args.from c.args.message c.requires.live.sent);
     }

@@ -1,11 +1,12 @@
-use Rattle.std.proofs.Common.{◌++◌, ◌∷◌, inl, List, length, take, drop, ◌+◌, Some, None, ◌∙◌, sym, ap, subst, refl, arith}
+use Rattle.std.proofs.Common.{◌≡◌, ◌++◌, ◌∷◌, inl, List, length, take, drop, ◌+◌, Some, None, ◌∙◌, sym, ap, subst, refl, arith}
 use Rattle.std.specs.Prelude.{All}
 use Rattle.region_view.specs.Views.{ViewData}
 use Rattle.region_queue.specs.Queue.{StandsFor}
+use Rattle.saved_states.specs.Positions.{SavedData}
 use Rattle.saved_states.specs.Steps.{StepList, rebuilt}
 use Rattle.local_run.specs.declared.entry.Entry.{Entry}
 use Rattle.local_run.specs.Entries.{last_stamp}
-use Rattle.region_core.specs.Live.{now_in}
+use Rattle.region_core.specs.Live.{run_in, now_in}
 use Rattle.region_core.specs.Weaving.{AreStepsAside, IsValidBack}
 use Rattle.region_core.proofs.Steps.{raised}
 use Rattle.region_core.proofs.WeavingLive.{AreTouchedLate, IsParted, back_valid, put_live, may_be_woven, set_valid, same_live, small_steps, as_many_steps, newest_view, of_again, set_is, stands_first, all_later, few_taken, put_step_rises}
@@ -55,13 +56,14 @@ returns-in-Some-2 c =
     let set = set_is c.in-Some.last view c.args.message.rows c.set_late.new.queue c.set_late.new.view
     c.set_late.new.rows c.in_ok-at.field-0 (Some c.in-Some-2.at)
     (c.in_ok-at.ensures.late (stands_first home c.args.floor live first view steps c.requires.live parts))
-    c.in-Some-2.is in (
-      same_live home c.args.floor live c.from_parts-in-Some-2.result c.set_late.new.queue c.requires.live
-          (c.from_parts-in-Some-2.ensures ∙ ap (λ (v : ViewData). rebuilt first v steps) set.0 ∙ sym parts)
+    c.in-Some-2.is in
+    let same : c.from_parts-in-Some-2.result ≡ live.saved =
+    c.from_parts-in-Some-2.ensures ∙ ap (λ (v : ViewData). rebuilt first v steps) set.0 ∙ sym parts in (
+      same_live home c.args.floor live c.from_parts-in-Some-2.result c.set_late.new.queue c.requires.live same
           (of_again live.queue c.set_late.new.queue home c.set_late.ensures.queue c.requires.live.queue)
           (subst (StandsFor c.set_late.new.queue)
           (set.0 ∙ newest_view home c.args.floor live first view steps c.requires.live parts) set.1),
-      refl,
+      ap (λ (s : SavedData). run_in c.args.floor (record live { saved = s })) same,
     )
 
 pub put_step-requires-clause-kept : goal.put_step-requires-clause-kept
@@ -119,7 +121,6 @@ returns c =
     ∙ ap (λ b. take c.args.kept steps ++ (c.args.kept + 1, b) ∷ raised (drop c.args.kept steps)) set.1 in
     put_live home c.args.floor c.args.from c.args.kept m first view steps live _ c.requires.region c.requires.live parts
     parted c.requires.tried far may c.requires.hearable (record {
-      base = refl;
       heard = c.in_ok-weave.ensures.heard;
       taken = c.in_ok-weave.ensures.taken;
       own = refl;

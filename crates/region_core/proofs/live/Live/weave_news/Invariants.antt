@@ -1,6 +1,6 @@
 use Rattle.std.proofs.Common.{◌≡◌}
-use Rattle.region_core.specs.Live.{IsLive}
+use Rattle.region_core.specs.Live.{base_in, IsLive}
 use Rattle.region_core.proofs.live.Live.weave_news.Given as goal
 
 abbrev pub invariant-loop : goal.invariant-loop
-invariant-loop l = IsLive l.home l.floor l.live × (l.live.base ≡ l.fn.self.base)
+invariant-loop l = IsLive l.home l.floor l.live × (base_in l.live ≡ base_in l.fn.self)

@@ -1,3 +1,5 @@
+use Rattle.std.specs.Prelude.{Option, IfSome}
+use Rattle.region_core.specs.declared.live.Live.{Live}
 use Rattle.std.proofs.Common.{◌≡◌, ℕ, List, slice_get, length, ◌≤◌, refl, sym, ◌∙◌, subst}
 use Rattle.cell_grid.specs.Grid.{GridData, IsRegion}
 use Rattle.region_view.specs.declared.action.Placed.{Placed}
@@ -5,7 +7,7 @@ use Rattle.region_view.specs.Laws.{HasCells}
 use Rattle.region_messages.proofs.Same.{stamp_decides}
 use Rattle.cell_sequence.proofs.Followed.{few_rows}
 use Rattle.cell_sequence.proofs.Orderly.{cell_states_are_orderly}
-use Rattle.region_core.specs.Live.{run_in}
+use Rattle.region_core.specs.Live.{base_in, run_in, IsLive}
 use Rattle.region_core.proofs.Pairs.{rules_decide, grid_decides}
 use Rattle.region_core.proofs.Stands.{run_seen, not_spent, differ, agree, stands, differs_in_row}
 use Rattle.region_core.proofs.region.Region.stands_on.Goals as goal
@@ -75,7 +77,7 @@ returns-in-Some-first_apart-clause-value c =
       (
         run_in c.self.inside.floor c.in-Some.live,
         run,
-        differs_in_row c.args.state.now c.args.number c.in-Some.live.base c.grid-grid.result.now
+        differs_in_row c.args.state.now c.args.number (base_in c.in-Some.live) c.grid-grid.result.now
             c.placed.result.now c.in-Some-first_apart.disk c.grid-grid.ensures.value c.placed.ensures.value
             c.in-Some-first_apart.ensures,
       ),
@@ -92,3 +94,8 @@ returns-in-None-clause-value c =
     (agree c.grid.ensures.value c.grid-grid.ensures.value (grid_decides _ _) c.ne-2.ensures c.if-ne-2.false)
     (agree c.floor.ensures.value c.floor-floor.ensures.value (stamp_decides _ _) c.ne-3.ensures c.if-ne-3.false)
     c.grid-grid.ensures.value c.placed.ensures.value c.in-None.ensures
+
+pub first_apart-requires-clause-few : goal.first_apart-requires-clause-few
+first_apart-requires-clause-few c =
+    (subst (λ (o : Option Live). IfSome o (IsLive c.self.inside.home c.self.inside.floor)) c.in-Some.is
+    c.self.invariant.alive).right.base.number
