@@ -1,5 +1,5 @@
 -- What a region keeps beside its local run, so that it need not be found again.
-use Rattle.std.specs.Prelude.{◌≡◌, ℕ, ◌+◌, List, [], ◌∷◌, length, Option, IfSome}
+use Rattle.std.specs.Prelude.{◌≡◌, ℕ, ◌+◌, List, [], ◌∷◌, length, Option, Some, None, IfSome}
 use Rattle.event_stamps.specs.declared.Stamp.{Stamp}
 use Rattle.event_stamps.specs.Order.{Before, end_stamp}
 use Rattle.cell_grid.specs.Grid.{IsRegion, AreLinked}
@@ -73,6 +73,11 @@ HasDueBefore home bound live = (s : Stamp) × IsDueOrEnd home (now_in live) s ×
 -- it isn't before the bound
 abbrev pub HasDueLater : Home → Stamp → Live → Type 0
 HasDueLater home bound live = (s : Stamp) × IsDueOrEnd home (now_in live) s × ¬ Before s bound
+
+-- a bound is given, and what is due isn't before it
+abbrev pub IsHeldBack : Home → Option Stamp → Live → Type 0
+IsHeldBack home None live = ⊥
+IsHeldBack home (Some bound) live = HasDueLater home bound live
 
 -- a right local run, the views along it, and the queue of the last
 pub record IsAlong (home : Home) (run : Local) (views : SavedData) (events : QueueData) : Type 0 where

@@ -1,6 +1,6 @@
 //! What a region does next.
 
-ghost use Rattle.std.specs.Prelude.{◌≡◌, ◌↔◌, IsTrue, IfOk, OnOk, MatchOption};
+ghost use Rattle.std.specs.Prelude.{◌≡◌, ◌↔◌, false, IsTrue, IfOk, IfSome, OnOk, MatchOption};
 ghost use Rattle.event_stamps.specs.Order.{Before};
 ghost use Rattle.event_stamps.specs.Least.{IsLeastOf};
 ghost use Rattle.region_view.specs.Placing.{IsValidPlacing};
@@ -9,7 +9,7 @@ ghost use Rattle.local_run.specs.LocalRun.{At, IsInPlace, IsOwn, IsOffered, IsDu
 ghost use Rattle.local_run.specs.Entries.{clock_of};
 ghost use Rattle.local_run.specs.Answers.{HasDue, IsInTurn, StepsTo};
 ghost use Rattle.region_core.specs.Inbox.{head_stamp, IsLeastHead, IsFirstOf};
-ghost use Rattle.region_core.specs.Live.{run_in, now_in, IsLive, HasRun, AreSavedAlong, HasDueBefore, HasDueLater};
+ghost use Rattle.region_core.specs.Live.{run_in, now_in, IsLive, HasRun, AreSavedAlong, HasDueBefore, IsHeldBack};
 ghost use Rattle.local_run.specs.Moves.{Fits, ComesAfter};
 
 use crate::live::Live;
@@ -100,7 +100,8 @@ impl Live {
         }
     }
 
-    /// One step: what it answers.
+    /// One step: what it answers. Where a bound is given, the stamp that is due, or the end stamp, has to be before
+    /// it; none exactly where it isn't: then nothing changes.
     ///
     /// # Errors
     /// Out of memory: what is left is to be dropped.
@@ -109,78 +110,45 @@ impl Live {
         alloc: Global,
         home: &Home,
         floor: Stamp,
-    ) -> Result<Step, AllocError>
-        requires place { IsInPlace home.now }
-        requires live { IsLive home.now floor self.old }
-        ensures live { OnOk result (IsLive home.now floor self.new) }
-        ensures steps { IfOk result
-            (λ step. StepsTo home.now (run_in floor self.old) step (run_in floor self.new)) }
-    {
-        let head = self.inbox.least();
-        let due = self.due_beside(home, head);
-        self.step_at(alloc, home, floor, head, due)
-    }
-
-    /// One step where the stamp that is due, or the end stamp, is before a bound: what it answers. None exactly
-    /// where it isn't: then nothing changes.
-    ///
-    /// # Errors
-    /// Out of memory: what is left is to be dropped.
-    pub(crate) fn step_before(
-        &mut self,
-        alloc: Global,
-        home: &Home,
-        floor: Stamp,
-        bound: &Stamp,
+        bound: Option<Stamp>,
     ) -> Result<Option<Step>, AllocError>
         requires place { IsInPlace home.now }
         requires live { IsLive home.now floor self.old }
         ensures live { OnOk result (IsLive home.now floor self.new) }
         ensures steps { IfOk result (λ answer. MatchOption answer
-            (HasDueLater home.now bound.now self.old × (self.new ≡ self.old))
-            (λ step. HasDueBefore home.now bound.now self.old
+            (IsHeldBack home.now bound self.old × (self.new ≡ self.old))
+            (λ step. IfSome bound (λ b. HasDueBefore home.now b self.old)
             × StepsTo home.now (run_in floor self.old) step (run_in floor self.new))) }
     {
         let head = self.inbox.least();
         let due = self.due_beside(home, head);
-        if !is_before(&or_end(home, due), bound) {
+        if self.is_held_back(home, due, bound) {
             return Ok(None);
         }
-        let step = self.step_at(alloc, home, floor, head, due)?;
-        Ok(Some(step))
-    }
-
-    // One step, where the least of the first messages and the stamp that is due are known: what it answers. Not put
-    // into those that call it, since all that it calls is put into it.
-    #[inline(never)]
-    fn step_at(
-        &mut self,
-        alloc: Global,
-        home: &Home,
-        floor: Stamp,
-        head: Option<(u32, Stamp)>,
-        due: Option<Stamp>,
-    ) -> Result<Step, AllocError>
-        requires place { IsInPlace home.now }
-        requires live { IsLive home.now floor self.old }
-        requires head { IsLeastHead self.old.inbox head }
-        requires due { IsLeastOf (IsOffered home.now (now_in self.old)) due }
-        ensures live { OnOk result (IsLive home.now floor self.new) }
-        ensures steps { IfOk result
-            (λ step. StepsTo home.now (run_in floor self.old) step (run_in floor self.new)) }
-    {
         match self.next_move(home, floor, head, due) {
-            Move::Answer(step) => Ok(step),
+            Move::Answer(step) => Ok(Some(step)),
             Move::Run(action) => {
                 let stamp = action.stamp();
                 self.run(alloc, home, floor, action)?;
-                Ok(Step::Ran(stamp))
+                Ok(Some(Step::Ran(stamp)))
             }
             Move::TakeIn { from, message } => {
                 let stamp = message.stamp;
                 self.take_in(alloc, home, floor, from, message)?;
-                Ok(Step::Heard(stamp))
+                Ok(Some(Step::Heard(stamp)))
             }
+        }
+    }
+
+    // Whether a bound is given, and the stamp that is due, or the end stamp, isn't before it.
+    fn is_held_back(&self, home: &Home, due: Option<Stamp>, bound: Option<Stamp>) -> bool
+        requires { IsLeastOf (IsOffered home.now (now_in self.now)) due }
+        ensures held { IsTrue result → IsHeldBack home.now bound self.now }
+        ensures free { result ≡ false → IfSome bound (λ b. HasDueBefore home.now b self.now) }
+    {
+        match bound {
+            Some(bound) => !is_before(&or_end(home, due), &bound),
+            None => false,
         }
     }
 

@@ -113,8 +113,9 @@ impl Region {
         let Some(live) = &mut self.live else {
             return Ok(Step::Spent);
         };
-        match live.step(alloc, &self.home, self.floor) {
-            Ok(step) => Ok(step),
+        match live.step(alloc, &self.home, self.floor, None) {
+            Ok(Some(step)) => Ok(step),
+            Ok(None) => unreachable!(),
             Err(error) => {
                 let_go(&mut self.live);
                 Err(error)
@@ -166,7 +167,7 @@ impl Region {
     /// the greatest such number is that. 0 where it is spent. Nothing is claimed of it.
     pub fn room(&self) -> usize {
         match &self.live {
-            Some(live) => live.base.room(),
+            Some(live) => live.saved.newest().room(),
             None => 0,
         }
     }
@@ -195,7 +196,7 @@ impl Region {
         ensures kept { IsKept self.now }
     {
         match &self.live {
-            Some(live) => live.base.get(disk),
+            Some(live) => live.saved.first_row(disk),
             None => None,
         }
     }

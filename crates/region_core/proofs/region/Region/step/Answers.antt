@@ -4,10 +4,11 @@ use Rattle.region_core.specs.declared.live.Live.{Live}
 use Rattle.local_run.specs.Opening.{RegionData}
 use Rattle.region_core.specs.Live.{run_in}
 use Rattle.local_run.specs.Steps.{StepsOn}
+use Rattle.region_core.proofs.Bounded.{of_some}
 use Rattle.region_core.proofs.region.Region.step.Goals as goal
 
-pub returns-in-Ok-clause-step : goal.returns-in-Ok-clause-step
-returns-in-Ok-clause-step c =
+pub returns-in-Ok-Some-clause-step : goal.returns-in-Ok-Some-clause-step
+returns-in-Ok-Some-clause-step c =
     let home = c.self.inside.home in
     let floor = c.self.inside.floor in
     let left = run_in floor c.step.new.self in
@@ -15,8 +16,8 @@ returns-in-Ok-clause-step c =
       home = ap (λ (region : RegionData). region.home) c.self.view_is;
       floor = ap (λ (region : RegionData). region.floor) c.self.view_is;
       run = subst (λ (region : RegionData).
-          StepsOn region.home region.run c.in-Ok.step (Some left)) c.self.view_is
+          StepsOn region.home region.run c.in-Ok-Some.step (Some left)) c.self.view_is
           (subst (λ (o : Option Live).
-          StepsOn home (option_map (run_in floor) o) c.in-Ok.step (Some left))
-          (sym c.in-Some.is) (left, c.in-Ok.ensures.steps, refl));
+          StepsOn home (option_map (run_in floor) o) c.in-Ok-Some.step (Some left))
+          (sym c.in-Some.is) (left, (of_some _ _ _ _ c.in-Ok-Some.field-0-is c.in-Ok-Some.ensures.steps).1, refl));
     }

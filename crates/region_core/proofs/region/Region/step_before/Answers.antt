@@ -13,10 +13,10 @@ returns-in-Ok-clause-step c =
     let home = c.self.inside.home in
     let floor = c.self.inside.floor in
     let bound = c.args.bound.now in
-    let new = region_of home floor c.step_before.new.self in
+    let new = region_of home floor c.step.new.self in
     let Made : RegionData → Type 0 = λ old. MatchOption c.in-Ok.last (IsDueLater bound old × (new ≡ old))
     (λ answer. IsDueBefore bound old × Steps old answer new) in
     subst Made c.self.view_is
     (subst (λ (o : Option Live). Made (record { home = home; floor = floor; run = option_map (run_in floor) o }))
     (sym c.in-Some.is)
-    (bounded_step home floor bound c.in-Some.live c.step_before.new.self c.in-Ok.last c.in-Ok.ensures.steps))
+    (bounded_step home floor bound c.in-Some.live c.step.new.self c.in-Ok.last c.in-Ok.ensures.steps))
