@@ -1,6 +1,6 @@
 -- The native candidates that name a disk: by itself, and with those near it.
-use Rattle.std.proofs.Common.{◌≡◌, ◌⊎◌, ◌↔◌, inl, inr, ℕ, ◌+◌, ◌*◌, ◌<◌, ◌≤◌, Bool, arith, refl, sym, subst, ap, ◌∙◌}
-use Rattle.std.specs.Prelude.{Option, Some, None, MatchOption, option_map, IsTrue}
+use Rattle.std.proofs.Common.{◌≡◌, ◌⊎◌, ◌↔◌, inl, inr, ℕ, ◌+◌, ◌*◌, ◌<◌, ◌≤◌, arith, refl, sym, subst, ap, ◌∙◌}
+use Rattle.std.specs.Prelude.{Option, Some, None, MatchOption, option_map}
 use Rattle.std.proofs.lemmas.Bool.{cases_lt}
 use Rattle.fixed_motion.specs.declared.rules.Rules.{Rules}
 use Rattle.event_stamps.specs.declared.Stamp.{Stamp}
@@ -22,7 +22,7 @@ use Rattle.region_view.specs.Views.{ViewData, rows_in}
 use Rattle.region_queue.specs.declared.finder.Finder.{Finder}
 use Rattle.region_view.specs.Naming.{Names, IsPairOf}
 use Rattle.region_view.proofs.Naming.{same_row, near_pair, pair_kind, by_itself}
-use Rattle.region_queue.specs.Finding.{IsReady, IsFound, IsAloneAt, IsNativeOf, IsNativePair, IsNativeWith, IsSingle, IsPaired, IsBest, IsBestSingle, IsBestPair, AreListed}
+use Rattle.region_queue.specs.Finding.{IsReady, IsFound, IsAloneAt, IsEventOf, IsNativeOf, IsNativePair, IsNativeWith, IsSingle, IsPaired, IsBest, IsBestSingle, IsBestPair, AreListed}
 
 -- ---- a disk by itself
 pub alone_found : (finder : Finder) (view : ViewData) (disk : ℕ) (p : Placed) (s : Stamp) → rows_in view disk ≡ Some p →
@@ -135,21 +135,31 @@ pub native_is : (finder : Finder) (view : ViewData) (low high : ℕ) (p q : Plac
 native_is finder view low high p q o lt at_low at_high owns h =
     only_least (IsNativeOf finder view low high) o (native_only finder view low high p q o lt at_low at_high owns h)
 
--- the event of two disks is a native candidate exactly where it is the one that was found
-pub event_found : (finder : Finder) (view : ViewData) (s : Stamp) (o : Option Stamp) (same : Bool) → s.kind ≡ Pair →
-    MatchOption o (HasNone (IsNativeOf finder view s.first s.second)) (IsOnly (IsNativeOf finder view s.first s.second)) →
-    (IsTrue same ↔ (o ≡ Some s)) → (IsTrue same ↔ IsFound finder view s)
-event_found finder view s None same pair none is = (
-  λ yes. absurd (let e = is.0 yes in cc),
-  λ found. absurd (none s (found, (pair, (refl, refl)))),
+-- a stamp of a pair is that of a native candidate where both of its disks have rows, and it is that of their event
+pub event_found : (finder : Finder) (view : ViewData) (s : Stamp) (p q : Placed) → s.kind ≡ Pair → rows_in view s.first ≡ Some p →
+    rows_in view s.second ≡ Some q → (IsEventOf finder s p q ↔ IsFound finder view s)
+event_found finder view s p q pair at_first at_second = (
+  λ h. (inr (inr (h.0, (p, at_first, (q, at_second, h.2.0, h.2.1)))), (p, at_first, h.1)),
+  λ found.
+      let near = near_pair finder.rules finder.grid finder.region view s found pair in
+      let first = same_row view s.first s.first near.1.0 p near.1.1 at_first refl in
+      let second = same_row view s.second s.second near.1.2.0 q near.1.2.1 at_second refl in
+      let home = same_row view s.first s.first found.1.0 p found.1.1 at_first refl in (
+        near.0,
+        subst (λ (x : Placed). Owns finder.grid finder.region x.cell) home found.1.2,
+        subst (λ (x : Placed). IsNear finder.rules finder.grid s.first p s.second x s) second
+            (subst (λ (x : Placed). IsNear finder.rules finder.grid s.first x s.second near.1.2.0 s) first (near.1.2.2, near.1.2.3)),
+      ),
 )
-event_found finder view s (Some t) same pair only is = (
-  λ yes.
-      let e : Some t ≡ Some s = is.0 yes in
-      let at : t ≡ s = cc in
-      (subst (IsNativeOf finder view s.first s.second) at only.0).0,
-  λ found. is.1 (ap Some (sym (only.1 s (found, (pair, (refl, refl)))))),
-)
+
+pub none_without_first : (finder : Finder) (view : ViewData) (s : Stamp) → rows_in view s.first ≡ None → ¬ IsFound finder view s
+none_without_first finder view s none found = let no : None ≡ Some found.1.0 = sym none ∙ found.1.1 in cc
+
+pub none_without_second : (finder : Finder) (view : ViewData) (s : Stamp) → s.kind ≡ Pair → rows_in view s.second ≡ None →
+    ¬ IsFound finder view s
+none_without_second finder view s pair none found =
+    let near = near_pair finder.rules finder.grid finder.region view s found pair in
+    let no : None ≡ Some near.1.2.0 = sym none ∙ near.1.2.1 in cc
 
 pub pair_low : (finder : Finder) (view : ViewData) (i j : ℕ) (o : Option Stamp) → i < j → IsLeastOf (IsNativeOf finder view i j) o →
     IsLeastOf (IsNativePair finder view i j) o

@@ -1,9 +1,11 @@
 -- Keys are taken again until the least is a candidate.
-use Rattle.std.proofs.Common.{◌≡◌, ◌⊎◌, inl, inr, ℕ, ◌-◌, ◌^◌, List, refl, sym, ap, subst, ◌∙◌}
+use Rattle.std.proofs.Common.{◌≡◌, ◌⊎◌, inl, inr, ℕ, ◌-◌, ◌<◌, ◌^◌, List, refl, sym, ap, subst, ◌∙◌, arith}
 use Rattle.std.specs.Prelude.{Some, None, IfSome}
 use Rattle.event_stamps.specs.declared.Stamp.{Stamp}
 use Rattle.event_stamps.specs.declared.Kind.TheVariants.{Pair}
 use Rattle.event_stamps.specs.Order.{Before, rank}
+use Rattle.event_stamps.proofs.Ranks.{rank_less, kind_below}
+use Rattle.event_tree.specs.Packing.{HasRoom}
 use Rattle.event_stamps.specs.Least.{IsLeastOf}
 use Rattle.event_stamps.proofs.StampOrder.{before_decides, same_stamp}
 use Rattle.event_tree.specs.Keys.{Key, IsNotAfter, IsLeastKey, key_at}
@@ -63,6 +65,19 @@ settled_least C keys bounds (Some s) covers settled least =
 abbrev pub below_all : Key → ℕ
 below_all None = 0
 below_all (Some s) = 2 ^ 128 - rank s
+
+rank_below : (s : Stamp) → HasRoom s → rank s < 2 ^ 128
+rank_below s room =
+    let range = room.in_range in
+    omega (arith, room.tick, range.0, range.1, range.2, kind_below s.kind)
+
+-- a later key is less far below it
+pub below_falls : (s : Stamp) (key : Key) → HasRoom s → IfSome key HasRoom → IfSome key (Before s) → below_all key < below_all (Some s)
+below_falls s None hs hk before = let most = rank_below s hs in omega arith
+below_falls s (Some t) hs hk before =
+    let most = rank_below s hs in
+    let less = rank_less s t hs.in_range hk.in_range before in
+    omega arith
 
 -- ---- disks that have a key
 pub held : (C : Stamp → Type 0) (old mid new : Keys) (s : Stamp) →

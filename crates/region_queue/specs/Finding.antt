@@ -14,7 +14,7 @@ use Rattle.cell_lists.specs.declared.near.Block.{Block}
 use Rattle.cell_lists.specs.Listing.{ListsData, IsFree}
 use Rattle.cell_lists.specs.Nearby.{IsWithin, IsListedWithin}
 use Rattle.region_view.specs.declared.action.Placed.{Placed}
-use Rattle.region_view.specs.Events.{IsAlone}
+use Rattle.region_view.specs.Events.{IsAlone, IsNear}
 use Rattle.region_view.specs.Placing.{IsNative, IsValidPlacing}
 use Rattle.region_view.specs.Views.{ViewData, rows_in}
 use Rattle.region_queue.specs.declared.finder.Finder.{Finder}
@@ -73,6 +73,11 @@ IsFound finder view s = IsNative finder.rules finder.grid finder.region (rows_in
 -- the disk's event by itself, where the region owns its cell
 abbrev pub IsAloneAt : Finder → ℕ → Placed → Stamp → Type 0
 IsAloneAt finder disk p s = IsAlone finder.rules finder.grid disk p s × Owns finder.grid finder.region p.cell
+
+-- the stamp is that of a native event of its disks, which are placed so
+abbrev pub IsEventOf : Finder → Stamp → Placed → Placed → Type 0
+IsEventOf finder s p q = (s.first < s.second) × Owns finder.grid finder.region p.cell
+    × IsNear finder.rules finder.grid s.first p s.second q s
 
 -- a native event of a lower and a higher disk
 abbrev pub IsNativeOf : Finder → ViewData → ℕ → ℕ → Stamp → Type 0

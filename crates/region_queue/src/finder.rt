@@ -3,6 +3,8 @@
 ghost use Rattle.std.specs.Prelude.{◌≡◌, ◌↔◌, ◌⊎◌, ℕ, ◌<◌, ◌≤◌, Some, None, IsTrue, IfSome, MatchOption, false};
 ghost use Rattle.std.specs.List.{Contains};
 ghost use Rattle.std.specs.FinMap as map;
+ghost use Rattle.fixed_motion.specs.Rules.{IsChecked};
+ghost use Rattle.fixed_motion.specs.Motion.{IsValidDisk};
 ghost use Rattle.event_stamps.specs.declared.Kind.TheVariants.{Pair};
 ghost use Rattle.event_stamps.specs.Least.{IsLeastOf, HasNone, IsOnly};
 ghost use Rattle.event_stamps.specs.Order.{IsInRange};
@@ -11,16 +13,16 @@ ghost use Rattle.cell_lists.specs.Listing.{IsListed};
 ghost use Rattle.cell_lists.specs.Nearby.{IsBlock, IsListedWithin, AreGathered, columns_to};
 ghost use Rattle.region_queue.specs.Outside.{IsListedOutside, IsListedInParts};
 ghost use Rattle.region_view.specs.declared.action.Placed.{Placed};
-ghost use Rattle.region_queue.specs.Finding.{IsReady, IsFound, IsAloneAt, IsNativeOf, IsNativePair, IsNativeWith, IsBestSingle, IsBestPair, IsBestBeyond, IsBlockBeside, IsNearby, AreAllWithin, IsOfStrip, AreListed};
+ghost use Rattle.region_queue.specs.Finding.{IsReady, IsFound, IsAloneAt, IsEventOf, IsNativePair, IsNativeWith, IsBestSingle, IsBestPair, IsBestBeyond, IsBlockBeside, IsNearby, AreAllWithin, IsOfStrip, AreListed};
 
 use crate::parts::{Parts, parts_outside};
 use cell_grid::{Grid, Strip};
 use cell_lists::{Block, Gathered, Lists, block_around};
-use event_rules::{event_between, may_hit};
+use event_rules::{event_between, is_pair_event, may_hit};
 use event_stamps::{Kind, Stamp};
 use event_tree::Packed;
 use fixed_motion::Rules;
-use region_view::{Placed, View, first_alone, near_event};
+use region_view::{Placed, View, first_alone};
 
 // A region, and the disks of its view by cell.
 #[derive(Drop)]
@@ -94,6 +96,7 @@ impl Finder {
     }
 
     // Whether a stamp, where it is that of a pair, is that of a native candidate.
+    #[inline(always)]
     pub fn is_fresh(&self, view: &View, stamp: &Stamp) -> bool
         requires { IsReady self.now view.now }
         ensures fresh { IsTrue result → stamp.now.kind ≡ Pair → IsFound self.now view.now stamp.now }
@@ -108,22 +111,35 @@ impl Finder {
         requires pair { stamp.now.kind ≡ Pair }
         ensures { IsTrue result ↔ IsFound self.now view.now stamp.now }
     {
-        has_stamp(self.event_of(view, stamp.first, stamp.second), stamp)
+        let Some(first) = view.get(stamp.first) else {
+            return false;
+        };
+        let Some(second) = view.get(stamp.second) else {
+            return false;
+        };
+        self.is_event_of(stamp, &first, &second)
     }
 
-    // The native event of a lower and a higher disk.
-    fn event_of(&self, view: &View, low: u32, high: u32) -> Option<Stamp>
-        requires { IsReady self.now view.now }
-        ensures { MatchOption result (HasNone (IsNativeOf self.now view.now low high))
-            (IsOnly (IsNativeOf self.now view.now low high)) }
+    // Whether a stamp of a pair is that of the native event of two disks, the rows of which are these.
+    #[inline(always)]
+    fn is_event_of(&self, stamp: &Stamp, first: &Placed, second: &Placed) -> bool
+        requires checked { IsChecked self.now.rules }
+        requires strip { IsStripOf self.now.grid self.now.region self.now.strip }
+        requires first_valid { IsValidDisk self.now.rules first.now.disk }
+        requires second_valid { IsValidDisk self.now.rules second.now.disk }
+        requires first_cell { IsCell self.now.grid first.now.cell }
+        requires second_cell { IsCell self.now.grid second.now.cell }
+        requires pair { stamp.now.kind ≡ Pair }
+        ensures { IsTrue result ↔ IsEventOf self.now stamp.now first.now second.now }
     {
-        let first = view.get(low)?;
-        let second = view.get(high)?;
-        if low < high && self.owns(first.cell) {
-            near_event(&self.rules, &self.grid, low, &first, high, &second)
-        } else {
-            None
+        if stamp.first >= stamp.second {
+            return false;
         }
+        if !self.owns(first.cell) {
+            return false;
+        }
+        self.grid.adjacent(first.cell, second.cell)
+            && is_pair_event(&self.rules, &first.disk, &second.disk, stamp)
     }
 
     // Whether the region owns a cell.

@@ -2,8 +2,7 @@
 
 ghost use Rattle.std.specs.Prelude.{◌≡◌, ◌↔◌, [], Some, IsTrue, IfSome, OnOk};
 ghost use Rattle.event_stamps.specs.declared.Kind.TheVariants.{Pair};
-ghost use Rattle.event_stamps.specs.Order.{Before, IsInRange};
-ghost use Rattle.event_tree.specs.Packing.{HasRoom};
+ghost use Rattle.event_stamps.specs.Order.{IsInRange};
 ghost use Rattle.cell_grid.specs.Grid.{IsCell, Owns};
 ghost use Rattle.region_view.specs.declared.action.Placed.{Placed};
 ghost use Rattle.region_view.specs.Views.{ViewData, rows_in};
@@ -14,11 +13,10 @@ ghost use Rattle.region_queue.specs.Finding.{IsEntered, IsTakenAt, IsExtended, H
 
 use crate::bounds::Bounds;
 use crate::finder::{Finder, has_stamp};
-use event_stamps::{Kind, Stamp, compare};
+use event_stamps::{Kind, Stamp};
 use event_tree::{EventTree, Packed};
 use region_view::View;
 use std::alloc::{AllocError, Global};
-use std::cmp::Ordering;
 
 // What is kept of each disk.
 #[derive(Drop)]
@@ -198,13 +196,14 @@ pub(crate) fn settle(
         Covers (IsFound finder.now view.now) keys.old.tree keys.old.bounds →
         IsSettled (IsFound finder.now view.now) keys.new.tree) }
 {
-    let mut least = keys.tree.least();
-    while let Some(stamp) = least {
+    let mut least = keys.tree.top();
+    while let Some(stamp) = least.key() {
         if finder.is_fresh(view, &stamp) {
             break;
         }
         take_held(alloc, finder, keys, view, &stamp)?;
-        least = risen(&stamp, keys.tree.least());
+        // The least key is a later one, once all disks that had this key have theirs taken again.
+        least = keys.tree.top().if_after(least);
     }
     Ok(())
 }
@@ -242,18 +241,4 @@ fn take_if_held(
         take_key(alloc, finder, keys, view, disk)?;
     }
     Ok(())
-}
-
-// The least key, if it is after the last one, as it is once all that had that were taken again.
-fn risen(last: &Stamp, least: Option<Stamp>) -> Option<Stamp>
-    ensures same { IfSome least (Before last.now) → result ≡ least }
-    ensures after { IfSome result (Before last.now) }
-    ensures room { IfSome least HasRoom → IfSome result HasRoom }
-{
-    let next = least?;
-    if compare(last, &next) == Ordering::Less {
-        Some(next)
-    } else {
-        None
-    }
 }

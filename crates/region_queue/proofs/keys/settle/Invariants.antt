@@ -1,18 +1,13 @@
 -- The keys cover the candidates, and the least key is at hand.
-use Rattle.std.specs.Prelude.{IfSome}
 use Rattle.event_tree.specs.Keys.{IsLeastKey}
-use Rattle.event_tree.specs.Packing.{HasRoom}
 use Rattle.region_queue.specs.Covering.{Covers}
 use Rattle.region_queue.specs.Finding.{IsFound, AreListed}
 use Rattle.region_queue.proofs.Settled.{below_all}
 use Rattle.region_queue.proofs.keys.settle.Given as goal
 
-abbrev pub invariant-loop-least : goal.invariant-loop-least
-invariant-loop-least l = record {
-  room : IfSome l.least HasRoom;
-  stands : AreListed l.view l.finder.lists.cells → Covers (IsFound l.finder l.view) l.fn.keys.tree l.fn.keys.bounds →
-      Covers (IsFound l.finder l.view) l.keys.tree l.keys.bounds × IsLeastKey l.keys.tree l.least;
-}
+abbrev pub invariant-loop-stamp : goal.invariant-loop-stamp
+invariant-loop-stamp l = AreListed l.view l.finder.lists.cells → Covers (IsFound l.finder l.view) l.fn.keys.tree l.fn.keys.bounds →
+    Covers (IsFound l.finder l.view) l.keys.tree l.keys.bounds × IsLeastKey l.keys.tree l.least
 
-abbrev pub decreases-loop-least : goal.decreases-loop-least
-decreases-loop-least l = below_all l.least
+abbrev pub decreases-loop-stamp : goal.decreases-loop-stamp
+decreases-loop-stamp l = below_all l.least
