@@ -12,21 +12,17 @@ ghost use Rattle.plane_vectors.specs.Vectors.{vector, after, IsWithin};
 ghost use Rattle.contact_predictor.specs.Contact.{coordinate_after, gap, IsApproaching, IsApproachingAfter, IsCollisionCourse, MayTouch, IsContact, IsContactAfter, IsOnlyContactAfter, StaysUntil};
 ghost use Rattle.contact_predictor.specs.Laws.{FarPairsDontTouch};
 
+mod approach;
+mod roots;
+
+use crate::roots::rough_root;
+pub use approach::Approach;
 use plane_vectors::Vector;
 
 // In units of length, on each axis.
 const MAX_SEPARATION: u64 = 1 << 30;
 
 const MAX_TICKS: u64 = 1 << 30;
-
-// A binary point at bit 30, for numbers about one.
-const ONE: u64 = 1 << 30;
-
-// Of a straight line near 2^47 / sqrt(n) for n from 2^30 to 2^32: where it starts, at 0.
-const LINE_START: u64 = 4_620_000_000;
-
-// How much the line falls for each 8.
-const LINE_FALL: u64 = 5;
 
 /// How many ticks the coordinate `x`, in units of length, keeps within `lo` and `hi` at `v` units
 /// per tick.
@@ -186,34 +182,6 @@ fn guess(r: Vector, u: Vector, distance: i64) -> u64
 fn smaller_root(a: i64, b: i64, c: i64) -> u64 {
     let root = rough_root(discriminant(a, b, c).unsigned_abs());
     c.unsigned_abs() / root.saturating_add(b.unsigned_abs()).max(1)
-}
-
-// The square root of a number, but for a millionth of it, or for one.
-fn rough_root(square: u128) -> u64 {
-    // Pairs of zeros in front are taken away, and then all but 31 or 32 bits, whose root is as near as is asked for.
-    let pairs = square.leading_zeros().min(126) / 2;
-    let high = ((square << (2 * pairs)) >> 96) as u64;
-    // In units of 2^-16.
-    let root = high.wrapping_mul(inverse_root(high)) >> 31;
-    if pairs <= 32 {
-        root << (32 - pairs)
-    } else {
-        root >> (pairs - 32)
-    }
-}
-
-// One over the square root of a number from 2^30 to 2^32, in units of 2^-47, but for 2^-22 of it: by Newton's
-// iteration for the inverse square root, from a line that is off by a tenth at most.
-fn inverse_root(square: u64) -> u64 {
-    let line = LINE_START.wrapping_sub(square / 8 * LINE_FALL);
-    newton_step(square, newton_step(square, newton_step(square, line)))
-}
-
-// From y to y (3 - n y^2) / 2, without a division; the error relative to the root becomes 3/2 of its square.
-fn newton_step(square: u64, inverse: u64) -> u64 {
-    // n y^2, which is about one: y^2 is in units of 2^-94, and of 2^-62 without its 32 lowest bits.
-    let ratio = square.wrapping_mul(inverse.wrapping_mul(inverse) >> 32) >> 32;
-    inverse.wrapping_mul((3 * ONE).wrapping_sub(ratio)) >> 31
 }
 
 // Of disks whose paths cross, whose separation is at most 2^30 in each component now and then.

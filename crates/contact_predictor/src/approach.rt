@@ -1,0 +1,142 @@
+//! The squared gap of two disks on straight paths as a quadratic of the ticks, in 64 bits.
+
+ghost use Rattle.std.specs.Prelude.{◌≡◌, ◌↔◌, ◌*◌, ◌^◌, ◌≤◌, ℕ, ℤ, pos, nat_abs, ◌+ℤ◌, ◌*ℤ◌, ◌≤ℤ◌, ◌<ℤ◌, IsTrue, IfSome};
+ghost use Rattle.std.specs.Int.{int_wrap, w64};
+ghost use Rattle.plane_vectors.specs.declared.Vector.{Vector};
+ghost use Rattle.plane_vectors.specs.Vectors.{dot};
+ghost use Rattle.contact_predictor.specs.Contact.{IsOnlyContactAfter};
+ghost use Rattle.contact_predictor.specs.Approach.{FitsApproach, IsApproachOf, IsSmall, IsCourse, IsEarly, closing_after, gap_after};
+
+use crate::MAX_TICKS;
+use crate::roots::small_root;
+use plane_vectors::Vector;
+
+/// The quadratic a s^2 + 2 b s + c of s ticks that two disks on straight paths have for a squared gap: the squared
+/// distance of their centres less that at which they touch.
+#[derive(Clone, Copy)]
+pub struct Approach {
+    /// The number a: the square of the relative velocity.
+    pub square: i64,
+    /// The number b: the scalar product of the separation and the relative velocity, negative where they approach.
+    pub closing: i64,
+    /// The number c: the squared gap now, negative where they overlap.
+    pub gap: i64,
+}
+
+impl Approach {
+    /// That of two disks at the separation `r` with the relative velocity `u`. Nothing is said where one of the
+    /// three numbers doesn't fit 64 bits.
+    #[inline(always)]
+    pub fn new(r: Vector, u: Vector, distance: i64) -> Approach
+        ensures { FitsApproach r u distance → IsApproachOf r u distance result }
+    {
+        Approach {
+            square: wrapping_dot(u, u),
+            closing: wrapping_dot(r, u),
+            gap: wrapping_dot(r, r).wrapping_sub(distance.wrapping_mul(distance)),
+        }
+    }
+
+    /// Whether the disks approach each other on paths that cross, if they don't overlap. Nothing is said where
+    /// the products are great.
+    #[inline(always)]
+    pub fn is_course(self) -> bool
+        ensures { IsSmall self → IsTrue result ↔ IsCourse self }
+    {
+        let product = self.square.wrapping_mul(self.gap);
+        (self.closing < 0) & (product < self.closing.wrapping_mul(self.closing))
+    }
+
+    /// Whether the disks overlap.
+    #[inline(always)]
+    pub fn overlap(self) -> bool
+        ensures { IsTrue result ↔ (self.gap <ℤ pos 0) }
+    {
+        self.gap < 0
+    }
+
+    /// After how many ticks, at most 2^30, two disks that are apart, and approach each other on paths that cross,
+    /// are at their last whole tick before they touch. None says nothing: a guess wasn't confirmed, which is seldom.
+    #[inline(always)]
+    pub fn contact(self) -> Option<u64>
+        requires small { IsSmall self }
+        requires apart { pos 0 ≤ℤ self.gap }
+        requires course { IsCourse self }
+        ensures found { IfSome result (λ ticks. (r u : Vector) (distance : ℤ) → IsApproachOf r u distance self →
+            IsOnlyContactAfter r u distance ticks) }
+        ensures near { IfSome result (λ ticks. ticks ≤ 2 ^ 30) }
+    {
+        let ticks = self.guess();
+        if ticks <= MAX_TICKS && self.ends_after(ticks) {
+            Some(ticks)
+        } else {
+            None
+        }
+    }
+
+    // The smaller root, but for rounding. It is known only that it isn't late: no more than c / |b|.
+    #[inline(always)]
+    fn guess(self) -> u64
+        requires { self.closing <ℤ pos 0 }
+        ensures { IsEarly self result }
+    {
+        let square = self.closing.wrapping_mul(self.closing);
+        let product = self.square.wrapping_mul(self.gap);
+        let root = small_root(square.wrapping_sub(product).unsigned_abs());
+        self.gap.unsigned_abs() / root.saturating_add(self.closing.unsigned_abs())
+    }
+
+    // Whether they approach after so many ticks for the last time.
+    #[inline(always)]
+    fn ends_after(self, ticks: u64) -> bool
+        requires small { IsSmall self }
+        requires apart { pos 0 ≤ℤ self.gap }
+        requires course { IsCourse self }
+        requires early { IsEarly self ticks }
+        requires near { ticks ≤ 2 ^ 30 }
+        ensures { IsTrue result → (r u : Vector) (distance : ℤ) → IsApproachOf r u distance self →
+            IsOnlyContactAfter r u distance ticks }
+    {
+        let then = self.after(ticks as i64);
+        then.is_approaching() && !then.after(1).is_approaching()
+    }
+
+    // The quadratic of the same disks so many ticks later.
+    #[inline(always)]
+    fn after(self, ticks: i64) -> Approach
+        ensures square { result.square ≡ self.square }
+        ensures closing { result.closing ≡ int_wrap w64 (closing_after self ticks) }
+        ensures gap { result.gap ≡ int_wrap w64 (gap_after self ticks) }
+    {
+        let closing = wrapping_line(self.closing, self.square, ticks);
+        let twice = self.closing.wrapping_add(closing);
+        Approach {
+            square: self.square,
+            closing,
+            gap: wrapping_line(self.gap, twice, ticks),
+        }
+    }
+
+    #[inline(always)]
+    fn is_approaching(self) -> bool
+        ensures { IsTrue result ↔ ((pos 0 ≤ℤ self.gap) × (self.closing <ℤ pos 0)) }
+    {
+        self.gap >= 0 && self.closing < 0
+    }
+}
+
+// The scalar product, but for what goes beyond 64 bits.
+#[inline(always)]
+fn wrapping_dot(r: Vector, u: Vector) -> i64
+    ensures { result ≡ int_wrap w64 (dot r u) }
+{
+    r.x.wrapping_mul(u.x).wrapping_add(r.y.wrapping_mul(u.y))
+}
+
+// What a number comes to that grows by so much a tick, but for what goes beyond 64 bits.
+#[inline(always)]
+fn wrapping_line(start: i64, slope: i64, ticks: i64) -> i64
+    ensures { result ≡ int_wrap w64 (start +ℤ (slope *ℤ ticks)) }
+{
+    start.wrapping_add(slope.wrapping_mul(ticks))
+}

@@ -1,0 +1,47 @@
+//! Square roots, but for rounding: nothing need be known of them.
+
+// A binary point at bit 30, for numbers about one.
+const ONE: u64 = 1 << 30;
+
+// Of a straight line near 2^47 / sqrt(n) for n from 2^30 to 2^32: where it starts, at 0.
+const LINE_START: u64 = 4_620_000_000;
+
+// How much the line falls for each 8.
+const LINE_FALL: u64 = 5;
+
+// The square root of a number, but for a millionth of it, or for one.
+pub(crate) fn rough_root(square: u128) -> u64 {
+    // Pairs of zeros in front are taken away, and then all but 31 or 32 bits, whose root is as near as is asked for.
+    let pairs = square.leading_zeros().min(126) / 2;
+    let high = ((square << (2 * pairs)) >> 96) as u64;
+    // In units of 2^-16.
+    let root = high.wrapping_mul(inverse_root(high)) >> 31;
+    if pairs <= 32 {
+        root << (32 - pairs)
+    } else {
+        root >> (pairs - 32)
+    }
+}
+
+// The square root of a number that isn't 0, but for a millionth of it, or for one: nothing need be known of it.
+#[inline(always)]
+pub(crate) fn small_root(square: u64) -> u64 {
+    // Pairs of zeros in front are taken away, and then all but 31 or 32 bits.
+    let pairs = square.leading_zeros().min(62) / 2;
+    let high = (square << (2 * pairs)) >> 32;
+    (high.wrapping_mul(inverse_root(high)) >> 31) >> pairs
+}
+
+// One over the square root of a number from 2^30 to 2^32, in units of 2^-47, but for 2^-22 of it: by Newton's
+// iteration for the inverse square root, from a line that is off by a tenth at most.
+fn inverse_root(square: u64) -> u64 {
+    let line = LINE_START.wrapping_sub(square / 8 * LINE_FALL);
+    newton_step(square, newton_step(square, newton_step(square, line)))
+}
+
+// From y to y (3 - n y^2) / 2, without a division; the error relative to the root becomes 3/2 of its square.
+fn newton_step(square: u64, inverse: u64) -> u64 {
+    // n y^2, which is about one: y^2 is in units of 2^-94, and of 2^-62 without its 32 lowest bits.
+    let ratio = square.wrapping_mul(inverse.wrapping_mul(inverse) >> 32) >> 32;
+    inverse.wrapping_mul((3 * ONE).wrapping_sub(ratio)) >> 31
+}
