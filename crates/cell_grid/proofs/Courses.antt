@@ -1,16 +1,16 @@
 -- How long a coordinate is within its bounds.
-use Rattle.std.proofs.Common.{◌≡◌, ◌↔◌, ◌⊎◌, inl, inr, ℕ, suc, ◌+◌, ◌^◌, ◌≤◌, subst, arith}
-use Rattle.std.specs.Prelude.{Some, None, ℤ, pos, negsuc, nat_abs, ◌+ℤ◌, ◌-ℤ◌, ◌*ℤ◌, ◌≤ℤ◌, ◌<ℤ◌}
+use Rattle.std.proofs.Common.{◌≡◌, ◌↔◌, ◌⊎◌, inl, inr, ℕ, suc, ◌+◌, ◌*◌, ◌/◌, ◌^◌, ◌<◌, ◌≤◌, ap, arith}
+use Rattle.std.specs.Prelude.{Some, ℤ, pos, negsuc, nat_abs, ◌+ℤ◌, ◌-ℤ◌, ◌≤ℤ◌, ◌<ℤ◌}
 use Rattle.std.specs.Ordering.{int_cmp, ord_min, ord_max}
 use Rattle.std.proofs.lemmas.Int.{ints, by_lt_z}
 use Rattle.plane_vectors.proofs.Sizes.{sent, sent_same}
 use Rattle.std.proofs.lemmas.Bool.{cases_lt}
-use Rattle.std.proofs.Math.Nat.{mul-le-mul_left}
-use Rattle.contact_predictor.specs.Contact.{coordinate_after, IsBetween, StaysUntil}
+use Rattle.std.proofs.Math.Nat.{mul-le-mul_left, le-div_iff_mul-le}
+use Rattle.contact_predictor.specs.Contact.{coordinate_after, IsBetween}
 use Rattle.cell_grid.specs.declared.bounds.Bounds.{Bounds}
 use Rattle.cell_grid.specs.declared.bounds.Course.{Course}
 use Rattle.cell_grid.specs.Grid.{along}
-use Rattle.cell_grid.specs.Leaving.{EndsAt, IsWithin, IsWithinAfter, BeginsPast, AreSmall, IsSlowCourse, AreOfColumn}
+use Rattle.cell_grid.specs.Leaving.{EndsAt, IsWithin, IsWithinAfter, AreSmall, AreOfColumn}
 
 abbrev pub bounds : ℤ → ℤ → Bounds
 bounds least greatest = record { least = least; greatest = greatest }
@@ -24,57 +24,55 @@ falls : (x v : ℤ) (m n : ℕ) → v ≤ℤ pos 0 → m ≤ n → coordinate_af
 falls x (pos k) m n down le = let still : k ≡ 0 = omega (arith, ints) in rw still (omega (arith, ints))
 falls x (negsuc k) m n down le = omega (arith, ints, mul-le-mul_left (suc k) le)
 
-begins : (x v : ℤ) → coordinate_after x v 0 ≡ x
-begins x v = omega (arith, ints)
-
--- a coordinate that stands still is within always or never
-pub ends_never : (b : Bounds) (c : Course) → c.velocity ≡ pos 0 → EndsAt (IsWithinAfter b c) None
-ends_never b c still = record {
-  never = λ n from. absurd from;
-  until = λ m n le not within. moved m n within;
-  always = λ none m n within. moved m n within;
-}
-  where
-    moved : (m n : ℕ) → IsWithinAfter b c m → IsWithinAfter b c n
-    moved m n within =
-        let here : IsBetween b.least b.greatest (c.start +ℤ (pos 0 *ℤ pos m)) = rw still at within in
-        let low = here.0 in
-        let high = here.1 in
-        rw still (omega (arith, ints), omega (arith, ints))
-
 -- one that rises is within until it is past the greatest bound
-ends_rising : (least greatest lo x v : ℤ) (s : ℕ) → pos 0 <ℤ v → lo ≤ℤ x → StaysUntil lo greatest x v s →
+ends_rising : (least greatest x v : ℤ) (s : ℕ) → pos 0 <ℤ v →
+    ((n : ℕ) → (coordinate_after x v n ≤ℤ greatest) ↔ (n ≤ s)) →
     EndsAt (λ n. IsBetween least greatest (coordinate_after x v n)) (Some (s + 1))
-ends_rising least greatest lo x v s up low stays = record {
-  never = λ n from within.
-      let start = begins x v in
-      let high = rises x v 0 n (omega (arith, ints)) (omega arith) in
-      let still : n ≤ s = (stays n).0 (omega (arith, ints), within.1) in
-      absurd (omega arith);
+ends_rising least greatest x v s up stays = record {
+  never = λ n from within. let still : n ≤ s = (stays n).0 within.1 in absurd (omega arith);
   until = λ m n le not within.
       let high = rises x v m n (omega (arith, ints)) le in
       let here = within.0 in
       let still : n ≤ s = (elim (cases_lt s n) [ inl lt ↦ absurd (not (omega arith)) | inr le ↦ le ]) in
-      (omega (arith, ints), ((stays n).1 still).1);
+      (omega (arith, ints), (stays n).1 still);
   always = λ none. cc;
 }
 
 -- one that falls, until it is past the least
-ends_falling : (least greatest hi x v : ℤ) (s : ℕ) → v <ℤ pos 0 → x ≤ℤ hi → StaysUntil least hi x v s →
+ends_falling : (least greatest x v : ℤ) (s : ℕ) → v <ℤ pos 0 →
+    ((n : ℕ) → (least ≤ℤ coordinate_after x v n) ↔ (n ≤ s)) →
     EndsAt (λ n. IsBetween least greatest (coordinate_after x v n)) (Some (s + 1))
-ends_falling least greatest hi x v s down high stays = record {
-  never = λ n from within.
-      let start = begins x v in
-      let low = falls x v 0 n (omega (arith, ints)) (omega arith) in
-      let still : n ≤ s = (stays n).0 (within.0, omega (arith, ints)) in
-      absurd (omega arith);
+ends_falling least greatest x v s down stays = record {
+  never = λ n from within. let still : n ≤ s = (stays n).0 within.0 in absurd (omega arith);
   until = λ m n le not within.
       let low = falls x v m n (omega (arith, ints)) le in
       let here = within.1 in
       let still : n ≤ s = (elim (cases_lt s n) [ inl lt ↦ absurd (not (omega arith)) | inr le ↦ le ]) in
-      (((stays n).1 still).0, omega (arith, ints));
+      ((stays n).1 still, omega (arith, ints));
   always = λ none. cc;
 }
+
+-- a rising coordinate isn't past the bound while it hasn't gone further than that is ahead
+reaches_rising : (greatest x : ℤ) (k n : ℕ) → x ≤ℤ greatest → 0 < k →
+    (coordinate_after x (pos k) n ≤ℤ greatest) ↔ (n ≤ nat_abs (greatest -ℤ x) / k)
+reaches_rising greatest x k n ahead some =
+    let q = le-div_iff_mul-le {k = k} {x = n} {y = nat_abs (greatest -ℤ x)} some in
+    (λ h. q.1 (near h), λ h. let far : n * k ≤ nat_abs (greatest -ℤ x) = q.0 h in omega (arith, ints))
+  where
+    near : coordinate_after x (pos k) n ≤ℤ greatest → n * k ≤ nat_abs (greatest -ℤ x)
+    near h = omega (arith, ints)
+
+-- nor is a falling one
+reaches_falling : (least x : ℤ) (k s n : ℕ) → s ≡ suc k → least ≤ℤ x →
+    (least ≤ℤ coordinate_after x (negsuc k) n) ↔ (n ≤ nat_abs (x -ℤ least) / s)
+reaches_falling least x k s n e ahead =
+    let q = le-div_iff_mul-le {k = s} {x = n} {y = nat_abs (x -ℤ least)} (omega arith) in (
+      λ h. q.1 (near h),
+      λ h. let far : n * s ≤ nat_abs (x -ℤ least) = q.0 h in let same = ap (λ (m : ℕ). n * m) e in omega (arith, ints),
+    )
+  where
+    near : least ≤ℤ coordinate_after x (negsuc k) n → n * s ≤ nat_abs (x -ℤ least)
+    near h = omega (arith, ints, ap (λ (m : ℕ). n * m) e)
 
 -- ---- the code's numbers
 small_sent : (n : ℤ) → nat_abs n ≤ 2 ^ 30 → sent n ≡ n
@@ -145,73 +143,35 @@ shared a b least greatest ha hb low high =
       small = record { least = lo.size; greatest = hi.size };
     }
 
--- bounds within which a course begins, and that it goes towards as it did
-pub record AreWide (b : Bounds) (c : Course) (lo hi : ℤ) : Type 0 where
-  pub low : lo ≤ℤ sent c.start
-  pub high : sent c.start ≤ℤ hi
-  pub lo_size : nat_abs lo ≤ 2 ^ 31
-  pub hi_size : nat_abs hi ≤ 2 ^ 31
-  pub same_least : b.least ≤ℤ c.start → lo ≡ b.least
-  pub same_greatest : c.start ≤ℤ b.greatest → hi ≡ b.greatest
+-- how far ahead the bound is that a course goes towards
+pub record IsAhead (b : Bounds) (c : Course) (ahead : ℤ) : Type 0 where
+  pub rising : pos 0 <ℤ c.velocity → ahead ≡ b.greatest -ℤ c.start
+  pub falling : c.velocity <ℤ pos 0 → ahead ≡ c.start -ℤ b.least
 
-pub wide : (b : Bounds) (c : Course) (least greatest : ℤ) → AreSmall b → IsSlowCourse c →
-    least ≡ ord_min int_cmp (sent b.least) (sent c.start) →
-    greatest ≡ ord_max int_cmp (sent b.greatest) (sent c.start) → AreWide b c (sent least) (sent greatest)
-wide b c least greatest small slow el eg =
-    let start = small_sent c.start slow.start in
-    let lo = lesser_sent b.least c.start least small.least slow.start el in
-    let hi = greater_sent b.greatest c.start greatest small.greatest slow.start eg in
-    let from = (lo.below (sent least)).0 (same (sent least)) in
-    let to = (hi.above (sent greatest)).0 (same (sent greatest)) in
-    let p = lo.size in
-    let q = hi.size in
-    record {
-      low = rw start from.1;
-      high = rw start to.1;
-      lo_size = omega arith;
-      hi_size = omega arith;
-      same_least = λ le. one (sent least) b.least from.0 ((lo.below b.least).1 (same b.least, le));
-      same_greatest = λ le. one (sent greatest) b.greatest ((hi.above b.greatest).1 (same b.greatest, le)) to.0;
-    }
-  where
-    same : (n : ℤ) → n ≤ℤ n
-    same n = omega (arith, ints)
-
-    one : (m n : ℤ) → m ≤ℤ n → n ≤ℤ m → m ≡ n
-    one m n le ge = omega (arith, ints)
-
--- what the code's call of `stay` says where the coordinate moves
-pub ends_after_stay : (b : Bounds) (c : Course) (lo hi : ℤ) (s : ℕ) → IsSlowCourse c → AreWide b c lo hi →
-    ¬ BeginsPast b c →
-    ¬ (sent c.velocity ≡ pos 0) → StaysUntil lo hi (sent c.start) (sent c.velocity) s → EndsAt (IsWithinAfter b c) (Some (s + 1))
-ends_after_stay b c lo hi s slow wide not moves last =
-    let start = small_sent c.start slow.start in
-    let speed = velocity_sent c slow in
-    let low : lo ≤ℤ c.start = rw start at wide.low in
-    let high : c.start ≤ℤ hi = rw start at wide.high in
-    let stays : StaysUntil lo hi c.start c.velocity s = rw (start, speed) at last in
-    let still : ¬ (c.velocity ≡ pos 0) = rw speed at moves in
+-- where it isn't past that, it ends after as many ticks as it takes to go there, and one more
+pub ends_ahead : (b : Bounds) (c : Course) (ahead : ℤ) → IsAhead b c ahead → ¬ (c.velocity ≡ pos 0) → pos 0 ≤ℤ ahead →
+    EndsAt (IsWithinAfter b c) (Some (nat_abs ahead / nat_abs c.velocity + 1))
+ends_ahead b c ahead is moves near =
     by_lt_z (pos 0) c.velocity
     (λ up.
-    let inside : c.start ≤ℤ b.greatest =
-    by_lt_z b.greatest c.start (λ past. absurd (not (inl (up, past)))) (λ le. le) in
-    ends_rising b.least b.greatest lo c.start c.velocity s up low
-    (subst (λ (n : ℤ). StaysUntil lo n c.start c.velocity s) (wide.same_greatest inside) stays))
+    let e = is.rising up in
+    rw e (ends_rising b.least b.greatest c.start c.velocity _ up
+    (λ n. rising b.greatest c.start c.velocity n up (omega (arith, ints)))))
     (λ le.
-    let down : c.velocity <ℤ pos 0 =
-    by_lt_z c.velocity (pos 0) (λ lt. lt) (λ ge. absurd (still (omega (arith, ints)))) in
-    let inside : b.least ≤ℤ c.start = by_lt_z c.start b.least (λ past. absurd (not (inr (down, past)))) (λ le. le) in
-    ends_falling b.least b.greatest hi c.start c.velocity s down high
-    (subst (λ (n : ℤ). StaysUntil n hi c.start c.velocity s) (wide.same_least inside) stays))
+    let down : c.velocity <ℤ pos 0 = by_lt_z c.velocity (pos 0) (λ lt. lt) (λ ge. absurd (moves (omega (arith, ints)))) in
+    let e = is.falling down in
+    rw e (ends_falling b.least b.greatest c.start c.velocity _ down
+    (λ n. falling b.least c.start c.velocity n down (omega (arith, ints)))))
   where
-    velocity_sent : (c : Course) → IsSlowCourse c → sent c.velocity ≡ c.velocity
-    velocity_sent c slow = let h = slow.velocity in sent_same c.velocity (omega (arith, ints))
+    rising : (greatest x v : ℤ) (n : ℕ) → pos 0 <ℤ v → x ≤ℤ greatest →
+        (coordinate_after x v n ≤ℤ greatest) ↔ (n ≤ nat_abs (greatest -ℤ x) / nat_abs v)
+    rising greatest x (pos k) n up le = reaches_rising greatest x k n le (omega (arith, ints))
+    rising greatest x (negsuc k) n up le = absurd (omega (arith, ints))
 
-pub ends_still : (b : Bounds) (c : Course) → IsSlowCourse c → sent c.velocity ≡ pos 0 → EndsAt (IsWithinAfter b c) None
-ends_still b c slow still =
-    let h = slow.velocity in
-    let speed : sent c.velocity ≡ c.velocity = sent_same c.velocity (omega (arith, ints)) in
-    ends_never b c (rw speed at still)
+    falling : (least x v : ℤ) (n : ℕ) → v <ℤ pos 0 → least ≤ℤ x →
+        (least ≤ℤ coordinate_after x v n) ↔ (n ≤ nat_abs (x -ℤ least) / nat_abs v)
+    falling least x (pos k) n down le = absurd (omega (arith, ints))
+    falling least x (negsuc k) n down le = reaches_falling least x k (nat_abs (negsuc k)) n (omega (arith, ints)) le
 
 -- where a disk is between two sides of the box
 pub room_small : (radius r side : ℤ) → pos 1 ≤ℤ radius → (radius +ℤ radius) ≤ℤ side → side ≤ℤ pos 1073741824 →

@@ -1,5 +1,5 @@
 -- What the parts of a crossing answer.
-use Rattle.std.specs.Prelude.{◌≡◌, ◌↔◌, ◌⊎◌, ℕ, ◌^◌, ◌≤◌, ℤ, pos, nat_abs, ◌-ℤ◌, ◌<ℤ◌, Option, Some, None, IsNone}
+use Rattle.std.specs.Prelude.{◌≡◌, ◌↔◌, ℕ, ◌^◌, ◌≤◌, ℤ, pos, nat_abs, ◌-ℤ◌, Option, Some, None, IsNone}
 use Rattle.fixed_motion.specs.declared.rules.Rules.{Rules}
 use Rattle.fixed_motion.specs.declared.rules.TheConstants.{MAX_SIDE}
 use Rattle.fixed_motion.specs.declared.disk.Disk.{Disk}
@@ -36,12 +36,6 @@ IsWithin bounds n = IsBetween bounds.least bounds.greatest n
 
 abbrev pub IsWithinAfter : Bounds → Course → ℕ → Type 0
 IsWithinAfter bounds course ticks = IsWithin bounds (place_after course ticks)
-
--- it begins past the bound that it goes towards
-abbrev pub BeginsPast : Bounds → Course → Type 0
-BeginsPast bounds course =
-    ((pos 0 <ℤ course.velocity) × (bounds.greatest <ℤ course.start))
-    ⊎ ((course.velocity <ℤ pos 0) × (course.start <ℤ bounds.least))
 
 pub record AreSmall (bounds : Bounds) : Type 0 where
   pub least : nat_abs bounds.least ≤ 2 ^ 30

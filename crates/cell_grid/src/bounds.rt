@@ -1,11 +1,10 @@
 //! Bounds of coordinates, and when a coordinate of a disk is past them.
 
-ghost use Rattle.std.specs.Prelude.{◌≡◌, ◌↔◌, ◌⊎◌, ℕ, ℤ, ◌*◌, ◌^◌, ◌<◌, ◌≤◌, ◌-ℤ◌, IsTrue, IsNone, IfSome};
+ghost use Rattle.std.specs.Prelude.{◌≡◌, ◌↔◌, ◌⊎◌, ℕ, ℤ, pos, ◌*◌, ◌^◌, ◌<◌, ◌≤◌, ◌-ℤ◌, ◌<ℤ◌, IsTrue, IsNone, IfSome};
 ghost use Rattle.fixed_motion.specs.Rules.{IsChecked};
 ghost use Rattle.fixed_motion.specs.Motion.{IsValidDisk, radius_of};
-ghost use Rattle.cell_grid.specs.Leaving.{IsFrom, EndsAt, IsWithin, IsWithinAfter, BeginsPast, AreSmall, IsSlowCourse, AreOfColumn};
+ghost use Rattle.cell_grid.specs.Leaving.{IsFrom, EndsAt, IsWithin, IsWithinAfter, AreSmall, IsSlowCourse, AreOfColumn};
 
-use contact_predictor::stay;
 use fixed_motion::{Disk, MAX_SIDE, Rules};
 use std::cmp::{max, min};
 
@@ -112,22 +111,31 @@ impl Bounds {
         ensures ends { EndsAt (IsWithinAfter self course) result }
         ensures near { IfSome result (λ ticks. ticks ≤ 2 ^ 33) }
     {
-        if self.is_passed_by(course) {
+        if course.velocity == 0 {
+            return None;
+        }
+        let ahead = self.length_ahead(course);
+        if ahead < 0 {
             return Some(0);
         }
-        let least = min(self.least, course.start);
-        let greatest = max(self.greatest, course.start);
-        let last = stay(least, greatest, course.start, course.velocity)?;
-        Some(last + 1)
+        // Both have 32 bits, whose division is the faster one.
+        let ticks = ahead as u32 / course.velocity.unsigned_abs() as u32;
+        Some(u64::from(ticks) + 1)
     }
 
-    fn is_passed_by(self, course: Course) -> bool
-        ensures { IsTrue result ↔ BeginsPast self course }
+    // How far ahead the bound is that the coordinate goes towards, in units of length; below 0 where
+    // it is past that one.
+    #[inline(always)]
+    fn length_ahead(self, course: Course) -> i64
+        requires small { AreSmall self }
+        requires slow { IsSlowCourse course }
+        ensures rising { pos 0 <ℤ course.velocity → result ≡ self.greatest -ℤ course.start }
+        ensures falling { course.velocity <ℤ pos 0 → result ≡ course.start -ℤ self.least }
     {
         if course.velocity > 0 {
-            course.start > self.greatest
+            self.greatest - course.start
         } else {
-            course.velocity < 0 && course.start < self.least
+            course.start - self.least
         }
     }
 }

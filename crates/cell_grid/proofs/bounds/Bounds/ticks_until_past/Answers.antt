@@ -1,41 +1,20 @@
--- The coordinate stays within bounds that are wide enough until it is past the one that it goes towards.
-use Rattle.std.proofs.Common.{◌≡◌, refl, true, false}
-use Rattle.cell_grid.specs.Leaving.{BeginsPast}
-use Rattle.cell_grid.proofs.Courses.{wide, ends_after_stay, ends_still}
+-- The coordinate is past the bound after as many ticks as it takes to go there, and one more.
+use Rattle.std.proofs.Common.{◌≡◌, pos, w64, FitsSigned, arith, rules}
+use Rattle.std.proofs.lemmas.Int.{ints}
+use Rattle.plane_vectors.proofs.Sizes.{sent, sent_same}
+use Rattle.cell_grid.proofs.Courses.{ends_ahead}
 use Rattle.cell_grid.proofs.bounds.Bounds.ticks_until_past.Goals as goal
-
-pub stay-requires-clause-low : goal.stay-requires-clause-low
-stay-requires-clause-low c =
-    (wide c.args.self c.args.course c.min-least.result c.max-greatest.result c.requires.small c.requires.slow
-    c.min-least.ensures c.max-greatest.ensures).low
-
-pub stay-requires-clause-high : goal.stay-requires-clause-high
-stay-requires-clause-high c =
-    (wide c.args.self c.args.course c.min-least.result c.max-greatest.result c.requires.small c.requires.slow
-    c.min-least.ensures c.max-greatest.ensures).high
-
-pub stay-requires-clause-lo_size : goal.stay-requires-clause-lo_size
-stay-requires-clause-lo_size c =
-    (wide c.args.self c.args.course c.min-least.result c.max-greatest.result c.requires.small c.requires.slow
-    c.min-least.ensures c.max-greatest.ensures).lo_size
-
-pub stay-requires-clause-hi_size : goal.stay-requires-clause-hi_size
-stay-requires-clause-hi_size c =
-    (wide c.args.self c.args.course c.min-least.result c.max-greatest.result c.requires.small c.requires.slow
-    c.min-least.ensures c.max-greatest.ensures).hi_size
-
-pub returns-in_err-last-clause-ends : goal.returns-in_err-last-clause-ends
-returns-in_err-last-clause-ends c =
-    rw c.from_residual.ensures (ends_still c.args.self c.args.course c.requires.slow (c.in_err-last.ensures.still.0 refl))
 
 pub returns-clause-ends : goal.returns-clause-ends
 returns-clause-ends c =
-    ends_after_stay c.args.self c.args.course _ _ c.in_ok-last.last c.requires.slow
-    (wide c.args.self c.args.course c.min-least.result c.max-greatest.result c.requires.small c.requires.slow
-    c.min-least.ensures c.max-greatest.ensures)
-    (λ (past : BeginsPast c.args.self c.args.course).
-    let yes : c.is_passed_by.result ≡ true = c.is_passed_by.ensures.1 past in
-    let no : c.is_passed_by.result ≡ false = c.if-is_passed_by.false in
-    cc)
-    (λ still. let none = c.in_ok-last.ensures.still.1 still in cc)
-    c.in_ok-last.ensures.last
+    let v = c.args.course.velocity in
+    let ahead = c.length_ahead-ahead.result in
+    let slow = c.requires.slow.velocity in
+    let fits : FitsSigned w64 ahead = search rules in
+    let length : sent ahead ≡ ahead = sent_same ahead fits in
+    let speed : sent v ≡ v = sent_same v (omega (arith, ints)) in
+    rw (c.from.ensures, c.unsigned_abs.ensures.value, length, speed)
+    (ends_ahead c.args.self c.args.course ahead
+    (record { rising = c.length_ahead-ahead.ensures.rising; falling = c.length_ahead-ahead.ensures.falling })
+    (λ (still : v ≡ pos 0). c.if-course-eq0.false (omega (arith, ints)))
+    (omega (arith, ints)))
