@@ -5,6 +5,7 @@ pub mod Decided
 pub mod Effects
 pub mod Exists
 pub mod Fits
+pub mod Leads
 pub mod MayHit
 pub mod OneRun
 pub mod OneTick
@@ -13,6 +14,7 @@ pub mod Ranges
 pub mod Rise
 pub mod RunsTold
 pub mod Separations
+pub mod SmallProducts
 pub mod States
 pub mod Swapped
 pub mod Telling

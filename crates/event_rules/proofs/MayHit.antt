@@ -8,7 +8,7 @@ use Rattle.contact_predictor.specs.Contact.{MayTouch}
 use Rattle.event_rules.specs.declared.predict.Separation.{Separation}
 use Rattle.event_rules.specs.Predict.{IsSeparation, FitInABox, AreOnCourse, MayHit, separation_of}
 
-places_are : (a b : Disk) (s : Separation) → IsSeparation a b s → s.places ≡ separation_of a b
+pub places_are : (a b : Disk) (s : Separation) → IsSeparation a b s → s.places ≡ separation_of a b
 places_are a b s h = h.places ∙ ap (λ (t : ℕ). difference (place_of a t) (place_of b t)) h.start
 
 -- on the way to other numbers that are the same

@@ -1,56 +1,25 @@
 -- What the separation of two disks at the later of their base ticks tells of their contact.
-use Rattle.std.proofs.Common.{◌≡◌, ◌↔◌, ℕ, ◌+◌, ◌-◌, ◌*◌, ◌^◌, ◌<◌, ◌≤◌, max, arith, ap, sym, subst, ◌∙◌}
+use Rattle.std.proofs.Common.{◌≡◌, ◌↔◌, ℕ, ◌+◌, ◌-◌, ◌^◌, ◌<◌, ◌≤◌, max, arith, ap, sym, subst, ◌∙◌}
 use Rattle.std.specs.Prelude.{ℤ, pos, nat_abs, ◌+ℤ◌, ◌-ℤ◌, ◌*ℤ◌}
-use Rattle.std.proofs.lemmas.Int.{ints}
+use Rattle.std.specs.Int.{int_wrap, w64}
+use Rattle.std.proofs.lemmas.Int.{ints, int_wrap_fits}
 use Rattle.plane_vectors.specs.declared.Vector.{Vector}
 use Rattle.plane_vectors.specs.Vectors.{vector, difference, after, IsWithin}
-use Rattle.plane_vectors.proofs.Sizes.{sent, sent_same, size_of_product}
+use Rattle.plane_vectors.proofs.Sizes.{sent, sent_same}
 use Rattle.fixed_motion.specs.declared.rules.Rules.{Rules}
 use Rattle.fixed_motion.specs.declared.disk.Disk.{Disk}
 use Rattle.fixed_motion.specs.Rules.{IsChecked}
 use Rattle.fixed_motion.specs.Motion.{IsInside, IsValidDisk, centre_of, velocity_of, place_of, contact_distance}
-use Rattle.fixed_motion.proofs.Sizes.{inside_in_box, in_box_size, difference_size, slow_size, contact_least, contact_most}
+use Rattle.fixed_motion.proofs.Sizes.{inside_in_box, difference_size, slow_size, contact_least, contact_most}
 use Rattle.contact_predictor.specs.Contact.{coordinate_after, IsContact, IsContactAfter}
 use Rattle.plane_vectors.proofs.Products.{distributes}
 use Rattle.event_rules.specs.declared.predict.Separation.{Separation}
 use Rattle.event_rules.specs.Events.{IsContactTick, TouchAt}
 use Rattle.event_rules.proofs.Courses.{inside_until}
-use Rattle.event_rules.specs.Predict.{HaveBegun, AreInside, IsLastTogether, IsTouch, IsOnlyContactTick, IsSeparation, FitInABox, PathsTouchAfter}
+use Rattle.event_rules.specs.Predict.{HaveBegun, AreInside, IsLastTogether, IsTouch, IsOnlyContactTick, IsSeparation, FitInABox, PathsTouchAfter, separation_of}
+use Rattle.event_rules.specs.Small.{IsValidPair}
 
 -- ---- sizes
-way_size : (x v : ℤ) (t : ℕ) → nat_abs x ≤ 2 ^ 30 → nat_abs v ≤ 2 ^ 20 → t ≤ 2 ^ 40 → nat_abs (coordinate_after x v t) ≤ 2 ^ 62 - 1
-way_size x v t hx hv ht =
-    let size = size_of_product v (pos t) (2 ^ 20) (2 ^ 40) hv ht in
-    small (v *ℤ pos t) size
-  where
-    small : (way : ℤ) → nat_abs way ≤ 2 ^ 20 * 2 ^ 40 → nat_abs (x +ℤ way) ≤ 2 ^ 62 - 1
-    small way h = omega (arith, ints)
-
--- the rules bound how far a disk gets in a run, whatever the walls
-place_size : (rules : Rules) (a : Disk) (tick : ℕ) → IsChecked rules → IsValidDisk rules a → tick ≤ rules.end →
-    IsWithin (2 ^ 62 - 1) (place_of a tick)
-place_size rules a tick checked valid le =
-    let centre = in_box_size (centre_of a) (inside_in_box rules a (centre_of a) checked valid.size valid.centre) in
-    let slow = slow_size rules (velocity_of a) checked valid.velocity in
-    let end = checked.end.1 in
-    let short : tick - a.base ≤ 2 ^ 40 = omega (arith, ints) in
-    record {
-      x = way_size a.x a.vx (tick - a.base) centre.x slow.x short;
-      y = way_size a.y a.vy (tick - a.base) centre.y slow.y short;
-    }
-
--- so the places at the later base tick can be subtracted
-pub sizes_at_start : (rules : Rules) (a b : Disk) (start : ℕ) (p q : Vector) → IsChecked rules → IsValidDisk rules a → IsValidDisk rules b →
-    start ≡ max a.base b.base → p ≡ place_of a start → q ≡ place_of b start →
-    IsWithin (2 ^ 62 - 1) p × IsWithin (2 ^ 62 - 1) q
-sizes_at_start rules a b start p q checked va vb e ep eq =
-    let first : a.base ≤ rules.end = va.base in
-    let second : b.base ≤ rules.end = vb.base in
-    let before : start ≤ rules.end = omega arith in (
-      subst (λ (z : Vector). IsWithin (2 ^ 62 - 1) z) (sym ep) (place_size rules a start checked va before),
-      subst (λ (z : Vector). IsWithin (2 ^ 62 - 1) z) (sym eq) (place_size rules b start checked vb before),
-    )
-
 -- the separation of two disks that are inside
 pub inside_size : (rules : Rules) (a b : Disk) (p q : Vector) → IsChecked rules → IsValidDisk rules a → IsValidDisk rules b →
     IsInside rules a p → IsInside rules b q → IsWithin (2 ^ 30) (difference p q)
@@ -94,18 +63,25 @@ are_small rules a b s checked va vb h near =
     }
 
 -- the code's numbers are those meant
-pub separated : (rules : Rules) (a b : Disk) (start : ℕ) (p q v w r u : Vector) (d : ℤ) → IsChecked rules → IsValidDisk rules a → IsValidDisk rules b →
-    start ≡ max a.base b.base → p ≡ place_of a start → q ≡ place_of b start → v ≡ velocity_of a → w ≡ velocity_of b →
-    r ≡ difference p q → u ≡ difference v w → d ≡ contact_distance a b →
+pub separated : (rules : Rules) (a b : Disk) (start : ℕ) (r v w u : Vector) (d : ℤ) → IsValidPair rules a b →
+    start ≡ max a.base b.base → r ≡ separation_of a b → v ≡ velocity_of a → w ≡ velocity_of b →
+    u ≡ vector (int_wrap w64 (v.x -ℤ w.x)) (int_wrap w64 (v.y -ℤ w.y)) → d ≡ contact_distance a b →
     IsSeparation a b (record { start = start; places = r; velocities = u; distance = sent d })
-separated rules a b start p q v w r u d checked va vb e ep eq ev ew er eu ed =
-    let distance : sent (contact_distance a b) ≡ contact_distance a b = small_same (contact_distance a b) (distance_size rules a b checked va vb) in
+separated rules a b start r v w u d pair e er ev ew eu ed =
+    let distance : sent (contact_distance a b) ≡ contact_distance a b = small_same (contact_distance a b) (distance_size rules a b pair.checked pair.first pair.second) in
+    let slow = relative_size (velocity_of a) (velocity_of b)
+    (slow_size rules (velocity_of a) pair.checked pair.first.velocity) (slow_size rules (velocity_of b) pair.checked pair.second.velocity) in
+    let x = same (a.vx -ℤ b.vx) slow.x in
+    let y = same (a.vy -ℤ b.vy) slow.y in
     record {
       start = e;
-      places = er ∙ (λ i. difference (ep i) (eq i));
-      velocities = eu ∙ (λ i. difference (ev i) (ew i));
+      places = er ∙ sym (ap (λ (t : ℕ). difference (place_of a t) (place_of b t)) e);
+      velocities = eu ∙ (λ i. vector (int_wrap w64 ((ev i).x -ℤ (ew i).x)) (int_wrap w64 ((ev i).y -ℤ (ew i).y))) ∙ (λ i. vector (x i) (y i));
       distance = ap sent ed ∙ distance;
     }
+  where
+    same : (n : ℤ) → nat_abs n ≤ 2 ^ 21 → int_wrap w64 n ≡ n
+    same n h = int_wrap_fits w64 n (omega (arith, ints))
 
 -- disks that aren't near at the later base tick don't meet, since one of them is outside then
 pub never_far : (rules : Rules) (a b : Disk) (s : Separation) → IsChecked rules → IsValidDisk rules a → IsValidDisk rules b →
@@ -193,7 +169,7 @@ contact_same rules a b s n h = alike s.places s.velocities _ _ s.distance _ h.pl
     alike r u r' u' d d' p q t = rw (p, q, t) (λ h. h, λ h. h)
 
 -- a contact tick is a contact so many ticks after the later base tick
-ticks_until : (rules : Rules) (a b : Disk) (s : Separation) (tick : ℕ) → IsSeparation a b s → IsContactTick rules a b tick →
+pub ticks_until : (rules : Rules) (a b : Disk) (s : Separation) (tick : ℕ) → IsSeparation a b s → IsContactTick rules a b tick →
     (tick ≡ s.start + (tick - s.start)) × IsContactAfter s.places s.velocities s.distance (tick - s.start)
 ticks_until rules a b s tick h contact =
     let x : a.base ≤ tick = contact.first_base in

@@ -1,16 +1,19 @@
 //! When disks hit each other and the sides of the box next.
 
-ghost use Rattle.std.specs.Prelude.{◌≡◌, ◌↔◌, ℕ, ◌+◌, ◌^◌, ◌<◌, ◌≤◌, pos, nat_abs, IsTrue, false, IsNone, IfSome, MatchOption};
-ghost use Rattle.plane_vectors.specs.Vectors.{IsWithin};
+ghost use Rattle.std.specs.Prelude.{◌≡◌, ◌↔◌, ℕ, ◌+◌, ◌^◌, ◌<◌, ◌≤◌, pos, nat_abs, ◌-ℤ◌, ◌*ℤ◌, IsTrue, false, IsNone, IfSome, MatchOption};
+ghost use Rattle.std.specs.Int.{int_wrap, w64};
+ghost use Rattle.plane_vectors.specs.Vectors.{vector, IsWithin};
+ghost use Rattle.fixed_motion.specs.declared.rules.Rules.{Rules};
 ghost use Rattle.fixed_motion.specs.Rules.{IsChecked};
-ghost use Rattle.fixed_motion.specs.Motion.{IsValidDisk, IsInside};
+ghost use Rattle.fixed_motion.specs.Motion.{IsValidDisk, IsInside, contact_distance};
 ghost use Rattle.event_stamps.specs.declared.Stamp.{Stamp};
 ghost use Rattle.event_stamps.specs.declared.Kind.TheVariants.{Pair};
 ghost use Rattle.event_stamps.specs.Least.{IsOnly, IsLeastOf};
 ghost use Rattle.event_rules.specs.Events.{IsWallEvent, IsWallBelow, IsPairEvent, NeverHit, IsContactTick, TouchAt, IsPast, IsLastInside, wall_stamp};
-ghost use Rattle.event_rules.specs.Predict.{IsUpTo, HaveBegun, TouchInside, IsFirstPast, IsLastTogether, IsOnlyContactTick, IsTouch, IsSeparation, FitInABox, AreOnCourse, MayHit, IsOnCollisionCourse, PathsTouchAfter};
+ghost use Rattle.event_rules.specs.Predict.{IsUpTo, HaveBegun, TouchInside, IsFirstPast, IsLastTogether, IsOnlyContactTick, IsTouch, IsSeparation, FitInABox, AreOnCourse, MayHit, IsOnCollisionCourse, PathsTouchAfter, separation_of};
+ghost use Rattle.event_rules.specs.Small.{HaveSmallProducts, IsValidPair, IsSmallPair, FitsTheBox, DoCoursesCross, IsApproachAt};
 
-use contact_predictor::{contact_between, is_contact, may_touch, quick_contact, stay};
+use contact_predictor::{Approach, contact_between, is_contact, may_touch, quick_contact, stay};
 use event_stamps::{Kind, Stamp};
 use fixed_motion::{Disk, Rules};
 use plane_vectors::Vector;
@@ -21,6 +24,9 @@ const SIDES: u32 = 4;
 
 // The greatest difference of two places in a box, in units of length on each axis.
 const MAX_DIFFERENCE: i64 = 1 << 30;
+
+// Where the greatest speed times half the outline of the box is below this, products are small.
+const SMALL_PRODUCTS: i64 = 1 << 30;
 
 /// The stamp at which a disk next hits a side of the box if it keeps its course, before the last tick of
 /// the run.
@@ -204,6 +210,29 @@ pub fn may_hit(rules: &Rules, a: &Disk, b: &Disk) -> bool
     fit_in_a_box(s.places) && are_on_course(rules, a, b, &s)
 }
 
+/// Whether products are small: the greatest speed times half the outline of the box is below 2^30. Then all that
+/// tells of two disks in the box whether their paths cross has 64 bits.
+#[inline(always)]
+pub fn has_small_products(rules: &Rules) -> bool
+    requires { IsChecked rules.now }
+    ensures { IsTrue result ↔ HaveSmallProducts rules.now }
+{
+    rules.speed_limit * (rules.width + rules.height) < SMALL_PRODUCTS
+}
+
+/// What [`may_hit`] tells where products are small, in 64 bits and with no branch: where not, two valid disks
+/// never hit each other. Where they are no farther apart than the box is long, it tells exactly whether they come
+/// nearer on paths that cross, so that of those that may not hit each other it lets disks pass that overlap. Nothing
+/// is said where products are great.
+#[inline(always)]
+pub fn may_hit_by_small(a: &Disk, b: &Disk) -> bool
+    ensures exact { (rules : Rules) → IsSmallPair rules a.now b.now → FitsTheBox rules (separation_of a.now b.now) → (IsTrue result ↔ DoCoursesCross a.now b.now) }
+    ensures never { (rules : Rules) → IsSmallPair rules a.now b.now → result ≡ false → NeverHit rules a.now b.now }
+    ensures never_turned { (rules : Rules) → IsSmallPair rules a.now b.now → result ≡ false → NeverHit rules b.now a.now }
+{
+    approach_at(&separated(a, b)).is_course()
+}
+
 // Where one disk is from another at the later of their base ticks, how fast that changes, and how far
 // apart they are where they touch.
 #[derive(Clone, Copy)]
@@ -224,14 +253,52 @@ fn touching_tick(rules: &Rules, a: &Disk, b: &Disk) -> Option<u64>
         (IsTouch rules.now a.now b.now) }
 {
     let s = separate(rules, a, b);
-    if !fit_in_a_box(s.places) {
+    if has_small_products(rules) {
+        small_tick(rules, a, b, &s)
+    } else {
+        great_tick(rules, *a, *b, s)
+    }
+}
+
+// Where products are small.
+#[inline(always)]
+fn small_tick(rules: &Rules, a: &Disk, b: &Disk, s: &Separation) -> Option<u64>
+    requires pair { IsSmallPair rules.now a.now b.now }
+    requires separation { IsSeparation a.now b.now s.now }
+    ensures { MatchOption result ((tick : ℕ) → tick < rules.now.end → IsContactTick rules.now a.now b.now tick → ⊥)
+        (IsTouch rules.now a.now b.now) }
+{
+    if !fits_the_box(rules, s.places) {
         // One of them isn't inside the box at the later base tick, and so at no later tick.
         return None;
     }
-    if !are_on_course(rules, a, b, &s) {
+    let approach = approach_at(s);
+    if approach.overlap() || !approach.is_course() {
         return None;
     }
-    course_tick(rules, a, b, &s)
+    match approach.contact() {
+        Some(ticks) => tick_inside(rules, a, b, s, ticks),
+        None => searched_tick(rules, *a, *b, *s),
+    }
+}
+
+// Where products are great. Scenes of such numbers are seldom, so it is kept apart, and told all by value.
+#[inline(never)]
+fn great_tick(rules: &Rules, a: Disk, b: Disk, s: Separation) -> Option<u64>
+    requires checked { IsChecked rules.now }
+    requires first_valid { IsValidDisk rules.now a }
+    requires second_valid { IsValidDisk rules.now b }
+    requires separation { IsSeparation a b s }
+    ensures { MatchOption result ((tick : ℕ) → tick < rules.now.end → IsContactTick rules.now a b tick → ⊥)
+        (IsTouch rules.now a b) }
+{
+    if !fit_in_a_box(s.places) {
+        return None;
+    }
+    if !are_on_course(rules, &a, &b, &s) {
+        return None;
+    }
+    course_tick(rules, &a, &b, &s)
 }
 
 // Where the paths cross.
@@ -252,21 +319,93 @@ fn course_tick(rules: &Rules, a: &Disk, b: &Disk, s: &Separation) -> Option<u64>
     }
 }
 
+#[inline(always)]
 fn separate(rules: &Rules, a: &Disk, b: &Disk) -> Separation
     requires checked { IsChecked rules.now }
     requires first_valid { IsValidDisk rules.now a.now }
     requires second_valid { IsValidDisk rules.now b.now }
     ensures { IsSeparation a.now b.now result }
 {
-    let start = max(a.base, b.base);
-    let p = a.centre_at(rules, start);
-    let q = b.centre_at(rules, start);
+    let _rules = rules;
+    separated(a, b)
+}
+
+// The same, with nothing said of disks that aren't valid.
+#[inline(always)]
+fn separated(a: &Disk, b: &Disk) -> Separation
+    ensures { (rules : Rules) → IsValidPair rules a.now b.now → IsSeparation a.now b.now result }
+{
     Separation {
-        start,
-        places: p.minus(q),
-        velocities: a.velocity().minus(b.velocity()),
-        distance: a.contact_distance(b),
+        start: max(a.base, b.base),
+        places: places_apart(a, b),
+        velocities: wrapping_difference(a.velocity(), b.velocity()),
+        distance: distance_between(a, b),
     }
+}
+
+// Only the disk whose base tick is the earlier one moves until the other's, so one product is enough on each axis.
+#[inline(always)]
+fn places_apart(a: &Disk, b: &Disk) -> Vector
+    ensures { (rules : Rules) → IsValidPair rules a.now b.now → result ≡ separation_of a.now b.now }
+{
+    let lead = lead_of(a, b);
+    let moving = if lead < 0 { a.velocity() } else { b.velocity() };
+    Vector {
+        x: wrapping_apart(a.x, b.x, moving.x, lead),
+        y: wrapping_apart(a.y, b.y, moving.y, lead),
+    }
+}
+
+// How much later the base tick of the first is.
+#[inline(always)]
+fn lead_of(a: &Disk, b: &Disk) -> i64
+    ensures { a.now.base ≤ 2 ^ 40 → b.now.base ≤ 2 ^ 40 → result ≡ pos a.now.base -ℤ pos b.now.base }
+{
+    a.base.wrapping_sub(b.base).cast_signed()
+}
+
+// How far one coordinate is from another, less a way, but for what goes beyond 64 bits.
+#[inline(always)]
+fn wrapping_apart(x: i64, y: i64, v: i64, ticks: i64) -> i64
+    ensures { result ≡ int_wrap w64 ((x -ℤ y) -ℤ (v *ℤ ticks)) }
+{
+    x.wrapping_sub(y).wrapping_sub(v.wrapping_mul(ticks))
+}
+
+// The difference, but for what goes beyond 64 bits.
+#[inline(always)]
+fn wrapping_difference(u: Vector, v: Vector) -> Vector
+    ensures { result ≡ vector (int_wrap w64 (u.x -ℤ v.x)) (int_wrap w64 (u.y -ℤ v.y)) }
+{
+    Vector {
+        x: u.x.wrapping_sub(v.x),
+        y: u.y.wrapping_sub(v.y),
+    }
+}
+
+// The distance of the centres at which two disks touch. Sizes are even, so one halving is enough.
+#[inline(always)]
+fn distance_between(a: &Disk, b: &Disk) -> i64
+    ensures { (rules : Rules) → IsValidPair rules a.now b.now → result ≡ contact_distance a.now b.now }
+{
+    (a.size.wrapping_add(b.size).cast_unsigned() / 2).cast_signed()
+}
+
+// The quadratic of two disks at a separation, for which nothing is said where products are great.
+#[inline(always)]
+fn approach_at(s: &Separation) -> Approach
+    ensures { IsApproachAt s.now result }
+{
+    Approach::new(s.places, s.velocities, s.distance)
+}
+
+// Of the separation of two disks; disks that are both inside the box are no farther apart than its sides are long.
+#[inline(always)]
+fn fits_the_box(rules: &Rules, places: Vector) -> bool
+    requires { IsChecked rules.now }
+    ensures { IsTrue result ↔ FitsTheBox rules.now places }
+{
+    places.x.unsigned_abs() <= rules.width as u64 && places.y.unsigned_abs() <= rules.height as u64
 }
 
 // Of the separation of two disks; disks that are both inside the box are near.
@@ -318,6 +457,7 @@ fn quick_ticks(rules: &Rules, a: &Disk, b: &Disk, s: &Separation) -> Option<u64>
 }
 
 // The tick of that contact, if it is before the end and both disks are inside the box then.
+#[inline(always)]
 fn tick_inside(rules: &Rules, a: &Disk, b: &Disk, s: &Separation, ticks: u64) -> Option<u64>
     requires checked { IsChecked rules.now }
     requires first_valid { IsValidDisk rules.now a.now }

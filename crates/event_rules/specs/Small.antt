@@ -1,0 +1,50 @@
+-- Rules under which what tells of two disks whether their paths cross has 64 bits.
+use Rattle.std.specs.Prelude.{◌≤◌, pos, nat_abs, ◌+ℤ◌, ◌*ℤ◌, ◌<ℤ◌}
+use Rattle.plane_vectors.specs.declared.Vector.{Vector}
+use Rattle.plane_vectors.specs.Vectors.{difference, dot}
+use Rattle.fixed_motion.specs.declared.rules.Rules.{Rules}
+use Rattle.fixed_motion.specs.declared.disk.Disk.{Disk}
+use Rattle.fixed_motion.specs.Rules.{IsChecked}
+use Rattle.fixed_motion.specs.Motion.{IsValidDisk, velocity_of, contact_distance}
+use Rattle.contact_predictor.specs.declared.approach.Approach.{Approach}
+use Rattle.contact_predictor.specs.Contact.{IsCollisionCourse}
+use Rattle.contact_predictor.specs.Approach.{IsApproachOf, IsSmall}
+use Rattle.event_rules.specs.declared.predict.Separation.{Separation}
+use Rattle.event_rules.specs.Predict.{IsSeparation, separation_of}
+
+-- the greatest speed times half the outline of the box is below 2^30
+abbrev pub HaveSmallProducts : Rules → Type 0
+HaveSmallProducts rules = (rules.speed_limit *ℤ (rules.width +ℤ rules.height)) <ℤ pos 1073741824
+
+-- two valid disks of checked rules
+pub record IsValidPair (rules : Rules) (a b : Disk) : Type 0 where
+  pub checked : IsChecked rules
+  pub first : IsValidDisk rules a
+  pub second : IsValidDisk rules b
+
+-- two valid disks of rules that have small products
+pub record IsSmallPair (rules : Rules) (a b : Disk) : Type 0 where
+  pub checked : IsChecked rules
+  pub products : HaveSmallProducts rules
+  pub first_valid : IsValidDisk rules a
+  pub second_valid : IsValidDisk rules b
+
+-- on neither axis farther apart than the box is long, as the centres of two disks in the box are
+pub record FitsTheBox (rules : Rules) (r : Vector) : Type 0 where
+  pub x : nat_abs r.x ≤ nat_abs rules.width
+  pub y : nat_abs r.y ≤ nat_abs rules.height
+
+-- at the later of their base ticks two disks come nearer to each other, on paths that cross
+pub record DoCoursesCross (a b : Disk) : Type 0 where
+  pub nearing : dot (separation_of a b) (difference (velocity_of a) (velocity_of b)) <ℤ pos 0
+  pub crossing : IsCollisionCourse (separation_of a b) (difference (velocity_of a) (velocity_of b)) (contact_distance a b)
+
+-- their quadratic, of which all products have 64 bits
+pub record IsSmallApproach (s : Separation) (q : Approach) : Type 0 where
+  pub of : IsApproachOf s.places s.velocities s.distance q
+  pub small : IsSmall q
+
+-- that of any two such disks at this separation, within the box
+abbrev pub IsApproachAt : Separation → Approach → Type 0
+IsApproachAt s q = (rules : Rules) (a b : Disk) → IsSmallPair rules a b → IsSeparation a b s → FitsTheBox rules s.places →
+    IsSmallApproach s q
