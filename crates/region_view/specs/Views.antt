@@ -1,5 +1,5 @@
 -- What a region sees of a state.
-use Rattle.std.specs.Prelude.{◌≡◌, ◌↔◌, ℕ, ◌<◌, ◌≤◌, Option, Some, None}
+use Rattle.std.specs.Prelude.{◌≡◌, ◌↔◌, ℕ, ◌<◌, ◌≤◌, List, slice_index_or, Option, Some, None}
 use Rattle.std.specs.Ordering.{nat_cmp}
 use Rattle.std.specs.FinMap as map
 use Rattle.cell_grid.specs.Grid.{GridData, Reaches}
@@ -17,6 +17,10 @@ rows_in view = map.get view
 abbrev pub IsViewOf : GridData → ℕ → Placing → ViewData → Type 0
 IsViewOf grid region at view = (i : ℕ) (p : Placed) →
     (map.get view i ≡ Some p) ↔ ((at i ≡ Some p) × Reaches grid region p.cell)
+
+-- what stands at each number; past the end nothing does
+abbrev pub AreRowsOf : ViewData → List (Option Placed) → Type 0
+AreRowsOf view rows = (i : ℕ) → map.get view i ≡ slice_index_or rows i None
 
 -- the row of the least number from this one on, where there is one
 abbrev pub IsNextRow : ViewData → ℕ → Option (ℕ × Placed) → Type 0

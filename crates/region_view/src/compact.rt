@@ -16,14 +16,14 @@ const NO_TIME: u64 = u64::MAX;
 /// What stands at a number, in narrow form: a placed disk of small numbers, or none.
 #[derive(Clone, Copy)]
 pub struct Compact {
+    // The base tick and the mark.
+    time: u64,
     x: i32,
     y: i32,
     vx: i32,
     vy: i32,
     size: i32,
     cell: u32,
-    // The base tick and the mark.
-    time: u64,
 }
 
 impl Model for Compact {
@@ -56,13 +56,13 @@ impl Compact {
         ensures { result ≡ None }
     {
         Compact {
+            time: NO_TIME,
             x: 0,
             y: 0,
             vx: 0,
             vy: 0,
             size: 0,
             cell: 0,
-            time: NO_TIME,
         }
     }
 
@@ -73,13 +73,13 @@ impl Compact {
     {
         let disk = &row.disk;
         Compact {
+            time: disk.base * MARKS + disk.mark as u64,
             x: disk.x as i32,
             y: disk.y as i32,
             vx: disk.vx as i32,
             vy: disk.vy as i32,
             size: disk.size as i32,
             cell: row.cell,
-            time: disk.base * MARKS + disk.mark as u64,
         }
     }
 
@@ -103,13 +103,13 @@ impl Compact {
             return Compact::none();
         }
         Compact {
+            time: self.time,
             x: self.x,
             y: self.y,
             vx: self.vx,
             vy: self.vy,
             size: self.size,
             cell,
-            time: self.time,
         }
     }
 
@@ -123,26 +123,40 @@ impl Compact {
             return None;
         }
         Some(Placed {
-            disk: Disk {
-                x: self.x as i64,
-                y: self.y as i64,
-                vx: self.vx as i64,
-                vy: self.vy as i64,
-                size: self.size as i64,
-                base: self.time / MARKS,
-                mark: (self.time % MARKS) as u32,
-            },
+            disk: self.disk(),
             cell: self.cell,
         })
     }
 
-    // Whether there is a row. The time alone would tell, and x is 0 where there is none. Both are read, since
-    // they are the two ends of a row, which may lie across two lines of the cache: so all of it comes from memory.
+    /// The disk, with no question for whether there is one: where there is none, any disk.
+    #[inline(always)]
+    pub fn disk(&self) -> Disk
+        ensures { IfSome self.now (λ row. result ≡ row.disk) }
+    {
+        Disk {
+            x: self.x as i64,
+            y: self.y as i64,
+            vx: self.vx as i64,
+            vy: self.vy as i64,
+            size: self.size as i64,
+            base: self.time / MARKS,
+            mark: (self.time % MARKS) as u32,
+        }
+    }
+
+    /// Something of both ends of what stands there, which may lie across two lines of the cache: so all of it comes
+    /// from memory. Nothing need be known of the answer.
+    #[inline(always)]
+    pub fn ends(&self) -> u64 {
+        self.time | u64::from(self.cell)
+    }
+
+    // Whether there is a row.
     #[inline(always)]
     pub(crate) fn is_there(&self) -> bool
         ensures { result ≡ is_some self.now }
     {
-        (self.time != NO_TIME) | (self.x != 0)
+        self.time != NO_TIME
     }
 
     // Whether this row stands there. It mostly does, so all numbers are compared, with no branch between.

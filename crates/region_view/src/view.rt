@@ -36,7 +36,7 @@ ghost use Rattle.std.specs.FinMap as map;
 ghost use Rattle.cell_grid.specs.Grid.{IsRegion};
 ghost use Rattle.region_view.specs.Laws.{HasCells};
 ghost use Rattle.region_view.specs.Compact.{IsRowThere};
-ghost use Rattle.region_view.specs.Views.{rows_in, IsNextRow, IsViewOf};
+ghost use Rattle.region_view.specs.Views.{rows_in, AreRowsOf, IsNextRow, IsViewOf};
 ghost use Rattle.region_view.specs.Setting.{put, set_rows, rows_at, after_action, IsInOrder};
 
 use cell_grid::Grid;
@@ -70,12 +70,13 @@ impl View {
         self.slots.set_narrow(disk, row)
     }
 
-    /// Whether a disk has a row.
+    /// What stands at each number, as it is kept, up to the last number for which there is room. None where the view
+    /// has a row whose numbers are too great for the narrow form.
     #[inline(always)]
-    pub fn has(&self, disk: u32) -> bool
-        ensures { result ≡ is_some (map.get self.now disk) }
+    pub fn compact(&self) -> Option<&[Compact]>
+        ensures { IfSome result (λ rows. AreRowsOf self.now rows.now) }
     {
-        self.slots.has(disk)
+        self.slots.compact()
     }
 
     /// Whether what stands at a number is this row, or none where none is given.
