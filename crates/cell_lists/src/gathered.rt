@@ -24,7 +24,7 @@ impl Model for Gathered {
     ghost invariant = { λ g. g.count ≤ MOST_GATHERED };
 }
 
-ghost use Rattle.std.specs.Prelude.{◌≡◌, ◌<◌, ◌≤◌, [], take};
+ghost use Rattle.std.specs.Prelude.{◌≡◌, ◌<◌, ◌≤◌, [], length, take, slice_index, slice_set};
 ghost use Rattle.cell_lists.specs.declared.gathered.TheConstants.{MOST_GATHERED};
 ghost use Rattle.cell_lists.specs.Gathering.{with_offered};
 
@@ -38,6 +38,42 @@ impl Gathered {
             disks: [0; MOST_GATHERED],
             count: 0,
         }
+    }
+
+    /// How many they are.
+    #[inline(always)]
+    pub fn len(&self) -> usize
+        ensures { result ≡ length self.now }
+    {
+        self.count
+    }
+
+    /// The disk at a place.
+    #[inline(always)]
+    pub fn at(&self, place: usize) -> u32
+        requires { place < length self.now }
+        ensures { result ≡ slice_index self.now place }
+    {
+        self.as_slice()[place]
+    }
+
+    /// Puts a disk at a place, for the one that was there.
+    #[inline(always)]
+    pub fn put(&mut self, place: usize, disk: u32)
+        requires { place < length self.old }
+        ensures { self.new ≡ slice_set self.old place disk }
+    {
+        let disks = &mut self.disks;
+        disks[place] = disk;
+    }
+
+    /// Leaves so many of them, the first ones.
+    #[inline(always)]
+    pub fn cut(&mut self, count: usize)
+        requires { count ≤ length self.old }
+        ensures { self.new ≡ take count self.old }
+    {
+        self.count = count;
     }
 
     /// The disks.
