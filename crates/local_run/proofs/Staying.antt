@@ -24,12 +24,6 @@ use Rattle.local_run.proofs.Among.{same_trail, other_trail, same_or_other, waits
 use Rattle.local_run.proofs.Touched.{same_but}
 use Rattle.local_run.proofs.Aside.{AreSame, crosswise, over_here, own_on, own_back, set_are_named, same_action, same_rows, same_message}
 
--- ---- stamps
-pub clock_late : (s : Stamp) (es : List Entry) → RiseAfter s es → ¬ Before (clock_of s es) s
-clock_late s [] rises less = not_before_itself s less
-clock_late s (e ∷ es) rises less = clock_late (entry_stamp e) es rises.1
-    (before_trans (clock_of (entry_stamp e) es) s (entry_stamp e) less rises.0)
-
 -- ---- what waits
 abbrev pub SameTrails : Trails → Trails → Type 0
 SameTrails v w = (q : ℕ) → trail_of w q ≡ trail_of v q

@@ -16,7 +16,7 @@ use Rattle.local_run.specs.declared.entry.Entry.TheVariants.{Native, Heard}
 use Rattle.local_run.specs.LocalRun.{At, Local, Trails, trail_of, rest_of, start_of, now_of, after_entry, after_log}
 use Rattle.local_run.specs.Entries.{entry_stamp, entries_below, entries_from, RiseAfter, RiseFrom, clock_of}
 use Rattle.local_run.specs.LocalRun.{IsWaiting, IsOwn, IsOffered, IsDue, IsMove, IsHeardMove, Moves, IsHearable, IsRight, sent_to}
-use Rattle.local_run.specs.Weaving.{AreAside, IsWoven, MayWeave, WeavingKeepsRight}
+use Rattle.local_run.specs.Weaving.{AreAside, MayWeave, WeavingKeepsRight}
 use Rattle.local_run.proofs.Among.{same_trail, other_trail, same_or_other, waits_among, waits_first}
 use Rattle.local_run.proofs.Logs.{AllBefore, all_below, moves_split, moves_join, after_join, below_then_from}
 use Rattle.local_run.proofs.Hears.{hearing, right_heard}
@@ -125,38 +125,27 @@ abbrev IsSound : Home → Local → Message → Local → Type 0
 IsSound h r m new = IsRight h new × ((now_of new).view ≡ set_rows (now_of r).view m.rows)
     × ((k : ℕ) → sent_to h.grid k new.base new.log ≡ sent_to h.grid k r.base r.log)
 
--- after the message it is at what it was at, with the rows set, and from there the later entries were moves
-abbrev pub GoesBeside : Home → Local → ℕ → Message → Local → Type 0
-GoesBeside h r q m new =
-    let a : At = after_log (start_of r) (entries_below m.stamp r.log) in
-    let b : At = after_entry (after_log (start_of new) (entries_below m.stamp r.log)) (Heard q m) in
-    (b ≡ beside m.rows a b.waiting) × SameTrails a.waiting b.waiting × Moves h a (entries_from m.stamp r.log)
-
 woven_with : (h : Home) (r : Local) (q : ℕ) (m : Message) (v : Trails) (e : Entry) (ys : List Entry) →
     IsRight h r → MayWeave h r m → IsHearable h r.floor q (with_message m (trail_of r.heard q)) →
     IsInserted q m r.heard v → entries_from m.stamp r.log ≡ e ∷ ys →
     IsSound h r m (with_log r v (entries_below m.stamp r.log ++ Heard q m ∷ e ∷ ys))
-    × GoesBeside h r q m (with_log r v (entries_below m.stamp r.log ++ Heard q m ∷ e ∷ ys))
 woven_with h r q m v e ys right may hearable inserted is = (
-  (
-    record {
-      base = right.base;
-      floor = right.floor;
-      heard = heard.heard;
-      moves = moves_join h start xs (Heard q m ∷ e ∷ ys) heard.moves (taken.0, moves_on);
-      rises = rises_woven r.floor xs (Heard q m) (e ∷ ys) heard.rises
-          (hearable.from_floor m (among_right m (below m.stamp (trail_of r.heard q)) _ (inl refl)))
-          (all_below m.stamp r.log) rises;
-      few =
-          let sizes = ap length parts ∙ length-append xs (e ∷ ys) in
-          let all = length-append xs (Heard q m ∷ e ∷ ys) in
-          let room = may.room in
-          omega arith;
-    },
-    view,
-    sent,
-  ),
-  (next, taken.1, subst (Moves h a) (sym is) moves.1),
+  record {
+    base = right.base;
+    floor = right.floor;
+    heard = heard.heard;
+    moves = moves_join h start xs (Heard q m ∷ e ∷ ys) heard.moves (taken.0, moves_on);
+    rises = rises_woven r.floor xs (Heard q m) (e ∷ ys) heard.rises
+        (hearable.from_floor m (among_right m (below m.stamp (trail_of r.heard q)) _ (inl refl)))
+        (all_below m.stamp r.log) rises;
+    few =
+        let sizes = ap length parts ∙ length-append xs (e ∷ ys) in
+        let all = length-append xs (Heard q m ∷ e ∷ ys) in
+        let room = may.room in
+        omega arith;
+  },
+  view,
+  sent,
 )
   where
     xs : List Entry
@@ -241,14 +230,12 @@ woven_with h r q m v e ys right may hearable inserted is = (
         (stays_sent h m.rows k a (e ∷ ys) moves.1 aside)
         ∙ sym (ap (sent_to h.grid k r.base) parts ∙ sent_joined h.grid k (start_of r) xs (e ∷ ys))
 
-woven_all : (h : Home) (r new : Local) (q : ℕ) (m : Message) → IsRight h r → MayWeave h r m →
-    IsHearable h r.floor q (with_message m (trail_of r.heard q)) → IsWoven q m r new →
-    IsSound h r m new × GoesBeside h r q m new
-woven_all h r new q m right may hearable woven = by_late (entries_from m.stamp r.log) refl
+pub weaving_keeps_right : WeavingKeepsRight
+weaving_keeps_right h r new q m right may hearable woven = by_late (entries_from m.stamp r.log) refl
   where
-    by_late : (es : List Entry) → entries_from m.stamp r.log ≡ es → IsSound h r m new × GoesBeside h r q m new
+    by_late : (es : List Entry) → entries_from m.stamp r.log ≡ es → IsSound h r m new
     by_late [] none = absurd (may.late none)
-    by_late (e ∷ ys) is = subst (λ (x : Local). IsSound h r m x × GoesBeside h r q m x) same
+    by_late (e ∷ ys) is = subst (IsSound h r m) same
         (woven_with h r q m new.heard e ys right may hearable (woven.trail, woven.others) is)
       where
         same : with_log r new.heard (entries_below m.stamp r.log ++ Heard q m ∷ e ∷ ys) ≡ new
@@ -260,11 +247,3 @@ woven_all h r new q m right may hearable woven = by_late (entries_from m.stamp r
               heard = new.heard;
               log = sym log i;
             }
-
-pub weaving_keeps_right : WeavingKeepsRight
-weaving_keeps_right h r new q m right may hearable woven = (woven_all h r new q m right may hearable woven).0
-
--- where the later entries begin
-pub woven_beside : (h : Home) (r new : Local) (q : ℕ) (m : Message) → IsRight h r → MayWeave h r m →
-    IsHearable h r.floor q (with_message m (trail_of r.heard q)) → IsWoven q m r new → GoesBeside h r q m new
-woven_beside h r new q m right may hearable woven = (woven_all h r new q m right may hearable woven).1
