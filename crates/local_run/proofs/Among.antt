@@ -1,14 +1,12 @@
--- Members of lists of messages and entries, and trails that rise.
-use Rattle.std.proofs.Common.{drop, ◌≡◌, ◌≢◌, ◌⊎◌, inl, inr, ℕ, zero, suc, List}
+-- Trails that rise, and what waits in them.
+use Rattle.std.proofs.Common.{◌≡◌, ◌≢◌, ◌⊎◌, inl, inr, ℕ, zero, suc, List}
 use Rattle.std.proofs.Common.{[], ◌∷◌, sym, ap, subst, refl, arith}
 use Rattle.event_stamps.specs.declared.Stamp.{Stamp}
 use Rattle.event_stamps.specs.Order.{Before}
-use Rattle.event_stamps.proofs.StampOrder.{before_trans}
-use Rattle.event_stamps.proofs.StampOrder.{not_before_itself}
+use Rattle.event_stamps.proofs.Parts as parts
 use Rattle.region_view.specs.declared.rows.Message.{Message}
-use Rattle.region_messages.specs.Trails.{IsAmong, Rises, below}
-use Rattle.region_messages.proofs.Among.{rises_tail, among_rises}
-use Rattle.region_messages.proofs.Parts.{below_none}
+use Rattle.region_messages.specs.Trails.{IsAmong, Rises, below, message_key}
+use Rattle.region_messages.proofs.Among.{rises_tail}
 use Rattle.local_run.specs.LocalRun.{Trails, trail_of, rest_of, without_first, IsWaiting}
 
 -- ---- trails that rise
@@ -16,27 +14,13 @@ pub rises_rest : (ms : List Message) → Rises ms → Rises (rest_of ms)
 rises_rest [] h = tt
 rises_rest (m ∷ ms) h = rises_tail m.stamp ms h
 
--- none is before the first
-pub none_before_first : (m : Message) (ms : List Message) (n : Message) → Rises (m ∷ ms) →
-    IsAmong n (m ∷ ms) → ¬ Before n.stamp m.stamp
-none_before_first m ms n rises (inl same) less =
-    not_before_itself m.stamp (subst (λ (v : Message). Before v.stamp m.stamp) same less)
-none_before_first m ms n rises (inr more) less =
-    not_before_itself m.stamp (before_trans m.stamp n.stamp m.stamp (among_rises m.stamp ms n rises more) less)
-
-pub among_drop : (k : ℕ) (ms : List Message) (n : Message) → IsAmong n (drop k ms) → IsAmong n ms
-among_drop zero ms n among = among
-among_drop (suc k) [] n among = among
-among_drop (suc k) (m ∷ ms) n among = inr (among_drop k ms n among)
-
 pub among_rest : (ms : List Message) (n : Message) → IsAmong n (rest_of ms) → IsAmong n ms
 among_rest [] n h = h
 among_rest (m ∷ ms) n h = inr h
 
 pub below_nil : (s : Stamp) (ms : List Message) →
     ((m : Message) → IsAmong m ms → ¬ Before m.stamp s) → below s ms ≡ []
-below_nil s [] late = refl
-below_nil s (m ∷ ms) late = below_none s m ms (late m (inl refl))
+below_nil s ms = parts.below_nil message_key s ms
 
 -- ---- the trails of the regions
 pub same_trail : (ts : Trails) (q : ℕ) → trail_of (without_first ts q) q ≡ rest_of (trail_of ts q)

@@ -2,7 +2,7 @@
 use Rattle.std.proofs.Common.{◌≡◌, ◌≢◌, ◌⊎◌, inl, inr, ℕ, List, [], ◌∷◌, subst, refl}
 use Rattle.event_stamps.specs.declared.Stamp.{Stamp}
 use Rattle.event_stamps.specs.Order.{Before}
-use Rattle.event_stamps.proofs.StampOrder.{before_decides, same_stamp}
+use Rattle.event_stamps.proofs.IsBefore.{before_other}
 use Rattle.region_view.specs.declared.rows.Message.{Message}
 use Rattle.region_view.specs.Acting.{stamp_of}
 use Rattle.region_messages.specs.Trails.{IsAmong, Rises}
@@ -18,13 +18,6 @@ use Rattle.local_run.specs.Answers.{IsInTurn}
 use Rattle.local_run.proofs.Among.{AllRise, same_trail, other_trail, same_or_other, waits_among, rise_without}
 use Rattle.local_run.proofs.Right.{waiting_was_heard, heard_rise}
 
--- of two stamps that aren't the same, where the second isn't before the first, the first is before
-then_before : (s t : Stamp) → ¬ Before t s → ¬ (t ≡ s) → Before s t
-then_before s t not other = elim (before_decides s t) [
-  | inl less ↦ less
-  | inr neither ↦ absurd (other (same_stamp t s not neither))
-]
-
 rises_from_first : (m : Message) (rest ms : List Message) (n : Message) → ms ≡ m ∷ rest → Rises ms →
     IsAmong n rest → Before m.stamp n.stamp
 rises_from_first m rest ms n is rises among = among_rises m.stamp rest n (subst Rises is rises) among
@@ -34,7 +27,7 @@ after_move : (h : Home) (a : At) (e : Entry) → AllRise a.waiting → IsMove h 
     IsAmong m (trail_of (after_entry a e).waiting q) → Before (entry_stamp e) m.stamp
 after_move h a (Native x) rise move q m among =
     let waits = waits_among a.waiting q m among in
-    then_before (stamp_of x) m.stamp (move.due.1 m.stamp (inr waits))
+    before_other (stamp_of x) m.stamp (move.due.1 m.stamp (inr waits))
     (λ same. move.alone (subst (IsWaiting a.waiting) same waits))
 after_move h a (Heard p n) rise move q m among = elim (same_or_other q p) [
   | inl same ↦ here (subst (IsAmong m) (same_trail a.waiting p)
@@ -47,7 +40,7 @@ after_move h a (Heard p n) rise move q m among = elim (same_or_other q p) [
         (subst (λ (ms : List Message). IsAmong m (rest_of ms)) move.first.1 in_rest)
 
     there : q ≢ p → IsAmong m (trail_of a.waiting q) → Before n.stamp m.stamp
-    there other among = then_before n.stamp m.stamp
+    there other among = before_other n.stamp m.stamp
         (move.due.1 m.stamp (inr (waits_among a.waiting q m among)))
         (λ same. other (move.only q m among same))
 

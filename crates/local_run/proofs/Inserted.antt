@@ -1,11 +1,9 @@
 -- Trails with one more message, and what waits of them.
 use Rattle.std.proofs.Common.{◌≡◌, ◌≢◌, inl, inr, ℕ, List, [], ◌∷◌, ◌++◌, sym, ap, ◌∙◌, subst, refl}
-use Rattle.event_stamps.specs.declared.Stamp.{Stamp}
 use Rattle.event_stamps.specs.Order.{Before}
+use Rattle.event_stamps.proofs.Parts.{below_first, below_none, from_later, from_here}
 use Rattle.region_view.specs.declared.rows.Message.{Message}
-use Rattle.region_messages.specs.Trails.{IsAmong, from, with_message}
-use Rattle.region_messages.proofs.Order.{is_before_true, is_before_false}
-use Rattle.region_messages.proofs.Parts.{below_first, below_none}
+use Rattle.region_messages.specs.Trails.{IsAmong, with_message, message_key}
 use Rattle.local_run.specs.declared.home.Home.{Home}
 use Rattle.local_run.specs.declared.entry.Entry.{Entry}
 use Rattle.local_run.specs.declared.entry.Entry.TheVariants.{Native, Heard}
@@ -14,19 +12,12 @@ use Rattle.local_run.proofs.Among.{same_trail, other_trail, same_or_other}
 use Rattle.local_run.proofs.Logs.{AllBefore}
 
 -- ---- one trail
-from_first : (t : Stamp) (m : Message) (ms : List Message) → Before m.stamp t → from t (m ∷ ms) ≡ from t ms
-from_first t m ms lt = rw (is_before_true m.stamp t lt) refl
-
-pub from_none : (t : Stamp) (m : Message) (ms : List Message) → ¬ Before m.stamp t →
-    from t (m ∷ ms) ≡ m ∷ ms
-from_none t m ms not = rw (is_before_false m.stamp t not) refl
-
 -- what comes before the message stays first
 with_later : (m n : Message) (ms : List Message) → Before n.stamp m.stamp →
     with_message m (n ∷ ms) ≡ n ∷ with_message m ms
 with_later m n ms lt =
-    let first = below_first m.stamp n ms lt in
-    let rest = from_first m.stamp n ms lt in
+    let first = below_first message_key m.stamp n ms lt in
+    let rest = from_later message_key m.stamp n ms lt in
     λ i. first i ++ m ∷ rest i
 
 -- where nothing comes before it, it is the first
@@ -34,8 +25,8 @@ pub with_first : (m : Message) (ms : List Message) →
     ((n : Message) → IsAmong n ms → ¬ Before n.stamp m.stamp) → with_message m ms ≡ m ∷ ms
 with_first m [] late = refl
 with_first m (n ∷ ns) late =
-    let first = below_none m.stamp n ns (late n (inl refl)) in
-    let rest = from_none m.stamp n ns (late n (inl refl)) in
+    let first = below_none message_key m.stamp n ns (late n (inl refl)) in
+    let rest = from_here message_key m.stamp n ns (late n (inl refl)) in
     λ i. first i ++ m ∷ rest i
 
 -- ---- all trails

@@ -5,11 +5,13 @@ use Rattle.std.proofs.Math.ListN.{get_or-map}
 use Rattle.event_stamps.specs.declared.Stamp.{Stamp}
 use Rattle.event_stamps.specs.Order.{Before, end_stamp}
 use Rattle.event_stamps.proofs.StampOrder.{before_decides}
+use Rattle.event_stamps.proofs.IsBefore.{before_not_before}
+use Rattle.event_stamps.proofs.Rising.{rises_if_from}
+use Rattle.event_stamps.proofs.Parts.{from_later, from_whole, from_after, rises_from}
 use Rattle.cell_grid.specs.Grid.{GridData}
 use Rattle.region_view.specs.declared.rows.Message.{Message}
-use Rattle.region_messages.specs.Trails.{IsAmong, below, from}
-use Rattle.region_messages.proofs.Order.{is_before_true, is_before_false, before_not_before}
-use Rattle.region_messages.proofs.Parts.{split, from_among, from_after, rises_part_from}
+use Rattle.region_messages.specs.Trails.{IsAmong, below, from, message_key}
+use Rattle.region_messages.proofs.Parts.{split, from_among}
 use Rattle.local_run.specs.declared.home.Home.{Home}
 use Rattle.local_run.specs.declared.entry.Entry.{Entry}
 use Rattle.local_run.specs.declared.entry.Entry.TheVariants.{Native, Heard}
@@ -20,26 +22,9 @@ use Rattle.local_run.specs.LocalRun.{IsInPlace, IsHearable, IsRight, sent_to}
 use Rattle.local_run.specs.Laws.{RaisingKeepsRight}
 use Rattle.local_run.specs.Raising.{raised_run, HasNoneWaitingBelow, IsRaised}
 use Rattle.local_run.proofs.Among.{same_trail, other_trail, same_or_other, waits_among}
-use Rattle.local_run.proofs.Logs.{moves_split, after_join, below_then_from, below_in, below_out, rises_log_tail}
+use Rattle.local_run.proofs.Logs.{moves_split, after_join, below_then_from, below_in, below_out}
 use Rattle.local_run.proofs.Sent.{sent_below, sent_joined}
 use Rattle.local_run.proofs.Valid.{valid_after}
-
--- ---- the entries from a stamp on
-from_in : (s : Stamp) (e : Entry) (es : List Entry) → Before (entry_stamp e) s →
-    entries_from s (e ∷ es) ≡ entries_from s es
-from_in s e es lt = rw (is_before_true (entry_stamp e) s lt) refl
-
-from_out : (s : Stamp) (e : Entry) (es : List Entry) → ¬ Before (entry_stamp e) s →
-    entries_from s (e ∷ es) ≡ e ∷ es
-from_out s e es not = rw (is_before_false (entry_stamp e) s not) refl
-
-rises_from_stamp : (f s : Stamp) (log : List Entry) → RiseFrom f log → RiseFrom s (entries_from s log)
-rises_from_stamp f s [] rises = tt
-rises_from_stamp f s (e ∷ es) rises = elim (before_decides (entry_stamp e) s) [
-  | inl lt ↦ subst (RiseFrom s) (sym (from_in s e es lt))
-      (rises_from_stamp (entry_stamp e) s es (rises_log_tail (entry_stamp e) es rises.1))
-  | inr not ↦ subst (RiseFrom s) (sym (from_out s e es not)) (not, rises.1)
-]
 
 fewer_from : (s : Stamp) (log : List Entry) → length (entries_from s log) ≤ length log
 fewer_from s log =
@@ -48,15 +33,6 @@ fewer_from s log =
     omega arith
 
 -- ---- what waits after the entries before a stamp
-from_whole : (s : Stamp) (ms : List Message) → ((m : Message) → IsAmong m ms → ¬ Before m.stamp s) →
-    from s ms ≡ ms
-from_whole s [] late = refl
-from_whole s (m ∷ ms) late = rw (is_before_false m.stamp s (late m (inl refl))) refl
-
-from_rest : (s : Stamp) (m : Message) (ms : List Message) → Before m.stamp s →
-    from s (m ∷ ms) ≡ from s ms
-from_rest s m ms lt = rw (is_before_true m.stamp s lt) refl
-
 -- an entry before a stamp takes in what is before it
 from_without : (h : Home) (a : At) (s : Stamp) (e : Entry) (q : ℕ) → IsMove h a e →
     Before (entry_stamp e) s → from s (trail_of (after_entry a e).waiting q) ≡ from s (trail_of a.waiting q)
@@ -69,7 +45,7 @@ from_without h a s (Heard p m) q move lt = elim (same_or_other q p) [
   where
     here : from s (trail_of (without_first a.waiting p) p) ≡ from s (trail_of a.waiting p)
     here = ap (from s) (same_trail a.waiting p ∙ ap rest_of move.first.1)
-        ∙ sym (ap (from s) move.first.1 ∙ from_rest s m move.first.0 lt)
+        ∙ sym (ap (from s) move.first.1 ∙ from_later message_key s m move.first.0 lt)
 
 -- nothing that is offered comes before a move
 none_before_move : (h : Home) (a : At) (e : Entry) (t : Stamp) → IsMove h a e → IsOffered h a t →
@@ -81,12 +57,12 @@ none_before_move h a (Heard p m) t move offered = move.due.1 t offered
 waits_from : (h : Home) (a : At) (s : Stamp) (log : List Entry) → Moves h a log →
     ((q : ℕ) (m : Message) → IsAmong m (trail_of (after_log a log).waiting q) → ¬ Before m.stamp s) →
     (q : ℕ) → trail_of (after_log a (entries_below s log)).waiting q ≡ from s (trail_of a.waiting q)
-waits_from h a s [] moves late q = sym (from_whole s (trail_of a.waiting q) (late q))
+waits_from h a s [] moves late q = sym (from_whole message_key s (trail_of a.waiting q) (late q))
 waits_from h a s (e ∷ es) moves late q = elim (before_decides (entry_stamp e) s) [
   | inl lt ↦ ap (λ (log : List Entry). trail_of (after_log a log).waiting q) (below_in s e es lt)
       ∙ waits_from h (after_entry a e) s es moves.1 late q ∙ from_without h a s e q moves.0 lt
   | inr not ↦ ap (λ (log : List Entry). trail_of (after_log a log).waiting q) (below_out s e es not)
-      ∙ sym (from_whole s (trail_of a.waiting q) (λ m among less.
+      ∙ sym (from_whole message_key s (trail_of a.waiting q) (λ m among less.
       none_before_move h a e m.stamp moves.0 (inr (waits_among a.waiting q m among))
       (before_not_before m.stamp (entry_stamp e) s less not)))
 ]
@@ -126,8 +102,8 @@ start_raised h r to right none =
 heard_raised : (h : Home) (floor to : Stamp) (heard : Trails) (q : ℕ) →
     IsHearable h floor q (trail_of heard q) → IsHearable h to q (trail_of (map (from to) heard) q)
 heard_raised h floor to heard q may = subst (IsHearable h to q) (sym (get_or-map (from to) heard q [])) (record {
-  rises = rises_part_from to ms may.rises;
-  from_floor = λ m among. from_after to ms m may.rises among;
+  rises = rises_if_from message_key to (from to ms) (rises_from message_key to ms may.rises);
+  from_floor = λ m among. from_after message_key to ms m may.rises among;
   before_end = λ m among. may.before_end m (from_among to ms m among);
   rows = λ m among. may.rows m (from_among to ms m among);
   linked = λ m among. may.linked m (from_among to ms m among);
@@ -147,7 +123,7 @@ right_raised h r to place right in_time none =
       moves = subst (λ (a : At). Moves h a (entries_from to r.log)) (start_raised h r to right none)
           (moves_split h (start_of r) (entries_below to r.log) (entries_from to r.log)
           (subst (Moves h (start_of r)) parts right.moves)).1;
-      rises = rises_from_stamp r.floor to r.log right.rises;
+      rises = rises_from entry_stamp to r.log (rises_if_from entry_stamp r.floor r.log right.rises);
       few = let fewer = fewer_from to r.log in let few = right.few in omega arith;
     }
 

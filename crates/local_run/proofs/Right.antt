@@ -1,9 +1,10 @@
 -- Right local runs: what waits in them, one more entry, and an end that is taken back.
-use Rattle.std.proofs.Common.{◌≡◌, ℕ, ◌<◌, List, [], ◌∷◌, ◌++◌, length, length-append, sym, ap, ◌∙◌, subst, arith}
+use Rattle.std.proofs.Common.{◌≡◌, ℕ, ◌<◌, List, [], ◌∷◌, ◌++◌, length, length-append, take, drop, sym, ap, ◌∙◌, subst, arith}
+use Rattle.std.proofs.lemmas.List.{take-append-drop}
 use Rattle.event_stamps.specs.declared.Stamp.{Stamp}
 use Rattle.region_view.specs.declared.rows.Message.{Message}
-use Rattle.region_messages.specs.Trails.{IsAmong, Rises}
-use Rattle.region_messages.proofs.Among.{rises_drop}
+use Rattle.event_stamps.proofs.Rising.{among_right, rises_drop, from_first}
+use Rattle.region_messages.specs.Trails.{IsAmong, Rises, message_key}
 use Rattle.local_run.specs.declared.home.Home.{Home}
 use Rattle.local_run.specs.declared.entry.Entry.{Entry}
 use Rattle.local_run.specs.declared.entry.TheConstants.{MAX_ENTRIES}
@@ -12,21 +13,24 @@ use Rattle.local_run.specs.Entries.{entry_stamp, RiseFrom, entries_below, entrie
 use Rattle.local_run.specs.LocalRun.{Moves, IsMove, IsRight}
 use Rattle.local_run.specs.Taken.{taken_of}
 use Rattle.local_run.specs.Answers.{with_entry, IsInTurn}
-use Rattle.local_run.proofs.Among.{AllRise, among_drop}
+use Rattle.local_run.proofs.Among.{AllRise}
 use Rattle.local_run.proofs.Logs.{moves_split, moves_join, below_then_from}
-use Rattle.local_run.proofs.Logs.{rises_first, rises_appended}
+use Rattle.local_run.proofs.Logs.{rises_appended}
 use Rattle.local_run.proofs.Taken.{waiting_is_drop}
 
 -- ---- what waits
 -- a message that waits was heard
 pub waiting_was_heard : (a : At) (log : List Entry) (q : ℕ) (m : Message) →
     IsAmong m (trail_of (after_log a log).waiting q) → IsAmong m (trail_of a.waiting q)
-waiting_was_heard a log q m among = among_drop (taken_of q log) (trail_of a.waiting q) m
-    (subst (IsAmong m) (waiting_is_drop a log q) among)
+waiting_was_heard a log q m among =
+    let k = taken_of q log in
+    let ms = trail_of a.waiting q in
+    subst (IsAmong m) (take-append-drop k ms)
+    (among_right m (take k ms) (drop k ms) (subst (IsAmong m) (waiting_is_drop a log q) among))
 
 pub rise_along : (a : At) (log : List Entry) → AllRise a.waiting → AllRise (after_log a log).waiting
 rise_along a log rise q = subst Rises (sym (waiting_is_drop a log q))
-    (rises_drop (taken_of q log) (trail_of a.waiting q) (rise q))
+    (rises_drop message_key (taken_of q log) (trail_of a.waiting q) (rise q))
 
 pub heard_rise : (h : Home) (r : Local) → IsRight h r → AllRise r.heard
 heard_rise h r right q = (right.heard q).rises
@@ -55,7 +59,7 @@ right_before h r xs ys parts right = record {
   floor = right.floor;
   heard = right.heard;
   moves = (moves_split h (start_of r) xs ys (subst (Moves h (start_of r)) parts right.moves)).0;
-  rises = rises_first r.floor xs ys (subst (RiseFrom r.floor) parts right.rises);
+  rises = from_first entry_stamp r.floor xs ys (subst (RiseFrom r.floor) parts right.rises);
   few =
       let sizes = ap length parts ∙ length-append xs ys in
       let few = right.few in

@@ -6,6 +6,7 @@ use Rattle.std.proofs.lemmas.List.{append-nil}
 use Rattle.event_stamps.specs.declared.Stamp.{Stamp}
 use Rattle.event_stamps.specs.Order.{Before}
 use Rattle.event_stamps.proofs.StampOrder.{before_trans, before_decides}
+use Rattle.event_stamps.proofs.Rising.{among_right, rises_tail, from_if_after, after_if_from, among_from}
 use Rattle.cell_grid.specs.Grid.{GridData}
 use Rattle.region_view.specs.declared.action.Action.{Action}
 use Rattle.region_view.specs.declared.rows.Message.{Message}
@@ -14,7 +15,7 @@ use Rattle.region_view.specs.Views.{ViewData, rows_in}
 use Rattle.region_view.specs.Acting.{stamp_of}
 use Rattle.region_view.specs.Setting.{RowList, rows_set, set_rows, after_action}
 use Rattle.region_view.specs.Messages.{message_of, message_with, told_rows}
-use Rattle.region_messages.specs.Trails.{IsAmong, IsAfterAll, RisesAfter, Rises, below}
+use Rattle.region_messages.specs.Trails.{IsAmong, IsAfterAll, RisesAfter, Rises, below, message_key}
 use Rattle.region_messages.proofs.Parts.{below_first, below_none}
 use Rattle.local_run.specs.declared.entry.Entry.{Entry}
 use Rattle.local_run.specs.declared.entry.Entry.TheVariants.{Native, Heard}
@@ -79,8 +80,7 @@ sent_by grid q a (Heard r n ∷ es) m h =
 
 -- ---- their stamps
 among_middle : (xs : List Entry) (e : Entry) (ys : List Entry) → IsAmong e (xs ++ e ∷ ys)
-among_middle [] e ys = inl refl
-among_middle (x ∷ xs) e ys = inr (among_middle xs e ys)
+among_middle xs e ys = among_right e xs (e ∷ ys) (inl refl)
 
 -- what a log sends that rises after a stamp comes after it
 pub sent_after : (grid : GridData) (q : ℕ) (view : ViewData) (log : List Entry) (m : Message)
@@ -99,23 +99,20 @@ sent_late : (grid : GridData) (q : ℕ) (view : ViewData) (s t : Stamp) (log : L
 sent_late grid q view s t log rises not m among less =
     not (before_trans t m.stamp s (sent_after grid q view log m t rises among) less)
 
+rises_further : (s t : Stamp) (ms : List Message) → Before s t → RisesAfter t ms → RisesAfter s ms
+rises_further s t ms lt rises = after_if_from message_key s t ms lt (from_if_after message_key t ms rises)
+
 -- messages before which all others of the log come
 told_rises : (t : Stamp) (o : Option Message) (ms : List Message) →
     ((n : Message) → o ≡ Some n → n.stamp ≡ t) → RisesAfter t ms → Rises (told o ms)
-told_rises t None [] stamp rises = tt
-told_rises t None (m ∷ ms) stamp rises = rises.1
+told_rises t None ms stamp rises = rises_tail message_key t ms rises
 told_rises t (Some n) ms stamp rises = subst (λ (v : Stamp). RisesAfter v ms) (sym (stamp n refl)) rises
 
 told_rises_from : (s t : Stamp) (o : Option Message) (ms : List Message) →
     ((n : Message) → o ≡ Some n → n.stamp ≡ t) → Before s t → RisesAfter t ms → RisesAfter s (told o ms)
-told_rises_from s t None [] stamp lt rises = tt
-told_rises_from s t None (m ∷ ms) stamp lt rises = (before_trans s t m.stamp lt rises.0, rises.1)
+told_rises_from s t None ms stamp lt rises = rises_further s t ms lt rises
 told_rises_from s t (Some n) ms stamp lt rises =
     subst (λ (v : Stamp). Before s v × RisesAfter v ms) (sym (stamp n refl)) (lt, rises)
-
-rises_further : (s t : Stamp) (ms : List Message) → Before s t → RisesAfter t ms → RisesAfter s ms
-rises_further s t [] lt rises = tt
-rises_further s t (m ∷ ms) lt rises = (before_trans s t m.stamp lt rises.0, rises.1)
 
 sent_rises_after : (grid : GridData) (q : ℕ) (view : ViewData) (s : Stamp) (log : List Entry) →
     RiseAfter s log → RisesAfter s (sent_to grid q view log)
@@ -128,10 +125,6 @@ sent_rises_after grid q view s (Heard r m ∷ es) rises =
     rises_further s m.stamp (sent_to grid q (set_rows view m.rows) es) rises.0
     (sent_rises_after grid q (set_rows view m.rows) m.stamp es rises.1)
 
-rises_any : (s : Stamp) (ms : List Message) → RisesAfter s ms → Rises ms
-rises_any s [] rises = tt
-rises_any s (m ∷ ms) rises = rises.1
-
 pub sent_rises : (grid : GridData) (q : ℕ) (view : ViewData) (f : Stamp) (log : List Entry) →
     RiseFrom f log → Rises (sent_to grid q view log)
 sent_rises grid q view f [] rises = tt
@@ -140,24 +133,18 @@ sent_rises grid q view f (Native a ∷ es) rises =
     (message_stamp grid q (rows_in view) a)
     (sent_rises_after grid q (after_action view a) (stamp_of a) es rises.1)
 sent_rises grid q view f (Heard r m ∷ es) rises =
-    rises_any m.stamp (sent_to grid q (set_rows view m.rows) es)
+    rises_tail message_key m.stamp (sent_to grid q (set_rows view m.rows) es)
     (sent_rises_after grid q (set_rows view m.rows) m.stamp es rises.1)
 
 -- from the floor on
 pub sent_from : (grid : GridData) (q : ℕ) (view : ViewData) (f : Stamp) (log : List Entry) (m : Message) →
     RiseFrom f log → IsAmong m (sent_to grid q view log) → ¬ Before m.stamp f
-sent_from grid q view f [] m rises among = absurd among
-sent_from grid q view f (e ∷ es) m rises among =
-    let by = sent_by grid q (record { view = view; waiting = [] }) (e ∷ es) m among in
-    let entry : IsAmong (Native by.action) (e ∷ es)
+sent_from grid q view f log m rises among =
+    let by = sent_by grid q (record { view = view; waiting = [] }) log m among in
+    let entry : IsAmong (Native by.action) log
     = subst (IsAmong (Native by.action)) (sym by.parts) (among_middle by.before (Native by.action) by.rest) in
     subst (λ (v : Stamp). ¬ Before v f) (sym (message_stamp grid q _ by.action m by.message))
-    (late (Native by.action) entry)
-  where
-    late : (x : Entry) → IsAmong x (e ∷ es) → ¬ Before (entry_stamp x) f
-    late x (inl same) = subst (λ (v : Entry). ¬ Before (entry_stamp v) f) (sym same) rises.0
-    late x (inr more) = λ less. rises.0
-        (before_trans (entry_stamp e) (entry_stamp x) f (among_after (entry_stamp e) es x rises.1 more) less)
+    (among_from entry_stamp f log (Native by.action) rises entry)
 
 -- ---- what the entries before a stamp send
 pub sent_below : (grid : GridData) (q : ℕ) (view : ViewData) (s f : Stamp) (log : List Entry) →

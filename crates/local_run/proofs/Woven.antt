@@ -3,46 +3,27 @@ use Rattle.std.proofs.Common.{◌≡◌, ◌⊎◌, inl, inr, ℕ, List, [], ◌
 use Rattle.event_stamps.specs.declared.Stamp.{Stamp}
 use Rattle.event_stamps.specs.Order.{Before}
 use Rattle.event_stamps.proofs.StampOrder.{before_trans, not_before_itself}
+use Rattle.event_stamps.proofs.IsBefore.{before_not_before}
+use Rattle.event_stamps.proofs.Rising.{among_right, from_joined, last_joined}
+use Rattle.event_stamps.proofs.Parts.{from_here}
 use Rattle.region_view.specs.declared.rows.Message.{Message}
 use Rattle.region_view.specs.Views.{ViewData}
 use Rattle.region_view.specs.Setting.{set_rows}
-use Rattle.region_messages.specs.Trails.{IsAmong, below, from, AgreeBelow, with_message}
-use Rattle.region_messages.proofs.Order.{before_not_before}
+use Rattle.region_messages.specs.Trails.{IsAmong, below, from, AgreeBelow, with_message, message_key}
 use Rattle.region_messages.proofs.Parts.{below_replaced}
-use Rattle.region_messages.proofs.Among.{among_right}
 use Rattle.local_run.specs.declared.home.Home.{Home}
 use Rattle.local_run.specs.declared.entry.Entry.{Entry}
 use Rattle.local_run.specs.declared.entry.Entry.TheVariants.{Native, Heard}
 use Rattle.local_run.specs.LocalRun.{At, Local, Trails, trail_of, rest_of, start_of, now_of, after_entry, after_log}
-use Rattle.local_run.specs.Entries.{entry_stamp, entries_below, entries_from, RiseAfter, RiseFrom, clock_of}
+use Rattle.local_run.specs.Entries.{entry_stamp, entries_below, entries_from, RiseAfter, clock_of}
 use Rattle.local_run.specs.LocalRun.{IsWaiting, IsOwn, IsOffered, IsDue, IsMove, IsHeardMove, Moves, IsHearable, IsRight, sent_to}
 use Rattle.local_run.specs.Weaving.{AreAside, MayWeave, WeavingKeepsRight}
 use Rattle.local_run.proofs.Among.{same_trail, other_trail, same_or_other, waits_among, waits_first}
-use Rattle.local_run.proofs.Logs.{AllBefore, all_below, moves_split, moves_join, after_join, below_then_from}
+use Rattle.local_run.proofs.Logs.{all_below, moves_split, moves_join, after_join, below_then_from}
 use Rattle.local_run.proofs.Hears.{hearing, right_heard}
 use Rattle.local_run.proofs.Sent.{sent_joined}
 use Rattle.local_run.proofs.Staying.{SameTrails, IsLaterThan, beside, stays, stays_sent}
-use Rattle.local_run.proofs.Inserted.{IsInserted, from_none, with_first, inserted_along}
-
--- ---- stamps
-after_woven : (t : Stamp) (xs : List Entry) (e : Entry) (ys : List Entry) → RiseAfter t xs →
-    Before t (entry_stamp e) → AllBefore (entry_stamp e) xs → RiseAfter (entry_stamp e) ys →
-    RiseAfter t (xs ++ e ∷ ys)
-after_woven t [] e ys rises lt all after = (lt, after)
-after_woven t (x ∷ xs) e ys rises lt all after =
-    (rises.0, after_woven (entry_stamp x) xs e ys rises.1 all.0 all.1 after)
-
-rises_woven : (f : Stamp) (xs : List Entry) (e : Entry) (ys : List Entry) → RiseFrom f xs →
-    ¬ Before (entry_stamp e) f → AllBefore (entry_stamp e) xs → RiseAfter (entry_stamp e) ys →
-    RiseFrom f (xs ++ e ∷ ys)
-rises_woven f [] e ys rises late all after = (late, after)
-rises_woven f (x ∷ xs) e ys rises late all after =
-    (rises.0, after_woven (entry_stamp x) xs e ys rises.1 all.0 all.1 after)
-
-clock_joined : (f : Stamp) (xs : List Entry) (e : Entry) (ys : List Entry) →
-    clock_of f (xs ++ e ∷ ys) ≡ clock_of (entry_stamp e) ys
-clock_joined f [] e ys = refl
-clock_joined f (x ∷ xs) e ys = clock_joined (entry_stamp x) xs e ys
+use Rattle.local_run.proofs.Inserted.{IsInserted, with_first, inserted_along}
 
 due_of : (h : Home) (a : At) (e : Entry) → IsMove h a e → IsDue h a (entry_stamp e)
 due_of h a (Native x) move = move.due
@@ -135,9 +116,9 @@ woven_with h r q m v e ys right may hearable inserted is = (
     floor = right.floor;
     heard = heard.heard;
     moves = moves_join h start xs (Heard q m ∷ e ∷ ys) heard.moves (taken.0, moves_on);
-    rises = rises_woven r.floor xs (Heard q m) (e ∷ ys) heard.rises
-        (hearable.from_floor m (among_right m (below m.stamp (trail_of r.heard q)) _ (inl refl)))
-        (all_below m.stamp r.log) rises;
+    rises = from_joined entry_stamp r.floor m.stamp xs (Heard q m ∷ e ∷ ys) heard.rises
+        (all_below m.stamp r.log) (not_before_itself m.stamp, rises)
+        (hearable.from_floor m (among_right m (below m.stamp (trail_of r.heard q)) _ (inl refl)), rises);
     few =
         let sizes = ap length parts ∙ length-append xs (e ∷ ys) in
         let all = length-append xs (Heard q m ∷ e ∷ ys) in
@@ -178,7 +159,7 @@ woven_with h r q m v e ys right may hearable inserted is = (
     later : IsLaterThan h m.rows (after_log a (e ∷ ys)).view (clock_of m.stamp (e ∷ ys))
     later = subst (λ (x : At). IsLaterThan h m.rows x.view (clock_of m.stamp (e ∷ ys))) at_end
         (subst (IsLaterThan h m.rows (now_of r).view)
-        (ap (clock_of r.floor) parts ∙ clock_joined r.floor xs e ys) may.later)
+        (ap (clock_of r.floor) parts ∙ last_joined entry_stamp r.floor xs e ys) may.later)
 
     -- the entries before it
     heard : IsRight h (hearing m.stamp v r)
@@ -187,7 +168,7 @@ woven_with h r q m v e ys right may hearable inserted is = (
       where
         agree : AgreeBelow m.stamp (trail_of r.heard q) (with_message m (trail_of r.heard q))
         agree = sym (ap (λ (ms : List Message). below m.stamp (below m.stamp (trail_of r.heard q) ++ ms))
-            (sym (from_none m.stamp m (from m.stamp (trail_of r.heard q)) (not_before_itself m.stamp)))
+            (sym (from_here message_key m.stamp m (from m.stamp (trail_of r.heard q)) (not_before_itself m.stamp)))
             ∙ below_replaced m.stamp (trail_of r.heard q) (m ∷ from m.stamp (trail_of r.heard q)))
 
     along : IsInserted q m a.waiting b.waiting × (b.view ≡ a.view)

@@ -1,10 +1,9 @@
 -- The entries of a log, their stamps, and the parts of a log before a stamp and from it on.
-use Rattle.std.specs.Prelude.{List, [], ◌∷◌, ⊤, Option, Some, None, if◌then◌else◌}
+use Rattle.std.specs.Prelude.{List, [], ◌∷◌, Option, Some, None}
 use Rattle.event_stamps.specs.declared.Stamp.{Stamp}
-use Rattle.event_stamps.specs.Order.{Before}
+use Rattle.event_stamps.specs.Ordered as ordered
 use Rattle.region_view.specs.declared.action.Action.{Action}
 use Rattle.region_view.specs.Acting.{stamp_of}
-use Rattle.region_messages.specs.Trails.{is_before}
 use Rattle.local_run.specs.declared.entry.Entry.{Entry}
 use Rattle.local_run.specs.declared.entry.Entry.TheVariants.{Native, Heard}
 
@@ -24,8 +23,7 @@ native_in (Some entry) = native_of entry
 -- ---- the last
 -- the last entry's stamp, or the floor where there is no entry
 abbrev pub clock_of : Stamp → List Entry → Stamp
-clock_of floor [] = floor
-clock_of floor (e ∷ es) = clock_of (entry_stamp e) es
+clock_of floor es = ordered.last_key entry_stamp floor es
 
 -- the last entry's stamp, where there is an entry
 abbrev pub last_stamp : List Entry → Option Stamp
@@ -35,19 +33,15 @@ last_stamp (e ∷ es) = Some (clock_of (entry_stamp e) es)
 -- ---- stamps of entries
 -- they rise strictly, all after one
 abbrev pub RiseAfter : Stamp → List Entry → Type 0
-RiseAfter s [] = ⊤
-RiseAfter s (e ∷ es) = Before s (entry_stamp e) × RiseAfter (entry_stamp e) es
+RiseAfter s es = ordered.RisesAfter entry_stamp s es
 
 -- they rise strictly, none before one
 abbrev pub RiseFrom : Stamp → List Entry → Type 0
-RiseFrom s [] = ⊤
-RiseFrom s (e ∷ es) = (¬ Before (entry_stamp e) s) × RiseAfter (entry_stamp e) es
+RiseFrom s es = ordered.RisesFrom entry_stamp s es
 
 -- the entries before a stamp, and those from it on
 abbrev pub entries_below : Stamp → List Entry → List Entry
-entries_below s [] = []
-entries_below s (e ∷ es) = if is_before (entry_stamp e) s then e ∷ entries_below s es else []
+entries_below s es = ordered.below entry_stamp s es
 
 abbrev pub entries_from : Stamp → List Entry → List Entry
-entries_from s [] = []
-entries_from s (e ∷ es) = if is_before (entry_stamp e) s then entries_from s es else e ∷ es
+entries_from s es = ordered.from entry_stamp s es

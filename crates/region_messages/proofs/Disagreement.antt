@@ -5,8 +5,10 @@ use Rattle.event_stamps.specs.declared.Stamp.{Stamp}
 use Rattle.event_stamps.specs.Order.{Before}
 use Rattle.event_stamps.specs.Least.{earlier_of}
 use Rattle.event_stamps.proofs.StampOrder.{before_decides, before_trans, not_before_itself}
+use Rattle.event_stamps.proofs.Rising.{among_from}
+use Rattle.event_stamps.proofs.Parts.{below_nil}
 use Rattle.region_view.specs.declared.rows.Message.{Message}
-use Rattle.region_messages.specs.Trails.{is_before, IsAmong, RisesAfter, Rises, below, AgreeBelow, AgreesUpTo, DisagreeAt, IsFirstDisagreement, StartAlike}
+use Rattle.region_messages.specs.Trails.{is_before, IsAmong, RisesAfter, Rises, below, AgreeBelow, AgreesUpTo, DisagreeAt, IsFirstDisagreement, StartAlike, message_key}
 use Rattle.region_messages.specs.Laws.{AgreeUntilFirst}
 use Rattle.region_messages.proofs.Order.{is_before_true, is_before_false, not_after_before}
 use Rattle.region_messages.proofs.Among.{rises_tail, among_rises}
@@ -39,7 +41,7 @@ first_is_lacking : (m : Message) (ms b : List Message) → RisesAfter m.stamp ms
     IsFound (m ∷ ms) b (Some m.stamp)
 first_is_lacking m ms b r after lacks = (
   record {
-    below = λ t not. below_none t m ms not ∙ sym (none_below t not b after);
+    below = λ t not. below_none t m ms not ∙ sym (none_below t not);
     beyond = λ t lt agree.
         let among : IsAmong m (below t (m ∷ ms)) =
         subst (IsAmong m) (sym (below_first t m ms lt)) (inl refl) in
@@ -48,17 +50,12 @@ first_is_lacking m ms b r after lacks = (
   (inl (m, refl, inl refl, lacks), least),
 )
   where
-    none_below : (t : Stamp) → ¬ Before m.stamp t → (b : List Message) →
-        ((n : Message) → IsAmong n b → ¬ Before n.stamp m.stamp) → below t b ≡ []
-    none_below t not [] after = refl
-    none_below t not (n ∷ ns) after = below_none t n ns
-        (λ lt. not (not_after_before m.stamp n.stamp t (after n (inl refl)) lt))
+    none_below : (t : Stamp) → ¬ Before m.stamp t → below t b ≡ []
+    none_below t not = below_nil message_key t b
+        (λ n among lt. not (not_after_before m.stamp n.stamp t (after n among) lt))
 
     not_after : (x : Message) → IsAmong x (m ∷ ms) → ¬ Before x.stamp m.stamp
-    not_after x (inl e) lt =
-        not_before_itself m.stamp (subst (λ (v : Message). Before v.stamp m.stamp) e lt)
-    not_after x (inr h) lt = not_before_itself m.stamp
-        (before_trans m.stamp x.stamp m.stamp (among_rises m.stamp ms x r h) lt)
+    not_after x = among_from message_key m.stamp (m ∷ ms) x (not_before_itself m.stamp, r)
 
     least : (t : Stamp) → DisagreeAt (m ∷ ms) b t → ¬ Before t m.stamp
     least t (inl h) lt = not_after h.0 h.2 (subst (λ (v : Stamp). Before v m.stamp) (sym h.1) lt)
@@ -71,9 +68,7 @@ lesser_first : (m n : Message) (ms ns : List Message) → RisesAfter m.stamp ms 
 lesser_first m n ms ns rm rn not other = first_is_lacking m ms (n ∷ ns) rm after lacks
   where
     after : (x : Message) → IsAmong x (n ∷ ns) → ¬ Before x.stamp m.stamp
-    after x (inl e) lt = not (subst (λ (v : Message). Before v.stamp m.stamp) e lt)
-    after x (inr h) lt =
-        not (before_trans n.stamp x.stamp m.stamp (among_rises n.stamp ns x rn h) lt)
+    after x = among_from message_key m.stamp (n ∷ ns) x (not, rn)
 
     lacks : ¬ IsAmong m (n ∷ ns)
     lacks (inl e) = other e

@@ -3,31 +3,29 @@ use Rattle.std.proofs.Common.{◌≡◌, ◌≢◌, inl, inr, ℕ, zero, suc, Li
 use Rattle.std.specs.Prelude.{◌↔◌, slice_get, option_map, option_copied, Option, Bool, true, false, not, IsTrue, MatchOption, is_some}
 use Rattle.event_stamps.specs.declared.Stamp.{Stamp}
 use Rattle.event_stamps.specs.Order.{Before}
-use Rattle.event_stamps.proofs.StampOrder.{before_decides, before_trans, not_before_itself, same_stamp}
+use Rattle.event_stamps.proofs.StampOrder.{not_before_itself}
+use Rattle.event_stamps.proofs.IsBefore.{before_other}
+use Rattle.event_stamps.proofs.Rising.{rises_if_from, after_each, rises_joined}
+use Rattle.event_stamps.proofs.Parts.{all_below, rises_below, rises_from, below_before, from_after}
 use Rattle.region_view.specs.declared.rows.Message.{Message}
-use Rattle.region_messages.specs.Trails.{IsAmong, Rises, below, from, with_message, IsFree}
-use Rattle.region_messages.proofs.Among.{among_either, among_rises, rises_from, rises_join}
-use Rattle.region_messages.proofs.Parts.{split, below_before, from_among, from_after, rises_below, rises_part_from}
+use Rattle.region_messages.specs.Trails.{IsAmong, Rises, below, from, with_message, IsFree, message_key}
+use Rattle.region_messages.proofs.Among.{among_either, among_rises}
+use Rattle.region_messages.proofs.Parts.{split, from_among}
 
 -- those from a stamp on that don't have it come after it
 after_free : (s : Stamp) (ms : List Message) (n : Message) → Rises ms → IsFree s ms →
     IsAmong n (from s ms) → Before s n.stamp
-after_free s ms n rises free among = elim (before_decides s n.stamp) [
-  | inl less ↦ less
-  | inr late ↦ absurd (free n (from_among s ms n among)
-      (same_stamp n.stamp s (from_after s ms n rises among) late))
-]
+after_free s ms n rises free among =
+    before_other s n.stamp (from_after message_key s ms n rises among) (free n (from_among s ms n among))
 
 pub rises_with : (m : Message) (ms : List Message) → Rises ms → IsFree m.stamp ms → Rises (with_message m ms)
 rises_with m ms rises free =
-    rises_join (below m.stamp ms) (m ∷ from m.stamp ms) (rises_below m.stamp ms rises)
-    (rises_from m.stamp (from m.stamp ms) (rises_part_from m.stamp ms rises)
-    (λ n among. after_free m.stamp ms n rises free among))
-    (λ x y p q. elim q [
-      | inl same ↦ subst (λ (v : Message). Before x.stamp v.stamp) (sym same) (below_before m.stamp ms x p)
-      | inr more ↦ before_trans x.stamp m.stamp y.stamp (below_before m.stamp ms x p)
-          (after_free m.stamp ms y rises free more)
-    ])
+    let late = rises_if_from message_key m.stamp (from m.stamp ms) (rises_from message_key m.stamp ms rises) in
+    let after = after_each message_key m.stamp (from m.stamp ms) late
+    (λ n among. after_free m.stamp ms n rises free among) in
+    rises_joined message_key m.stamp (below m.stamp ms) (m ∷ from m.stamp ms)
+    (rises_below message_key m.stamp ms rises) (all_below message_key m.stamp ms)
+    (not_before_itself m.stamp, after)
 
 -- ---- whether a stamp is free, by the first message from it on
 drop_at_some : (n : ℕ) (ms : List Message) (m : Message) → slice_get ms n ≡ Some m →
@@ -45,7 +43,7 @@ drop_at_none (suc n) (x ∷ ms) is = drop_at_none n ms is
 free_by_parts : (s : Stamp) (ms later : List Message) → from s ms ≡ later → IsFree s later → IsFree s ms
 free_by_parts s ms later is free n among same =
     elim (among_either n (below s ms) (from s ms) (subst (IsAmong n) (sym (split ms s)) among)) [
-      | inl first ↦ not_before_itself s (subst (λ (t : Stamp). Before t s) same (below_before s ms n first))
+      | inl first ↦ not_before_itself s (subst (λ (t : Stamp). Before t s) same (below_before message_key s ms n first))
       | inr second ↦ free n (subst (IsAmong n) is second) same
     ]
 
@@ -65,10 +63,10 @@ free_where_other s n ms m rises parts here other = free_by_parts s ms (m ∷ res
     is = sym parts ∙ drop_at_some n ms m here
 
     rising : Rises (m ∷ rest)
-    rising = subst Rises is (rises_part_from s ms rises)
+    rising = subst Rises is (rises_if_from message_key s (from s ms) (rises_from message_key s ms rises))
 
     late : ¬ Before m.stamp s
-    late = from_after s ms m rises (subst (IsAmong m) (sym is) (inl refl))
+    late = from_after message_key s ms m rises (subst (IsAmong m) (sym is) (inl refl))
 
     free : IsFree s (m ∷ rest)
     free k (inl same) e = other (ap (λ (v : Message). v.stamp) (sym same) ∙ e)

@@ -1,36 +1,30 @@
 -- Lists of messages, and where two of them first disagree.
-use Rattle.std.specs.Prelude.{◌≡◌, ◌≢◌, ◌⊎◌, ℕ, List, [], ◌∷◌, ◌++◌, ⊤, Bool, None, if◌then◌else◌, take, slice_get}
-use Rattle.std.specs.Ordering.{is_lt}
+use Rattle.std.specs.Prelude.{◌≡◌, ◌≢◌, ◌⊎◌, ℕ, List, ◌∷◌, ◌++◌, None, take, slice_get}
 use Rattle.event_stamps.specs.declared.Stamp.{Stamp}
-use Rattle.event_stamps.specs.Order.{Before, stamp_cmp}
+use Rattle.event_stamps.specs.Order.{Before}
+use Rattle.event_stamps.specs.Ordered as ordered
+pub use Rattle.event_stamps.specs.Ordered.{is_before, IsAmong}
 use Rattle.event_stamps.specs.Least.{IsLeast}
 use Rattle.region_view.specs.declared.rows.Message.{Message}
 
-abbrev pub is_before : Stamp → Stamp → Bool
-is_before s t = is_lt (stamp_cmp s t)
-
-abbrev pub IsAmong : {A : Type 0} → A → List A → Type 0
-IsAmong x [] = ⊥
-IsAmong x (y ∷ ys) = (x ≡ y) ⊎ IsAmong x ys
+-- ---- as lists by stamps
+abbrev pub message_key : Message → Stamp
+message_key m = m.stamp
 
 -- stamps rise strictly, all after one
 abbrev pub RisesAfter : Stamp → List Message → Type 0
-RisesAfter s [] = ⊤
-RisesAfter s (m ∷ ms) = Before s m.stamp × RisesAfter m.stamp ms
+RisesAfter s ms = ordered.RisesAfter message_key s ms
 
 -- stamps rise strictly
 abbrev pub Rises : List Message → Type 0
-Rises [] = ⊤
-Rises (m ∷ ms) = RisesAfter m.stamp ms
+Rises ms = ordered.Rises message_key ms
 
 -- the messages before a stamp, and those from it on
 abbrev pub below : Stamp → List Message → List Message
-below s [] = []
-below s (m ∷ ms) = if is_before m.stamp s then m ∷ below s ms else []
+below s ms = ordered.below message_key s ms
 
 abbrev pub from : Stamp → List Message → List Message
-from s [] = []
-from s (m ∷ ms) = if is_before m.stamp s then from s ms else m ∷ ms
+from s ms = ordered.from message_key s ms
 
 -- the messages with one more, at its place
 abbrev pub with_message : Message → List Message → List Message

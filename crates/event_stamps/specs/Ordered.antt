@@ -1,0 +1,48 @@
+-- Lists of what has stamps, in the order of these.
+use Rattle.std.specs.Prelude.{◌≡◌, ◌⊎◌, List, [], ◌∷◌, ⊤, Bool, if◌then◌else◌}
+use Rattle.std.specs.Ordering.{is_lt}
+use Rattle.event_stamps.specs.declared.Stamp.{Stamp}
+use Rattle.event_stamps.specs.Order.{Before, stamp_cmp}
+
+abbrev pub is_before : Stamp → Stamp → Bool
+is_before s t = is_lt (stamp_cmp s t)
+
+abbrev pub IsAmong : {A : Type 0} → A → List A → Type 0
+IsAmong x [] = ⊥
+IsAmong x (y ∷ ys) = (x ≡ y) ⊎ IsAmong x ys
+
+-- ---- stamps that rise, where `key` says which stamp each has
+-- they rise strictly, all after one
+abbrev pub RisesAfter : {A : Type 0} → (A → Stamp) → Stamp → List A → Type 0
+RisesAfter key s [] = ⊤
+RisesAfter key s (x ∷ xs) = Before s (key x) × RisesAfter key (key x) xs
+
+-- they rise strictly
+abbrev pub Rises : {A : Type 0} → (A → Stamp) → List A → Type 0
+Rises key [] = ⊤
+Rises key (x ∷ xs) = RisesAfter key (key x) xs
+
+-- they rise strictly, none before one
+abbrev pub RisesFrom : {A : Type 0} → (A → Stamp) → Stamp → List A → Type 0
+RisesFrom key s [] = ⊤
+RisesFrom key s (x ∷ xs) = (¬ Before (key x) s) × RisesAfter key (key x) xs
+
+-- the last one, or another where the list has none
+abbrev pub last_key : {A : Type 0} → (A → Stamp) → Stamp → List A → Stamp
+last_key key s [] = s
+last_key key s (x ∷ xs) = last_key key (key x) xs
+
+-- ---- the parts of a list
+-- all of it is before a stamp
+abbrev pub AllBefore : {A : Type 0} → (A → Stamp) → Stamp → List A → Type 0
+AllBefore key s [] = ⊤
+AllBefore key s (x ∷ xs) = Before (key x) s × AllBefore key s xs
+
+-- the first part, before a stamp, and the rest
+abbrev pub below : {A : Type 0} → (A → Stamp) → Stamp → List A → List A
+below key s [] = []
+below key s (x ∷ xs) = if is_before (key x) s then x ∷ below key s xs else []
+
+abbrev pub from : {A : Type 0} → (A → Stamp) → Stamp → List A → List A
+from key s [] = []
+from key s (x ∷ xs) = if is_before (key x) s then from key s xs else x ∷ xs
