@@ -221,9 +221,9 @@ pub fn has_small_products(rules: &Rules) -> bool
 }
 
 /// What [`may_hit`] tells where products are small, in 64 bits and with no branch: where not, two valid disks
-/// never hit each other. Where they are no farther apart than the box is long, it tells exactly whether they come
-/// nearer on paths that cross, so that of those that may not hit each other it lets disks pass that overlap. Nothing
-/// is said where products are great.
+/// never hit each other. Of disks that are no farther apart than the box is long it tells exactly whether they come
+/// nearer on paths that cross; unlike `may_hit` it says yes also of some that overlap. Nothing is said where
+/// products are great.
 #[inline(always)]
 pub fn may_hit_by_small(a: &Disk, b: &Disk) -> bool
     ensures exact { (rules : Rules) → IsSmallPair rules a.now b.now → FitsTheBox rules (separation_of a.now b.now) → (IsTrue result ↔ DoCoursesCross a.now b.now) }
