@@ -1,6 +1,9 @@
 //! When disks hit each other and the sides of the box next, and what comes of it.
 
-use event_rules::{Change, Limit, apply, pair_event, wall_event};
+use event_rules::{
+    Change, Limit, apply, event_between, has_small_products, may_hit_by_small, pair_event,
+    wall_event,
+};
 use event_stamps::{Kind, Stamp};
 use fixed_motion::{Disk, Rules};
 
@@ -88,6 +91,137 @@ fn meeting(end: u64, a: &Disk, b: &Disk) -> Result<Event, ()> {
     let rules = Rules { end, ..RULES };
     if rules.check().is_ok() && a.is_valid(&rules) && b.is_valid(&rules) {
         Ok(event_of(pair_event(&rules, 1, a, 2, b)))
+    } else {
+        Err(())
+    }
+}
+
+// A width, the greatest height at which the products of this box are small, and the greatest speed.
+type Sizes = (i64, i64, i64);
+
+// The product is 2^30 - 1, and 2^30 in a box that is one unit higher.
+const SLOW_AND_WIDE: Sizes = (536_870_912, 536_870_911, 1);
+
+// It is 2^30 - 1024, and 2^30.
+const QUICK: Sizes = (524_288, 524_287, 1024);
+
+// A box, two disks, whether they come nearer on paths that cross, and when they hit each other, if the box is one
+// unit higher too.
+type SmallRow = (Sizes, Record, Record, bool, Event);
+
+const QUICK_LEFT: Record = (2, 100, 1024, 0, 0, 0);
+
+const QUICK_RIGHT: Record = (524_286, 100, -1024, 0, 0, 0);
+
+const SMALL_PAIRS: &[SmallRow] = &[
+    // from corner to corner: at (-4, -3) they are apart, and one tick later, at (-2, -1), they overlap
+    (
+        SLOW_AND_WIDE,
+        (2, 2, 1, 1, 0, 0),
+        (536_870_910, 536_870_909, -1, -1, 0, 0),
+        true,
+        Some((268_435_452, 0)),
+    ),
+    // at (-2044, -2043), and one tick later past each other, at (4, 5)
+    (
+        QUICK,
+        (2, 2, 1024, 1024, 0, 0),
+        (524_286, 524_285, -1024, -1024, 0, 0),
+        true,
+        Some((255, 0)),
+    ),
+    // head on, one unit less than tangent, tangent
+    (QUICK, QUICK_LEFT, QUICK_RIGHT, true, Some((255, 0))),
+    (
+        QUICK,
+        QUICK_LEFT,
+        (524_286, 103, -1024, 0, 0, 0),
+        true,
+        Some((255, 0)),
+    ),
+    (
+        QUICK,
+        QUICK_LEFT,
+        (524_286, 104, -1024, 0, 0, 0),
+        false,
+        None,
+    ),
+    // one of them from tick 100 on, when they are 421,884 units apart
+    (
+        QUICK,
+        QUICK_LEFT,
+        (524_286, 100, -1024, 0, 100, 0),
+        true,
+        Some((305, 0)),
+    ),
+    (
+        QUICK,
+        (2, 100, 1024, 0, 100, 0),
+        QUICK_RIGHT,
+        true,
+        Some((305, 0)),
+    ),
+    // receding, overlapping
+    (QUICK, (2, 100, -1024, 0, 0, 0), QUICK_RIGHT, false, None),
+    (
+        QUICK,
+        (100, 100, 10, 0, 0, 0),
+        (102, 100, -10, 0, 0, 0),
+        true,
+        None,
+    ),
+    // one of them has left the box at the later base tick: by less than a box is long, and by more
+    (
+        QUICK,
+        (500_000, 100, 1000, 0, 0, 0),
+        (524_286, 100, 1024, 0, 100, 0),
+        true,
+        None,
+    ),
+    (
+        QUICK,
+        (500_000, 100, 1000, 0, 0, 0),
+        (524_286, 100, 1024, 0, 600, 0),
+        true,
+        None,
+    ),
+];
+
+#[test]
+fn tells_the_same_where_products_are_small_and_great(rt: HostRuntime) {
+    for (row, &(sizes, first, second, crosses, want)) in SMALL_PAIRS.iter().enumerate() {
+        let a = disk_of(first);
+        let b = disk_of(second);
+        assert_eq!(rt; may_hit_by_small(&a, &b), crosses, "row {row}");
+        assert_eq!(rt;
+            meeting_within(&rules_of(sizes, 0), &a, &b),
+            Ok((true, want)),
+            "row {row}"
+        );
+        assert_eq!(rt;
+            meeting_within(&rules_of(sizes, 1), &a, &b),
+            Ok((false, want)),
+            "row {row}, in a higher box"
+        );
+    }
+}
+
+// The rules of a box that is higher by so much.
+fn rules_of((width, height, speed_limit): Sizes, more: i64) -> Rules {
+    Rules {
+        width,
+        height: height.wrapping_add(more),
+        speed_limit,
+        end: 1_073_741_824,
+        ..RULES
+    }
+}
+
+// Whether products are small, and when the disks hit each other; an error where the rules or the disks are not valid.
+fn meeting_within(rules: &Rules, a: &Disk, b: &Disk) -> Result<(bool, Event), ()> {
+    if rules.check().is_ok() && a.is_valid(rules) && b.is_valid(rules) {
+        let found = event_of(event_between(rules, 1, a, 2, b));
+        Ok((has_small_products(rules), found))
     } else {
         Err(())
     }
