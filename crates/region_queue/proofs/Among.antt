@@ -1,6 +1,6 @@
 -- The pairs of a disk with some disks that were gathered beside its cell.
 use Rattle.std.proofs.Common.{◌≡◌, ◌⊎◌, ◌↔◌, inl, inr, ℕ, ◌≤◌, Bool, List, [], ◌∷◌, ◌++◌, arith, refl, sym, subst, ◌∙◌}
-use Rattle.std.specs.Prelude.{Option, Some, None, IsTrue}
+use Rattle.std.specs.Prelude.{Option, Some, IsTrue}
 use Rattle.std.specs.List.{Contains}
 use Rattle.std.proofs.lemmas.List.Elements.{Contains-push, Contains-push_cases, Contains-append_left}
 use Rattle.event_stamps.specs.declared.Stamp.{Stamp}
@@ -29,10 +29,6 @@ one_more finder view disk other done a b ha hb =
     (λ i h. Contains-push_cases done other i h) ha
     (least_same (IsNativePair finder view disk other) (IsNativeWith finder view disk (λ i. other ≡ i)) b
     (λ s x. (other, refl, x)) (λ s x. subst (λ (i : ℕ). IsNativePair finder view disk i s) (sym x.1) x.2) hb)
-
-pub earlier_none : (a : Option Stamp) → earlier_of a None ≡ a
-earlier_none None = refl
-earlier_none (Some s) = refl
 
 -- ---- where they are
 -- a disk that is listed in a block beside a cell is in a cell adjacent to it, and in a column of the block
@@ -70,16 +66,16 @@ gathered_first ids old With none are i = (
 )
 
 -- the pairs with those that are gathered, all of which are listed in a block
-pub best_gathered : (finder : Finder) (view : ViewData) (disk : ℕ) (block : Block) (With : ℕ → Type 0) (old near ids : List ℕ)
+pub best_gathered : (finder : Finder) (view : ViewData) (disk : ℕ) (block : Block) (With : ℕ → Type 0) (old near : List ℕ)
     (o : Option Stamp) → ((i : ℕ) → With i → IsListedWithin finder.lists block i) → old ≡ [] →
-    ((i : ℕ) → Contains near i ↔ (Contains old i ⊎ With i)) → ids ≡ near →
-    (AreAllWithin finder.lists block ids → IsLeastOf (IsNativeWith finder view disk (λ i. Contains ids i)) o) →
+    ((i : ℕ) → Contains near i ↔ (Contains old i ⊎ With i)) →
+    (AreAllWithin finder.lists block near → IsLeastOf (IsNativeWith finder view disk (λ i. Contains near i)) o) →
     IsLeastOf (IsNativeWith finder view disk With) o
-best_gathered finder view disk block With old near ids o within none gathered same h =
-    with_same finder view disk (λ i. Contains ids i) With o (λ i x. (are i).0 x) (λ i x. (are i).1 x) (h (λ i x. within i ((are i).0 x)))
+best_gathered finder view disk block With old near o within none gathered h =
+    with_same finder view disk (λ i. Contains near i) With o (λ i x. (are i).0 x) (λ i x. (are i).1 x) (h (λ i x. within i ((are i).0 x)))
   where
-    are : (i : ℕ) → Contains ids i ↔ With i
-    are = subst (λ (xs : List ℕ). (i : ℕ) → Contains xs i ↔ With i) (sym same) (gathered_first near old With none gathered)
+    are : (i : ℕ) → Contains near i ↔ With i
+    are = gathered_first near old With none gathered
 
 -- four times
 pub gathered_parts : (lists : ListsData) (parts : Parts) (a b c d e : List ℕ) → AreGathered lists parts.left a b →

@@ -161,6 +161,13 @@ none_without_second finder view s pair none found =
     let near = near_pair finder.rules finder.grid finder.region view s found pair in
     let no : None ≡ Some near.1.2.0 = sym none ∙ near.1.2.1 in cc
 
+-- no pair of a disk with one that isn't there
+pub pair_without : (finder : Finder) (view : ViewData) (disk other : ℕ) → rows_in view other ≡ None → HasNone (IsNativePair finder view disk other)
+pair_without finder view disk other none s (inl low) =
+    none_without_second finder view s low.1.0 (ap (rows_in view) low.1.1.1 ∙ none) low.0
+pair_without finder view disk other none s (inr high) =
+    none_without_first finder view s (ap (rows_in view) high.1.1.0 ∙ none) high.0
+
 pub pair_low : (finder : Finder) (view : ViewData) (i j : ℕ) (o : Option Stamp) → i < j → IsLeastOf (IsNativeOf finder view i j) o →
     IsLeastOf (IsNativePair finder view i j) o
 pair_low finder view i j o lt h = least_same (IsNativeOf finder view i j) (IsNativePair finder view i j) o (λ t x. inl x)

@@ -5,6 +5,7 @@ mod Beside
 mod Candidates
 mod Covered
 mod InRange
+mod Keeping
 mod Moved
 mod Numbered
 mod Outside

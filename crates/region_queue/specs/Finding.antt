@@ -1,13 +1,17 @@
 -- What is found and kept of one disk.
-use Rattle.std.specs.Prelude.{◌≡◌, ◌≢◌, ◌⊎◌, ℕ, ◌<◌, ◌≤◌, Bool, IsTrue, List, Option, Some, option_map}
+use Rattle.std.specs.Prelude.{◌≡◌, ◌≢◌, ◌⊎◌, ℕ, ◌<◌, ◌≤◌, Bool, IsTrue, List, Option, Some, IfSome, option_map}
 use Rattle.std.specs.Ordering.{nat_cmp}
 use Rattle.std.specs.FinMap as map
 use Rattle.std.specs.List.{Contains}
+use Rattle.fixed_motion.specs.declared.rules.Rules.{Rules}
+use Rattle.fixed_motion.specs.declared.disk.Disk.{Disk}
 use Rattle.fixed_motion.specs.Rules.{IsChecked}
 use Rattle.event_stamps.specs.declared.Stamp.{Stamp}
 use Rattle.event_stamps.specs.declared.Kind.TheVariants.{Pair}
 use Rattle.event_stamps.specs.Least.{IsLeastOf, earlier_of}
 use Rattle.event_tree.specs.Keys.{Key, key_at}
+use Rattle.event_rules.specs.Events.{NeverHit}
+use Rattle.event_rules.specs.Small.{IsSmallPair}
 use Rattle.cell_grid.specs.declared.grid.Strip.{Strip}
 use Rattle.cell_grid.specs.Grid.{GridData, IsGridOf, IsRegion, IsCell, IsAdjacent, IsStripOf, Owns}
 use Rattle.cell_lists.specs.declared.near.Block.{Block}
@@ -100,6 +104,23 @@ IsBlockBeside grid cell block = (other : ℕ) → IsCell grid other → IsWithin
 -- each of some disks is listed in the block
 abbrev pub AreAllWithin : ListsData → Block → List ℕ → Type 0
 AreAllWithin lists block disks = (i : ℕ) → Contains disks i → IsListedWithin lists block i
+
+-- two disks never hit each other
+abbrev pub NeverMeet : Rules → Disk → Disk → Type 0
+NeverMeet rules disk other = NeverHit rules disk other × NeverHit rules other disk
+
+-- a disk and what may stand at a number never do
+abbrev pub IsMissed : Rules → Disk → Option Placed → Type 0
+IsMissed rules disk row = IfSome row (λ q. NeverMeet rules disk q.disk)
+
+-- nor by any rules by which both are valid and products are small
+abbrev pub IsMissedBySmall : Disk → Option Placed → Type 0
+IsMissedBySmall disk row = IfSome row (λ q. (rules : Rules) → IsSmallPair rules disk q.disk → NeverMeet rules disk q.disk)
+
+-- of some disks these are left, and of each that was left out this holds
+pub record AreKept (IsOut : ℕ → Type 0) (old new : List ℕ) : Type 0 where
+  pub within : (i : ℕ) → Contains new i → Contains old i
+  pub out : (i : ℕ) → Contains old i → Contains new i ⊎ IsOut i
 
 -- a native event of a disk with one of some others
 abbrev pub IsNativeWith : Finder → ViewData → ℕ → (ℕ → Type 0) → Stamp → Type 0

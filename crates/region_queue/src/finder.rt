@@ -1,6 +1,6 @@
 //! The native candidates of a region that name a disk.
 
-ghost use Rattle.std.specs.Prelude.{◌≡◌, ◌↔◌, ◌⊎◌, ℕ, ◌<◌, ◌≤◌, Some, None, IsTrue, IfSome, MatchOption, false};
+ghost use Rattle.std.specs.Prelude.{◌≡◌, ◌↔◌, ◌⊎◌, ℕ, ◌<◌, ◌≤◌, Some, None, IsTrue, IfSome, MatchOption, slice_index_or, false};
 ghost use Rattle.std.specs.List.{Contains};
 ghost use Rattle.std.specs.FinMap as map;
 ghost use Rattle.fixed_motion.specs.Rules.{IsChecked};
@@ -13,16 +13,16 @@ ghost use Rattle.cell_lists.specs.Listing.{IsListed};
 ghost use Rattle.cell_lists.specs.Nearby.{IsBlock, IsListedWithin, AreGathered, columns_to};
 ghost use Rattle.region_queue.specs.Outside.{IsListedOutside, IsListedInParts};
 ghost use Rattle.region_view.specs.declared.action.Placed.{Placed};
-ghost use Rattle.region_queue.specs.Finding.{IsReady, IsFound, IsAloneAt, IsEventOf, IsNativePair, IsNativeWith, IsBestSingle, IsBestPair, IsBestBeyond, IsBlockBeside, IsNearby, AreAllWithin, IsOfStrip, AreListed};
+ghost use Rattle.region_queue.specs.Finding.{IsReady, IsFound, IsAloneAt, IsEventOf, IsNativePair, IsNativeWith, IsBestSingle, IsBestPair, IsBestBeyond, IsBlockBeside, IsNearby, AreAllWithin, IsMissed, IsMissedBySmall, AreKept, IsOfStrip, AreListed};
 
 use crate::parts::{Parts, parts_outside};
 use cell_grid::{Grid, Strip};
 use cell_lists::{Block, Gathered, Lists, block_around};
-use event_rules::{event_between, is_pair_event, may_hit};
+use event_rules::{event_between, has_small_products, is_pair_event, may_hit, may_hit_by_small};
 use event_stamps::{Kind, Stamp};
 use event_tree::Packed;
-use fixed_motion::Rules;
-use region_view::{Placed, View, first_alone};
+use fixed_motion::{Disk, Rules};
+use region_view::{Compact, Placed, View, first_alone};
 
 // A region, and the disks of its view by cell.
 #[derive(Drop)]
@@ -199,8 +199,8 @@ impl Finder {
             (IsListedWithin self.now.lists block)) result }
     {
         let mut near = Gathered::new();
-        if self.lists.gather(block, &mut near) && have_rows(view, near.as_slice()) {
-            self.best_among(view, disk, placed, own, block, near.as_slice())
+        if self.lists.gather(block, &mut near) && have_rows(view, &near) {
+            self.best_among(view, disk, placed, own, block, &mut near)
         } else {
             self.best_by_rows(view, disk, placed, own, block)
         }
@@ -227,8 +227,8 @@ impl Finder {
     {
         let parts = parts_outside(block, known);
         let mut near = Gathered::new();
-        if self.gather_parts(parts, &mut near) && have_rows(view, near.as_slice()) {
-            self.best_among(view, disk, placed, own, block, near.as_slice())
+        if self.gather_parts(parts, &mut near) && have_rows(view, &near) {
+            self.best_among(view, disk, placed, own, block, &mut near)
         } else {
             self.best_by_rows(view, disk, placed, own, parts.left)
                 .earlier(self.best_by_rows(view, disk, placed, own, parts.right))
@@ -263,7 +263,7 @@ impl Finder {
     }
 
     // The least native event of a disk with one of some others, which are listed in a block of cells beside
-    // its own.
+    // its own. Of the others those are left that it may hit.
     fn best_among(
         &self,
         view: &View,
@@ -271,25 +271,69 @@ impl Finder {
         placed: &Placed,
         own: bool,
         block: Block,
-        others: &[u32],
+        near: &mut Gathered,
     ) -> Packed
         requires ready { IsReady self.now view.now }
         requires placed { map.get view.now disk ≡ Some placed.now }
         requires own { IsTrue own ↔ Owns self.now.grid self.now.region placed.now.cell }
         requires beside { IsBlockBeside self.now.grid placed.now.cell block }
-        ensures { AreListed view.now self.now.lists.cells → AreAllWithin self.now.lists block others.now →
-            IsLeastOf (IsNativeWith self.now view.now disk (λ i. Contains others.now i)) result }
+        ensures { AreListed view.now self.now.lists.cells → AreAllWithin self.now.lists block near.old →
+            IsLeastOf (IsNativeWith self.now view.now disk (λ i. Contains near.old i)) result }
     {
         let whole = self.owns_columns(block.left, block.right);
-        // A copy, whose numbers are known to stay the same from one pair to the next.
-        let row = *placed;
+        self.keep_candidates(view, disk, placed, near);
+        let others = near.as_slice();
         let mut best = Packed::new(None);
         for other in others {
-            if self.may_pair(view, disk, &row, *other) {
-                best = best.earlier(self.key_beside(view, disk, placed, own, *other, whole));
-            }
+            best = best.earlier(self.key_beside(view, disk, placed, own, *other, whole));
         }
         best
+    }
+
+    // Leaves those of some disks with which a disk may have a native event, by their courses alone. Nearly all pairs
+    // that are looked at are told by this. Which of them may hit can't be foretold, so all are asked first, with no
+    // branch on the answers.
+    #[inline(always)]
+    fn keep_candidates(&self, view: &View, disk: u32, placed: &Placed, near: &mut Gathered)
+        requires ready { IsReady self.now view.now }
+        requires placed { map.get view.now disk ≡ Some placed.now }
+        ensures { AreKept (λ i. HasNone (IsNativePair self.now view.now disk i)) near.old near.new }
+    {
+        let _disk = disk;
+        match view.compact() {
+            Some(rows) if has_small_products(&self.rules) => keep_met(rows, &placed.disk, near),
+            _ => self.keep_met_in(view, &placed.disk, near),
+        }
+    }
+
+    // Leaves those of some disks that a disk may hit. Seldom asked, since rows mostly are compact and products small.
+    #[inline(never)]
+    fn keep_met_in(&self, view: &View, disk: &Disk, near: &mut Gathered)
+        requires ready { IsReady self.now view.now }
+        requires valid { IsValidDisk self.now.rules disk.now }
+        ensures { AreKept (λ i. IsMissed self.now.rules disk.now (map.get view.now i)) near.old near.new }
+    {
+        let mut kept = 0;
+        for place in 0..near.len() {
+            let other = near.at(place);
+            let may = self.may_meet(view, disk, other);
+            near.put(kept, other);
+            kept += may as usize;
+        }
+        near.cut(kept);
+    }
+
+    // Whether a disk may hit another one, if that has a row.
+    #[inline(always)]
+    fn may_meet(&self, view: &View, disk: &Disk, other: u32) -> bool
+        requires ready { IsReady self.now view.now }
+        requires valid { IsValidDisk self.now.rules disk.now }
+        ensures { result ≡ false → IsMissed self.now.rules disk.now (map.get view.now other) }
+    {
+        match view.get(other) {
+            Some(row) => may_hit(&self.rules, disk, &row.disk),
+            None => false,
+        }
     }
 
     // The same as `best_within`, cell by cell. It is for crowded cells, and for great grids whose cells share
@@ -365,21 +409,6 @@ impl Finder {
         best
     }
 
-    // Whether a disk may have a native event with another one, by their courses alone. Nearly all pairs that are
-    // looked at are told by this.
-    #[inline(always)]
-    fn may_pair(&self, view: &View, disk: u32, placed: &Placed, other: u32) -> bool
-        requires ready { IsReady self.now view.now }
-        requires placed { map.get view.now disk ≡ Some placed.now }
-        ensures { result ≡ false → HasNone (IsNativePair self.now view.now disk other) }
-    {
-        let _disk = disk;
-        match view.get(other) {
-            Some(near) => may_hit(&self.rules, &placed.disk, &near.disk),
-            None => false,
-        }
-    }
-
     // The native event of a disk with another in a cell adjacent to its own. Where `whole`, the region owns the
     // column of this cell. Kept apart, and told of the other disk by its number alone, so that the loop over the
     // disks beside one, few of which come here, keeps its numbers in registers.
@@ -429,15 +458,47 @@ impl Finder {
     }
 }
 
-// Whether each of some disks has a row. All rows are asked for without a branch on any of the answers, so that
-// they come side by side from memory before the first is looked at. That is its only purpose: nothing need be
-// known of the answer, and no clause speaks of it.
-fn have_rows(view: &View, disks: &[u32]) -> bool {
-    let mut all = true;
-    for disk in disks {
-        all &= view.has(*disk);
+// Leaves those of some disks that a disk may hit, by rows of which products are small. Kept apart, so that the loop
+// has all registers.
+#[inline(never)]
+fn keep_met(rows: &[Compact], disk: &Disk, near: &mut Gathered)
+    ensures { AreKept (λ i. IsMissedBySmall disk.now (slice_index_or rows.now i None)) near.old near.new }
+{
+    let mut kept = 0;
+    for place in 0..near.len() {
+        let other = near.at(place);
+        let may = may_meet_row(rows, disk, other);
+        near.put(kept, other);
+        kept += may as usize;
     }
-    all
+    near.cut(kept);
+}
+
+// Whether a disk may hit another one, if that has a row, and products are small.
+#[inline(always)]
+fn may_meet_row(rows: &[Compact], disk: &Disk, other: u32) -> bool
+    ensures { result ≡ false → IsMissedBySmall disk.now (slice_index_or rows.now other None) }
+{
+    match rows.get(other as usize) {
+        Some(row) => may_hit_by_small(disk, &row.disk()),
+        None => false,
+    }
+}
+
+// Whether any number of some rows isn't 0, or there are none to look at. All rows are asked for without a branch on any
+// of the answers, so that they come side by side from memory before the first is looked at. That is its only
+// purpose: nothing need be known of the answer, and no clause speaks of it.
+fn have_rows(view: &View, near: &Gathered) -> bool {
+    let Some(rows) = view.compact() else {
+        return true;
+    };
+    let mut ends = (near.len() == 0) as u64;
+    for disk in near.as_slice() {
+        if let Some(row) = rows.get(*disk as usize) {
+            ends |= row.ends();
+        }
+    }
+    ends != 0
 }
 
 // Whether the cell of the lower of two different disks is owned, by whether each one's is.

@@ -20,9 +20,9 @@ returns-then-have_rows c = λ listed.
     with_same finder c.args.view.now c.args.disk (IsListedInParts finder.lists parts) (IsListedOutside finder.lists block known)
     c.best_among.result (λ i x. parts_outside finder.lists block known parts i are x) (λ i x. whole finder.lists block known parts i are x)
     (best_gathered finder c.args.view.now c.args.disk block (IsListedInParts finder.lists parts) c.new-near.result
-    c.gather_parts.new.near c.as_slice-then-have_rows.result.now c.best_among.result
+    c.gather_parts.new.near c.best_among.result
     (λ i x. let y = parts_outside finder.lists block known parts i are x in (y.0, y.1, y.2)) c.new-near.ensures
-    (c.gather_parts.ensures c.if-gather_parts.true) c.as_slice-then-have_rows.ensures (c.best_among.ensures listed))
+    (c.gather_parts.ensures c.if-gather_parts.true) (c.best_among.ensures listed))
 
 pub returns-else-gather_parts : goal.returns-else-gather_parts
 returns-else-gather_parts c = λ listed.

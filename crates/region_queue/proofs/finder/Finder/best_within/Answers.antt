@@ -12,5 +12,5 @@ pub returns-then-have_rows : goal.returns-then-have_rows
 returns-then-have_rows c = λ listed.
     let finder = c.args.self.now in
     best_gathered finder c.args.view.now c.args.disk c.args.block (IsListedWithin finder.lists c.args.block) c.new-near.result
-    c.gather.new.gathered c.as_slice-then-have_rows.result.now c.best_among.result (λ i x. x) c.new-near.ensures
-    (c.gather.ensures c.if-gather.true) c.as_slice-then-have_rows.ensures (c.best_among.ensures listed)
+    c.gather.new.gathered c.best_among.result (λ i x. x) c.new-near.ensures (c.gather.ensures c.if-gather.true)
+    (c.best_among.ensures listed)
