@@ -51,7 +51,7 @@ home_sees grid k at view (r ∷ rows) is h =
     (set_seen grid k at view r.0 r.1 r.1 is (reached grid k r.1 h.0)) h.1
 
 -- ---- rows that are told
-reaches_is : (grid : GridData) (q cell : ℕ) → reaches grid q cell ≡ true → Reaches grid q cell
+pub reaches_is : (grid : GridData) (q cell : ℕ) → reaches grid q cell ≡ true → Reaches grid q cell
 reaches_is grid q cell e =
     by_tests (strip_start grid q) (column_of grid cell) (strip_start grid (q + 1)) e
   where

@@ -1,11 +1,13 @@
 //! The events of disks with recorded cells: when they come, and what they do.
 
-ghost use Rattle.std.specs.Prelude.{◌≡◌, ◌<◌, ◌≤◌, ◌^◌, option_copied, MatchOption};
+ghost use Rattle.std.specs.Prelude.{◌≡◌, ◌<◌, ◌≤◌, ◌^◌, option_copied, MatchOption, IfSome};
 ghost use Rattle.std.specs.Option.{ForSome};
 ghost use Rattle.fixed_motion.specs.Rules.{IsChecked};
 ghost use Rattle.fixed_motion.specs.Motion.{IsValidDisk, IsInside, place_of};
 ghost use Rattle.event_stamps.specs.Least.{HasNone, IsOnly, IsLeastOf};
 ghost use Rattle.cell_grid.specs.Grid.{IsGridOf, IsCell};
+ghost use Rattle.event_rules.specs.declared.change.Limit.TheVariants.{Rounds};
+ghost use Rattle.region_view.specs.declared.action.Action.TheVariants.{Cross};
 ghost use Rattle.region_view.specs.Events.{IsAlone, IsNear, IsEventBy};
 ghost use Rattle.region_view.specs.Acting.{action_of, crossed};
 
@@ -85,7 +87,6 @@ pub fn act(
     }
 }
 
-// The disk is inside the box at the tick of the stamp, which isn't before its base tick.
 #[inline(always)]
 fn cross(rules: &Rules, grid: &Grid, stamp: &Stamp, a: &Disk) -> Result<Action, Limit>
     requires checked { IsChecked rules.now }
@@ -95,12 +96,33 @@ fn cross(rules: &Rules, grid: &Grid, stamp: &Stamp, a: &Disk) -> Result<Action, 
     requires inside { IsInside rules.now a.now (place_of a.now stamp.now.tick) }
     ensures { result ≡ crossed rules.now grid.now stamp.now a.now }
 {
+    match crossed_cell(rules, grid, stamp, a) {
+        Some(cell) => Ok(Action::Cross {
+            stamp: *stamp,
+            cell,
+        }),
+        None => Err(Limit::Rounds(*stamp)),
+    }
+}
+
+/// The cell to which a disk comes by the crossing of this stamp. None exactly where the round of the stamp is the
+/// round limit, at which the crossing fails.
+///
+/// The disk is inside the box at the tick of the stamp, which isn't before its base tick.
+#[inline(always)]
+pub fn crossed_cell(rules: &Rules, grid: &Grid, stamp: &Stamp, a: &Disk) -> Option<u32>
+    requires checked { IsChecked rules.now }
+    requires valid { IsValidDisk rules.now a.now }
+    requires base { a.now.base ≤ stamp.now.tick }
+    requires tick { stamp.now.tick ≤ 2 ^ 40 }
+    requires inside { IsInside rules.now a.now (place_of a.now stamp.now.tick) }
+    ensures crossed { MatchOption result (crossed rules.now grid.now stamp.now a.now ≡ Err (Rounds stamp.now))
+        (λ cell. crossed rules.now grid.now stamp.now a.now ≡ Ok (Cross stamp.now cell)) }
+    ensures cell { IfSome result (IsCell grid.now) }
+{
     if stamp.round == rules.round_limit {
-        return Err(Limit::Rounds(*stamp));
+        return None;
     }
     let place = a.centre_at(rules, stamp.tick);
-    Ok(Action::Cross {
-        stamp: *stamp,
-        cell: grid.cell_of(place.x, place.y),
-    })
+    Some(grid.cell_of(place.x, place.y))
 }

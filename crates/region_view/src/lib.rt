@@ -15,7 +15,7 @@ mod view;
 
 pub use action::{Action, Placed};
 pub use compact::{Compact, is_small};
-pub use events::{act, first_alone, near_event};
+pub use events::{act, crossed_cell, first_alone, near_event};
 pub use laws::{
     actions_are_valid, actions_have_rows, each_event_has_one_home, home_sees,
     messages_are_faithful, natives_act_alike, natives_are_home, natives_stay,

@@ -1,7 +1,7 @@
 use Rattle.std.proofs.Common.{sym, subst}
 use Rattle.fixed_motion.specs.Motion.{IsInBox, place_of}
 use Rattle.fixed_motion.proofs.Sizes.{inside_in_box, in_box_sent}
-use Rattle.region_view.proofs.events.cross.Goals as goal
+use Rattle.region_view.proofs.events.crossed_cell.Goals as goal
 
 pub cell_of-requires : goal.cell_of-requires
 cell_of-requires c =
