@@ -10,11 +10,11 @@ use Rattle.event_log.specs.Undoing.{view_with, view_after, undone}
 use Rattle.event_log.specs.AtFloor.{BaseViewsAreFound}
 use Rattle.event_log.proofs.Undone.{base_is_undone, firsts_are_found}
 
-view_of_entry : (a : At) (l : Logged) (e : Entry) → l.0 ≡ e → (after_entry a e).view ≡ view_with a.view l
+pub view_of_entry : (a : At) (l : Logged) (e : Entry) → l.0 ≡ e → (after_entry a e).view ≡ view_with a.view l
 view_of_entry a l (Native action) is = rw is refl
 view_of_entry a l (Heard q m) is = rw is refl
 
-view_of_log : (a : At) (log : List Logged) → (after_log a (entries_in log)).view ≡ view_after a.view log
+pub view_of_log : (a : At) (log : List Logged) → (after_log a (entries_in log)).view ≡ view_after a.view log
 view_of_log a [] = refl
 view_of_log a (l ∷ log) =
     view_of_log (after_entry a l.0) log

@@ -8,3 +8,4 @@ pub mod Counted
 pub mod Undone
 pub mod Woven
 pub mod AtFloor
+pub mod Traced

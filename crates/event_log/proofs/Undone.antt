@@ -107,6 +107,13 @@ none_found newest disk i log le none = none_of log (λ k lt. none k (omega arith
         (same_Some (sets disk l.1) false (h 0 (omega arith)))
         ∙ none_of rest (λ k lt. h (suc k) (omega arith))
 
+-- whether it sets the disk is whether its rows do
+pub sets_at : (disk i : ℕ) (log : List Logged) (back : RowList) → slice_get (backs_in log) i ≡ Some back →
+    slice_get (setters_in disk log) i ≡ Some (sets disk back)
+sets_at disk i [] back is = absurd (none-some back is)
+sets_at disk zero (l ∷ log) back is = ap (λ (b : RowList). Some (sets disk b)) (same_Some l.1 back is)
+sets_at disk (suc i) (l ∷ log) back is = sets_at disk i log back is
+
 -- its rows set the disk
 pub back_sets : (disk i : ℕ) (log : List Logged) (back : RowList) →
     slice_get (setters_in disk log) i ≡ Some true → slice_get (backs_in log) i ≡ Some back →

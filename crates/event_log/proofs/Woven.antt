@@ -190,7 +190,7 @@ still_after rows view (l ∷ log) aside =
     ∙ still_after rows (view_with view l) log aside.1
 
 -- ---- after the first entries
-after_join : (view : ViewData) (xs ys : List Logged) →
+pub after_join : (view : ViewData) (xs ys : List Logged) →
     view_after view (xs ++ ys) ≡ view_after (view_after view xs) ys
 after_join view [] ys = refl
 after_join view (x ∷ xs) ys = after_join (view_with view x) xs ys

@@ -4,3 +4,4 @@ pub mod Narrow
 pub mod Undoing
 pub mod Running
 pub mod AtFloor
+pub mod Traced

@@ -1,6 +1,6 @@
 //! A log beside the view after it.
 
-ghost use Rattle.std.specs.Prelude.{◌≡◌, ◌-◌, ◌<◌, [], ◌∷◌, ◌++◌, length, take, slice_get, None, IsTrue, IfOk, OnOk, OnErr};
+ghost use Rattle.std.specs.Prelude.{◌≡◌, ℕ, ◌-◌, ◌<◌, ◌≤◌, [], ◌∷◌, ◌++◌, length, take, slice_get, None, IsTrue, false, IfOk, OnOk, OnErr};
 ghost use Rattle.std.specs.FinMap as map;
 ghost use Rattle.region_view.specs.Views.{rows_in};
 ghost use Rattle.region_view.specs.Setting.{set_rows, rows_at, get_over};
@@ -73,6 +73,18 @@ impl EventLog {
         }
         newest.get(disk)
     }
+
+    /// For how many numbers, from 0 on, the view before the log may have rows, from the view after it: no disk from
+    /// this number on has one there.
+    pub fn first_room(&self, newest: &View) -> usize
+        ensures { (disk : ℕ) → result ≤ disk → map.get (undone newest.now (backs_in self.now)) disk ≡ None }
+    {
+        let mut room = newest.room();
+        for i in 0..self.len() {
+            room = room.max(room_set(&self.back(i)));
+        }
+        room
+    }
 }
 
 // What stands at the numbers of some rows.
@@ -86,6 +98,17 @@ fn rows_before(view: &View, rows: &Rows) -> Rows
         [first, second, ..] => {
             Rows::two((first.0, view.get(first.0)), (second.0, view.get(second.0)))
         }
+    }
+}
+
+// The least number from which on rows set nothing.
+fn room_set(rows: &Rows) -> usize
+    ensures { (disk : ℕ) → result ≤ disk → sets disk rows.now ≡ false }
+{
+    match rows.as_slice() {
+        [] => 0,
+        [row] => row.0 as usize + 1,
+        [first, second, ..] => (first.0 as usize).max(second.0 as usize) + 1,
     }
 }
 
