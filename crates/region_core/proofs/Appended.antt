@@ -8,12 +8,11 @@ use Rattle.cell_grid.specs.Grid.{IsRegion}
 use Rattle.region_view.specs.declared.action.Action.{Action}
 use Rattle.region_view.specs.declared.rows.Message.{Message}
 use Rattle.region_view.specs.Views.{ViewData, rows_in}
-use Rattle.region_view.specs.Setting.{set_rows, rows_set, after_action}
+use Rattle.region_view.specs.Setting.{set_rows, rows_at, rows_set, after_action}
 use Rattle.region_view.specs.Messages.{message_of}
 use Rattle.region_messages.specs.Trails.{IsAmong, IsAfterAll}
 use Rattle.region_view.specs.Acting.{stamp_of}
 use Rattle.region_view.specs.Laws.{IsValidAction}
-use Rattle.saved_states.specs.Positions.{SavedData, EndsWith}
 use Rattle.region_queue.specs.Queue.{IsOf, StandsFor}
 use Rattle.local_run.specs.declared.home.Home.{Home}
 use Rattle.local_run.specs.declared.entry.Entry.{Entry}
@@ -22,70 +21,80 @@ use Rattle.local_run.specs.declared.entry.TheConstants.{MAX_ENTRIES}
 use Rattle.region_core.specs.declared.live.Live.{Live}
 use Rattle.local_run.specs.declared.moves.Move.TheVariants.{Run, TakeIn}
 use Rattle.local_run.specs.Entries.{entry_stamp}
-use Rattle.local_run.specs.LocalRun.{At, Local, Trails, trail_of, told, start_of, now_of, after_entry, IsInPlace, IsRight, IsMove}
+use Rattle.local_run.specs.LocalRun.{Local, Trails, trail_of, told, IsInPlace, IsRight, IsMove}
 use Rattle.local_run.specs.Answers.{with_entry, IsInTurn}
 use Rattle.region_core.specs.Inbox.{InboxData, next_from, taken_from, with_taken}
 use Rattle.local_run.specs.Taken.{is_of, taken_of}
-use Rattle.region_core.specs.Live.{base_in, run_in, start_in, now_in, saved_along, AreSavedAlong, IsInbox, IsOutbox, IsLive}
+use Rattle.region_core.specs.Live.{base_in, run_in, start_in, now_in, HasTrace, IsInbox, IsOutbox, IsLive}
+use Rattle.event_log.specs.Logged.{Logged, entries_in}
+use Rattle.event_log.specs.Undoing.{rows_by}
+use Rattle.event_log.specs.Traced.{IsTraced}
+use Rattle.event_log.proofs.Traced.{traced_pushed}
 use Rattle.local_run.specs.Keeping.{SendsTo}
 use Rattle.local_run.specs.Moves.{Fits}
 use Rattle.local_run.proofs.Among.{same_or_other}
-use Rattle.local_run.proofs.Logs.{now_appended}
 use Rattle.local_run.proofs.Taken.{taken_native, taken_heard, taken_from_other}
 use Rattle.local_run.proofs.Sent.{sent_native, sent_heard, sent_before_turn}
 use Rattle.local_run.proofs.Right.{right_appended, waiting_was_heard}
-use Rattle.region_core.proofs.Along.{along_appended, along_ends}
+use Rattle.region_core.proofs.Traced.{now_is, base_is, has_trace, entries_joined}
 use Rattle.local_run.proofs.Valid.{valid_now, valid_action}
 use Rattle.region_core.proofs.NextMove.{next_of_waits}
 use Rattle.region_view.proofs.ValidRows.{setting_keeps_valid}
 use Rattle.region_view.specs.Placing.{IsValidPlacing}
 
+-- an entry in the newest view of a body, with what leads back over it
+abbrev pub logged_in : Live → Entry → Logged
+logged_in live e = (e, rows_at (rows_in live.view) (rows_by live.view e))
+
 -- the parts of a body that is one entry further
 pub record IsFurther (home : Home) (live new : Live) (e : Entry) : Type 0 where
-  pub base : base_in new ≡ base_in live
   pub heard : new.inbox.heard ≡ live.inbox.heard
-  pub log : new.log.items ≡ live.log.items ++ e ∷ []
-  pub saved : new.saved ≡ live.saved
-      ++ (length live.log.items + 1, (after_entry (now_in live) e).view) ∷ []
+  pub log : new.log ≡ live.log ++ logged_in live e ∷ []
+  pub view : new.view ≡ set_rows live.view (rows_by live.view e)
   pub queue : IsOf new.queue home.rules home.grid home.number
-  pub stands : StandsFor new.queue (after_entry (now_in live) e).view
-  pub inbox : IsInbox home (live.log.items ++ e ∷ []) new.inbox
-  pub sent : IsOutbox home (base_in live) (live.log.items ++ e ∷ []) new.sent.items
+  pub stands : StandsFor new.queue new.view
+  pub inbox : IsInbox home (entries_in live.log ++ e ∷ []) new.inbox
+  pub sent : IsOutbox home (base_in live) (entries_in live.log ++ e ∷ []) new.sent.items
 
-pub further_run : (home : Home) (floor : Stamp) (live new : Live) (e : Entry) →
-    IsFurther home live new e → run_in floor new ≡ with_entry (run_in floor live) e
-further_run home floor live new e is = λ i. record {
-  floor = floor;
-  base = is.base i;
-  heard = is.heard i;
-  log = is.log i;
-}
+appended_traced : (live : Live) (view : ViewData) (log : List Logged) (e : Entry) → HasTrace live →
+    log ≡ live.log ++ logged_in live e ∷ [] → view ≡ set_rows live.view (rows_by live.view e) →
+    IsTraced (base_in live) view log
+appended_traced live view log e traced more set =
+    subst (λ (v : ViewData). IsTraced (base_in live) v log) (sym set)
+    (subst (IsTraced (base_in live) (set_rows live.view (rows_by live.view e))) (sym more)
+    (traced_pushed (base_in live) live.view live.log e traced))
+
+pub further_run : (floor : Stamp) (live new : Live) (e : Entry) → HasTrace live →
+    new.inbox.heard ≡ live.inbox.heard → new.log ≡ live.log ++ logged_in live e ∷ [] →
+    new.view ≡ set_rows live.view (rows_by live.view e) → run_in floor new ≡ with_entry (run_in floor live) e
+further_run floor live new e traced heard more set =
+    let base = base_is (base_in live) new (appended_traced live new.view new.log e traced more set) in
+    let log = ap entries_in more ∙ entries_joined live.log (logged_in live e ∷ []) in
+    λ i. record {
+      floor = floor;
+      base = base i;
+      heard = heard i;
+      log = log i;
+    }
 
 -- it keeps all again
 pub further_is : (home : Home) (floor : Stamp) (live new : Live) (e : Entry) → IsLive home floor live →
-    length live.log.items < MAX_ENTRIES → IsInTurn (run_in floor live) (entry_stamp e) →
+    length (entries_in live.log) < MAX_ENTRIES → IsInTurn (run_in floor live) (entry_stamp e) →
     IsMove home (now_in live) e → IsFurther home live new e → IsLive home floor new
 further_is home floor live new e kept room turn move is = record {
   right = subst (IsRight home) run (right_appended home (run_in floor live) e kept.right room turn move);
   inbox = subst (λ (r : Local). IsInbox home r.log new.inbox) run is.inbox;
   sent = subst (λ (r : Local). IsOutbox home r.base r.log new.sent.items) run is.sent;
-  saved = subst (λ (r : Local). new.saved ≡ saved_along 0 (start_of r) r.log) run saved;
+  traced = traced;
   queue = is.queue;
-  stands = subst (λ (r : Local). StandsFor new.queue (now_of r).view) run
-      (subst (λ (a : At). StandsFor new.queue a.view) (sym (now_appended (run_in floor live) e)) is.stands);
+  stands = subst (StandsFor new.queue) (sym (now_is new traced)) is.stands;
 }
   where
     run : with_entry (run_in floor live) e ≡ run_in floor new
-    run = sym (further_run home floor live new e is)
+    run = sym (further_run floor live new e kept.traced is.heard is.log is.view)
 
-    first : 0 + length live.log.items + 1 ≡ length live.log.items + 1
-    first = omega arith
-
-    saved : new.saved ≡ saved_along 0 (start_in live) (live.log.items ++ e ∷ [])
-    saved = is.saved
-        ∙ ap (λ (n : ℕ). live.saved ++ (n, (after_entry (now_in live) e).view) ∷ []) (sym first)
-        ∙ ap (λ s. s ++ (0 + length live.log.items + 1, (after_entry (now_in live) e).view) ∷ []) kept.saved
-        ∙ sym (along_appended 0 (start_in live) live.log.items e)
+    traced : HasTrace new
+    traced = has_trace (base_in live) new (appended_traced live new.view new.log e kept.traced is.log is.view)
 
 pub few_of : (q : ℕ) (log : List Entry) → taken_of q log ≤ length log
 few_of q log = count_by-le-length (is_of q) log
@@ -122,18 +131,18 @@ inbox_heard home log inbox q m region is = record {
 
 -- ---- the outbox
 pub outbox_heard : (home : Home) (floor : Stamp) (live : Live) (q : ℕ) (m : Message) →
-    IsOutbox home (base_in live) live.log.items live.sent.items →
-    IsOutbox home (base_in live) (live.log.items ++ Heard q m ∷ []) live.sent.items
+    IsOutbox home (base_in live) (entries_in live.log) live.sent.items →
+    IsOutbox home (base_in live) ((entries_in live.log) ++ Heard q m ∷ []) live.sent.items
 outbox_heard home floor live q m is = record {
   regions = is.regions;
   each = λ to lt linked. is.each to lt linked ∙ sym (sent_heard home.grid to (run_in floor live) q m);
 }
 
 pub outbox_native : (home : Home) (floor : Stamp) (live : Live) (x : Action) (sent : Trails) →
-    IsOutbox home (base_in live) live.log.items live.sent.items → length sent ≡ length live.sent.items →
+    IsOutbox home (base_in live) (entries_in live.log) live.sent.items → length sent ≡ length live.sent.items →
     ((to : ℕ) → SendsTo home to → trail_of sent to ≡ trail_of live.sent.items to
     ++ told (message_of home.grid to (rows_in (now_in live).view) x) []) →
-    IsOutbox home (base_in live) (live.log.items ++ Native x ∷ []) sent
+    IsOutbox home (base_in live) ((entries_in live.log) ++ Native x ∷ []) sent
 outbox_native home floor live x sent is size each = record {
   regions = size ∙ is.regions;
   each = λ to lt linked. each to (lt, linked)
@@ -147,7 +156,7 @@ pub sender_is_region : (home : Home) (floor : Stamp) (live : Live) (q : ℕ) (m 
     IsLive home floor live → Fits home (run_in floor live) (TakeIn q m) → IsRegion home.grid q
 sender_is_region home floor live q m is fits =
     let first = fits.2.first in
-    let among = waiting_was_heard (start_in live) live.log.items q m
+    let among = waiting_was_heard (start_in live) (entries_in live.log) q m
     (subst (IsAmong m) (sym first.1) (inl refl)) in
     ((is.right.heard q).linked m among).0
 
@@ -155,22 +164,24 @@ sender_is_region home floor live q m is fits =
 heard_among : (home : Home) (floor : Stamp) (live : Live) (q : ℕ) (m : Message) →
     Fits home (run_in floor live) (TakeIn q m) → IsAmong m (trail_of live.inbox.heard q)
 heard_among home floor live q m fits =
-    waiting_was_heard (start_in live) live.log.items q m
+    waiting_was_heard (start_in live) (entries_in live.log) q m
     (subst (IsAmong m) (sym fits.2.first.1) (inl refl))
 
 pub heard_valid : (home : Home) (floor : Stamp) (live : Live) (q : ℕ) (m : Message) → IsInPlace home →
     IsLive home floor live → Fits home (run_in floor live) (TakeIn q m) →
-    IsValidPlacing live.queue.rules live.queue.grid (rows_in (set_rows (now_in live).view m.rows))
+    IsValidPlacing live.queue.rules live.queue.grid (rows_in (set_rows live.view m.rows))
 heard_valid home floor live q m place is fits =
     let rows = ((is.right.heard q).rows m (heard_among home floor live q m fits)).1 in
     let valid = setting_keeps_valid home.rules home.grid (now_in live).view m.rows
     (valid_now home (run_in floor live) place is.right) rows in
-    subst (λ (h : Home). IsValidPlacing h.rules h.grid (rows_in (set_rows (now_in live).view m.rows)))
+    subst (λ (v : ViewData). IsValidPlacing live.queue.rules live.queue.grid (rows_in (set_rows v m.rows)))
+    (now_is live is.traced)
+    (subst (λ (h : Home). IsValidPlacing h.rules h.grid (rows_in (set_rows (now_in live).view m.rows)))
     (λ i. record {
       number = home.number;
       rules = sym is.queue.rules i;
       grid = sym is.queue.grid i;
-    }) valid
+    }) valid)
 
 pub waits_in : (home : Home) (floor : Stamp) (live : Live) (q : ℕ) (m : Message) →
     IsLive home floor live → Fits home (run_in floor live) (TakeIn q m) →
@@ -185,16 +196,10 @@ pub few_taken : (home : Home) (floor : Stamp) (live : Live) (q : ℕ) (m : Messa
 few_taken home floor live q m is fits =
     let same = is.inbox.taken q (sender_is_region home floor live q m is fits) in
     let room = fits.0.0 in
-    let few = few_of q live.log.items in
+    let few = few_of q (entries_in live.log) in
     omega arith
 
 -- ---- what may be run
-pub newest_is : (live : Live) (n : ℕ) (view : ViewData) → AreSavedAlong live →
-    EndsWith live.saved (n, view) → view ≡ (now_in live).view
-newest_is live n view saved ends = ap (λ (pair : ℕ × ViewData). pair.1)
-    (along_ends 0 (start_in live) live.log.items (n, view)
-    (subst (λ (s : SavedData). EndsWith s (n, view)) saved ends))
-
 pub native_action : (home : Home) (floor : Stamp) (live : Live) (x : Action) → IsInPlace home →
     IsLive home floor live → Fits home (run_in floor live) (Run x) →
     IsValidAction home.rules home.grid (rows_in (now_in live).view) (stamp_of x) x
@@ -203,22 +208,24 @@ native_action home floor live x place is fits = valid_action home (now_in live) 
 
 pub native_valid : (home : Home) (floor : Stamp) (live : Live) (x : Action) → IsInPlace home →
     IsLive home floor live → Fits home (run_in floor live) (Run x) →
-    IsValidPlacing live.queue.rules live.queue.grid (rows_in (after_action (now_in live).view x))
+    IsValidPlacing live.queue.rules live.queue.grid (rows_in (after_action live.view x))
 native_valid home floor live x place is fits =
     let rows = (native_action home floor live x place is fits).rows in
     let valid = setting_keeps_valid home.rules home.grid (now_in live).view
     (rows_set (rows_in (now_in live).view) x)
     (valid_now home (run_in floor live) place is.right) rows in
-    subst (λ (h : Home). IsValidPlacing h.rules h.grid (rows_in (after_action (now_in live).view x)))
+    subst (λ (v : ViewData). IsValidPlacing live.queue.rules live.queue.grid (rows_in (after_action v x)))
+    (now_is live is.traced)
+    (subst (λ (h : Home). IsValidPlacing h.rules h.grid (rows_in (after_action (now_in live).view x)))
     (λ i. record {
       number = home.number;
       rules = sym is.queue.rules i;
       grid = sym is.queue.grid i;
-    }) valid
+    }) valid)
 
 pub after_what_was_sent : (home : Home) (floor : Stamp) (live : Live) (x : Action) → IsLive home floor live →
     Fits home (run_in floor live) (Run x) → (to : ℕ) → SendsTo home to →
     IsAfterAll (trail_of live.sent.items to) (stamp_of x)
 after_what_was_sent home floor live x is fits to sends m among =
-    sent_before_turn home.grid to (base_in live) floor (stamp_of x) live.log.items is.right.rises fits.1.1 m
+    sent_before_turn home.grid to (base_in live) floor (stamp_of x) (entries_in live.log) is.right.rises fits.1.1 m
     (subst (IsAmong m) (is.sent.each to sends.0 sends.1) among)

@@ -1,5 +1,5 @@
 -- A body that hears another trail of messages.
-use Rattle.std.proofs.Common.{◌≡◌, ◌≢◌, inl, inr, ℕ, zero, suc, ◌+◌, ◌<◌, Bool, List, [], ◌∷◌, length, get_or, slice_set, Some, None, Result, Ok, Err, IfOk, OnOk, sym, ap, subst, ◌∙◌, arith, refl}
+use Rattle.std.proofs.Common.{◌≡◌, ◌≢◌, inl, inr, ℕ, zero, suc, ◌<◌, Bool, List, [], ◌∷◌, length, get_or, slice_set, Some, None, Result, Ok, Err, IfOk, OnOk, sym, ap, subst, ◌∙◌, arith, refl}
 use Rattle.std.specs.Prelude.{◌↔◌, IsTrue}
 use Rattle.std.proofs.lemmas.List.{length-set, get_or-set_same, get_or-set_other}
 use Rattle.std.proofs.lemmas.Option.{none-some, same_Some}
@@ -11,7 +11,6 @@ use Rattle.region_view.specs.Setting.{set_rows, after_action}
 use Rattle.region_messages.specs.Trails.{IsAmong, AgreeBelow, AgreesUpTo}
 use Rattle.region_messages.proofs.Parts.{agreed_part, rises_below, rises_replaced, among_replaced}
 use Rattle.region_queue.specs.Queue.{QueueData, IsOf, StandsFor}
-use Rattle.saved_states.specs.Positions.{SavedData, first_view}
 use Rattle.local_run.specs.declared.home.Home.{Home}
 use Rattle.local_run.specs.declared.entry.Entry.{Entry}
 use Rattle.local_run.specs.declared.entry.Entry.TheVariants.{Native, Heard}
@@ -19,12 +18,16 @@ use Rattle.local_run.specs.declared.answers.Hearing.{Hearing}
 use Rattle.local_run.specs.declared.answers.Hearing.TheVariants.{Same, Rewound, Later, Apart}
 use Rattle.region_core.specs.declared.live.Live.{Live}
 use Rattle.local_run.specs.Entries.{entry_stamp, RiseFrom, entries_below, clock_of, last_stamp}
-use Rattle.local_run.specs.LocalRun.{Local, Trails, trail_of, start_of, now_of, after_log, without_first, IsHearable, IsRight}
+use Rattle.local_run.specs.LocalRun.{Local, Trails, trail_of, now_of, after_log, without_first, IsHearable, IsRight}
 use Rattle.local_run.specs.Answers.{HasHeard, HearsFrom}
-use Rattle.region_core.specs.Live.{base_in, run_in, saved_along, IsInbox, IsOutbox, IsLive}
+use Rattle.event_log.specs.Logged.{Logged, entries_in, backs_in}
+use Rattle.event_log.specs.Undoing.{undone}
+use Rattle.event_log.specs.Traced.{IsTraced}
+use Rattle.region_core.specs.Live.{base_in, run_in, IsInbox, IsOutbox, IsLive}
 use Rattle.region_core.specs.Replaced.{mixed, HearsOn, IsReplaced}
 use Rattle.local_run.proofs.Logs.{below_kept, kept_below, all_below, below_whole}
 use Rattle.local_run.proofs.Hears.{hearing, right_heard}
+use Rattle.region_core.proofs.Traced.{has_trace}
 
 -- ---- the last entry
 pub none_there : (at : Stamp) (log : List Entry) → None ≡ last_stamp log → entries_below at log ≡ log
@@ -50,15 +53,6 @@ nothing_more at log left is =
     ap (entries_below at) is ∙ below_whole at (entries_below at log) (all_below at log) ∙ sym is
 
 -- ---- views don't depend on what waits
-pub saved_by_view : (p : ℕ) (view : ViewData) (w v : Trails) (log : List Entry) →
-    saved_along p (record { view = view; waiting = w }) log
-    ≡ saved_along p (record { view = view; waiting = v }) log
-saved_by_view p view w v [] = refl
-saved_by_view p view w v (Native x ∷ es) =
-    ap (λ (s : SavedData). (p, view) ∷ s) (saved_by_view (p + 1) (after_action view x) w v es)
-saved_by_view p view w v (Heard q m ∷ es) = ap (λ (s : SavedData). (p, view) ∷ s)
-    (saved_by_view (p + 1) (set_rows view m.rows) (without_first w q) (without_first v q) es)
-
 pub view_by_view : (view : ViewData) (w v : Trails) (log : List Entry) →
     (after_log (record { view = view; waiting = w }) log).view
     ≡ (after_log (record { view = view; waiting = v }) log).view
@@ -76,48 +70,50 @@ pub heard_elsewhere : (ts : Trails) (k q : ℕ) (sent : List Message) → q ≢ 
     trail_of (slice_set ts k sent) q ≡ trail_of ts q
 heard_elsewhere ts k q sent other = get_or-set_other ts k q sent [] other
 
+pub same_base : (mid new : Live) → new.view ≡ mid.view → new.log ≡ mid.log → base_in new ≡ base_in mid
+same_base mid new view log = λ i. undone (view i) (backs_in (log i))
+
 pub has_heard : (floor at : Stamp) (k : ℕ) (sent : List Message) (old mid new : Live) →
     base_in mid ≡ base_in old → mid.inbox.heard ≡ old.inbox.heard →
-    mid.log.items ≡ entries_below at old.log.items → k < length mid.inbox.heard →
+    entries_in mid.log ≡ entries_below at (entries_in old.log) → k < length mid.inbox.heard →
     IsReplaced k sent mid new → HasHeard k sent (run_in floor old) at (run_in floor new)
 has_heard floor at k sent old mid new base heard log lt is = record {
-  base = ap first_view is.saved ∙ base;
+  base = same_base mid new is.view is.log ∙ base;
   floor = refl;
-  log = is.log ∙ log;
+  log = ap entries_in is.log ∙ log;
   trail = ap (λ (ts : Trails). trail_of ts k) is.heard ∙ heard_there mid.inbox.heard k sent lt;
   others = λ q other. ap (λ (ts : Trails). trail_of ts q) is.heard
       ∙ heard_elsewhere mid.inbox.heard k q sent other ∙ ap (λ (ts : Trails). trail_of ts q) heard;
 }
 
 pub news_live : (home : Home) (floor at : Stamp) (k : ℕ) (sent : List Message) (mid new : Live) →
-    IsLive home floor mid → entries_below at mid.log.items ≡ mid.log.items →
+    IsLive home floor mid → entries_below at (entries_in mid.log) ≡ entries_in mid.log →
     AgreeBelow at (trail_of mid.inbox.heard k) sent → IsHearable home floor k sent →
     k < length mid.inbox.heard → IsReplaced k sent mid new → IsLive home floor new
 news_live home floor at k sent mid new live all agree hearable lt is = record {
   right = subst (IsRight home) run (right_heard home (run_in floor mid) k sent at heard live.right agree hearable
       (heard_there mid.inbox.heard k sent lt) (λ q other. heard_elsewhere mid.inbox.heard k q sent other));
-  inbox = subst (λ (es : List Entry). IsInbox home es new.inbox) (sym is.log) (record {
+  inbox = subst (λ (log : List Logged). IsInbox home (entries_in log) new.inbox) (sym is.log) (record {
     regions = ap length is.heard ∙ length-set mid.inbox.heard k sent ∙ live.inbox.regions;
     counts = ap length is.taken ∙ live.inbox.counts;
     taken = λ q region. ap (λ (v : List ℕ). get_or v q 0) is.taken ∙ live.inbox.taken q region;
   });
-  sent = subst (λ (es : List Entry). IsOutbox home (base_in new) es new.sent.items) (sym is.log)
-      (subst (λ (b : ViewData). IsOutbox home b mid.log.items new.sent.items) (sym base)
-      (subst (IsOutbox home (base_in mid) mid.log.items) (sym is.own) live.sent));
-  saved = subst (λ (r : Local). new.saved ≡ saved_along 0 (start_of r) r.log) run
-      (is.saved ∙ live.saved ∙ saved_by_view 0 (base_in mid) mid.inbox.heard heard mid.log.items
-      ∙ ap (saved_along 0 (record { view = base_in mid; waiting = heard })) (sym all));
+  sent = subst (λ (log : List Logged). IsOutbox home (base_in new) (entries_in log) new.sent.items) (sym is.log)
+      (subst (λ (b : ViewData). IsOutbox home b (entries_in mid.log) new.sent.items) (sym base)
+      (subst (IsOutbox home (base_in mid) (entries_in mid.log)) (sym is.own) live.sent));
+  traced = has_trace (base_in mid) new (subst (λ (v : ViewData). IsTraced (base_in mid) v new.log) (sym is.view)
+      (subst (IsTraced (base_in mid) mid.view) (sym is.log) live.traced));
   queue = subst (λ (q : QueueData). IsOf q home.rules home.grid home.number) (sym is.queue) live.queue;
   stands = subst (λ (r : Local). StandsFor new.queue (now_of r).view) run
       (subst (λ (q : QueueData). StandsFor q (now_of after).view) (sym is.queue)
       (subst (StandsFor mid.queue)
-      (view_by_view (base_in mid) mid.inbox.heard heard mid.log.items
+      (view_by_view (base_in mid) mid.inbox.heard heard (entries_in mid.log)
       ∙ ap (λ (es : List Entry). (after_log (record { view = base_in mid; waiting = heard }) es).view) (sym all))
       live.stands));
 }
   where
     base : base_in new ≡ base_in mid
-    base = ap first_view is.saved
+    base = same_base mid new is.view is.log
 
     heard : Trails
     heard = slice_set mid.inbox.heard k sent
@@ -130,7 +126,7 @@ news_live home floor at k sent mid new live all agree hearable lt is = record {
       floor = floor;
       base = sym base i;
       heard = sym is.heard i;
-      log = (all ∙ sym is.log) i;
+      log = (all ∙ ap entries_in (sym is.log)) i;
     }
 
 -- ---- a trail that is mixed
@@ -175,8 +171,8 @@ pub marked_live : (home : Home) (floor : Stamp) (old new : Live) → new.sent.it
 marked_live home floor old new sent rest live = subst (IsLive home floor) (sym rest) (record {
   right = live.right;
   inbox = live.inbox;
-  sent = subst (IsOutbox home (base_in old) old.log.items) (sym sent) live.sent;
-  saved = live.saved;
+  sent = subst (IsOutbox home (base_in old) (entries_in old.log)) (sym sent) live.sent;
+  traced = live.traced;
   queue = live.queue;
   stands = live.stands;
 })

@@ -22,6 +22,7 @@ use Rattle.local_run.specs.LocalRun.{At, Local, trail_of, IsInPlace, IsOwn, IsWa
 use Rattle.local_run.specs.Answers.{HasDue, IsInTurn, IsShared}
 use Rattle.region_core.specs.Inbox.{InboxData, next_from, head_stamp, IsFirstOf, IsLeastHead, IsSharedHead}
 use Rattle.local_run.specs.Taken.{taken_of}
+use Rattle.event_log.specs.Logged.{entries_in}
 use Rattle.region_core.specs.Live.{run_in, start_in, now_in, IsInbox, IsLive}
 use Rattle.local_run.specs.Moves.{Fits, ComesAfter}
 use Rattle.local_run.proofs.Among.{waits_first, same_or_other}
@@ -37,37 +38,37 @@ below_or_past : (q n : ℕ) → (q < n) ⊎ (n ≤ q)
 below_or_past q n = grind arith
 
 -- ---- what waits, by the inbox
-next_at : (home : Home) (live : Live) → IsInbox home live.log.items live.inbox → (q : ℕ) →
+next_at : (home : Home) (live : Live) → IsInbox home (entries_in live.log) live.inbox → (q : ℕ) →
     q < home.grid.regions → (o : Option Message) → next_from live.inbox q ≡ o →
-    slice_get (trail_of live.inbox.heard q) (taken_of q live.log.items) ≡ o
+    slice_get (trail_of live.inbox.heard q) (taken_of q (entries_in live.log)) ≡ o
 next_at home live inbox q lt o next =
     subst (λ (n : ℕ). slice_get (trail_of live.inbox.heard q) n ≡ o) (inbox.taken q lt) next
 
-pub waits_next : (home : Home) (live : Live) → IsInbox home live.log.items live.inbox → (q : ℕ)
+pub waits_next : (home : Home) (live : Live) → IsInbox home (entries_in live.log) live.inbox → (q : ℕ)
     (m : Message) → next_from live.inbox q ≡ Some m →
     (rest : List Message) × (trail_of (now_in live).waiting q ≡ m ∷ rest)
 waits_next home live inbox q m next = elim (below_or_past q home.grid.regions) [
   | inl lt ↦ (
-    drop (suc (taken_of q live.log.items)) (trail_of live.inbox.heard q),
-    next_waits (start_in live) live.log.items q m (next_at home live inbox q lt (Some m) next),
+    drop (suc (taken_of q (entries_in live.log))) (trail_of live.inbox.heard q),
+    next_waits (start_in live) (entries_in live.log) q m (next_at home live inbox q lt (Some m) next),
   )
   | inr past ↦
       let none = none_past live.inbox q (let same = inbox.regions in omega arith) in
       absurd (none-some m (sym none ∙ next))
 ]
 
-none_next : (home : Home) (live : Live) → IsInbox home live.log.items live.inbox → (q : ℕ) →
+none_next : (home : Home) (live : Live) → IsInbox home (entries_in live.log) live.inbox → (q : ℕ) →
     next_from live.inbox q ≡ None → trail_of (now_in live).waiting q ≡ []
 none_next home live inbox q next = elim (below_or_past q home.grid.regions) [
-  | inl lt ↦ none_is_next (start_in live) live.log.items q (next_at home live inbox q lt None next)
+  | inl lt ↦ none_is_next (start_in live) (entries_in live.log) q (next_at home live inbox q lt None next)
   | inr past ↦
       let nothing = no_trail_past live.inbox.heard q (let same = inbox.regions in omega arith) in
-      none_is_next (start_in live) live.log.items q
-      (ap (λ (ms : List Message). slice_get ms (taken_of q live.log.items)) nothing
-      ∙ none_in_nothing (taken_of q live.log.items))
+      none_is_next (start_in live) (entries_in live.log) q
+      (ap (λ (ms : List Message). slice_get ms (taken_of q (entries_in live.log))) nothing
+      ∙ none_in_nothing (taken_of q (entries_in live.log)))
 ]
 
-pub next_of_waits : (home : Home) (live : Live) → IsInbox home live.log.items live.inbox → (q : ℕ)
+pub next_of_waits : (home : Home) (live : Live) → IsInbox home (entries_in live.log) live.inbox → (q : ℕ)
     (m : Message) (rest : List Message) → trail_of (now_in live).waiting q ≡ m ∷ rest →
     next_from live.inbox q ≡ Some m
 next_of_waits home live inbox q m rest waits = by_next (next_from live.inbox q) refl

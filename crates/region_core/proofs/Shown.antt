@@ -1,12 +1,11 @@
 -- What a region shows of what it sends and heard.
-use Rattle.std.proofs.Common.{◌≡◌, ◌⊎◌, inr, ℕ, zero, suc, List, [], ◌∷◌, length, get_or, arith, Option, Some, None, MatchOption, ap, subst}
+use Rattle.std.proofs.Common.{◌≡◌, ◌⊎◌, inr, ℕ, List, Option, Some, None, MatchOption, ap, subst}
 use Rattle.std.specs.Prelude.{option_map}
 use Rattle.event_stamps.specs.declared.Stamp.{Stamp}
 use Rattle.region_view.specs.declared.rows.Message.{Message}
 use Rattle.local_run.specs.declared.home.Home.{Home}
-use Rattle.local_run.specs.declared.entry.Entry.{Entry}
+use Rattle.event_log.specs.Logged.{entries_in}
 use Rattle.region_core.specs.declared.live.Live.{Live}
-use Rattle.local_run.specs.Entries.{entry_stamp, last_stamp}
 use Rattle.local_run.specs.LocalRun.{trail_of, sent_to}
 use Rattle.local_run.specs.Opening.{RegionData}
 use Rattle.region_core.specs.Live.{base_in, run_in}
@@ -19,7 +18,7 @@ pub sent_shown : {R : Type 0} (now : R → List Message) (result : Option R) (ho
     (o : Option Live) (live : Live) (region : RegionData) (to : ℕ) → seen_as home floor o ≡ region →
     o ≡ Some live →
     MatchOption result (¬ SendsTo home to)
-    (λ t. SendsTo home to × (now t ≡ sent_to home.grid to (base_in live) live.log.items)) →
+    (λ t. SendsTo home to × (now t ≡ sent_to home.grid to (base_in live) (entries_in live.log))) →
     MatchOption result ((region.run ≡ None) ⊎ ¬ SendsTo region.home to) (λ t. IsSent region to (now t))
 sent_shown now None home floor o live region to is here h =
     subst (λ (r : RegionData). (r.run ≡ None) ⊎ ¬ SendsTo r.home to) is (inr h)
@@ -39,12 +38,3 @@ heard_shown now None home floor o live region from is here h =
 heard_shown now (Some t) home floor o live region from is here h =
     subst (λ (r : RegionData). IsHeard r from (now t)) is
     (run_in floor live, ap (option_map (run_in floor)) here, h.0, h.1)
-
--- the last entry of a log, by its place
-pub last_at : (log : List Entry) (n : ℕ) (e : Entry) → suc n ≡ length log → e ≡ get_or log n e →
-    Some (entry_stamp e) ≡ last_stamp log
-last_at [] n e len is = absurd (omega arith)
-last_at (x ∷ []) zero e len is = ap (λ (v : Entry). Some (entry_stamp v)) is
-last_at (x ∷ []) (suc n) e len is = absurd (omega arith)
-last_at (x ∷ y ∷ ys) zero e len is = absurd (omega arith)
-last_at (x ∷ y ∷ ys) (suc n) e len is = last_at (y ∷ ys) n e (omega arith) is

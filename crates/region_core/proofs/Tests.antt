@@ -1,8 +1,8 @@
 -- What the tests of weaving tell.
-use Rattle.std.proofs.Common.{◌≡◌, inl, inr, ℕ, zero, suc, ◌+◌, ◌==◌, ◌∙◌, ◌<◌, ◌≤◌, Bool, List, [], ◌∷◌, length, drop, get_or, Option, Some, None, sym, ap, subst, refl, arith}
-use Rattle.std.specs.Prelude.{if◌then◌else◌, IfSome, All}
+use Rattle.std.proofs.Common.{◌≡◌, inl, inr, ℕ, zero, suc, ◌==◌, ◌∙◌, ◌<◌, ◌≤◌, Bool, List, [], ◌∷◌, length, drop, get_or, slice_get, Option, Some, None, sym, ap, subst, refl, arith}
+use Rattle.std.specs.Prelude.{if◌then◌else◌, option_map, IfSome, All}
 use Rattle.std.specs.List.{Contains}
-use Rattle.std.proofs.lemmas.Bool.{cases_lt}
+use Rattle.std.proofs.lemmas.Option.{none-some, same_Some}
 use Rattle.cell_grid.specs.Grid.{GridData}
 use Rattle.region_view.specs.declared.action.Placed.{Placed}
 use Rattle.fixed_motion.specs.declared.rules.Rules.{Rules}
@@ -16,15 +16,18 @@ use Rattle.region_view.specs.Views.{ViewData, rows_in}
 use Rattle.region_view.proofs.Puts.{swap_is_undone, same_is}
 use Rattle.region_messages.specs.Trails.{IsAmong}
 use Rattle.region_messages.proofs.Order.{before_not_before}
-use Rattle.region_view.specs.Naming.{IsSameBut}
+use Rattle.region_view.specs.Acting.{stamp_of}
+use Rattle.region_view.specs.Naming.{IsSameBut, Names}
 use Rattle.region_queue.specs.Queue.{QueueData, IsOf}
-use Rattle.saved_states.specs.Steps.{StepList}
 use Rattle.local_run.specs.declared.home.Home.{Home}
+use Rattle.event_log.specs.Logged.{Logged, logged_stamp, entries_in, backs_in, stamps_in}
 use Rattle.local_run.specs.declared.entry.Entry.{Entry}
-use Rattle.local_run.specs.Entries.{entry_stamp}
+use Rattle.local_run.specs.declared.entry.Entry.TheVariants.{Native, Heard}
+use Rattle.local_run.specs.Entries.{native_in}
 use Rattle.local_run.specs.LocalRun.{Trails, trail_of}
+use Rattle.local_run.specs.Weaving.{IsApart}
 use Rattle.local_run.proofs.Touched.{over_others, same_but}
-use Rattle.region_core.specs.Weaving.{IsStepAside, AreStepsAside, IsValidBack}
+use Rattle.region_core.specs.Weaving.{IsStepAside, IsLateAside, IsValidBack, BeginsAfter}
 
 -- ---- at most two rows
 pub of_one : (P : ℕ × Option Placed → Type 0) (slice : RowList) (d : ℕ × Option Placed) → 1 ≤ length slice →
@@ -91,33 +94,48 @@ read_or [] n d e lt = absurd (omega arith)
 read_or (x ∷ xs) zero d e lt = refl
 read_or (x ∷ xs) (suc n) d e lt = read_or xs n d e (omega arith)
 
--- ---- steps one by one
-pub one_step_more : (h : Home) (rows : RowList) (es : List Entry) (steps : StepList) (n : ℕ) (e : Entry)
-    (step : ℕ × RowList) → AreStepsAside h rows es steps n → n < length steps → length steps ≡ length es →
-    e ≡ get_or es n e → IsStepAside h rows (entry_stamp e) (get_or steps n step).1 →
-    AreStepsAside h rows es steps (n + 1)
-one_step_more h rows es steps n e step all lt sizes at here k x d low = elim (cases_lt k n) [
-  | inl less ↦ all k x d less
-  | inr past ↦
-      let same : n ≡ k = omega arith in
-      subst (λ (m : ℕ). IsStepAside h rows (entry_stamp (get_or es m x)) (get_or steps m d).1) same
-      (subst (λ (y : Entry). IsStepAside h rows (entry_stamp y) (get_or steps n d).1)
-      (at ∙ read_or es n e x (omega arith))
-      (subst (λ (y : ℕ × RowList). IsStepAside h rows (entry_stamp e) y.1) (read_or steps n step d lt) here))
-]
+-- ---- the entries of a log one by one
+-- where the test of each place from one on says so
+each_all : {A : Type 0} (P : A → Type 0) (xs : List A) →
+    ((k : ℕ) → k < length xs → IfSome (slice_get xs k) P) → All P xs
+each_all P [] each k d lt = absurd (omega arith)
+each_all P (x ∷ xs) each zero d lt = each 0 (omega arith)
+each_all P (x ∷ xs) each (suc k) d lt = each_all P xs (λ j low. each (suc j) (omega arith)) k d (omega arith)
 
-pub all_dropped : {A : Type 0} (P : A → Type 0) (n : ℕ) (xs : List A) → All P xs → All P (drop n xs)
-all_dropped P zero xs all = all
-all_dropped P (suc n) [] all = all
-all_dropped P (suc n) (x ∷ xs) all = all_dropped P n xs (λ k d lt. all (suc k) d (omega arith))
+pub all_from : {A : Type 0} (P : A → Type 0) (n : ℕ) (xs : List A) →
+    ((k : ℕ) → k < length xs → n ≤ k → IfSome (slice_get xs k) P) → All P (drop n xs)
+all_from P zero xs each = each_all P xs (λ k lt. each k lt (omega arith))
+all_from P (suc n) [] each = λ k d lt. absurd (omega arith)
+all_from P (suc n) (x ∷ xs) each = all_from P n xs (λ k lt le. each (suc k) (omega arith) (omega arith))
 
-pub dropped_sizes : {A B : Type 0} (n : ℕ) (xs : List A) (ys : List B) → length xs ≡ length ys →
-    length (drop n xs) ≡ length (drop n ys)
-dropped_sizes zero xs ys same = same
-dropped_sizes (suc n) [] [] same = same
-dropped_sizes (suc n) [] (y ∷ ys) same = absurd (omega arith)
-dropped_sizes (suc n) (x ∷ xs) [] same = absurd (omega arith)
-dropped_sizes (suc n) (x ∷ xs) (y ∷ ys) same = dropped_sizes n xs ys (omega arith)
+pub back_at : (P : RowList → Type 0) (log : List Logged) (i : ℕ) (back : RowList) → All (λ l. P l.1) log →
+    slice_get (backs_in log) i ≡ Some back → P back
+back_at P [] i back all is = absurd (none-some back is)
+back_at P (l ∷ log) zero back all is = subst P (same_Some l.1 back is) (all 0 l (omega arith))
+back_at P (l ∷ log) (suc i) back all is = back_at P log i back (λ k d lt. all (suc k) d (omega arith)) is
+
+pub late_at : (h : Home) (rows : RowList) (log : List Logged) (i : ℕ) (at : Stamp) (back : RowList) →
+    slice_get (stamps_in log) i ≡ Some at → slice_get (backs_in log) i ≡ Some back →
+    IsStepAside h rows at back → IfSome (slice_get log i) (IsLateAside h rows)
+late_at h rows [] i at back stamp is aside = tt
+late_at h rows (l ∷ log) zero at back stamp is aside =
+    subst (λ (t : Stamp). IsStepAside h rows t l.1) (sym (same_Some (logged_stamp l) at stamp))
+    (subst (IsStepAside h rows at) (sym (same_Some l.1 back is)) aside)
+late_at h rows (l ∷ log) (suc i) at back stamp is aside = late_at h rows log i at back stamp is aside
+
+pub begins_at : (at s : Stamp) (log : List Logged) (n : ℕ) → slice_get (stamps_in log) n ≡ Some s → Before at s →
+    BeginsAfter at (drop n (entries_in log))
+begins_at at s [] n is before = absurd (none-some s is)
+begins_at at s (l ∷ log) zero is before = subst (Before at) (sym (same_Some (logged_stamp l) s is)) before
+begins_at at s (l ∷ log) (suc n) is before = begins_at at s log n is before
+
+-- an event by its stamp
+pub named_at : (rows : RowList) (o : Option Entry) (s : Stamp) → Some s ≡ option_map stamp_of (native_in o) →
+    ((i : ℕ) → Names s i → ¬ Contains (numbers_of rows) i) → IfSome o (IsApart rows)
+named_at rows None s is apart = tt
+named_at rows (Some (Native x)) s is apart = λ i named.
+    apart i (subst (λ (t : Stamp). Names t i) (sym (same_Some s (stamp_of x) is)) named)
+named_at rows (Some (Heard q m)) s is apart = absurd (none-some s (sym is))
 
 -- a trail of the inbox
 pub item_is : (ts seen : Trails) (k : ℕ) (x : List Message) → ts ≡ seen → k < length seen →
@@ -151,7 +169,3 @@ still_valid queue rules grid region view again of same valid =
     subst (λ (v : ViewData). IsValidPlacing queue.rules queue.grid (rows_in v)) (sym same)
     (subst (λ (r : Rules). IsValidPlacing r queue.grid (rows_in view)) (sym of.rules)
     (subst (λ (g : GridData). IsValidPlacing rules g (rows_in view)) (sym of.grid) valid))
-
--- ---- steps
-abbrev pub raise_step : ℕ × RowList → ℕ × RowList
-raise_step step = (step.0 + 1, step.1)

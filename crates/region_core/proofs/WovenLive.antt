@@ -12,17 +12,18 @@ use Rattle.local_run.specs.declared.entry.Entry.{Entry}
 use Rattle.local_run.specs.declared.entry.Entry.TheVariants.{Heard}
 use Rattle.region_core.specs.declared.live.Live.{Live}
 use Rattle.local_run.specs.Entries.{entries_below, entries_from}
-use Rattle.local_run.specs.LocalRun.{Local, trail_of, start_of, now_of, after_log, Moves, IsHearable, IsRight, sent_to}
+use Rattle.local_run.specs.LocalRun.{trail_of, now_of, IsHearable, IsRight, sent_to}
 use Rattle.region_core.specs.Inbox.{InboxData, taken_from}
 use Rattle.local_run.specs.Taken.{taken_of}
-use Rattle.region_core.specs.Live.{base_in, run_in, now_in, saved_along, AreSavedAlong, IsInbox, IsLive}
+use Rattle.event_log.specs.Logged.{entries_in}
+use Rattle.region_core.specs.Live.{base_in, run_in, HasTrace, IsInbox, IsLive}
 use Rattle.local_run.specs.Weaving.{IsWoven, MayWeave}
 use Rattle.local_run.proofs.Among.{same_or_other}
-use Rattle.local_run.proofs.Logs.{below_then_from, moves_split}
+use Rattle.local_run.proofs.Logs.{below_then_from}
 use Rattle.local_run.proofs.Taken.{taken_joined, taken_here, taken_other, other_is_of}
 use Rattle.region_core.proofs.News.{heard_there, heard_elsewhere}
 use Rattle.local_run.proofs.Woven.{weaving_keeps_right}
-use Rattle.region_core.proofs.Steps.{raised_with, along_woven}
+use Rattle.region_core.proofs.Traced.{now_is}
 
 -- ---- how many were taken in
 taken_woven : (q : ℕ) (m : Message) (xs ys : List Entry) →
@@ -68,30 +69,6 @@ inbox_woven home log old new q m region is heard taken = record {
         ∙ ap (λ (n : ℕ). n + 1) (is.taken q region ∙ ap (taken_of q) (below_then_from m.stamp log))
         ∙ sym (taken_woven q m (entries_below m.stamp log) (entries_from m.stamp log))
 
--- ---- the views
--- along the log the views are those before the message, and those after it with its rows set
-abbrev pub HasViews : Local → Message → Local → Type 0
-HasViews r m new = saved_along 0 (start_of new) new.log
-    ≡ saved_along 0 (start_of r) (entries_below m.stamp r.log)
-    ++ raised_with m.rows (saved_along (length (entries_below m.stamp r.log))
-    (after_log (start_of r) (entries_below m.stamp r.log)) (entries_from m.stamp r.log))
-
-pub woven_views : (h : Home) (r new : Local) (q : ℕ) (m : Message) → IsRight h r → MayWeave h r m →
-    IsWoven q m r new → HasViews r m new
-woven_views h r new q m right may woven =
-    (λ i. saved_along 0 (record { view = woven.base i; waiting = new.heard }) (woven.log i))
-    ∙ along_woven h r.base r.heard new.heard q m xs ys moves.1 may.aside
-  where
-    xs : List Entry
-    xs = entries_below m.stamp r.log
-
-    ys : List Entry
-    ys = entries_from m.stamp r.log
-
-    moves : Moves h (start_of r) xs × Moves h (after_log (start_of r) xs) ys
-    moves = moves_split h (start_of r) xs ys
-        (subst (Moves h (start_of r)) (below_then_from m.stamp r.log) right.moves)
-
 -- ---- the whole
 -- the parts of a body into which a message of region q is woven
 pub record IsWovenInto (home : Home) (q : ℕ) (m : Message) (old new : Live) : Type 0 where
@@ -99,10 +76,10 @@ pub record IsWovenInto (home : Home) (q : ℕ) (m : Message) (old new : Live) : 
   pub heard : new.inbox.heard ≡ slice_set old.inbox.heard q (with_message m (trail_of old.inbox.heard q))
   pub taken : new.inbox.taken ≡ slice_set old.inbox.taken q (taken_from old.inbox q + 1)
   pub own : new.sent.items ≡ old.sent.items
-  pub log : new.log.items ≡ with_woven q m old.log.items
-  pub saved : AreSavedAlong new
+  pub log : entries_in new.log ≡ with_woven q m (entries_in old.log)
+  pub traced : HasTrace new
   pub queue : IsOf new.queue home.rules home.grid home.number
-  pub stands : StandsFor new.queue (set_rows (now_in old).view m.rows)
+  pub stands : StandsFor new.queue new.view
 
 pub woven_live : (home : Home) (floor : Stamp) (q : ℕ) (m : Message) (old new : Live) →
     IsRegion home.grid q → IsLive home floor old → MayWeave home (run_in floor old) m →
@@ -111,14 +88,14 @@ pub woven_live : (home : Home) (floor : Stamp) (q : ℕ) (m : Message) (old new 
 woven_live home floor q m old new region live may hearable is = record {
   right = law.0;
   inbox = subst (λ (es : List Entry). IsInbox home es new.inbox) (sym is.log)
-      (inbox_woven home old.log.items old.inbox new.inbox q m region live.inbox is.heard is.taken);
+      (inbox_woven home (entries_in old.log) old.inbox new.inbox q m region live.inbox is.heard is.taken);
   sent = record {
     regions = ap length is.own ∙ live.sent.regions;
     each = λ k lt linked. ap (λ ts. trail_of ts k) is.own ∙ live.sent.each k lt linked ∙ sym (law.2 k);
   };
-  saved = is.saved;
+  traced = is.traced;
   queue = is.queue;
-  stands = subst (StandsFor new.queue) (sym law.1) is.stands;
+  stands = subst (StandsFor new.queue) (sym (now_is new is.traced)) is.stands;
 }
   where
     within : q < length old.inbox.heard
@@ -137,5 +114,6 @@ woven_live home floor q m old new region live may hearable is = record {
 
     law : IsRight home (run_in floor new)
         × ((now_of (run_in floor new)).view ≡ set_rows (now_of (run_in floor old)).view m.rows)
-        × ((k : ℕ) → sent_to home.grid k (base_in new) new.log.items ≡ sent_to home.grid k (base_in old) old.log.items)
+        × ((k : ℕ) → sent_to home.grid k (base_in new) (entries_in new.log)
+        ≡ sent_to home.grid k (base_in old) (entries_in old.log))
     law = weaving_keeps_right home (run_in floor old) (run_in floor new) q m live.right may hearable woven

@@ -1,21 +1,23 @@
 -- What a region keeps beside its local run, so that it need not be found again.
-use Rattle.std.specs.Prelude.{◌≡◌, ℕ, ◌+◌, List, [], ◌∷◌, length, Option, Some, None, IfSome}
+use Rattle.std.specs.Prelude.{◌≡◌, ℕ, List, length, Option, Some, None, IfSome}
 use Rattle.event_stamps.specs.declared.Stamp.{Stamp}
 use Rattle.event_stamps.specs.Order.{Before, end_stamp}
 use Rattle.cell_grid.specs.Grid.{IsRegion, AreLinked}
 use Rattle.region_view.specs.Views.{ViewData}
-use Rattle.region_queue.specs.Queue.{QueueData, IsOf, StandsFor}
-use Rattle.saved_states.specs.Positions.{SavedData, first_view}
+use Rattle.region_queue.specs.Queue.{IsOf, StandsFor}
 use Rattle.local_run.specs.declared.home.Home.{Home}
 use Rattle.local_run.specs.declared.entry.Entry.{Entry}
 use Rattle.region_core.specs.declared.live.Live.{Live}
-use Rattle.local_run.specs.LocalRun.{Local, At, Trails, trail_of, start_of, now_of, after_entry, after_log, sent_to, IsDueOrEnd, IsInPlace, IsRight}
+use Rattle.local_run.specs.LocalRun.{Local, At, Trails, trail_of, after_log, sent_to, IsDueOrEnd, IsInPlace, IsRight}
 use Rattle.region_core.specs.Inbox.{InboxData, taken_from}
 use Rattle.local_run.specs.Taken.{taken_of}
+use Rattle.event_log.specs.Logged.{entries_in, backs_in}
+use Rattle.event_log.specs.Undoing.{undone}
+use Rattle.event_log.specs.Traced.{IsTraced}
 
--- the view at the floor: the first of the saved ones
+-- the view at the floor: the newest one with the whole log undone
 abbrev pub base_in : Live → ViewData
-base_in live = first_view live.saved
+base_in live = undone live.view (backs_in live.log)
 
 -- the local run that is kept
 abbrev pub run_in : Stamp → Live → Local
@@ -23,7 +25,7 @@ run_in floor live = record {
   floor = floor;
   base = base_in live;
   heard = live.inbox.heard;
-  log = live.log.items;
+  log = entries_in live.log;
 }
 
 -- what the region is at where it begins, and after its whole log
@@ -31,12 +33,7 @@ abbrev pub start_in : Live → At
 start_in live = record { view = base_in live; waiting = live.inbox.heard }
 
 abbrev pub now_in : Live → At
-now_in live = after_log (start_in live) live.log.items
-
--- the views along a log, by position
-abbrev pub saved_along : ℕ → At → List Entry → SavedData
-saved_along position a [] = (position, a.view) ∷ []
-saved_along position a (e ∷ es) = (position, a.view) ∷ saved_along (position + 1) (after_entry a e) es
+now_in live = after_log (start_in live) (entries_in live.log)
 
 -- of each region there is a trail, and the log took in so many of its messages
 pub record IsInbox (home : Home) (log : List Entry) (inbox : InboxData) : Type 0 where
@@ -50,15 +47,16 @@ pub record IsOutbox (home : Home) (base : ViewData) (log : List Entry) (sent : T
   pub each : (q : ℕ) → IsRegion home.grid q → AreLinked home.grid home.number q →
       trail_of sent q ≡ sent_to home.grid q base log
 
-abbrev pub AreSavedAlong : Live → Type 0
-AreSavedAlong live = live.saved ≡ saved_along 0 (start_in live) live.log.items
+-- the log leads from the view at the floor to the newest one, and back
+abbrev pub HasTrace : Live → Type 0
+HasTrace live = IsTraced (base_in live) live.view live.log
 
 -- a right local run, and what is kept beside it is what it comes to
 pub record IsLive (home : Home) (floor : Stamp) (live : Live) : Type 0 where
   pub right : IsRight home (run_in floor live)
-  pub inbox : IsInbox home live.log.items live.inbox
-  pub sent : IsOutbox home (base_in live) live.log.items live.sent.items
-  pub saved : AreSavedAlong live
+  pub inbox : IsInbox home (entries_in live.log) live.inbox
+  pub sent : IsOutbox home (base_in live) (entries_in live.log) live.sent.items
+  pub traced : HasTrace live
   pub queue : IsOf live.queue home.rules home.grid home.number
   pub stands : StandsFor live.queue (now_in live).view
 
@@ -79,16 +77,16 @@ abbrev pub IsHeldBack : Home → Option Stamp → Live → Type 0
 IsHeldBack home None live = ⊥
 IsHeldBack home (Some bound) live = HasDueLater home bound live
 
--- a right local run, the views along it, and the queue of the last
-pub record IsAlong (home : Home) (run : Local) (views : SavedData) (events : QueueData) : Type 0 where
-  pub right : IsRight home run
-  pub saved : views ≡ saved_along 0 (start_of run) run.log
-  pub queue : IsOf events home.rules home.grid home.number
-  pub stands : StandsFor events (now_of run).view
+-- a right local run, whatever it sent and took in, with the newest view and the queue of its log
+pub record IsAlong (home : Home) (floor : Stamp) (live : Live) : Type 0 where
+  pub right : IsRight home (run_in floor live)
+  pub traced : HasTrace live
+  pub queue : IsOf live.queue home.rules home.grid home.number
+  pub stands : StandsFor live.queue (now_in live).view
 
--- the views and the queue of a body are those of its log
+-- the same from some floor on
 abbrev pub GoesAlong : Home → Live → Type 0
-GoesAlong home live = (floor : Stamp) × IsAlong home (run_in floor live) live.saved live.queue
+GoesAlong home live = (floor : Stamp) × IsAlong home floor live
 
 -- what each region keeps
 pub record IsSound (home : Home) (floor : Stamp) (live : Option Live) : Type 0 where

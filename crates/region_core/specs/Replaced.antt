@@ -26,9 +26,9 @@ HearsOn at k trail r Apart new = ⊥
 
 -- what was heard from region k is `sent`, and all else is as it was
 pub record IsReplaced (k : ℕ) (sent : List Message) (old new : Live) : Type 0 where
-  pub saved : new.saved ≡ old.saved
+  pub view : new.view ≡ old.view
   pub queue : new.queue ≡ old.queue
   pub heard : new.inbox.heard ≡ slice_set old.inbox.heard k sent
   pub taken : new.inbox.taken ≡ old.inbox.taken
   pub own : new.sent.items ≡ old.sent.items
-  pub log : new.log.items ≡ old.log.items
+  pub log : new.log ≡ old.log

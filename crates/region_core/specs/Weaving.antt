@@ -1,5 +1,5 @@
 -- What the tests of weaving tell, and what weaving makes of a local run.
-use Rattle.std.specs.Prelude.{◌≡◌, ◌⊎◌, ℕ, ◌<◌, List, [], ◌∷◌, Option, None, Some, IfSome, length, get_or, drop, All}
+use Rattle.std.specs.Prelude.{◌≡◌, ◌⊎◌, ℕ, ◌<◌, List, [], ◌∷◌, Option, None, Some, IfSome, length, drop, All}
 use Rattle.event_stamps.specs.declared.Stamp.{Stamp}
 use Rattle.event_stamps.specs.Order.{Before}
 use Rattle.cell_grid.specs.Grid.{Owns}
@@ -17,6 +17,7 @@ use Rattle.local_run.specs.declared.entry.TheConstants.{MAX_ENTRIES}
 use Rattle.local_run.specs.Entries.{entry_stamp}
 use Rattle.local_run.specs.LocalRun.{Local, trail_of}
 use Rattle.local_run.specs.Weaving.{IsApart, AreOthers, IsWoven}
+use Rattle.event_log.specs.Logged.{Logged, logged_stamp, entries_in}
 use Rattle.region_core.specs.declared.live.Live.{Live}
 
 -- ---- what tells that entries have nothing to do with the rows of a message
@@ -38,10 +39,9 @@ pub record IsStepAside (h : Home) (rows : RowList) (t : Stamp) (back : RowList) 
   pub others : AreOthers rows back
   pub later : AllTouchAfter h t back rows
 
--- so it is with each of the first steps, so many, up to the stamp of its entry
-abbrev pub AreStepsAside : Home → RowList → List Entry → List (ℕ × RowList) → ℕ → Type 0
-AreStepsAside h rows es steps n = (k : ℕ) (e : Entry) (d : ℕ × RowList) → k < n →
-    IsStepAside h rows (entry_stamp (get_or es k e)) (get_or steps k d).1
+-- so it is with the rows that lead back over an entry, up to its stamp
+abbrev pub IsLateAside : Home → RowList → Logged → Type 0
+IsLateAside h rows l = IsStepAside h rows (logged_stamp l) l.1
 
 -- what stands in rows that lead back is valid
 abbrev pub IsValidBack : Home → RowList → Type 0
@@ -61,10 +61,10 @@ BeginsAfter s (e ∷ es) = Before s (entry_stamp e)
 
 -- by the log alone, a message of region q may come before the entries from a place on
 pub record IsTried (q kept : ℕ) (m : Message) (live : Live) : Type 0 where
-  pub room : length live.log.items < MAX_ENTRIES
-  pub late : BeginsAfter m.stamp (drop kept live.log.items)
+  pub room : length live.log < MAX_ENTRIES
+  pub late : BeginsAfter m.stamp (drop kept (entries_in live.log))
   pub free : IsFree m.stamp (trail_of live.inbox.heard q)
-  pub apart : All (IsApart m.rows) (drop kept live.log.items)
+  pub apart : All (IsApart m.rows) (drop kept (entries_in live.log))
 
 -- ---- what it comes to
 -- the local run has the message woven in where there is no hindrance, else it is as it was

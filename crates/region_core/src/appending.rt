@@ -1,11 +1,11 @@
 //! One more entry of a log, and what it changes beside the log.
 
-ghost use Rattle.std.specs.Prelude.{◌≡◌, ◌+◌, ◌<◌, ◌++◌, ◌∷◌, [], ℕ, length, OnOk, IfSome};
+ghost use Rattle.std.specs.Prelude.{◌≡◌, ◌<◌, ◌++◌, ◌∷◌, [], ℕ, length, OnOk, IfSome};
 ghost use Rattle.region_view.specs.Placing.{IsValidPlacing};
 ghost use Rattle.region_view.specs.Views.{ViewData, rows_in};
 ghost use Rattle.region_view.specs.Acting.{stamp_of};
 ghost use Rattle.region_view.specs.Laws.{HasCells};
-ghost use Rattle.region_view.specs.Setting.{set_rows, numbers_of, IsInOrder};
+ghost use Rattle.region_view.specs.Setting.{set_rows, after_action, rows_at, numbers_of, IsInOrder};
 ghost use Rattle.region_view.specs.Messages.{message_of, RecordsCell};
 ghost use Rattle.region_messages.specs.Trails.{IsAfterAll};
 ghost use Rattle.cell_grid.specs.Grid.{IsRegion};
@@ -13,9 +13,10 @@ ghost use Rattle.region_view.specs.Naming.{IsSameBut};
 ghost use Rattle.region_queue.specs.Queue.{IsOf, StandsFor};
 ghost use Rattle.local_run.specs.declared.entry.Entry.TheVariants.{Native, Heard};
 ghost use Rattle.local_run.specs.declared.moves.Move.TheVariants.{Run, TakeIn};
-ghost use Rattle.local_run.specs.LocalRun.{At, IsInPlace, after_entry, trail_of, told};
+ghost use Rattle.local_run.specs.LocalRun.{IsInPlace, trail_of, told};
 ghost use Rattle.local_run.specs.Answers.{with_entry};
-ghost use Rattle.region_core.specs.Live.{base_in, run_in, now_in, IsLive, AreSavedAlong};
+ghost use Rattle.event_log.specs.Running.{acted};
+ghost use Rattle.region_core.specs.Live.{run_in, IsLive};
 ghost use Rattle.local_run.specs.Keeping.{SendsTo};
 ghost use Rattle.local_run.specs.Moves.{Fits};
 
@@ -24,35 +25,34 @@ use crate::{Entry, Home, MAX_ENTRIES};
 use event_stamps::Stamp;
 use region_messages::Trail;
 use region_queue::Queue;
-use region_view::{Action, Message, Rows, View, message_for, rows_of};
+use region_view::{Action, Message, Rows, View, message_for};
 use std::alloc::{AllocError, Global};
 
 impl Live {
-    // Appends an entry, which sets these rows in the view after the whole log.
+    // Sets the rows of a message in the view after the whole log, and appends it.
     #[inline(always)]
-    fn append(&mut self, alloc: Global, entry: Entry, rows: Rows) -> Result<(), AllocError>
-        requires saved { AreSavedAlong self.old }
-        requires room { length self.old.log.items < MAX_ENTRIES }
-        requires stands { StandsFor self.old.queue (now_in self.old).view }
-        requires rows { (after_entry (now_in self.old) entry).view
-            ≡ set_rows (now_in self.old).view rows }
+    fn append(&mut self, alloc: Global, from: u32, message: &Message) -> Result<(), AllocError>
+        requires room { length self.old.log < MAX_ENTRIES }
+        requires stands { StandsFor self.old.queue self.old.view }
         requires valid { IsValidPlacing self.old.queue.rules self.old.queue.grid
-            (rows_in (after_entry (now_in self.old) entry).view) }
-        ensures log { OnOk result (self.new.log.items ≡ self.old.log.items ++ entry ∷ []) }
-        ensures saved { OnOk result (self.new.saved ≡ self.old.saved
-            ++ (length self.old.log.items + 1, (after_entry (now_in self.old) entry).view) ∷ []) }
+            (rows_in (set_rows self.old.view message.now.rows)) }
+        ensures log { OnOk result (self.new.log ≡ self.old.log ++ (
+          Heard from message.now,
+          rows_at (rows_in self.old.view) message.now.rows,
+        ) ∷ []) }
+        ensures view { OnOk result (self.new.view ≡ set_rows self.old.view message.now.rows) }
         ensures queue { OnOk result (IsOf self.new.queue self.old.queue.rules self.old.queue.grid
             self.old.queue.region) }
-        ensures stands { OnOk result
-            (StandsFor self.new.queue (after_entry (now_in self.old) entry).view) }
-        ensures base { OnOk result (base_in self.new ≡ base_in self.old) }
+        ensures stands { OnOk result (StandsFor self.new.queue self.new.view) }
         ensures inbox { self.new.inbox ≡ self.old.inbox }
         ensures sent { self.new.sent ≡ self.old.sent }
     {
-        let position = self.log.len() as u64 + 1;
-        self.saved.append(position, rows)?;
-        tell(alloc, &mut self.queue, self.saved.newest(), &entry, &rows)?;
-        self.log.push(entry)?;
+        let entry = Entry::Heard {
+            from,
+            message: *message,
+        };
+        self.log.append(&mut self.view, &entry, &message.rows)?;
+        touch(alloc, &mut self.queue, &self.view, &message.rows)?;
         Ok(())
     }
 
@@ -77,8 +77,7 @@ impl Live {
     {
         let _home = home;
         let _floor = floor;
-        let rows = message.rows;
-        self.append(alloc, Entry::Heard { from, message }, rows)?;
+        self.append(alloc, from, &message)?;
         self.inbox.take(from);
         Ok(())
     }
@@ -104,10 +103,29 @@ impl Live {
             (run_in floor self.new ≡ with_entry (run_in floor self.old) (Native action)) }
     {
         let _floor = floor;
-        let view = self.saved.newest();
-        let rows = rows_of(view, &action);
-        send(&mut self.sent, home, view, &action)?;
-        self.append(alloc, Entry::Native(action), rows)?;
+        send(&mut self.sent, home, &self.view, &action)?;
+        self.act(alloc, &action)?;
+        Ok(())
+    }
+
+    // Runs an action in the view after the whole log, and appends it.
+    #[inline(always)]
+    fn act(&mut self, alloc: Global, action: &Action) -> Result<(), AllocError>
+        requires room { length self.old.log < MAX_ENTRIES }
+        requires order { IsInOrder action.now }
+        requires stands { StandsFor self.old.queue self.old.view }
+        requires valid { IsValidPlacing self.old.queue.rules self.old.queue.grid
+            (rows_in (after_action self.old.view action.now)) }
+        ensures log { OnOk result (self.new.log ≡ self.old.log ++ acted self.old.view action.now ∷ []) }
+        ensures view { OnOk result (self.new.view ≡ after_action self.old.view action.now) }
+        ensures queue { OnOk result (IsOf self.new.queue self.old.queue.rules self.old.queue.grid
+            self.old.queue.region) }
+        ensures stands { OnOk result (StandsFor self.new.queue self.new.view) }
+        ensures inbox { self.new.inbox ≡ self.old.inbox }
+        ensures sent { self.new.sent ≡ self.old.sent }
+    {
+        self.log.act(&mut self.view, action)?;
+        tell(alloc, &mut self.queue, &self.view, action)?;
         Ok(())
     }
 }
@@ -156,25 +174,21 @@ fn send_one(trail: &mut Trail, message: Option<Message>) -> Result<(), AllocErro
     Ok(())
 }
 
-// Tells the queue of an entry, which set these rows.
+// Tells the queue of an action that was run, and of the view after it.
 #[inline(always)]
-fn tell(
-    alloc: Global,
-    queue: &mut Queue,
-    view: &View,
-    entry: &Entry,
-    rows: &Rows,
-) -> Result<(), AllocError>
+fn tell(alloc: Global, queue: &mut Queue, view: &View, action: &Action) -> Result<(), AllocError>
     requires valid { IsValidPlacing queue.old.rules queue.old.grid (rows_in view.now) }
     ensures queue { IsOf queue.new queue.old.rules queue.old.grid queue.old.region }
-    ensures stands { OnOk result ((before : At) → StandsFor queue.old before.view →
-        view.now ≡ (after_entry before entry.now).view → view.now ≡ set_rows before.view rows.now →
-        StandsFor queue.new view.now) }
+    ensures stands { OnOk result ((before : ViewData) → StandsFor queue.old before →
+        view.now ≡ after_action before action.now → StandsFor queue.new view.now) }
 {
-    match entry {
+    match action {
         // Its disk keeps its course.
-        Entry::Native(Action::Cross { stamp, .. }) => queue.crossed(alloc, view, stamp.first),
-        Entry::Native(Action::Hit(_)) | Entry::Heard { .. } => touch(alloc, queue, view, rows),
+        Action::Cross { stamp, .. } => queue.crossed(alloc, view, stamp.first),
+        Action::Hit(change) => match change.second {
+            Some(_) => queue.touched(alloc, view, &[change.stamp.first, change.stamp.second]),
+            None => queue.touched(alloc, view, &[change.stamp.first]),
+        },
     }
 }
 

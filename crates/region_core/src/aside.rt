@@ -1,7 +1,7 @@
 //! What keeps a message from coming before entries of a log: that they have one of its disks, or change one that
 //! these would touch.
 
-ghost use Rattle.std.specs.Prelude.{◌≡◌, ◌≤◌, ℕ, length, drop, All, Option, None, Some, false};
+ghost use Rattle.std.specs.Prelude.{◌≡◌, ◌<◌, ℕ, length, drop, slice_get, All, Option, None, Some, IfSome, false};
 ghost use Rattle.std.specs.List.{Contains};
 ghost use Rattle.event_stamps.specs.declared.Stamp.{Stamp};
 ghost use Rattle.event_stamps.specs.Order.{Before};
@@ -11,27 +11,40 @@ ghost use Rattle.region_messages.specs.Trails.{IsAmong};
 ghost use Rattle.region_view.specs.Naming.{Names};
 ghost use Rattle.local_run.specs.LocalRun.{IsInPlace};
 ghost use Rattle.local_run.specs.Weaving.{IsApart, AreOthers};
-ghost use Rattle.region_core.specs.Weaving.{IsOwnTouch, TouchAfter, AllTouchAfter, IsStepAside, AreStepsAside, IsValidBack};
+ghost use Rattle.event_log.specs.Logged.{entries_in};
+ghost use Rattle.region_core.specs.Weaving.{IsOwnTouch, TouchAfter, AllTouchAfter, IsStepAside, IsLateAside, IsValidBack};
 
 use crate::moves::is_before;
 use crate::{Entry, Home};
+use event_log::EventLog;
 use event_stamps::{Kind, Stamp};
 use region_view::{Placed, Rows, near_event};
 
-/// The stamp of the first entry that has one of the disks of some rows.
-pub(crate) fn first_with_disk(entries: &[Entry], rows: &Rows) -> Option<Stamp>
-    ensures { result ≡ None → All (IsApart rows.now) entries.now }
+/// The stamp of the first entry of a log from a place on that has one of the disks of some rows.
+pub(crate) fn first_with_disk(log: &EventLog, kept: usize, rows: &Rows) -> Option<Stamp>
+    ensures { result ≡ None → All (IsApart rows.now) (drop kept (entries_in log.now)) }
 {
-    for entry in entries {
-        if has_disk(entry, rows) {
-            return Some(entry.stamp());
+    for i in kept..log.len() {
+        if has_disk(log, i, rows) {
+            return Some(log.stamp(i));
         }
     }
     None
 }
 
+// Whether one of the disks of some rows is that of an entry of a log, by its place.
+fn has_disk(log: &EventLog, i: usize, rows: &Rows) -> bool
+    requires within { i < length log.now }
+    ensures { result ≡ false → IfSome (slice_get (entries_in log.now) i) (IsApart rows.now) }
+{
+    match log.native_stamp(i) {
+        Some(stamp) => names_any(&stamp, rows),
+        None => is_named(&log.entry(i), rows),
+    }
+}
+
 // Whether one of the disks of some rows is the entry's.
-fn has_disk(entry: &Entry, rows: &Rows) -> bool
+fn is_named(entry: &Entry, rows: &Rows) -> bool
     ensures { result ≡ false → IsApart rows.now entry.now }
 {
     match entry {
@@ -69,41 +82,16 @@ fn has_row(rows: &Rows, disk: u32) -> bool
     }
 }
 
-/// The stamp of the first entry from a place on whose step back touches some rows.
-pub(crate) fn first_touched_from(
-    entries: &[Entry],
-    steps: &[(u64, Rows)],
-    kept: usize,
-    rows: &Rows,
-    home: &Home,
-) -> Option<Stamp>
+/// The stamp of the first entry of a log from a place on over which rows lead back that touch some rows.
+pub(crate) fn first_touched(log: &EventLog, kept: usize, rows: &Rows, home: &Home) -> Option<Stamp>
     requires place { IsInPlace home.now }
-    requires sizes { length steps.now ≡ length entries.now }
-    requires kept { kept ≤ length steps.now }
-    requires valid { All (λ step. IsValidBack home.now step.1) steps.now }
+    requires valid { All (λ l. IsValidBack home.now l.1) log.now }
     requires rows { AreValidRows home.now.rules home.now.grid rows.now }
-    ensures { result ≡ None → AreStepsAside home.now rows.now (drop kept entries.now) (drop kept steps.now)
-        (length (drop kept steps.now)) }
+    ensures { result ≡ None → All (IsLateAside home.now rows.now) (drop kept log.now) }
 {
-    first_touched(&entries[kept..], &steps[kept..], rows, home)
-}
-
-// The same of all of them.
-fn first_touched(
-    entries: &[Entry],
-    steps: &[(u64, Rows)],
-    rows: &Rows,
-    home: &Home,
-) -> Option<Stamp>
-    requires place { IsInPlace home.now }
-    requires sizes { length steps.now ≡ length entries.now }
-    requires valid { All (λ step. IsValidBack home.now step.1) steps.now }
-    requires rows { AreValidRows home.now.rules home.now.grid rows.now }
-    ensures { result ≡ None → AreStepsAside home.now rows.now entries.now steps.now (length steps.now) }
-{
-    for k in 0..steps.len() {
-        let at = entries[k].stamp();
-        if is_in_way(&at, &steps[k].1, rows, home) {
+    for i in kept..log.len() {
+        let at = log.stamp(i);
+        if is_in_way(&at, &log.back(i), rows, home) {
             return Some(at);
         }
     }

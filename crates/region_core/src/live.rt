@@ -1,23 +1,23 @@
 //! What a region that isn't spent has.
 
-use crate::Entry;
 use crate::inbox::Inbox;
+use event_log::EventLog;
 use region_messages::Trail;
 use region_queue::Queue;
 use region_view::View;
-use saved_states::Saved;
 
 /// The body of a region: the log of what it did from the floor on, and what this comes to, kept up to date.
 #[derive(Drop)]
 pub(crate) struct Live {
-    // The saved state queue: the views at the positions of the log, of which the first is that at the floor.
-    pub(crate) saved: Saved,
+    // The view after the whole log.
+    pub(crate) view: View,
+    // What it did from the floor on, and what leads back over it: processed events and saved states in one.
+    pub(crate) log: EventLog,
     // The events of its own columns that may come next.
     pub(crate) queue: Queue,
     pub(crate) inbox: Inbox,
     // The output queue: by number of the region that it goes to.
     pub(crate) sent: Vec<Trail>,
-    pub(crate) log: Vec<Entry>,
 }
 
 ghost use Rattle.std.specs.Prelude.{◌≡◌, [], replicate, IfOk, MatchOption};
@@ -27,6 +27,7 @@ ghost use Rattle.region_view.specs.Views.{rows_in};
 ghost use Rattle.region_view.specs.Placing.{IsValidPlacing};
 ghost use Rattle.cell_grid.specs.Grid.{IsRegion};
 ghost use Rattle.local_run.specs.LocalRun.{IsInPlace, trail_of, sent_to};
+ghost use Rattle.event_log.specs.Logged.{entries_in};
 ghost use Rattle.region_core.specs.Live.{base_in, IsLive, IsInbox, IsOutbox};
 ghost use Rattle.local_run.specs.Keeping.{SendsTo, HearsOf};
 
@@ -41,7 +42,7 @@ impl Live {
         requires valid { IsValidPlacing home.now.rules home.now.grid (rows_in base) }
         ensures base { IfOk result (λ live. base_in live ≡ base) }
         ensures heard { IfOk result (λ live. live.inbox.heard ≡ replicate home.now.grid.regions []) }
-        ensures log { IfOk result (λ live. live.log.items ≡ []) }
+        ensures log { IfOk result (λ live. live.log ≡ []) }
         ensures live { IfOk result (λ live. (floor : Stamp) → ¬ Before (end_stamp home.now.rules.end) floor →
             IsLive home.now floor live) }
     {
@@ -50,19 +51,18 @@ impl Live {
             queue: Queue::open(alloc, &base, &home.grid, &home.rules, home.number)?,
             inbox: Inbox::new(alloc, regions)?,
             sent: empty_trails(alloc, regions)?,
-            log: Vec::new(alloc),
-            // The view itself, not a copy of it.
-            saved: Saved::from_parts(0, base, Vec::new(alloc)),
+            log: EventLog::new(alloc),
+            view: base,
         })
     }
 
     /// What goes to a region; none where the two aren't linked.
     pub(crate) fn sent_to(&self, home: &Home, to: u32) -> Option<&Trail>
         requires number { IsRegion home.now.grid home.now.number }
-        requires sent { IsOutbox home.now (base_in self.now) self.now.log.items self.now.sent.items }
+        requires sent { IsOutbox home.now (base_in self.now) (entries_in self.now.log) self.now.sent.items }
         ensures { MatchOption result (¬ SendsTo home.now to)
             (λ trail. SendsTo home.now to
-            × (trail.now ≡ sent_to home.now.grid to (base_in self.now) self.now.log.items)) }
+            × (trail.now ≡ sent_to home.now.grid to (base_in self.now) (entries_in self.now.log))) }
     {
         if home.sends_to(to) {
             self.sent.get(to as usize)
@@ -74,7 +74,7 @@ impl Live {
     /// What was heard from a region; none where the two aren't linked.
     pub(crate) fn heard_from(&self, home: &Home, from: u32) -> Option<&Trail>
         requires number { IsRegion home.now.grid home.now.number }
-        requires inbox { IsInbox home.now self.now.log.items self.now.inbox }
+        requires inbox { IsInbox home.now (entries_in self.now.log) self.now.inbox }
         ensures { MatchOption result (¬ HearsOf home.now from)
             (λ trail. HearsOf home.now from × (trail.now ≡ trail_of self.now.inbox.heard from)) }
     {

@@ -6,15 +6,13 @@ ghost use Rattle.event_stamps.specs.Least.{IsLeastOf};
 ghost use Rattle.region_view.specs.Placing.{IsValidPlacing};
 ghost use Rattle.region_view.specs.Views.{rows_in};
 ghost use Rattle.local_run.specs.LocalRun.{At, IsInPlace, IsOwn, IsOffered, IsDue, IsDueOrEnd, IsWaiting, ComesTo};
-ghost use Rattle.local_run.specs.Entries.{clock_of};
 ghost use Rattle.local_run.specs.Answers.{HasDue, IsInTurn, StepsTo};
 ghost use Rattle.region_core.specs.Inbox.{head_stamp, IsLeastHead, IsFirstOf};
-ghost use Rattle.region_core.specs.Live.{run_in, now_in, IsLive, HasRun, AreSavedAlong, HasDueBefore, IsHeldBack};
+ghost use Rattle.region_core.specs.Live.{run_in, now_in, IsLive, HasRun, HasTrace, HasDueBefore, IsHeldBack};
 ghost use Rattle.local_run.specs.Moves.{Fits, ComesAfter};
 
 use crate::live::Live;
-use crate::region::last_stamp;
-use crate::{Entry, Home, MAX_ENTRIES, Step};
+use crate::{Home, MAX_ENTRIES, Step};
 use event_rules::Limit;
 use event_stamps::{Kind, Stamp, compare, earlier};
 use local_run::Move;
@@ -25,10 +23,10 @@ use std::cmp::Ordering;
 impl Live {
     /// The view after the whole log.
     pub(crate) fn view(&self) -> &View
-        requires { AreSavedAlong self.now }
+        requires { HasTrace self.now }
         ensures { result.now ≡ (now_in self.now).view }
     {
-        self.saved.newest()
+        &self.view
     }
 
     /// The least stamp of its native candidates.
@@ -90,8 +88,9 @@ impl Live {
         let Some(due) = due else {
             return Move::Answer(Step::Idle);
         };
-        if !is_in_turn(&floor, last_stamp(&self.log), &due) {
-            let clock = clock(floor, &self.log);
+        let last = self.log.last_stamp();
+        if !is_in_turn(&floor, last, &due) {
+            let clock = last.unwrap_or(floor);
             return Move::Answer(Step::Past { due, clock });
         }
         match self.sender_at(home, head, &due) {
@@ -215,16 +214,6 @@ impl Live {
             Ok(action) => Move::Run(action),
             Err(limit) => Move::Answer(Step::Halted(limit)),
         }
-    }
-}
-
-// The last stamp of a log; of an empty log, the floor.
-fn clock(floor: Stamp, log: &[Entry]) -> Stamp
-    ensures { result ≡ clock_of floor log.now }
-{
-    match last_stamp(log) {
-        Some(stamp) => stamp,
-        None => floor,
     }
 }
 

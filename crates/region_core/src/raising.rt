@@ -1,6 +1,6 @@
 //! Raising the floor: letting go of what is final.
 
-ghost use Rattle.std.specs.Prelude.{◌≡◌, ◌≤◌, length, drop, map};
+ghost use Rattle.std.specs.Prelude.{◌≡◌, map};
 ghost use Rattle.event_stamps.specs.declared.Stamp.{Stamp};
 ghost use Rattle.event_stamps.specs.Order.{Before, end_stamp};
 ghost use Rattle.region_messages.specs.Trails.{from};
@@ -8,9 +8,8 @@ ghost use Rattle.local_run.specs.LocalRun.{IsInPlace};
 ghost use Rattle.region_core.specs.Live.{run_in, IsLive, HasRun};
 ghost use Rattle.local_run.specs.Raising.{raised_run, HasNoneWaitingBelow};
 
+use crate::Home;
 use crate::live::Live;
-use crate::rollback::count_before;
-use crate::{Entry, Home};
 use event_stamps::Stamp;
 use region_messages::Trail;
 
@@ -26,23 +25,11 @@ impl Live {
         ensures run { (floor : Stamp) → run_in to self.new ≡ raised_run to (run_in floor self.old) }
     {
         let _home = home;
-        let gone = count_before(&self.log, to);
-        self.inbox.drop_before(to, &self.log[..gone]);
+        let gone = self.log.count_before(to);
+        self.inbox.drop_before(to, &self.log, gone);
         drop_before(&mut self.sent, to);
-        self.saved.drop_before(gone as u64);
-        self.saved.lower(gone as u64);
-        drop_first(&mut self.log, gone);
+        self.log.drop_first(gone);
     }
-}
-
-// Takes away so many entries, the first.
-fn drop_first(log: &mut Vec<Entry>, gone: usize)
-    requires { gone ≤ length log.old.items }
-    ensures { log.new.items ≡ drop gone log.old.items }
-{
-    // Where all are taken away, as is common, no entry moves.
-    log.rotate_left(gone);
-    log.truncate(log.len() - gone);
 }
 
 /// Takes away the messages before a stamp.

@@ -50,7 +50,7 @@ ghost use Rattle.region_core.specs.FirstRows.{first_row};
 ghost use Rattle.local_run.specs.Entries.{native_in, last_stamp};
 ghost use Rattle.local_run.specs.Keeping.{IsKept, entries_of, IsDueIn, SendsTo, HearsOf, IsSent, IsHeard};
 
-use crate::{Entry, Step};
+use crate::Step;
 use cell_grid::Grid;
 use cell_sequence::CellState;
 use fixed_motion::Rules;
@@ -167,7 +167,7 @@ impl Region {
     /// the greatest such number is that. 0 where it is spent. Nothing is claimed of it.
     pub fn room(&self) -> usize {
         match &self.live {
-            Some(live) => live.saved.newest().room(),
+            Some(live) => live.view.room(),
             None => 0,
         }
     }
@@ -177,7 +177,10 @@ impl Region {
         ensures value { result ≡ length (entries_of self.now) }
         ensures kept { IsKept self.now }
     {
-        self.log().len()
+        match &self.live {
+            Some(live) => live.log.len(),
+            None => 0,
+        }
     }
 
     /// The action of an entry, by its place in the log from 0 on. None exactly where there is no such entry,
@@ -186,7 +189,10 @@ impl Region {
         ensures value { result ≡ native_in (slice_get (entries_of self.now) i) }
         ensures kept { IsKept self.now }
     {
-        native_at(self.log(), i)
+        match &self.live {
+            Some(live) => live.log.native(i),
+            None => None,
+        }
     }
 
     /// The row of a disk in the view with which its run begins, at the floor. None exactly where it is spent,
@@ -196,7 +202,7 @@ impl Region {
         ensures kept { IsKept self.now }
     {
         match &self.live {
-            Some(live) => live.saved.first_row(disk),
+            Some(live) => live.log.first_row(&live.view, disk),
             None => None,
         }
     }
@@ -206,7 +212,10 @@ impl Region {
         ensures value { result ≡ last_stamp (entries_of self.now) }
         ensures kept { IsKept self.now }
     {
-        last_stamp(self.log())
+        match &self.live {
+            Some(live) => live.log.last_stamp(),
+            None => None,
+        }
     }
 
     /// The stamp that is due: the least of its own events that may come next and of the messages that wait;
@@ -246,17 +255,6 @@ impl Region {
             None => None,
         }
     }
-
-    // The entries of the log; none where it is spent.
-    fn log(&self) -> &[Entry]
-        ensures value { result.now ≡ entries_of self.now }
-        ensures kept { IsKept self.now }
-    {
-        match &self.live {
-            Some(live) => &live.log,
-            None => &[],
-        }
-    }
 }
 
 // Lets a run go. Kept apart, since all of its room is filled here, and a step seldom comes here.
@@ -266,20 +264,4 @@ pub(crate) fn let_go(live: &mut Option<Live>)
     ensures { live.new ≡ None }
 {
     *live = None;
-}
-
-fn native_at(log: &[Entry], i: usize) -> Option<Action>
-    ensures { result ≡ native_in (slice_get log.now i) }
-{
-    match log.get(i)? {
-        Entry::Native(action) => Some(*action),
-        Entry::Heard { .. } => None,
-    }
-}
-
-pub(crate) fn last_stamp(log: &[Entry]) -> Option<Stamp>
-    ensures { result ≡ last_stamp log.now }
-{
-    let entry = log.last()?;
-    Some(entry.stamp())
 }

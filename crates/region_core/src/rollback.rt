@@ -1,13 +1,14 @@
 //! Rollback: taking back what a region did too early.
 
-ghost use Rattle.std.specs.Prelude.{◌≡◌, ◌≤◌, ◌-◌, length, take, drop, map, OnOk};
+ghost use Rattle.std.specs.Prelude.{◌≡◌, ◌-◌, length, take, map, OnOk};
 ghost use Rattle.event_stamps.specs.declared.Stamp.{Stamp};
 ghost use Rattle.region_view.specs.Placing.{IsValidPlacing};
 ghost use Rattle.region_view.specs.Views.{rows_in};
 ghost use Rattle.region_messages.specs.Trails.{below};
 ghost use Rattle.region_queue.specs.Queue.{IsOf, StandsFor};
-ghost use Rattle.local_run.specs.Entries.{RiseFrom, entries_below, entries_from};
+ghost use Rattle.local_run.specs.Entries.{entries_below};
 ghost use Rattle.local_run.specs.LocalRun.{At, IsInPlace, IsMove, after_entry};
+ghost use Rattle.event_log.specs.Logged.{entries_in};
 ghost use Rattle.region_core.specs.Live.{base_in, IsLive, GoesAlong, HasRun};
 
 use crate::appending::touch;
@@ -30,12 +31,12 @@ impl Live {
         requires live { HasRun home.now self.old }
         ensures base { OnOk result (base_in self.new ≡ base_in self.old) }
         ensures heard { OnOk result (self.new.inbox.heard ≡ self.old.inbox.heard) }
-        ensures log { OnOk result (self.new.log.items ≡ entries_below at self.old.log.items) }
+        ensures log { OnOk result (entries_in self.new.log ≡ entries_below at (entries_in self.old.log)) }
         ensures live { OnOk result ((floor : Stamp) → IsLive home.now floor self.old →
             IsLive home.now floor self.new) }
     {
-        let kept = count_before(&self.log, at);
-        self.inbox.give_back(&self.log[kept..]);
+        let kept = self.log.count_before(at);
+        self.inbox.give_back(&self.log, kept);
         cut_from(&mut self.sent, at);
         self.drop_down_to(alloc, home, kept)?;
         Ok(())
@@ -46,7 +47,7 @@ impl Live {
         requires place { IsInPlace home.now }
         requires along { GoesAlong home.now self.old }
         ensures along { OnOk result (GoesAlong home.now self.new) }
-        ensures log { OnOk result (self.new.log.items ≡ take kept self.old.log.items) }
+        ensures log { OnOk result (self.new.log ≡ take kept self.old.log) }
         ensures base { OnOk result (base_in self.new ≡ base_in self.old) }
         ensures inbox { self.new.inbox ≡ self.old.inbox }
         ensures sent { self.new.sent ≡ self.old.sent }
@@ -62,17 +63,15 @@ impl Live {
         requires place { IsInPlace home.now }
         requires along { GoesAlong home.now self.old }
         ensures along { OnOk result (GoesAlong home.now self.new) }
-        ensures log { OnOk result (self.new.log.items
-            ≡ take (length self.old.log.items - 1) self.old.log.items) }
+        ensures log { OnOk result (self.new.log ≡ take (length self.old.log - 1) self.old.log) }
         ensures base { OnOk result (base_in self.new ≡ base_in self.old) }
         ensures inbox { self.new.inbox ≡ self.old.inbox }
         ensures sent { self.new.sent ≡ self.old.sent }
     {
-        let Some(entry) = self.log.pop() else {
+        let Some(entry) = self.log.take_back(&mut self.view)? else {
             return Ok(());
         };
-        self.saved.drop_after(self.log.len() as u64)?;
-        take_back(alloc, home, &mut self.queue, self.saved.newest(), &entry)
+        take_back(alloc, home, &mut self.queue, &self.view, &entry)
     }
 }
 
@@ -95,16 +94,6 @@ fn take_back(
         Entry::Native(action) => queue.take_back(alloc, view, &action.stamp()),
         Entry::Heard { message, .. } => touch(alloc, queue, view, &message.rows),
     }
-}
-
-/// How many entries of a log, whose stamps rise, are before a stamp.
-pub(crate) fn count_before(log: &[Entry], at: Stamp) -> usize
-    requires { (floor : Stamp) × RiseFrom floor log.now }
-    ensures within { result ≤ length log.now }
-    ensures before { take result log.now ≡ entries_below at log.now }
-    ensures from { drop result log.now ≡ entries_from at log.now }
-{
-    log.partition_point(|entry| entry.stamp() < at)
 }
 
 // Takes away the messages from a stamp on.

@@ -1,6 +1,6 @@
 //! Weaving: a message that comes late is taken in at its place, and what was done since stays.
 
-ghost use Rattle.std.specs.Prelude.{◌≡◌, ◌↔◌, ◌+◌, ◌^◌, ◌<◌, ◌≤◌, ◌++◌, ◌∷◌, [], length, map, take, drop, All, None, IfSome, IfOk, OnOk, IsTrue, false};
+ghost use Rattle.std.specs.Prelude.{◌≡◌, ◌↔◌, ◌<◌, ◌≤◌, ◌∷◌, [], length, take, drop, None, IfSome, IfOk, OnOk, IsTrue};
 ghost use Rattle.event_stamps.specs.Order.{Before};
 ghost use Rattle.cell_grid.specs.Grid.{IsRegion};
 ghost use Rattle.region_view.specs.Placing.{IsValidPlacing};
@@ -9,21 +9,20 @@ ghost use Rattle.region_view.specs.Views.{rows_in};
 ghost use Rattle.region_queue.specs.Queue.{IsOf, StandsFor};
 ghost use Rattle.local_run.specs.Entries.{entries_below, entries_from};
 ghost use Rattle.local_run.specs.LocalRun.{IsInPlace, IsHearable};
+ghost use Rattle.event_log.specs.Logged.{entries_in};
 ghost use Rattle.region_core.specs.Live.{base_in, run_in, IsLive};
 ghost use Rattle.region_core.specs.Weaving.{Weaves, IsSetLate, BeginsAfter, IsTried};
 
 use crate::appending::touch;
-use crate::aside::{first_touched_from, first_with_disk};
+use crate::aside::{first_touched, first_with_disk};
 use crate::live::Live;
 use crate::moves::is_before;
-use crate::region::last_stamp;
-use crate::rollback::count_before;
 use crate::{Entry, Home, MAX_ENTRIES};
+use event_log::EventLog;
 use event_stamps::Stamp;
 use region_messages::Trail;
 use region_queue::Queue;
 use region_view::{Message, Rows, View};
-use saved_states::Saved;
 use std::alloc::{AllocError, Global};
 
 impl Live {
@@ -32,67 +31,62 @@ impl Live {
     /// heard; none where nothing is new any more.
     ///
     /// # Errors
-    /// Out of memory.
+    /// Out of memory: what is left is to be dropped.
     pub(crate) fn weave_news(
-        self,
+        &mut self,
         alloc: Global,
         home: &Home,
         floor: Stamp,
         from: u32,
         sent: &Trail,
         clock: Option<Stamp>,
-    ) -> Result<(Live, Option<Stamp>), AllocError>
+    ) -> Result<Option<Stamp>, AllocError>
         requires place { IsInPlace home.now }
-        requires live { IsLive home.now floor self }
+        requires live { IsLive home.now floor self.old }
         requires region { IsRegion home.now.grid from }
         requires hearable { IsHearable home.now floor from sent.now }
-        ensures live { IfOk result (λ answer. IsLive home.now floor answer.0) }
-        ensures base { IfOk result (λ answer. base_in answer.0 ≡ base_in self) }
+        ensures live { OnOk result (IsLive home.now floor self.new) }
+        ensures base { OnOk result (base_in self.new ≡ base_in self.old) }
     {
-        let mut live = self;
         for _ in 0..MAX_ENTRIES {
-            let Some(at) = live.inbox.first_news(from, sent, clock) else {
-                return Ok((live, None));
+            let Some(at) = self.inbox.first_news(from, sent, clock) else {
+                return Ok(None);
             };
             let Some(message) = sent.at(at) else {
-                return Ok((live, Some(at)));
+                return Ok(Some(at));
             };
-            let (next, is_woven) = live.weave_or_rewind(alloc, home, floor, from, *message)?;
-            live = next;
-            if !is_woven {
-                return Ok((live, Some(at)));
+            if !self.weave_or_rewind(alloc, home, floor, from, *message)? {
+                return Ok(Some(at));
             }
         }
-        let at = live.inbox.first_news(from, sent, clock);
-        Ok((live, at))
+        Ok(self.inbox.first_news(from, sent, clock))
     }
 
     // Takes in a message at its place, or takes back what was done from the first hindrance on. False where it
     // did neither, since there is nothing after the message, or the message itself is the hindrance.
     fn weave_or_rewind(
-        self,
+        &mut self,
         alloc: Global,
         home: &Home,
         floor: Stamp,
         from: u32,
         message: Message,
-    ) -> Result<(Live, bool), AllocError>
+    ) -> Result<bool, AllocError>
         requires place { IsInPlace home.now }
-        requires live { IsLive home.now floor self }
+        requires live { IsLive home.now floor self.old }
         requires region { IsRegion home.now.grid from }
         requires hearable { IsHearable home.now floor from (message ∷ []) }
-        ensures live { IfOk result (λ answer. IsLive home.now floor answer.0) }
-        ensures base { IfOk result (λ answer. base_in answer.0 ≡ base_in self) }
+        ensures live { OnOk result (IsLive home.now floor self.new) }
+        ensures base { OnOk result (base_in self.new ≡ base_in self.old) }
     {
-        let (mut live, hindrance) = self.weave(alloc, home, floor, from, message)?;
-        let Some(at) = hindrance else {
-            return Ok((live, true));
+        let Some(at) = self.weave(alloc, home, floor, from, message)? else {
+            return Ok(true);
         };
         if !is_before(&message.stamp, &at) {
-            return Ok((live, false));
+            return Ok(false);
         }
-        live.rewind(alloc, home, at)?;
-        Ok((live, true))
+        self.rewind(alloc, home, at)?;
+        Ok(true)
     }
 
     /// Takes in a message of a region that comes late at its place in the log, where what was done since has
@@ -100,47 +94,47 @@ impl Live {
     /// of the message where it isn't late, or can't be taken in at all.
     ///
     /// # Errors
-    /// Out of memory.
+    /// Out of memory: what is left is to be dropped.
     pub(crate) fn weave(
-        self,
+        &mut self,
         alloc: Global,
         home: &Home,
         floor: Stamp,
         from: u32,
         message: Message,
-    ) -> Result<(Live, Option<Stamp>), AllocError>
+    ) -> Result<Option<Stamp>, AllocError>
         requires place { IsInPlace home.now }
-        requires live { IsLive home.now floor self }
+        requires live { IsLive home.now floor self.old }
         requires region { IsRegion home.now.grid from }
         requires hearable { IsHearable home.now floor from (message ∷ []) }
-        ensures live { IfOk result (λ answer. IsLive home.now floor answer.0) }
-        ensures weaves { IfOk result (λ answer.
-            Weaves from message (run_in floor self) answer.1 (run_in floor answer.0)) }
-        ensures hindrance { IfOk result (λ answer. IfSome answer.1 (λ at. ¬ Before at message.stamp)) }
+        ensures live { OnOk result (IsLive home.now floor self.new) }
+        ensures weaves { IfOk result (λ hindrance.
+            Weaves from message (run_in floor self.old) hindrance (run_in floor self.new)) }
+        ensures hindrance { IfOk result (λ hindrance. IfSome hindrance (λ at. ¬ Before at message.stamp)) }
     {
-        let (live, hindrance) = self.weave_if_aside(alloc, home, floor, from, message)?;
-        Ok((live, not_before(hindrance, &message.stamp)))
+        let hindrance = self.weave_if_aside(alloc, home, floor, from, message)?;
+        Ok(not_before(hindrance, &message.stamp))
     }
 
     // The same, where the stamp may be one of a native candidate before that of the message.
     fn weave_if_aside(
-        self,
+        &mut self,
         alloc: Global,
         home: &Home,
         floor: Stamp,
         from: u32,
         message: Message,
-    ) -> Result<(Live, Option<Stamp>), AllocError>
+    ) -> Result<Option<Stamp>, AllocError>
         requires place { IsInPlace home.now }
-        requires live { IsLive home.now floor self }
+        requires live { IsLive home.now floor self.old }
         requires region { IsRegion home.now.grid from }
         requires hearable { IsHearable home.now floor from (message ∷ []) }
-        ensures { IfOk result (λ answer. IsLive home.now floor answer.0
-            × Weaves from message (run_in floor self) answer.1 (run_in floor answer.0)) }
+        ensures { IfOk result (λ hindrance. IsLive home.now floor self.new
+            × Weaves from message (run_in floor self.old) hindrance (run_in floor self.new)) }
     {
-        let kept = count_before(&self.log, message.stamp);
+        let kept = self.log.count_before(message.stamp);
         match self.hindrance(from, kept, &message) {
-            Some(at) => Ok((self, Some(at))),
+            Some(at) => Ok(Some(at)),
             None => self.weave_at(alloc, home, floor, from, kept, message),
         }
     }
@@ -148,63 +142,56 @@ impl Live {
     // What keeps a message of a region from coming before the entries from a place on, by the log alone.
     fn hindrance(&self, from: u32, kept: usize, message: &Message) -> Option<Stamp>
         requires heard { from < length self.now.inbox.heard }
-        requires kept { kept ≤ length self.now.log.items }
         ensures { result ≡ None → IsTried from kept message.now self.now }
     {
-        let later = &self.log[kept..];
-        if !begins_after(later, &message.stamp) {
+        if !begins_after(&self.log, kept, &message.stamp) {
             return Some(message.stamp);
         }
         if !self.inbox.is_free(from, message.stamp) {
             return Some(message.stamp);
         }
-        if is_full(&self.log) {
-            return Some(last_stamp(&self.log).unwrap_or(message.stamp));
+        if self.log.len() >= MAX_ENTRIES {
+            return Some(self.log.last_stamp().unwrap_or(message.stamp));
         }
-        first_with_disk(later, &message.rows)
+        first_with_disk(&self.log, kept, &message.rows)
     }
 
     // The same before the entries from a place on, where the log alone is no hindrance.
     fn weave_at(
-        self,
+        &mut self,
         alloc: Global,
         home: &Home,
         floor: Stamp,
         from: u32,
         kept: usize,
         message: Message,
-    ) -> Result<(Live, Option<Stamp>), AllocError>
+    ) -> Result<Option<Stamp>, AllocError>
         requires place { IsInPlace home.now }
-        requires live { IsLive home.now floor self }
+        requires live { IsLive home.now floor self.old }
         requires region { IsRegion home.now.grid from }
         requires hearable { IsHearable home.now floor from (message ∷ []) }
-        requires below { take kept self.log.items ≡ entries_below message.stamp self.log.items }
-        requires rest { drop kept self.log.items ≡ entries_from message.stamp self.log.items }
-        requires within { kept ≤ length self.log.items }
-        requires tried { IsTried from kept message self }
-        ensures { IfOk result (λ answer. IsLive home.now floor answer.0
-            × Weaves from message (run_in floor self) answer.1 (run_in floor answer.0)) }
+        requires below { take kept (entries_in self.old.log) ≡ entries_below message.stamp (entries_in self.old.log) }
+        requires rest { drop kept (entries_in self.old.log) ≡ entries_from message.stamp (entries_in self.old.log) }
+        requires within { kept ≤ length self.old.log }
+        requires tried { IsTried from kept message self.old }
+        ensures { IfOk result (λ hindrance. IsLive home.now floor self.new
+            × Weaves from message (run_in floor self.old) hindrance (run_in floor self.new)) }
     {
         let _floor = floor;
-        let Some(last) = last_stamp(&self.log) else {
-            return Ok((self, Some(message.stamp)));
+        let Some(last) = self.log.last_stamp() else {
+            return Ok(Some(message.stamp));
         };
-        let mut live = self;
-        let (first, mut newest, mut steps) = live.saved.into_parts();
-        if let Some(at) = first_touched_from(&live.log, &steps, kept, &message.rows, home) {
-            live.saved = Saved::from_parts(first, newest, steps);
-            return Ok((live, Some(at)));
+        if let Some(at) = first_touched(&self.log, kept, &message.rows, home) {
+            return Ok(Some(at));
         }
         let mut back = message.rows;
-        if let Some(at) = set_late(alloc, &mut live.queue, &mut newest, &mut back, &last)? {
-            live.saved = Saved::from_parts(first, newest, steps);
-            return Ok((live, Some(at)));
+        if let Some(at) = set_late(alloc, &mut self.queue, &mut self.view, &mut back, &last)? {
+            return Ok(Some(at));
         }
-        put_step(&mut steps, kept, back)?;
-        live.saved = Saved::from_parts(first, newest, steps);
-        live.log.insert(kept, Entry::Heard { from, message })?;
-        live.inbox.weave(from, message)?;
-        Ok((live, None))
+        let entry = Entry::Heard { from, message };
+        self.log.insert(kept, &entry, &back)?;
+        self.inbox.weave(from, message)?;
+        Ok(None)
     }
 }
 
@@ -221,21 +208,11 @@ fn not_before(at: Option<Stamp>, least: &Stamp) -> Option<Stamp>
     }
 }
 
-// Whether there is no room for one more entry.
-fn is_full(log: &[Entry]) -> bool
-    ensures { result ≡ false → length log.now < MAX_ENTRIES }
+// Whether there is an entry at a place of a log, and it comes after a stamp.
+fn begins_after(log: &EventLog, kept: usize, at: &Stamp) -> bool
+    ensures { IsTrue result → BeginsAfter at.now (drop kept (entries_in log.now)) }
 {
-    log.len() >= MAX_ENTRIES
-}
-
-// Whether there is an entry, and the first one comes after a stamp.
-fn begins_after(entries: &[Entry], at: &Stamp) -> bool
-    ensures { IsTrue result → BeginsAfter at.now entries.now }
-{
-    match entries.first() {
-        Some(entry) => is_before(at, &entry.stamp()),
-        None => false,
-    }
+    kept < log.len() && is_before(at, &log.stamp(kept))
 }
 
 // Sets rows in a view, and tells the queue of it. Where a native candidate isn't after a stamp then, it undoes
@@ -273,28 +250,5 @@ fn not_after(least: Option<Stamp>, last: &Stamp) -> Option<Stamp>
         None
     } else {
         Some(stamp)
-    }
-}
-
-// Puts a step in the middle of others, so many of which come before it: those after it are one position later.
-fn put_step(steps: &mut Vec<(u64, Rows)>, kept: usize, back: Rows) -> Result<(), AllocError>
-    requires kept { kept ≤ length steps.old.items }
-    requires few { kept < 2 ^ 32 }
-    requires small { All (λ step. step.0 < 2 ^ 32) steps.old.items }
-    ensures { OnOk result (steps.new.items ≡ take kept steps.old.items
-        ++ (kept + 1, back) ∷ map (λ step. (step.0 + 1, step.1)) (drop kept steps.old.items)) }
-{
-    raise(&mut steps[kept..]);
-    steps.insert(kept, (kept as u64 + 1, back))?;
-    Ok(())
-}
-
-// Makes each position of some steps one greater.
-fn raise(steps: &mut [(u64, Rows)])
-    requires { All (λ step. step.0 < 2 ^ 32) steps.old }
-    ensures { steps.new ≡ map (λ step. (step.0 + 1, step.1)) steps.old }
-{
-    for step in steps.iter_mut() {
-        step.0 += 1;
     }
 }

@@ -1,40 +1,46 @@
 //! What a rollback and a hearing make of the input queue.
 
-ghost use Rattle.std.specs.Prelude.{◌≡◌, ◌↔◌, ℕ, ◌+◌, ◌<◌, ◌≤◌, length, get_or, slice_set, map, MatchOption, OnOk, IsTrue};
+ghost use Rattle.std.specs.Prelude.{◌≡◌, ◌↔◌, ℕ, ◌+◌, ◌<◌, ◌≤◌, length, get_or, slice_set, take, drop, map, MatchOption, OnOk, IsTrue};
 ghost use Rattle.region_messages.specs.Trails.{AgreesUpTo, IsFree, with_message, from};
 ghost use Rattle.local_run.specs.LocalRun.{trail_of};
 ghost use Rattle.region_core.specs.Inbox.{taken_from};
 ghost use Rattle.region_core.specs.Replaced.{mixed};
 ghost use Rattle.local_run.specs.Taken.{taken_of};
+ghost use Rattle.event_log.specs.Logged.{entries_in};
 
+use crate::MAX_ENTRIES;
 use crate::inbox::Inbox;
 use crate::raising::drop_before;
-use crate::{Entry, MAX_ENTRIES};
+use event_log::EventLog;
 use event_stamps::Stamp;
 use region_messages::{Trail, first_disagreement, first_news};
 use region_view::Message;
 use std::alloc::{AllocError, Global};
 
 impl Inbox {
-    /// Takes back that some entries took messages in: these wait again.
-    pub(crate) fn give_back(&mut self, entries: &[Entry])
-        requires { (q : ℕ) → taken_of q entries.now ≤ taken_from self.old q }
+    /// Takes back that the entries of a log from a place on took messages in: these wait again.
+    pub(crate) fn give_back(&mut self, log: &EventLog, kept: usize)
+        requires kept { kept ≤ length log.now }
+        requires taken { (q : ℕ) → taken_of q (drop kept (entries_in log.now)) ≤ taken_from self.old q }
         ensures heard { self.new.heard ≡ self.old.heard }
         ensures counts { length self.new.taken ≡ length self.old.taken }
-        ensures taken { (q : ℕ) → taken_from self.new q + taken_of q entries.now ≡ taken_from self.old q }
+        ensures taken { (q : ℕ) → taken_from self.new q + taken_of q (drop kept (entries_in log.now))
+            ≡ taken_from self.old q }
     {
-        count_down(&mut self.taken, entries);
+        count_down(&mut self.taken, log, kept, log.len());
     }
 
-    /// Takes away the messages before a stamp, those that some entries took in.
-    pub(crate) fn drop_before(&mut self, to: Stamp, entries: &[Entry])
-        requires { (q : ℕ) → taken_of q entries.now ≤ taken_from self.old q }
+    /// Takes away the messages before a stamp, those that the first entries of a log, so many, took in.
+    pub(crate) fn drop_before(&mut self, to: Stamp, log: &EventLog, gone: usize)
+        requires gone { gone ≤ length log.now }
+        requires taken { (q : ℕ) → taken_of q (take gone (entries_in log.now)) ≤ taken_from self.old q }
         ensures heard { self.new.heard ≡ map (from to) self.old.heard }
         ensures counts { length self.new.taken ≡ length self.old.taken }
-        ensures taken { (q : ℕ) → taken_from self.new q + taken_of q entries.now ≡ taken_from self.old q }
+        ensures taken { (q : ℕ) → taken_from self.new q + taken_of q (take gone (entries_in log.now))
+            ≡ taken_from self.old q }
     {
         drop_before(&mut self.heard, to);
-        count_down(&mut self.taken, entries);
+        count_down(&mut self.taken, log, 0, gone);
     }
 
     /// From which stamp on what a region sends differs from what was heard from it; none where it is the
@@ -97,14 +103,19 @@ impl Inbox {
     }
 }
 
-// Counts one less for each message that some entries took in, by the number of the region.
-fn count_down(counts: &mut [usize], entries: &[Entry])
-    requires { (q : ℕ) → taken_of q entries.now ≤ get_or counts.old q 0 }
-    ensures { (q : ℕ) → get_or counts.new q 0 + taken_of q entries.now ≡ get_or counts.old q 0 }
+// Counts one less for each message that the entries of a log from a place on and before another took in, by the
+// number of the region.
+fn count_down(counts: &mut [usize], log: &EventLog, from: usize, end: usize)
+    requires order { from ≤ end }
+    requires within { end ≤ length log.now }
+    requires taken { (q : ℕ) → taken_of q (take end (entries_in log.now))
+        ≤ get_or counts.old q 0 + taken_of q (take from (entries_in log.now)) }
+    ensures { (q : ℕ) → get_or counts.new q 0 + taken_of q (take end (entries_in log.now))
+        ≡ get_or counts.old q 0 + taken_of q (take from (entries_in log.now)) }
 {
-    for entry in entries {
-        if let Entry::Heard { from, .. } = entry {
-            counts[*from as usize] -= 1;
+    for i in from..end {
+        if let Some(sender) = log.sender(i) {
+            counts[sender as usize] -= 1;
         }
     }
 }

@@ -2,21 +2,21 @@
 
 ghost use Rattle.std.specs.Prelude.{◌≡◌, ◌↔◌, ℕ, ◌<◌, ◌≤◌, length, slice_get, option_copied, Some, IsTrue, MatchOption};
 ghost use Rattle.std.specs.FinMap as map;
-ghost use Rattle.saved_states.specs.Positions.{first_view};
 ghost use Rattle.region_view.specs.declared.action.Placed.{Placed};
 ghost use Rattle.cell_grid.specs.Grid.{HasSizes, IsRegion, IsCell, IsStripOf, Reaches, column_of};
 ghost use Rattle.region_view.specs.Laws.{HasCells};
 ghost use Rattle.region_view.specs.Views.{IsViewOf, IsNextRow};
 ghost use Rattle.local_run.specs.Keeping.{IsKept};
 ghost use Rattle.local_run.specs.Standing.{TellsStanding, SeesRow, IsUnseenFirst};
+ghost use Rattle.region_core.specs.Live.{base_in};
 
 use crate::Differs;
+use crate::live::Live;
 use crate::region::Region;
 use cell_grid::{Grid, Strip};
 use cell_sequence::CellState;
 use fixed_motion::MAX_DISKS;
 use region_view::Placed;
-use saved_states::Saved;
 
 impl Region {
     /// Whether it stands on a cell state with a number: it is the region of this number, with the rules, the
@@ -52,44 +52,46 @@ impl Region {
                 given: self.floor(),
             });
         }
-        match first_apart(&live.saved, state.placed(), grid, number) {
+        match first_apart(live, state.placed(), grid, number) {
             Some(disk) => Err(Differs::Row(disk)),
             None => Ok(()),
         }
     }
 }
 
-// The least number at which the first of saved views isn't what a region sees of placed disks; none where it is
-// that.
-fn first_apart(saved: &Saved, placed: &[Placed], grid: &Grid, number: u32) -> Option<u32>
+// The least number at which the view at the floor isn't what a region sees of placed disks; none where it is that.
+fn first_apart(live: &Live, placed: &[Placed], grid: &Grid, number: u32) -> Option<u32>
     requires region { IsRegion grid.now number }
     requires cells { HasCells grid.now (slice_get placed.now) }
     requires count { length placed.now ≤ 65536 }
-    requires few { (i : ℕ) (p : Placed) → map.get (first_view saved.now) i ≡ Some p → i < 65536 }
-    ensures { MatchOption result (IsViewOf grid.now number (slice_get placed.now) (first_view saved.now))
-        (IsUnseenFirst grid.now number (slice_get placed.now) (first_view saved.now)) }
+    requires few { (i : ℕ) (p : Placed) → map.get (base_in live.now) i ≡ Some p → i < 65536 }
+    ensures { MatchOption result (IsViewOf grid.now number (slice_get placed.now) (base_in live.now))
+        (IsUnseenFirst grid.now number (slice_get placed.now) (base_in live.now)) }
 {
     // Once for all rows, since these take divisions and the rows are many.
     let strip = grid.strip(number);
     let factor = u32::MAX / grid.columns();
     for (i, row) in placed.iter().enumerate() {
         let disk = i as u32;
-        if !is_same(saved.first_row(disk), seen_of(row, grid, strip, factor)) {
+        if !is_same(
+            live.log.first_row(&live.view, disk),
+            seen_of(row, grid, strip, factor),
+        ) {
             return Some(disk);
         }
     }
-    let (disk, _) = next_first_row(saved, placed.len())?;
+    let (disk, _) = next_first_row(live, placed.len())?;
     Some(disk)
 }
 
-// The first disk from a number on that has a row in the first of saved views: its number and the row.
-fn next_first_row(saved: &Saved, from: usize) -> Option<(u32, Placed)>
-    requires few { (i : ℕ) (p : Placed) → map.get (first_view saved.now) i ≡ Some p → i < 65536 }
-    ensures { IsNextRow (first_view saved.now) from result }
+// The first disk from a number on that has a row in the view at the floor: its number and the row.
+fn next_first_row(live: &Live, from: usize) -> Option<(u32, Placed)>
+    requires few { (i : ℕ) (p : Placed) → map.get (base_in live.now) i ≡ Some p → i < 65536 }
+    ensures { IsNextRow (base_in live.now) from result }
 {
-    let end = saved.first_room().min(MAX_DISKS);
+    let end = live.log.first_room(&live.view).min(MAX_DISKS);
     for disk in from..end {
-        if let Some(row) = saved.first_row(disk as u32) {
+        if let Some(row) = live.log.first_row(&live.view, disk as u32) {
             return Some((disk as u32, row));
         }
     }

@@ -1,15 +1,8 @@
-use Rattle.std.proofs.Common.{sym, subst}
-use Rattle.event_stamps.specs.declared.Stamp.{Stamp}
-use Rattle.region_view.specs.Naming.{Names}
-use Rattle.local_run.specs.declared.entry.Entry.{Entry}
-use Rattle.local_run.specs.Weaving.{HasDisk}
+use Rattle.std.proofs.Common.{slice_get, ◌∙◌, sym}
+use Rattle.event_log.specs.Logged.{entries_in}
+use Rattle.region_core.proofs.Tests.{named_at}
 use Rattle.region_core.proofs.aside.has_disk.Goals as goal
 
-pub returns-in-Native : goal.returns-in-Native
-returns-in-Native c = λ off i has. c.names_any.ensures off i
-    (subst (λ (s : Stamp). Names s i) (sym c.stamp.ensures)
-    (subst (λ (e : Entry). HasDisk e i) c.in-Native.is has))
-
-pub returns-in-Heard : goal.returns-in-Heard
-returns-in-Heard c = λ off i has. c.have_common.ensures off i
-    (subst (λ (e : Entry). HasDisk e i) c.in-Heard.is has)
+pub returns-in-Some : goal.returns-in-Some
+returns-in-Some c = λ off. named_at c.args.rows.now (slice_get (entries_in c.args.log.now) c.args.i) c.in-Some.stamp
+    (sym c.in-Some.is ∙ c.native_stamp.ensures) (c.names_any.ensures off)

@@ -1,11 +1,11 @@
-use Rattle.std.proofs.Common.{refl}
+use Rattle.std.proofs.Common.{◌∙◌, sym, refl}
 use Rattle.region_core.proofs.News.{none_there, ends_there}
 use Rattle.region_core.proofs.hearing.ends_before.Goals as goal
 
 pub returns-in-Some : goal.returns-in-Some
-returns-in-Some c =
-    ends_there c.requires.0 c.args.at c.in-Some.stamp c.args.log.now c.is_before.result
-    c.requires.1 c.in-Some.ensures c.is_before.ensures
+returns-in-Some c = λ floor log rises last.
+    ends_there floor c.args.at c.in-Some.stamp log c.is_before.result rises (sym c.in-Some.is ∙ last) c.is_before.ensures
 
 pub returns-in-None : goal.returns-in-None
-returns-in-None c = (λ h. none_there c.args.at c.args.log.now c.in-None.ensures, λ e. refl)
+returns-in-None c = λ floor log rises last.
+    (λ h. none_there c.args.at log (sym c.in-None.is ∙ last), λ e. refl)

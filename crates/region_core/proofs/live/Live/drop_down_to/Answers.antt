@@ -8,7 +8,7 @@ loop-alloc-preserved c =
     record {
       along = c.in_ok-drop_last.ensures.along;
       left = ap (take c.args.kept) c.in_ok-drop_last.ensures.log
-          ∙ take-take c.args.kept (length c.loop-alloc.self.log.items - 1) c.loop-alloc.self.log.items (omega arith)
+          ∙ take-take c.args.kept (length c.loop-alloc.self.log - 1) c.loop-alloc.self.log (omega arith)
           ∙ c.loop-alloc.invariant.left;
       base = c.in_ok-drop_last.ensures.base ∙ c.loop-alloc.invariant.base;
       inbox = c.drop_last.ensures.inbox ∙ c.loop-alloc.invariant.inbox;

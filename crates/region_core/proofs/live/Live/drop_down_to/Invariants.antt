@@ -1,4 +1,4 @@
--- What is to be left is there still, with its views and its queue.
+-- What is to be left is there still, with its view and its queue.
 use Rattle.std.proofs.Common.{◌≡◌, length, take}
 use Rattle.region_core.specs.Live.{base_in, GoesAlong}
 use Rattle.region_core.proofs.live.Live.drop_down_to.Given as goal
@@ -6,11 +6,11 @@ use Rattle.region_core.proofs.live.Live.drop_down_to.Given as goal
 abbrev pub invariant-loop-alloc : goal.invariant-loop-alloc
 invariant-loop-alloc l = record {
   along : GoesAlong l.home l.self;
-  left : take l.kept l.self.log.items ≡ take l.kept l.fn.self.log.items;
+  left : take l.kept l.self.log ≡ take l.kept l.fn.self.log;
   base : base_in l.self ≡ base_in l.fn.self;
   inbox : l.self.inbox ≡ l.fn.self.inbox;
   sent : l.self.sent ≡ l.fn.self.sent;
 }
 
 abbrev pub decreases-loop-alloc : goal.decreases-loop-alloc
-decreases-loop-alloc l = length l.self.log.items
+decreases-loop-alloc l = length l.self.log

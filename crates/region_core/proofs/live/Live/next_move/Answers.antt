@@ -1,33 +1,45 @@
 use Rattle.std.proofs.Common.{Option, refl, ap, ◌∙◌, sym, subst, arith}
 use Rattle.std.proofs.lemmas.Bool.{false≢true}
+use Rattle.std.specs.Prelude.{unwrap_or}
 use Rattle.event_stamps.specs.declared.Stamp.{Stamp}
 use Rattle.event_stamps.specs.Least.{IsLeastOf}
 use Rattle.local_run.specs.LocalRun.{IsOffered}
-use Rattle.local_run.specs.Entries.{clock_of, last_stamp}
+use Rattle.event_log.specs.Logged.{entries_in}
 use Rattle.region_core.specs.Live.{run_in, now_in}
 use Rattle.local_run.specs.Moves.{ComesAfter}
+use Rattle.region_core.proofs.Traced.{last_stamp_is, clock_is, as_many}
 use Rattle.region_core.proofs.NextMove.{turn_by}
 use Rattle.region_core.proofs.live.Live.next_move.Goals as goal
 
 pub returns-then-not-is_in_turn : goal.returns-then-not-is_in_turn
 returns-then-not-is_in_turn c =
     let r = run_in c.args.floor c.args.self.now in
-    let clock = c.last_stamp.ensures ∙ ap last_stamp c.deref.ensures.value in (
+    let last = c.last_stamp-last.ensures ∙ last_stamp_is c.args.self.now.log in
+    let many = as_many c.args.self.now.log in (
       (
         omega (arith, c.if-len-ge-MAX_ENTRIES.false, c.len.ensures),
         subst (IsLeastOf (IsOffered c.args.home.now (now_in c.args.self.now))) c.in-Some.is c.requires.due,
       ),
       λ turn. false≢true (sym c.if-not-is_in_turn.true ∙ c.is_in_turn.ensures.1
-          (subst (λ (o : Option Stamp). ComesAfter c.args.floor o c.in-Some.due) (sym clock)
+          (subst (λ (o : Option Stamp). ComesAfter c.args.floor o c.in-Some.due) (sym last)
           ((turn_by r c.in-Some.due).1 turn))),
-      c.clock-clock.ensures ∙ ap (clock_of c.args.floor) c.deref-then-not-is_in_turn.ensures.value,
+      c.unwrap_or-clock.ensures ∙ ap (λ (o : Option Stamp). unwrap_or o c.args.floor) last
+          ∙ clock_is c.args.floor (entries_in c.args.self.now.log),
       refl,
     )
 
 pub message_move-requires-clause-turn : goal.message_move-requires-clause-turn
 message_move-requires-clause-turn c =
     let r = run_in c.args.floor c.args.self.now in
-    let clock = c.last_stamp.ensures ∙ ap last_stamp c.deref.ensures.value in
+    let last = c.last_stamp-last.ensures ∙ last_stamp_is c.args.self.now.log in
     (turn_by r c.in-Some.due).0
-    (subst (λ (o : Option Stamp). ComesAfter c.args.floor o c.in-Some.due) clock
+    (subst (λ (o : Option Stamp). ComesAfter c.args.floor o c.in-Some.due) last
+    (c.is_in_turn.ensures.0 c.if-not-is_in_turn.false))
+
+pub event_move-requires-clause-turn : goal.event_move-requires-clause-turn
+event_move-requires-clause-turn c =
+    let r = run_in c.args.floor c.args.self.now in
+    let last = c.last_stamp-last.ensures ∙ last_stamp_is c.args.self.now.log in
+    (turn_by r c.in-Some.due).0
+    (subst (λ (o : Option Stamp). ComesAfter c.args.floor o c.in-Some.due) last
     (c.is_in_turn.ensures.0 c.if-not-is_in_turn.false))

@@ -12,6 +12,7 @@ use Rattle.cell_sequence.proofs.Orderly.{cell_states_are_orderly}
 use Rattle.local_run.specs.declared.home.Home.{Home}
 use Rattle.local_run.specs.LocalRun.{IsInPlace}
 use Rattle.local_run.proofs.Opened.{view_valid, state_place, empty_run}
+use Rattle.event_log.specs.Logged.{entries_in}
 use Rattle.region_core.specs.Live.{run_in}
 use Rattle.region_core.proofs.region.Region.open.Goals as goal
 
@@ -99,5 +100,5 @@ returns c = record {
       floor = c.floor.ensures.value i;
       base = c.in_ok-live.ensures.base i;
       heard = (c.in_ok-live.ensures.heard ∙ ap (λ (grid : GridData). replicate grid.regions []) c.grid.ensures.value) i;
-      log = c.in_ok-live.ensures.log i;
+      log = ap entries_in c.in_ok-live.ensures.log i;
     }

@@ -4,14 +4,14 @@ use Rattle.region_view.specs.declared.action.Placed.{Placed}
 use Rattle.std.proofs.lemmas.Bool.{false≢true}
 use Rattle.region_view.proofs.Seen.{no_row, row_at}
 use Rattle.region_view.specs.Views.{IsViewOf}
-use Rattle.saved_states.specs.Positions.{first_view}
+use Rattle.region_core.specs.Live.{base_in}
 use Rattle.local_run.specs.Standing.{IsUnseenFirst}
 use Rattle.region_core.proofs.Stands.{seen_at, sees_all, unseen_past}
 use Rattle.region_core.proofs.region.standing.first_apart.Goals as goal
 
 pub returns-then-not-is_same : goal.returns-then-not-is_same
 returns-then-not-is_same c =
-    let sees = seen_at c.args.grid.now c.args.number c.args.placed.now (first_view c.args.saved.now) c.loop-i.i
+    let sees = seen_at c.args.grid.now c.args.number c.args.placed.now (base_in c.args.live.now) c.loop-i.i
     (get_or c.args.placed.now c.loop-i.i no_row) (option_copied c.seen_of.result) c.is_same.result
     (row_at c.args.placed.now c.loop-i.i c.loop-i-test.true)
     (c.seen_of.ensures c.args.number c.strip-strip.ensures.strip)
@@ -21,7 +21,7 @@ returns-then-not-is_same c =
 
 pub loop-i-preserved : goal.loop-i-preserved
 loop-i-preserved c =
-    let sees = seen_at c.args.grid.now c.args.number c.args.placed.now (first_view c.args.saved.now) c.loop-i.i
+    let sees = seen_at c.args.grid.now c.args.number c.args.placed.now (base_in c.args.live.now) c.loop-i.i
     (get_or c.args.placed.now c.loop-i.i no_row) (option_copied c.seen_of.result) c.is_same.result
     (row_at c.args.placed.now c.loop-i.i c.loop-i-test.true)
     (c.seen_of.ensures c.args.number c.strip-strip.ensures.strip)
@@ -32,13 +32,13 @@ loop-i-preserved c =
 pub returns-in_err-disk : goal.returns-in_err-disk
 returns-in_err-disk c =
     subst (λ (o : Option ℕ). MatchOption o
-    (IsViewOf c.args.grid.now c.args.number (slice_get c.args.placed.now) (first_view c.args.saved.now))
-    (IsUnseenFirst c.args.grid.now c.args.number (slice_get c.args.placed.now) (first_view c.args.saved.now)))
+    (IsViewOf c.args.grid.now c.args.number (slice_get c.args.placed.now) (base_in c.args.live.now))
+    (IsUnseenFirst c.args.grid.now c.args.number (slice_get c.args.placed.now) (base_in c.args.live.now)))
     (sym c.from_residual.ensures)
-    (sees_all c.args.grid.now c.args.number c.args.placed.now (first_view c.args.saved.now)
+    (sees_all c.args.grid.now c.args.number c.args.placed.now (base_in c.args.live.now)
     (λ i lt. c.loop-i.invariant i (omega arith)) c.in_err-disk.ensures)
 
 pub returns : goal.returns
-returns c = unseen_past c.args.grid.now c.args.number c.args.placed.now (first_view c.args.saved.now)
+returns c = unseen_past c.args.grid.now c.args.number c.args.placed.now (base_in c.args.live.now)
     c.in_ok-disk.disk c.in_ok-disk.field-0-1 (λ i lt. c.loop-i.invariant i (omega arith))
     c.in_ok-disk.ensures.0 c.in_ok-disk.ensures.1 c.in_ok-disk.ensures.2
