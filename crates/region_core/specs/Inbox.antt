@@ -11,6 +11,10 @@ pub record InboxData : Type 0 where
   pub heard : Trails
   pub taken : List ℕ
 
+-- what was heard and what was taken in, together
+abbrev pub inbox_of : Trails → List ℕ → InboxData
+inbox_of heard taken = record { heard = heard; taken = taken }
+
 -- so many of both
 abbrev pub HasSizes : ℕ → InboxData → Type 0
 HasSizes regions inbox = (length inbox.heard ≡ regions) × (length inbox.taken ≡ regions)
@@ -45,6 +49,11 @@ abbrev pub IsLeastHead : InboxData → Option (ℕ × Stamp) → Type 0
 IsLeastHead inbox None = (q : ℕ) → next_from inbox q ≡ None
 IsLeastHead inbox (Some head) = IsFirstOf inbox head.0 head.1
     × ((q : ℕ) (m : Message) → next_from inbox q ≡ Some m → ¬ Before m.stamp head.1)
+
+-- of so many regions, and this is the least of their first messages
+pub record HasHead (regions : ℕ) (head : Option (ℕ × Stamp)) (inbox : InboxData) : Type 0 where
+  pub sizes : HasSizes regions inbox
+  pub least : IsLeastHead inbox head
 
 -- the first message of another region has this stamp
 abbrev pub IsSharedHead : InboxData → ℕ → Stamp → Type 0

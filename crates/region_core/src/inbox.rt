@@ -12,20 +12,22 @@ pub(crate) struct Inbox {
     regions: u32,
     heard: Vec<Trail>,
     taken: Vec<usize>,
+    // The least of the first messages, which each step asks for.
+    head: Option<(u32, Stamp)>,
 }
 
 impl Model for Inbox {
-    ghost use Rattle.region_core.specs.Inbox.{InboxData, HasSizes};
+    ghost use Rattle.region_core.specs.Inbox.{InboxData, HasHead};
 
     ghost Value = { InboxData };
 
     ghost view = { λ a. record { heard = a.heard.items; taken = a.taken.items } };
 
-    ghost invariant = { λ a. HasSizes a.regions (record { heard = a.heard.items; taken = a.taken.items }) };
+    ghost invariant = { λ a. HasHead a.regions a.head (record { heard = a.heard.items; taken = a.taken.items }) };
 }
 
-ghost use Rattle.std.specs.Prelude.{◌≡◌, ◌↔◌, ◌<◌, [], replicate, None, false, option_copied, slice_get, IfOk, IsSome, IsTrue};
-ghost use Rattle.region_core.specs.Inbox.{empty_inbox, taken_from, next_from, with_taken, nearer_of, IsLeastHead, HasStamp, IsSharedHead};
+ghost use Rattle.std.specs.Prelude.{◌≡◌, ◌↔◌, ◌<◌, [], length, replicate, option_copied, slice_get, IfOk, IsSome, IsTrue};
+ghost use Rattle.region_core.specs.Inbox.{HasSizes, inbox_of, empty_inbox, taken_from, next_from, with_taken, nearer_of, IsLeastHead, HasStamp, IsSharedHead};
 
 use crate::MAX_ENTRIES;
 use event_stamps::Stamp;
@@ -45,6 +47,7 @@ impl Inbox {
             regions,
             heard: empty_trails(alloc, regions)?,
             taken,
+            head: None,
         })
     }
 
@@ -59,8 +62,7 @@ impl Inbox {
     pub(crate) fn next(&self, from: u32) -> Option<&Message>
         ensures { option_copied result ≡ next_from self.now from }
     {
-        let taken = self.taken.get(from as usize)?;
-        self.heard.get(from as usize)?.get(*taken)
+        first_of(&self.heard, &self.taken, from)
     }
 
     /// The least stamp of the first messages of all regions, with the region; of those with one stamp, the
@@ -69,36 +71,7 @@ impl Inbox {
     pub(crate) fn least(&self) -> Option<(u32, Stamp)>
         ensures { IsLeastHead self.now result }
     {
-        if self.has_next() {
-            self.least_of_all()
-        } else {
-            None
-        }
-    }
-
-    // Whether there is a first message of any region. There mostly is none.
-    #[inline(always)]
-    fn has_next(&self) -> bool
-        ensures { result ≡ false → IsLeastHead self.now None }
-    {
-        for from in 0..self.regions {
-            if self.next(from).is_some() {
-                return true;
-            }
-        }
-        false
-    }
-
-    // The same as `least`, by a look at each region.
-    #[inline(never)]
-    fn least_of_all(&self) -> Option<(u32, Stamp)>
-        ensures { IsLeastHead self.now result }
-    {
-        let mut least = None;
-        for from in 0..self.regions {
-            least = nearer(least, from, self.next(from));
-        }
-        least
+        self.head
     }
 
     /// Whether the first message of another region has this stamp.
@@ -120,6 +93,7 @@ impl Inbox {
         ensures { self.new ≡ with_taken self.old from }
     {
         self.taken[from as usize] += 1;
+        self.head = least_head(self.regions, &self.heard, &self.taken);
     }
 }
 
@@ -132,6 +106,29 @@ pub(crate) fn empty_trails(alloc: Global, count: u32) -> Result<Vec<Trail>, Allo
         trails.push(Trail::new(alloc))?;
     }
     Ok(trails)
+}
+
+// The first message of a region that wasn't taken in, of what was heard and taken in of all.
+#[inline(always)]
+fn first_of<'a>(heard: &'a [Trail], taken: &[usize], from: u32) -> Option<&'a Message>
+    requires { length heard.now ≡ length taken.now }
+    ensures { option_copied result ≡ next_from (inbox_of heard.now taken.now) from }
+{
+    let count = taken.get(from as usize)?;
+    heard.get(from as usize)?.get(*count)
+}
+
+// The least stamp of the first messages, by a look at each region, of which there are so many.
+#[inline(never)]
+fn least_head(regions: u32, heard: &[Trail], taken: &[usize]) -> Option<(u32, Stamp)>
+    requires { HasSizes regions (inbox_of heard.now taken.now) }
+    ensures { IsLeastHead (inbox_of heard.now taken.now) result }
+{
+    let mut least = None;
+    for from in 0..regions {
+        least = nearer(least, from, first_of(heard, taken, from));
+    }
+    least
 }
 
 fn nearer(least: Option<(u32, Stamp)>, from: u32, next: Option<&Message>) -> Option<(u32, Stamp)>

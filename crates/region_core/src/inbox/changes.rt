@@ -9,7 +9,7 @@ ghost use Rattle.local_run.specs.Taken.{taken_of};
 ghost use Rattle.event_log.specs.Logged.{entries_in};
 
 use crate::MAX_ENTRIES;
-use crate::inbox::Inbox;
+use crate::inbox::{Inbox, least_head};
 use crate::raising::drop_before;
 use event_log::EventLog;
 use event_stamps::Stamp;
@@ -28,6 +28,7 @@ impl Inbox {
             ≡ taken_from self.old q }
     {
         count_down(&mut self.taken, log, kept, log.len());
+        self.head = least_head(self.regions, &self.heard, &self.taken);
     }
 
     /// Takes away the messages before a stamp, those that the first entries of a log, so many, took in.
@@ -41,6 +42,7 @@ impl Inbox {
     {
         drop_before(&mut self.heard, to);
         count_down(&mut self.taken, log, 0, gone);
+        self.head = least_head(self.regions, &self.heard, &self.taken);
     }
 
     /// From which stamp on what a region sends differs from what was heard from it; none where it is the
@@ -86,6 +88,7 @@ impl Inbox {
     {
         self.heard[from as usize].insert(message)?;
         self.taken[from as usize] += 1;
+        self.head = least_head(self.regions, &self.heard, &self.taken);
         Ok(())
     }
 
@@ -99,7 +102,9 @@ impl Inbox {
             ≡ slice_set self.old.heard from (mixed at (trail_of self.old.heard from) sent.now)) }
         ensures taken { OnOk result (self.new.taken ≡ self.old.taken) }
     {
-        self.heard[from as usize].replace_from(at, sent)
+        let replaced = self.heard[from as usize].replace_from(at, sent);
+        self.head = least_head(self.regions, &self.heard, &self.taken);
+        replaced
     }
 }
 
