@@ -1,6 +1,5 @@
 -- What is set below the count is set among those that are gathered.
-use Rattle.std.proofs.Common.{◌≡◌, ℕ, zero, suc, ◌<◌, List, [], ◌∷◌, length, take, set, arith, refl, sym, subst, ap, ◌∙◌}
-use Rattle.std.proofs.lemmas.List.{length-take}
+use Rattle.std.proofs.Common.{◌≡◌, ℕ, zero, suc, List, [], ◌∷◌, take, set, refl, ap, ◌∙◌}
 use Rattle.cell_lists.proofs.gathered.Gathered.put.Goals as goal
 
 take_set : (n : ℕ) (xs : List ℕ) (i x : ℕ) → take n (set xs i x) ≡ set (take n xs) i x
