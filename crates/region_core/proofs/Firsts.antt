@@ -1,6 +1,6 @@
 -- The first messages of the regions, one after another.
-use Rattle.std.proofs.Common.{Bor, ◌≡◌, ◌≢◌, ◌⊎◌, inl, inr, ℕ, zero, suc, ◌+◌, ◌<◌, ◌≤◌, Bool, false, List, [], ◌∷◌, length, Option, Some, None, refl, sym, ap, subst, ◌∙◌, arith}
-use Rattle.std.specs.Prelude.{slice_get, is_some, option_copied, if◌then◌else◌}
+use Rattle.std.proofs.Common.{◌≡◌, ◌≢◌, ◌⊎◌, inl, inr, ℕ, zero, suc, ◌+◌, ◌<◌, ◌≤◌, Bool, false, List, [], ◌∷◌, length, Option, Some, None, refl, sym, ap, subst, ◌∙◌, arith}
+use Rattle.std.specs.Prelude.{slice_get, if◌then◌else◌}
 use Rattle.std.proofs.lemmas.Option.{none-some, same_Some}
 use Rattle.event_stamps.specs.declared.Stamp.{Stamp}
 use Rattle.event_stamps.specs.Order.{Before}
@@ -17,10 +17,6 @@ abbrev pub IsLeastBelow : InboxData → ℕ → Option (ℕ × Stamp) → Type 0
 IsLeastBelow inbox n None = (q : ℕ) → q < n → next_from inbox q ≡ None
 IsLeastBelow inbox n (Some head) = IsFirstOf inbox head.0 head.1
     × ((q : ℕ) (m : Message) → q < n → next_from inbox q ≡ Some m → ¬ Before m.stamp head.1)
-
-pub none_there : {T : Type 0} (o : Option (Bor T)) → is_some o ≡ false → option_copied o ≡ None
-none_there None is = refl
-none_there (Some m) is = cc
 
 pub none_below : (inbox : InboxData) → IsLeastBelow inbox 0 None
 none_below inbox q lt = absurd (omega arith)
