@@ -1,12 +1,16 @@
 -- Actions that are run in the view after a log.
 use Rattle.std.specs.Prelude.{◌≡◌, Option, Some, None, IsTrue, is_some}
 use Rattle.fixed_motion.specs.declared.disk.Disk.{Disk}
+use Rattle.event_stamps.specs.declared.Stamp.{Stamp}
+use Rattle.event_rules.specs.declared.change.Change.{Change}
 use Rattle.region_view.specs.declared.action.Placed.{Placed}
 use Rattle.region_view.specs.declared.action.Action.{Action}
 use Rattle.region_view.specs.Views.{ViewData, rows_in}
 use Rattle.region_view.specs.Setting.{rows_at, rows_set}
 use Rattle.local_run.specs.declared.entry.Entry.TheVariants.{Native}
+use Rattle.event_log.specs.declared.running.HitRows.{HitRows}
 use Rattle.event_log.specs.Logged.{Logged}
+use Rattle.event_log.specs.Heads.{disk_or}
 
 -- an action with what stood at the numbers of the rows that it sets
 abbrev pub acted : ViewData → Action → Logged
@@ -18,7 +22,15 @@ redisked_row disk None = None
 redisked_row disk (Some p) = Some (record { disk = disk; cell = p.cell })
 
 -- a row that is there, and the one with another record
-pub record IsMoved (there : Option Placed) (disk : Disk) (rows : Option Placed × Option Placed) : Type 0 where
-  pub before : rows.0 ≡ there
-  pub after : rows.1 ≡ redisked_row disk there
+pub record IsMoved (there : Option Placed) (disk : Disk) (rows : HitRows) : Type 0 where
+  pub before : rows.before ≡ there
+  pub after : rows.after ≡ redisked_row disk there
   pub is_there : IsTrue (is_some there)
+
+-- the collision of two disks after which they have the records of these rows
+abbrev pub collision : Stamp → HitRows → HitRows → Change
+collision s first second = record {
+  stamp = s;
+  first = disk_or first.after;
+  second = Some (disk_or second.after);
+}

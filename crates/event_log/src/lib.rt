@@ -18,3 +18,4 @@ pub use laws::{
     woven_leads_back,
 };
 pub use processed::EventLog;
+pub use running::HitRows;

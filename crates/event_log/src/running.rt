@@ -3,8 +3,10 @@
 ghost use Rattle.std.specs.Prelude.{◌≡◌, ◌<◌, [], ◌∷◌, ◌++◌, length, None, Some, IfSome, OnOk, OnErr};
 ghost use Rattle.std.specs.FinMap as map;
 ghost use Rattle.region_view.specs.declared.action.Action.TheVariants.{Cross, Hit};
+ghost use Rattle.region_view.specs.Compact.{IsRowThere};
 ghost use Rattle.region_view.specs.Setting.{after_action, IsInOrder};
-ghost use Rattle.event_log.specs.Running.{acted, IsMoved};
+ghost use Rattle.event_log.specs.Heads.{disk_or};
+ghost use Rattle.event_log.specs.Running.{acted, collision, IsMoved};
 
 use crate::EventLog;
 use crate::heads::Form;
@@ -15,6 +17,15 @@ use fixed_motion::Disk;
 use local_run::{Entry, MAX_ENTRIES};
 use region_view::{Action, Compact, Placed, View, rows_of};
 use std::alloc::AllocError;
+
+/// The rows of a disk before and after a collision.
+#[derive(Clone, Copy)]
+pub struct HitRows {
+    /// The row in which it stands before it.
+    pub before: Compact,
+    /// The one with the record that it has from then on, in the same cell.
+    pub after: Compact,
+}
 
 impl EventLog {
     /// Runs an action in the view after the whole log, and appends it with what stood there.
@@ -31,7 +42,7 @@ impl EventLog {
         ensures view_unchanged { OnErr result (view.new ≡ view.old) }
     {
         match action {
-            Action::Cross { stamp, cell } => self.cross(view, *stamp, *cell),
+            Action::Cross { stamp, cell } => self.cross_or_act(view, *stamp, *cell),
             Action::Hit(change) => match &change.second {
                 None => self.hit_side(view, change),
                 Some(second) => self.hit_other(view, change, second),
@@ -39,8 +50,64 @@ impl EventLog {
         }
     }
 
+    /// Runs a crossing in the view after the whole log, and appends it with what stood there: the row of its disk,
+    /// as [`View::narrow`] answers it.
+    ///
+    /// # Errors
+    /// Out of memory: nothing changes.
     #[inline(always)]
-    fn cross(&mut self, view: &mut View, stamp: Stamp, cell: u32) -> Result<(), AllocError>
+    pub fn cross(
+        &mut self,
+        view: &mut View,
+        stamp: &Stamp,
+        before: &Compact,
+        cell: u32,
+    ) -> Result<(), AllocError>
+        requires room { length self.old < MAX_ENTRIES }
+        requires before { IsRowThere (map.get view.old stamp.now.first) before.now }
+        ensures log { OnOk result (self.new ≡ self.old ++ acted view.old (Cross stamp.now cell) ∷ []) }
+        ensures view { OnOk result (view.new ≡ after_action view.old (Cross stamp.now cell)) }
+        ensures log_unchanged { OnErr result (self.new ≡ self.old) }
+        ensures view_unchanged { OnErr result (view.new ≡ view.old) }
+    {
+        self.keep(*stamp, cell, Form::Crossing, &[*before])?;
+        view.set_narrow(stamp.first, &before.with_cell(cell));
+        Ok(())
+    }
+
+    /// Runs a collision of two disks in the view after the whole log, and appends it with what stood there.
+    /// It is given by their rows, those before it as [`View::narrow`] answers them.
+    ///
+    /// # Errors
+    /// Out of memory: nothing changes.
+    #[inline(always)]
+    pub fn collide(
+        &mut self,
+        view: &mut View,
+        stamp: &Stamp,
+        first: &HitRows,
+        second: &HitRows,
+    ) -> Result<(), AllocError>
+        requires room { length self.old < MAX_ENTRIES }
+        requires order { stamp.now.first < stamp.now.second }
+        requires first { IsMoved (map.get view.old stamp.now.first) (disk_or first.now.after) first.now }
+        requires second { IsMoved (map.get view.old stamp.now.second) (disk_or second.now.after) second.now }
+        ensures log { OnOk result (self.new ≡
+            self.old ++ acted view.old (Hit (collision stamp.now first.now second.now)) ∷ []) }
+        ensures view { OnOk result (view.new ≡
+            after_action view.old (Hit (collision stamp.now first.now second.now))) }
+        ensures log_unchanged { OnErr result (self.new ≡ self.old) }
+        ensures view_unchanged { OnErr result (view.new ≡ view.old) }
+    {
+        let rows = [first.before, second.before, first.after, second.after];
+        self.keep(*stamp, 0, Form::Double, &rows)?;
+        view.set_narrow(stamp.first, &first.after);
+        view.set_narrow(stamp.second, &second.after);
+        Ok(())
+    }
+
+    #[inline(always)]
+    fn cross_or_act(&mut self, view: &mut View, stamp: Stamp, cell: u32) -> Result<(), AllocError>
         requires room { length self.old < MAX_ENTRIES }
         ensures log { OnOk result (self.new ≡ self.old ++ acted view.old (Cross stamp cell) ∷ []) }
         ensures view { OnOk result (view.new ≡ after_action view.old (Cross stamp cell)) }
@@ -48,11 +115,7 @@ impl EventLog {
         ensures view_unchanged { OnErr result (view.new ≡ view.old) }
     {
         match view.narrow(stamp.first) {
-            Some(before) => {
-                self.keep(stamp, cell, Form::Crossing, &[before])?;
-                view.set_narrow(stamp.first, &before.with_cell(cell));
-                Ok(())
-            }
+            Some(before) => self.cross(view, &stamp, &before, cell),
             None => self.act_wide(view, &Action::Cross { stamp, cell }),
         }
     }
@@ -67,9 +130,9 @@ impl EventLog {
         ensures view_unchanged { OnErr result (view.new ≡ view.old) }
     {
         match moved(view, change.stamp.first, &change.first) {
-            Some((before, after)) => {
-                self.keep(change.stamp, 0, Form::Single, &[before, after])?;
-                view.set_narrow(change.stamp.first, &after);
+            Some(rows) => {
+                self.keep(change.stamp, 0, Form::Single, &[rows.before, rows.after])?;
+                view.set_narrow(change.stamp.first, &rows.after);
                 Ok(())
             }
             None => self.act_wide(view, &Action::Hit(*change)),
@@ -93,13 +156,8 @@ impl EventLog {
     {
         let stamp = change.stamp;
         match moved(view, stamp.first, &change.first) {
-            Some((before, after)) => match moved(view, stamp.second, second) {
-                Some((other, later)) => {
-                    self.keep(stamp, 0, Form::Double, &[before, other, after, later])?;
-                    view.set_narrow(stamp.first, &after);
-                    view.set_narrow(stamp.second, &later);
-                    Ok(())
-                }
+            Some(one) => match moved(view, stamp.second, second) {
+                Some(other) => self.collide(view, &stamp, &one, &other),
                 None => self.act_wide(view, &Action::Hit(*change)),
             },
             None => self.act_wide(view, &Action::Hit(*change)),
@@ -122,10 +180,9 @@ impl EventLog {
     }
 }
 
-// The row of a disk as it is kept, and the one with another record in the same cell; none where one of them has
-// no narrow form, or there is no row.
+// The row of a disk, and the one with another record; none where one of them has no narrow form, or there is no row.
 #[inline(always)]
-fn moved(view: &View, number: u32, disk: &Disk) -> Option<(Compact, Compact)>
+fn moved(view: &View, number: u32, disk: &Disk) -> Option<HitRows>
     ensures { IfSome result (IsMoved (map.get view.now number) disk.now) }
 {
     let before = view.narrow(number)?;
@@ -134,5 +191,5 @@ fn moved(view: &View, number: u32, disk: &Disk) -> Option<(Compact, Compact)>
         disk: *disk,
         cell: placed.cell,
     }))?;
-    Some((before, after))
+    Some(HitRows { before, after })
 }
