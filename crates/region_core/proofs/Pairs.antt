@@ -15,6 +15,7 @@ use Rattle.cell_grid.specs.Grid.{GridData, IsRegion, AreLinked}
 use Rattle.region_view.specs.declared.rows.Message.{Message}
 use Rattle.region_messages.proofs.Same.{same_by_code, stamp_eq, stamp_decides}
 use Rattle.local_run.specs.declared.home.Home.{Home}
+use Rattle.region_core.specs.declared.border.Border.{Border}
 use Rattle.region_core.specs.declared.live.Live.{Live}
 use Rattle.local_run.specs.declared.answers.Hearing.{Hearing}
 use Rattle.local_run.specs.declared.answers.Hearing.TheVariants.{Same, Rewound, Later, Apart}
@@ -233,8 +234,8 @@ run_of y g (Some live) r alive is =
     let same : run_in g live ≡ r = same_Some (run_in g live) r is in
     (subst (IsRight y) same alive.right, ap (λ (v : Local). v.floor) same)
 
-pub heard_hearable : (x y : Home) (f g : Stamp) (o p : Option Live) (a b : RegionData)
-    (ms : List Message) → seen_as x f o ≡ a → seen_as y g p ≡ b → IsSound y g p → ¬ AreApart a b →
+pub heard_hearable : {border : Border} (x y : Home) (f g : Stamp) (o p : Option Live) (a b : RegionData)
+    (ms : List Message) → seen_as x f o ≡ a → seen_as y g p ≡ b → IsSound y border g p → ¬ AreApart a b →
     IsSent b a.home.number ms → IsHearable x f y.number ms
 heard_hearable x y f g o p a b ms here there sound =
     subst (λ (v : RegionData). ¬ AreApart v b → IsSent b v.home.number ms → IsHearable x f y.number ms) here

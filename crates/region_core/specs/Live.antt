@@ -8,7 +8,9 @@ use Rattle.region_queue.specs.Queue.{IsOf, StandsFor}
 use Rattle.local_run.specs.declared.home.Home.{Home}
 use Rattle.local_run.specs.declared.entry.Entry.{Entry}
 use Rattle.region_core.specs.declared.live.Live.{Live}
+use Rattle.region_core.specs.declared.border.Border.{Border}
 use Rattle.local_run.specs.LocalRun.{Local, At, Trails, trail_of, after_log, sent_to, IsDueOrEnd, IsInPlace, IsRight}
+use Rattle.region_core.specs.Border.{IsBorderOf}
 use Rattle.region_core.specs.Inbox.{InboxData, taken_from}
 use Rattle.local_run.specs.Taken.{taken_of}
 use Rattle.event_log.specs.Logged.{entries_in, backs_in}
@@ -89,7 +91,8 @@ abbrev pub GoesAlong : Home → Live → Type 0
 GoesAlong home live = (floor : Stamp) × IsAlong home floor live
 
 -- what each region keeps
-pub record IsSound (home : Home) (floor : Stamp) (live : Option Live) : Type 0 where
+pub record IsSound (home : Home) (border : Border) (floor : Stamp) (live : Option Live) : Type 0 where
   pub place : IsInPlace home
+  pub far : IsBorderOf home border
   pub in_time : ¬ Before (end_stamp home.rules.end) floor
   pub alive : IfSome live (IsLive home floor)

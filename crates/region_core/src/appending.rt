@@ -16,10 +16,12 @@ ghost use Rattle.local_run.specs.declared.moves.Move.TheVariants.{Run, TakeIn};
 ghost use Rattle.local_run.specs.LocalRun.{IsInPlace, trail_of, told};
 ghost use Rattle.local_run.specs.Answers.{with_entry};
 ghost use Rattle.event_log.specs.Running.{acted};
+ghost use Rattle.region_core.specs.Border.{IsBorderOf};
 ghost use Rattle.region_core.specs.Live.{run_in, IsLive};
 ghost use Rattle.local_run.specs.Keeping.{SendsTo};
 ghost use Rattle.local_run.specs.Moves.{Fits};
 
+use crate::border::Border;
 use crate::live::Live;
 use crate::{Entry, Home, MAX_ENTRIES};
 use event_stamps::Stamp;
@@ -92,10 +94,12 @@ impl Live {
         &mut self,
         alloc: Global,
         home: &Home,
+        border: &Border,
         floor: Stamp,
         action: Action,
     ) -> Result<(), AllocError>
         requires place { IsInPlace home.now }
+        requires border { IsBorderOf home.now border.now }
         requires live { IsLive home.now floor self.old }
         requires fits { Fits home.now (run_in floor self.old) (Run action) }
         ensures live { OnOk result (IsLive home.now floor self.new) }
@@ -103,7 +107,7 @@ impl Live {
             (run_in floor self.new ≡ with_entry (run_in floor self.old) (Native action)) }
     {
         let _floor = floor;
-        send(&mut self.sent, home, &self.view, &action)?;
+        send_if_seen(&mut self.sent, home, border, &self.view, &action)?;
         self.act(alloc, &action)?;
         Ok(())
     }
@@ -130,7 +134,36 @@ impl Live {
     }
 }
 
+// Sends the messages of an action, where others see what it has to do with. Few actions are so near a border.
+#[inline(always)]
+fn send_if_seen(
+    sent: &mut Vec<Trail>,
+    home: &Home,
+    border: &Border,
+    before: &View,
+    action: &Action,
+) -> Result<(), AllocError>
+    requires number { IsRegion home.now.grid home.now.number }
+    requires border { IsBorderOf home.now border.now }
+    requires cells { HasCells home.now.grid (rows_in before.now) }
+    requires order { IsInOrder action.now }
+    requires cell { RecordsCell home.now.grid action.now }
+    requires size { length sent.old.items ≡ home.now.grid.regions }
+    requires after { (to : ℕ) → SendsTo home.now to →
+        IsAfterAll (trail_of sent.old.items to) (stamp_of action.now) }
+    ensures size { OnOk result (length sent.new.items ≡ length sent.old.items) }
+    ensures told { OnOk result ((to : ℕ) → SendsTo home.now to → trail_of sent.new.items to
+        ≡ trail_of sent.old.items to
+        ++ told (message_of home.now.grid to (rows_in before.now) action.now) []) }
+{
+    if border.is_untold(home, before, action) {
+        return Ok(());
+    }
+    send(sent, home, before, action)
+}
+
 // Sends the messages of an action.
+#[inline(never)]
 fn send(
     sent: &mut Vec<Trail>,
     home: &Home,

@@ -7,6 +7,7 @@
 
 mod appending;
 mod aside;
+mod border;
 mod burst;
 mod gate;
 mod hearing;

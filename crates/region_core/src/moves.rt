@@ -7,10 +7,12 @@ ghost use Rattle.region_view.specs.Placing.{IsValidPlacing};
 ghost use Rattle.region_view.specs.Views.{rows_in};
 ghost use Rattle.local_run.specs.LocalRun.{At, IsInPlace, IsOwn, IsOffered, IsDue, IsDueOrEnd, IsWaiting, ComesTo};
 ghost use Rattle.local_run.specs.Answers.{HasDue, IsInTurn, StepsTo};
+ghost use Rattle.region_core.specs.Border.{IsBorderOf};
 ghost use Rattle.region_core.specs.Inbox.{head_stamp, IsLeastHead, IsFirstOf};
 ghost use Rattle.region_core.specs.Live.{run_in, now_in, IsLive, HasRun, HasTrace, HasDueBefore, IsHeldBack};
 ghost use Rattle.local_run.specs.Moves.{Fits, ComesAfter};
 
+use crate::border::Border;
 use crate::live::Live;
 use crate::{Home, MAX_ENTRIES, Step};
 use event_rules::Limit;
@@ -108,10 +110,12 @@ impl Live {
         &mut self,
         alloc: Global,
         home: &Home,
+        border: &Border,
         floor: Stamp,
         bound: Option<Stamp>,
     ) -> Result<Option<Step>, AllocError>
         requires place { IsInPlace home.now }
+        requires border { IsBorderOf home.now border.now }
         requires live { IsLive home.now floor self.old }
         ensures live { OnOk result (IsLive home.now floor self.new) }
         ensures steps { IfOk result (λ answer. MatchOption answer
@@ -128,7 +132,7 @@ impl Live {
             Move::Answer(step) => Ok(Some(step)),
             Move::Run(action) => {
                 let stamp = action.stamp();
-                self.run(alloc, home, floor, action)?;
+                self.run(alloc, home, border, floor, action)?;
                 Ok(Some(Step::Ran(stamp)))
             }
             Move::TakeIn { from, message } => {

@@ -6,6 +6,7 @@ mod running;
 mod standing;
 
 use crate::Home;
+use crate::border::Border;
 use crate::live::Live;
 use event_stamps::Stamp;
 use std::marker::Model;
@@ -16,6 +17,8 @@ use std::marker::Model;
 #[derive(Drop)]
 pub struct Region {
     home: Home,
+    // Which of its columns others see.
+    border: Border,
     floor: Stamp,
     // None: it is spent.
     live: Option<Live>,
@@ -37,7 +40,7 @@ impl Model for Region {
       run = option_map (run_in s.floor) s.live;
     } };
 
-    ghost invariant = { λ s. IsSound s.home s.floor s.live };
+    ghost invariant = { λ s. IsSound s.home s.border s.floor s.live };
 }
 
 ghost use Rattle.std.specs.Prelude.{◌≡◌, ◌↔◌, ◌⊎◌, List, length, slice_get, None, IsTrue, IfOk, OnErr, MatchOption};
@@ -76,6 +79,7 @@ impl Region {
         let live = Live::open(alloc, &home, base)?;
         Ok(Region {
             home,
+            border: Border::new(&home),
             floor: state.floor(),
             live: Some(live),
         })
@@ -91,12 +95,14 @@ impl Region {
           run = None;
         } }
     {
+        let home = Home {
+            number,
+            rules: *rules,
+            grid: *grid,
+        };
         Region {
-            home: Home {
-                number,
-                rules: *rules,
-                grid: *grid,
-            },
+            home,
+            border: Border::new(&home),
             floor,
             live: None,
         }
@@ -113,7 +119,7 @@ impl Region {
         let Some(live) = &mut self.live else {
             return Ok(Step::Spent);
         };
-        match live.step(alloc, &self.home, self.floor, None) {
+        match live.step(alloc, &self.home, &self.border, self.floor, None) {
             Ok(Some(step)) => Ok(step),
             Ok(None) => unreachable!(),
             Err(error) => {

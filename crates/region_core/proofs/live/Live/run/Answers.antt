@@ -12,14 +12,15 @@ use Rattle.region_core.proofs.Traced.{now_is, stands_newest, as_many}
 use Rattle.region_core.proofs.Appended.{further_is, further_run, native_action, native_valid, after_what_was_sent, inbox_native, outbox_native}
 use Rattle.region_core.proofs.live.Live.run.Goals as goal
 
-pub send-requires : goal.send-requires
-send-requires c =
+pub send_if_seen-requires : goal.send_if_seen-requires
+send_if_seen-requires c =
     let home = c.args.home.now in
     let live = c.args.self.now in
     let valid = native_action home c.args.floor live c.args.action c.requires.place c.requires.live
     c.requires.fits in
     record {
       number = c.requires.place.number;
+      border = c.requires.border;
       cells = subst (λ (v : ViewData). HasCells home.grid (rows_in v)) (now_is live c.requires.live.traced)
           (valid_now home (run_in c.args.floor live) c.requires.place c.requires.live.right).cell;
       order = valid.order;
@@ -60,9 +61,9 @@ returns-clause-live c =
           (inbox_native home (entries_in live.log) live.inbox c.args.action c.requires.live.inbox);
       sent = subst (IsOutbox home (base_in live) (entries_in live.log ++ e ∷ []))
           (λ i. (sym c.act.ensures.sent i).items)
-          (outbox_native home c.args.floor live c.args.action c.send.new.sent.items
-          c.requires.live.sent c.in_ok-send.ensures.size
-          (λ to sends. c.in_ok-send.ensures.told to sends
+          (outbox_native home c.args.floor live c.args.action c.send_if_seen.new.sent.items
+          c.requires.live.sent c.in_ok-send_if_seen.ensures.size
+          (λ to sends. c.in_ok-send_if_seen.ensures.told to sends
           ∙ ap (λ (v : ViewData). trail_of live.sent.items to
           ++ told (message_of home.grid to (rows_in v) c.args.action) []) (sym (now_is live c.requires.live.traced))));
     }

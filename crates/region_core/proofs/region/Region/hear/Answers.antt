@@ -25,6 +25,7 @@ invariant_of-self-in-Ok c =
     let floor = c.self.inside.floor in
     record {
       place = c.self.invariant.place;
+      far = c.self.invariant.far;
       in_time = c.self.invariant.in_time;
       alive = c.in-Ok.ensures.live floor
           (subst (λ (o : Option Live). IfSome o (IsLive home floor)) c.in-Some-live.is

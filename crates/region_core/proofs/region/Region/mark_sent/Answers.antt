@@ -11,6 +11,7 @@ invariant_of-self-2 c =
     let floor = c.self.inside.floor in
     record {
       place = c.self.invariant.place;
+      far = c.self.invariant.far;
       in_time = c.self.invariant.in_time;
       alive = marked_live home floor c.in-Some.live c.mark_sent.new.self c.mark_sent.ensures.sent
           c.mark_sent.ensures.rest

@@ -70,6 +70,7 @@ invariant_of-result c =
             rules = sym c.rules.ensures.value i;
             grid = sym c.grid.ensures.value i;
           }) (state_place c.args.state.now c.args.number c.rules.ensures.kept c.requires);
+      far = c.new.ensures;
       in_time = in_time;
       alive = c.in_ok-live.ensures.live c.floor.result in_time;
     }
