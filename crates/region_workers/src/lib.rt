@@ -3,6 +3,7 @@
 
 mod by_call;
 mod call;
+mod course;
 mod job;
 mod pace;
 mod rendezvous;

@@ -15,7 +15,7 @@ use event_stamps::Stamp;
 use region_core::Region;
 use region_locks::Progress;
 use std::alloc::{AllocError, Global};
-use std::sync::atomic::{AtomicBool, AtomicU64, Ordering};
+use std::sync::atomic::{AtomicU64, Ordering};
 
 // How many disks of a region there are for each step of a slice: few disks are touched twice in one then.
 const DISKS_A_STEP: u64 = 32;
@@ -36,12 +36,10 @@ pub(crate) struct Pace {
     disks: u64,
     // How many steps a region makes in a slice at most.
     steps: u32,
-    // Padded, since each is written by one worker.
+    // Padded, since each is mostly written by one worker.
     marks: Vec<CachePadded<Mark>>,
     // The farthest bound that there was.
     farthest: AtomicU64,
-    // Whether regions only run to where any was to run.
-    settles: AtomicBool,
     ghost some_steps: { 0 < steps },
 }
 
@@ -59,8 +57,8 @@ struct Mark {
 pub(crate) struct Slice {
     /// How many steps at most, at least 1.
     pub steps: u32,
-    /// What is due has to be before it.
-    pub bound: Stamp,
+    /// What is due has to be before it, in parts of a tick.
+    pub bound: u64,
 }
 
 impl Pace {
@@ -82,7 +80,6 @@ impl Pace {
             steps: steps_of(disks, regions.len() as u64),
             marks,
             farthest: AtomicU64::new(0),
-            settles: AtomicBool::new(false),
         })
     }
 
@@ -92,45 +89,36 @@ impl Pace {
         ensures some { 0 < result.steps }
         ensures most { result.steps ≤ left }
     {
-        match self.next_bound() {
-            Some(bound) => Slice {
-                steps: left.min(self.steps),
-                bound: from_parts(bound, self.disks),
-            },
-            None => Slice {
+        let (due, lead) = self.least();
+        if lead == UNKNOWN {
+            return Slice {
                 steps: left.min(LEAST_STEPS),
-                bound: from_parts(u64::MAX, self.disks),
-            },
+                bound: u64::MAX,
+            };
+        }
+        let bound = due.saturating_add(lead);
+        self.farthest.fetch_max(bound, Ordering::SeqCst);
+        Slice {
+            steps: left.min(self.steps),
+            bound,
         }
     }
 
-    /// A slice to the farthest bound that there was, with half of the steps that are left, one at least. All others
-    /// run no farther from now on.
+    /// A slice to the farthest bound that there was, with half of the steps that are left, one at least.
     pub(crate) fn settling_slice(&self, left: u32) -> Slice
         requires { 0 < left }
         ensures some { 0 < result.steps }
         ensures most { result.steps ≤ left }
     {
-        self.settles.store(true, Ordering::SeqCst);
-        let farthest = self.farthest.load(Ordering::SeqCst);
         Slice {
             steps: left - left / 2,
-            bound: from_parts(farthest, self.disks),
+            bound: self.farthest.load(Ordering::SeqCst),
         }
     }
 
-    // The bound of the next slice, in parts; none where no lead is known yet.
-    fn next_bound(&self) -> Option<u64> {
-        if self.settles.load(Ordering::SeqCst) {
-            return Some(self.farthest.load(Ordering::SeqCst));
-        }
-        let (due, lead) = self.least();
-        if lead == UNKNOWN {
-            return None;
-        }
-        let bound = due.saturating_add(lead);
-        self.farthest.fetch_max(bound, Ordering::SeqCst);
-        Some(bound)
+    /// The bound of a slice.
+    pub(crate) fn bound(&self, slice: &Slice) -> Stamp {
+        from_parts(slice.bound, self.disks)
     }
 
     /// Takes in how far a region came in a slice.

@@ -3,7 +3,7 @@ ghost use Rattle.local_run.specs.Bursts.{AreTogether};
 ghost use Rattle.local_run.specs.RunOn.{AreRunOn};
 
 use crate::pace::Pace;
-use crate::roll::{Notice, Roll};
+use crate::roll::{Roll, Share};
 use crate::virtual_time::{from_parts, to_parts};
 use crate::{ByCall, Call, Workers};
 use cell_sequence::CellState;
@@ -134,60 +134,47 @@ fn two_workers_meet(rt: HostRuntime) -> Result<(), AllocError> {
     Ok(())
 }
 
-// A worker that comes to the end of a phase with something to do, and with news or none.
-fn comes(at: u32, news: bool) -> Notice {
-    Notice::Comes {
-        at,
-        moved: true,
+// The work on so many regions.
+fn share(regions: u32, moved: bool, news: bool) -> Share {
+    Share {
+        regions,
+        moved,
         news,
     }
 }
 
-const COMES_IDLE: Notice = Notice::Comes {
-    at: 5,
-    moved: false,
-    news: false,
-};
-
-// Notices to one rendezvous, each with the phase after it, how many have come to its end and are waited for, how many
-// share the regions, and whether they hear.
-fn notices() -> [(Notice, u32, u32, u32, u32, bool); 14] {
+// Shares of the work on four regions, each with the phase after it, of how many regions that is done, and whether it
+// is a hearing.
+fn shares() -> [(Share, u32, u32, bool); 8] {
     [
-        // The first has all regions, and waits for nobody.
-        (Notice::Begins, 0, 0, 1, 1, false),
-        (comes(0, false), 1, 0, 1, 1, false),
-        // The second has its share after the phase in which it began.
-        (Notice::Begins, 1, 0, 2, 1, false),
-        (comes(1, true), 1, 1, 2, 1, false),
-        (comes(1, false), 2, 0, 2, 2, true),
-        (comes(2, false), 2, 1, 2, 2, true),
-        // One goes on without the other, which is there again when it comes, and then isn't gone without again.
-        (Notice::Misses { at: 2 }, 3, 0, 1, 2, false),
-        (comes(3, false), 4, 0, 1, 2, false),
-        (comes(2, false), 4, 1, 2, 2, false),
-        (Notice::Misses { at: 3 }, 4, 1, 2, 2, false),
-        (comes(4, false), 5, 0, 2, 2, false),
-        // Neither has anything to do.
-        (COMES_IDLE, 5, 1, 2, 2, false),
-        (COMES_IDLE, u32::MAX, 0, 2, 2, false),
-        (Notice::Begins, u32::MAX, 0, 2, 2, false),
+        // One worker does all.
+        (share(4, true, false), 1, 0, false),
+        // There are news.
+        (share(1, true, true), 1, 1, false),
+        (share(2, true, false), 1, 3, false),
+        (share(1, false, false), 2, 0, true),
+        // Regions that heard may go on.
+        (share(4, true, false), 3, 0, false),
+        // None has anything to do.
+        (share(3, false, false), 3, 3, false),
+        (share(1, false, false), u32::MAX, 0, false),
+        (share(1, true, true), u32::MAX, 0, false),
     ]
 }
 
-// What a word keeps of a roll after a notice.
-fn kept(roll: Roll, notice: Notice) -> Roll {
-    Roll::of(roll.after(notice).word())
+// What a word keeps of a roll after a share of the work on four regions.
+fn kept(roll: Roll, share: &Share) -> Roll {
+    let with = roll.with(share);
+    Roll::of((if with.done == 4 { with.next() } else { with }).word())
 }
 
 #[test]
-fn who_has_begun_is_waited_for(rt: HostRuntime) {
+fn a_phase_ends_when_it_is_done_of_all_regions(rt: HostRuntime) {
     let mut roll = Roll::of(0);
-    for &(notice, phase, arrived, present, shares, hears) in &notices() {
-        roll = kept(roll, notice);
+    for &(share, phase, done, hears) in &shares() {
+        roll = kept(roll, &share);
         assert_eq!(rt; roll.phase, phase);
-        assert_eq!(rt; roll.arrived, arrived);
-        assert_eq!(rt; roll.present, present);
-        assert_eq!(rt; roll.shares, shares);
+        assert_eq!(rt; roll.done, done);
         assert_eq!(rt; roll.hears, hears);
     }
 }
@@ -238,6 +225,11 @@ fn progress(steps: u32, tick: u64) -> Progress {
     }
 }
 
+// Where the next slice ends.
+fn next_bound(pace: &Pace) -> Stamp {
+    pace.bound(&pace.next_slice(64))
+}
+
 #[test]
 fn a_slice_goes_as_far_as_its_steps_took_lately(rt: HostRuntime) -> Result<(), AllocError> {
     let alloc = rt.alloc();
@@ -249,18 +241,19 @@ fn a_slice_goes_as_far_as_its_steps_took_lately(rt: HostRuntime) -> Result<(), A
     let pace = Pace::new(alloc, &opened(alloc, &state)?)?;
     // Nothing is known at first.
     assert_eq!(rt; pace.next_slice(64).steps, 16);
-    assert!(rt; pace.next_slice(64).bound > Stamp::end_of(RULES.end));
+    assert!(rt; next_bound(&pace) > Stamp::end_of(RULES.end));
     // Sixteen steps took eight ticks, so that the next go seven ticks on. A region without events is no matter.
     pace.heard(0, &Stamp::end_of(2));
     pace.ran(0, &progress(16, 10));
     pace.ran(1, &progress(0, 20));
-    assert_eq!(rt; pace.next_slice(64).bound, Stamp::end_of(17));
+    assert_eq!(rt; next_bound(&pace), Stamp::end_of(17));
     assert_eq!(rt; pace.next_slice(3).steps, 3);
     // A message makes an earlier stamp due.
     pace.heard(2, &Stamp::end_of(9));
-    assert_eq!(rt; pace.next_slice(64).bound, Stamp::end_of(16));
-    // Then all go to the farthest bound.
-    assert_eq!(rt; pace.settling_slice(9).steps, 5);
-    assert_eq!(rt; pace.next_slice(64).bound, Stamp::end_of(17));
+    assert_eq!(rt; next_bound(&pace), Stamp::end_of(16));
+    // Settling goes to the farthest bound.
+    let settling = pace.settling_slice(9);
+    assert_eq!(rt; settling.steps, 5);
+    assert_eq!(rt; pace.bound(&settling), Stamp::end_of(17));
     Ok(())
 }
