@@ -1,8 +1,8 @@
 //! Where workers take the regions of each phase, and wait for each other at its end.
 //!
-//! Who comes takes the next region that nobody has taken in the phase, its own ones first. So no phase waits for a
-//! thread that isn't there, or that has no processor: the others do its work, and if need be one does all. Only those
-//! are waited for that are at work on a region.
+//! A worker takes its own regions first, and then those that nobody has taken. So no phase waits for a thread that
+//! isn't there, or that has no processor: the others do its work, and if need be one does all. Only those are waited
+//! for that are at work on a region.
 //!
 //! A worker that waits looks for a while, since where each has a processor of its own the others mostly come soon, and
 //! to be woken would take longer than a slice. Then it sleeps until it is woken. It never gives way to other threads:
@@ -124,8 +124,8 @@ impl Rendezvous {
         self.roll().phase != phase
     }
 
-    // Whether the phase ended while it looked.
-    fn is_seen_to_pass(&self, phase: u32) -> bool {
+    /// Looks for the end of a phase for a while, and says whether it came.
+    pub(crate) fn is_seen_to_pass(&self, phase: u32) -> bool {
         let own = AtomicU64::new(0);
         for _ in 0..LOOKS {
             if self.is_past(phase) {
@@ -138,11 +138,8 @@ impl Rendezvous {
         false
     }
 
-    /// Waits until a phase is past, or for a while.
-    pub(crate) fn wait<R: Wait>(&self, rt: &R, phase: u32) {
-        if self.is_seen_to_pass(phase) {
-            return;
-        }
+    /// Sleeps until a phase is past, or for a while.
+    pub(crate) fn sleep_through<R: Wait>(&self, rt: &R, phase: u32) {
         for _ in 0..SLEEPS {
             self.sleep(rt, phase);
             if self.is_past(phase) {
