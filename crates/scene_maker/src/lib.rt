@@ -8,6 +8,3 @@ mod text;
 pub use lattice::make;
 pub use laws::one_scene;
 pub use text::{Text, scene_text};
-
-#[cfg(test)]
-mod tests;

@@ -1,6 +1,6 @@
 //! What a glass sees, which no clause ties to the moment of its look.
 
-use crate::{Board, Progress};
+use live_progress::{Board, Progress};
 use std::test::Fail;
 
 const FIRST: Progress = Progress { events: 1, tick: 3 };

@@ -1,7 +1,7 @@
 //! Made scenes, whose components another program worked out.
 
-use crate::{make, scene_text};
 use fixed_motion::MAX_DISKS;
+use scene_maker::{make, scene_text};
 use std::alloc::{AllocError, Global};
 use std::test::Fail;
 
