@@ -10,8 +10,6 @@ mod laws;
 mod narrow;
 mod processed;
 mod running;
-#[cfg(test)]
-mod tests;
 
 pub use laws::{
     base_is_undone, base_views_are_found, changes_lead_back, firsts_are_found, sparing_is_aside,

@@ -1,5 +1,6 @@
 //! The scripts, and what plays them.
 
+mod logs;
 mod news;
 mod regions;
 mod scripts;

@@ -3,8 +3,8 @@
 ghost use Rattle.std.specs.Prelude.{IsTrue};
 ghost use Rattle.region_view.specs.Setting.{IsInOrder};
 
-use crate::EventLog;
 use cell_grid::Grid;
+use event_log::EventLog;
 use event_rules::Change;
 use event_stamps::{Kind, Stamp};
 use fixed_motion::{Disk, Rules};
