@@ -91,8 +91,8 @@ pub(crate) fn head_after(region: &Region, done: usize, horizon: Stamp) -> Option
     ensures { IsHeadAfter horizon (entries_of region.now) done result }
 {
     for place in done..region.entries() {
-        if let Some(action) = region.native(place) {
-            return head_before(horizon, action.stamp(), place);
+        if let Some(stamp) = region.native_stamp(place) {
+            return head_before(horizon, stamp, place);
         }
     }
     None

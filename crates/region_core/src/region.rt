@@ -43,10 +43,11 @@ impl Model for Region {
     ghost invariant = { λ s. IsSound s.home s.border s.floor s.live };
 }
 
-ghost use Rattle.std.specs.Prelude.{◌≡◌, ◌↔◌, ◌⊎◌, List, length, slice_get, None, IsTrue, IfOk, OnErr, MatchOption};
+ghost use Rattle.std.specs.Prelude.{◌≡◌, ◌↔◌, ◌⊎◌, List, length, slice_get, None, option_map, IsTrue, IfOk, OnErr, MatchOption};
 ghost use Rattle.event_stamps.specs.Order.{Before, end_stamp};
 ghost use Rattle.cell_grid.specs.Grid.{IsRegion};
 ghost use Rattle.local_run.specs.LocalRun.{IsInPlace};
+ghost use Rattle.region_view.specs.Acting.{stamp_of};
 ghost use Rattle.local_run.specs.Opening.{IsOpened, spent};
 ghost use Rattle.local_run.specs.Steps.{Steps};
 ghost use Rattle.region_core.specs.FirstRows.{first_row};
@@ -197,6 +198,17 @@ impl Region {
     {
         match &self.live {
             Some(live) => live.log.native(i),
+            None => None,
+        }
+    }
+
+    /// The stamp of the action of an entry, by its place: none exactly where [`native`](Region::native) is none.
+    pub fn native_stamp(&self, i: usize) -> Option<Stamp>
+        ensures value { result ≡ option_map stamp_of (native_in (slice_get (entries_of self.now) i)) }
+        ensures kept { IsKept self.now }
+    {
+        match &self.live {
+            Some(live) => live.log.native_stamp(i),
             None => None,
         }
     }
