@@ -11,7 +11,7 @@ use Rattle.event_stamps.specs.declared.Kind.TheVariants.{Cross, Wall, Pair}
 use Rattle.event_stamps.specs.Order.{stamp_cmp, kind_number, IsInRange, Before}
 use Rattle.event_stamps.specs.Least.{earlier_of}
 use Rattle.event_stamps.proofs.Ranks.{rank_cmp, kind_below}
-use Rattle.event_tree.specs.Keys.{Key}
+use Rattle.event_tree.specs.Keys.{Key, IsKeyBefore}
 use Rattle.event_tree.specs.Packing.{number_of, stamp_of, kind_of, pack, unpack, HasRoom, IsPacked}
 
 -- ---- a key is its number's
@@ -128,6 +128,9 @@ keeps_lower m n hm hn le = keeps (unpack m) (unpack n) hm.room hn.room (rw (hm.e
 less_number : (m n : ℕ) → m < n → nat_cmp m n ≡ Less
 less_number m n lt = grind arith
 
+number_less : (m n : ℕ) → nat_cmp m n ≡ Less → m < n
+number_less m n e = grind arith
+
 not_less_number : (m n : ℕ) → n ≤ m → ¬ (nat_cmp m n ≡ Less)
 not_less_number m n le e = grind arith
 
@@ -139,6 +142,26 @@ not_later : (s : Stamp) (key : Key) → HasRoom s → IfSome key HasRoom → pac
 not_later s None hs hk le before = refl
 not_later s (Some t) hs hk le before =
     absurd (not_less_number (number_of s) (number_of t) le (sym (number_cmp s t hs.in_range hk.in_range) ∙ before))
+
+below_is_before : (a b : Key) → IfSome a HasRoom → IfSome b HasRoom → pack a < pack b → IsKeyBefore a b
+below_is_before None None ha hb lt = absurd (omega (arith, lt))
+below_is_before None (Some t) ha hb lt = absurd (omega (arith, lt, number_below t hb))
+below_is_before (Some s) None ha hb lt = tt
+below_is_before (Some s) (Some t) ha hb lt = later s (Some t) ha hb lt
+
+before_is_below : (a b : Key) → IfSome a HasRoom → IfSome b HasRoom → IsKeyBefore a b → pack a < pack b
+before_is_below None b ha hb before = absurd before
+before_is_below (Some s) None ha hb before = omega (arith, number_below s ha)
+before_is_below (Some s) (Some t) ha hb before =
+    number_less (number_of s) (number_of t) (sym (number_cmp s t ha.in_range hb.in_range) ∙ before)
+
+pub is_before_if_below : (m n : ℕ) → IsPacked m → IsPacked n → m < n → IsKeyBefore (unpack m) (unpack n)
+is_before_if_below m n hm hn lt =
+    below_is_before (unpack m) (unpack n) hm.room hn.room (rw (hm.exact, hn.exact) lt)
+
+pub is_below_if_before : (m n : ℕ) → IsPacked m → IsPacked n → IsKeyBefore (unpack m) (unpack n) → m < n
+is_below_if_before m n hm hn before =
+    rw (← hm.exact, ← hn.exact) (before_is_below (unpack m) (unpack n) hm.room hn.room before)
 
 some_room : (key : Key) (s : Stamp) → IfSome key HasRoom → key ≡ Some s → HasRoom s
 some_room key s room at = subst (λ (k : Key). IfSome k HasRoom) at room

@@ -17,6 +17,12 @@ IsNotAfter a None = ⊤
 IsNotAfter None (Some t) = ⊥
 IsNotAfter (Some s) (Some t) = ¬ Before t s
 
+-- a stamp is before those that come after it, and before no stamp
+abbrev pub IsKeyBefore : Key → Key → Type 0
+IsKeyBefore None b = ⊥
+IsKeyBefore (Some s) None = ⊤
+IsKeyBefore (Some s) (Some t) = Before s t
+
 -- one of the keys, and not after any of them; none where all are none
 pub record IsLeastKey (keys : List Key) (key : Key) : Type 0 where
   pub one : (s : Stamp) → key ≡ Some s → (disk : ℕ) × (key_at keys disk ≡ Some s)

@@ -42,6 +42,7 @@ ghost use Rattle.std.specs.Prelude.{◌≡◌, ◌↔◌, ◌<◌, ◌^◌, IfSo
 ghost use Rattle.event_stamps.specs.declared.Stamp.{Stamp};
 ghost use Rattle.event_stamps.specs.Order.{Before, kind_number, IsInRange};
 ghost use Rattle.event_stamps.specs.Least.{earlier_of};
+ghost use Rattle.event_tree.specs.Keys.{IsKeyBefore};
 ghost use Rattle.event_tree.specs.Packing.{pack, unpack, number_of, stamp_of, kind_of};
 ghost use Rattle.event_tree.specs.Packing.{HasRoom, IsPacked};
 
@@ -70,6 +71,14 @@ impl Packed {
         ensures { IsTrue result ↔ self ≡ other }
     {
         self.number == other.number
+    }
+
+    /// Whether it comes before another one, where no key comes after all stamps.
+    #[inline(always)]
+    pub fn is_before(self, other: Packed) -> bool
+        ensures { IsTrue result ↔ IsKeyBefore self other }
+    {
+        self.number < other.number
     }
 
     /// The key, if it comes after another one, which is there; else none.
