@@ -16,6 +16,7 @@ use Rattle.region_view.specs.declared.action.Action.TheVariants.{Cross, Hit}
 use Rattle.region_view.specs.Placing.{Placing}
 use Rattle.region_view.specs.Acting.{stamp_of, recelled, redisked, new_rows}
 use Rattle.region_view.specs.Setting.{RowList, rows_set}
+use Rattle.region_view.proofs.After.{reaches_is}
 use Rattle.region_view.specs.Messages.{message_of, message_with, told_rows, told_row, sees, seen_by, reaches}
 use Rattle.local_run.specs.declared.home.Home.{Home}
 use Rattle.local_run.specs.Keeping.{SendsTo}
@@ -147,14 +148,6 @@ border_is h border sizes region ends cell within = (
     below_end is (inr more) = let end = ends.after more in let high = is.high more in omega arith
 
 -- ---- what is told
-reaches_is : (grid : GridData) (q cell : ℕ) → reaches grid q cell ≡ true → Reaches grid q cell
-reaches_is grid q cell e =
-    by_tests (strip_start grid q) (column_of grid cell) (strip_start grid (q + 1)) e
-  where
-    by_tests : (start column end : ℕ) → (nat_le start (column + 1) && nat_le column end) ≡ true →
-        (start ≤ column + 1) × (column ≤ end)
-    by_tests start column end e = grind arith
-
 -- another region sees nothing of a far row
 unseen : (h : Home) (to : ℕ) (row : Option Placed) → SendsTo h to → IsFarRow h row → sees h.grid to row ≡ false
 unseen h to None sends far = refl

@@ -4,7 +4,7 @@ mod Back
 mod Beside
 mod Candidates
 mod Covered
-mod InRange
+pub mod InRange
 mod Keeping
 mod Moved
 mod Numbered

@@ -28,6 +28,3 @@ nothing_held (h ∷ hs) e = absurd (cons_isnt h.slot (slots_of hs) e)
 
 pub one_left : (k : ℕ) (slots rest : List ℕ) → slots ≡ k ∷ rest → rest ≡ [] → filter (λ (s : ℕ). not (k == s)) slots ≡ []
 one_left k slots rest e f = ap (filter (λ (s : ℕ). not (k == s))) (e ∙ ap (λ (z : List ℕ). k ∷ z) f) ∙ rw (eq-eqb k k refl) refl
-
-pub first_left : (a b : ℕ) (slots : List ℕ) → slots ≡ a ∷ b ∷ [] → a ≢ b → filter (λ (s : ℕ). not (a == s)) slots ≡ b ∷ []
-first_left a b slots e other = ap (filter (λ (s : ℕ). not (a == s))) e ∙ rw (ne_eqb a b other, eq-eqb a a refl) refl
