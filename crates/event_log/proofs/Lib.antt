@@ -3,6 +3,7 @@ pub mod Cuts
 pub mod Alike
 pub mod Laid
 pub mod Read
+pub mod Near
 pub mod Mapped
 pub mod Counted
 pub mod Undone

@@ -1,6 +1,7 @@
 pub mod Logged
 pub mod Heads
 pub mod Narrow
+pub mod Nearness
 pub mod Undoing
 pub mod Running
 pub mod AtFloor

@@ -8,6 +8,7 @@ mod beside;
 mod heads;
 mod laws;
 mod narrow;
+mod nearness;
 mod processed;
 mod running;
 

@@ -37,7 +37,7 @@ impl Model for EventLog {
     ghost invariant = { λ a. AreLaid a.rows.items a.wholes.items a.heads.items };
 }
 
-ghost use Rattle.std.specs.Prelude.{◌≡◌, ◌-◌, ◌<◌, ◌≤◌, [], ◌∷◌, ◌++◌, length, take, drop, slice_get, option_map, Some, None, OnOk, OnErr};
+ghost use Rattle.std.specs.Prelude.{◌≡◌, ◌-◌, ◌<◌, ◌≤◌, [], ◌∷◌, ◌++◌, length, take, drop, slice_get, option_map, Some, None, IfSome, OnOk, OnErr};
 ghost use Rattle.std.specs.List.{insert};
 ghost use Rattle.event_stamps.specs.declared.Stamp.{Stamp};
 ghost use Rattle.region_view.specs.Acting.{stamp_of};
@@ -46,9 +46,12 @@ ghost use Rattle.local_run.specs.declared.entry.Entry.TheVariants.{Native};
 ghost use Rattle.local_run.specs.Entries.{native_of, RiseFrom, entries_below, entries_from};
 ghost use Rattle.event_log.specs.Logged.{entries_in, backs_in, stamps_in, senders_in, setters_in, sets, native_at};
 ghost use Rattle.event_log.specs.Heads.{row_count, whole_count, logged, IsOrdered};
+ghost use Rattle.event_log.specs.Nearness.{IsFar, AllUpTo};
 
 use crate::heads::{Form, count_earlier, edge, lower, raise_from};
 use crate::narrow::{both_rows, disk_in, narrow_disk, only_row, row_in};
+use crate::nearness::first_near;
+use cell_grid::Grid;
 use event_rules::Change;
 use event_stamps::Stamp;
 use local_run::MAX_ENTRIES;
@@ -206,6 +209,18 @@ impl EventLog {
             Form::Double => head.stamp.first == disk || head.stamp.second == disk,
             Form::Whole => has_row(&self.wholes[head.whole as usize].1, disk),
         }
+    }
+
+    /// The first entry from a place on that may have to do with some rows: it has one of their disks, or a row that
+    /// leads back over it is of one of them, or in a cell that is adjacent to one of theirs. None where there is no
+    /// such entry. It may be one that has nothing to do with them, since it looks at heads and cells alone.
+    #[inline(always)]
+    pub fn next_near(&self, from: usize, rows: &Rows, grid: &Grid) -> Option<usize>
+        ensures place { IfSome result (λ i. (from ≤ i) × (i < length self.now)) }
+        ensures far { AllUpTo (IsFar grid.now rows.now) self.now from result }
+        ensures few { length self.now ≤ MAX_ENTRIES }
+    {
+        first_near(&self.heads, &self.rows, from, rows, grid)
     }
 
     /// Appends an entry with the rows that lead back over it.
@@ -369,7 +384,6 @@ enum Collision {
     Double([Compact; 4]),
 }
 
-ghost use Rattle.std.specs.Prelude.{IfSome};
 ghost use Rattle.event_log.specs.Narrow.{IsNarrowFor};
 
 // The narrow rows of a collision; none where it can't be kept so.

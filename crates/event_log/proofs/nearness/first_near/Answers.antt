@@ -1,0 +1,10 @@
+use Rattle.std.proofs.Common.{below_more}
+use Rattle.event_log.specs.Nearness.{IsFarHead}
+use Rattle.event_log.proofs.Near.{item_at}
+use Rattle.event_log.proofs.nearness.first_near.Goals as goal
+
+pub loop-i-preserved : goal.loop-i-preserved
+loop-i-preserved c = below_more _ _ c.loop-i.invariant (λ le.
+    item_at (IsFarHead c.args.grid.now c.args.rows.now c.args.narrow.now) c.args.heads.now c.loop-i.i _
+    c.loop-i-test.true
+    (c.may_be_near.ensures c.if-may_be_near.false c.args.rows.now c.sides_of-sides.ensures))

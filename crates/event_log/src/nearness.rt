@@ -1,0 +1,154 @@
+//! Which entries of a log may have to do with some rows, told by disks and cells alone.
+
+ghost use Rattle.std.specs.Prelude.{◌≡◌, ◌<◌, ◌≤◌, length, All, IfSome, false};
+ghost use Rattle.region_view.specs.Setting.{RowList};
+ghost use Rattle.cell_grid.specs.Grid.{IsAdjacent};
+ghost use Rattle.event_log.specs.Heads.{row_at};
+ghost use Rattle.event_log.specs.Nearness.{IsFarHead, HasNarrow, AllUpTo, IsPutAt, AreSidesOf, AreUnnamed, IsAwayFrom};
+
+use crate::heads::{Form, Head};
+use crate::narrow::row_in;
+use cell_grid::Grid;
+use event_stamps::Stamp;
+use region_view::{Compact, Placed, Rows};
+
+/// The first head from a place on whose entry may have to do with some rows: the entry is kept whole, its stamp has
+/// the number of one of their disks, or the narrow row of what stood there has a cell that may be adjacent to one of
+/// theirs. None where there is no such head.
+#[inline(always)]
+pub fn first_near(
+    heads: &[Head],
+    narrow: &[Compact],
+    from: usize,
+    rows: &Rows,
+    grid: &Grid,
+) -> Option<usize>
+    requires narrow { All (HasNarrow narrow.now) heads.now }
+    ensures place { IfSome result (λ i. (from ≤ i) × (i < length heads.now)) }
+    ensures far { AllUpTo (IsFarHead grid.now rows.now narrow.now) heads.now from result }
+{
+    let sides = sides_of(rows);
+    for i in from..heads.len() {
+        if may_be_near(&heads[i], narrow, &sides, grid) {
+            return Some(i);
+        }
+    }
+    None
+}
+
+// Whether the entry of a head may have to do with rows that put disks there.
+#[inline(always)]
+fn may_be_near(head: &Head, narrow: &[Compact], sides: &Sides, grid: &Grid) -> bool
+    requires narrow { HasNarrow narrow.now head.now }
+    ensures { result ≡ false → (rows : RowList) → AreSidesOf sides.now rows →
+        IsFarHead grid.now rows narrow.now head.now }
+{
+    if may_name(&head.stamp, sides) {
+        return true;
+    }
+    let row = head.row as usize;
+    match head.form {
+        Form::Crossing | Form::Single => may_be_beside(narrow, row, sides, grid),
+        Form::Double => {
+            may_be_beside(narrow, row, sides, grid) || may_be_beside(narrow, row + 1, sides, grid)
+        }
+        Form::Whole => true,
+    }
+}
+
+// Where a row puts a disk.
+#[derive(Clone, Copy)]
+struct Side {
+    disk: u32,
+    // Where the row puts it nowhere, a number beyond all cells.
+    cell: u32,
+}
+
+// Where at most two rows put disks: where there is one row, twice the same.
+#[derive(Clone, Copy)]
+struct Sides {
+    first: Side,
+    second: Side,
+}
+
+// A number beyond all cells.
+const NO_CELL: u32 = u32::MAX;
+
+// Where no row puts a disk.
+const NOWHERE: Side = Side {
+    disk: u32::MAX,
+    cell: NO_CELL,
+};
+
+#[inline(always)]
+fn sides_of(rows: &Rows) -> Sides
+    ensures { AreSidesOf result rows.now }
+{
+    match rows.as_slice() {
+        [] => Sides {
+            first: NOWHERE,
+            second: NOWHERE,
+        },
+        [row] => Sides {
+            first: side_of(row),
+            second: side_of(row),
+        },
+        [first, second, ..] => Sides {
+            first: side_of(first),
+            second: side_of(second),
+        },
+    }
+}
+
+#[inline(always)]
+fn side_of(row: &(u32, Option<Placed>)) -> Side
+    ensures { IsPutAt result row.now }
+{
+    match &row.1 {
+        Some(placed) => Side {
+            disk: row.0,
+            cell: placed.cell,
+        },
+        None => Side {
+            disk: row.0,
+            cell: NO_CELL,
+        },
+    }
+}
+
+// Whether an event may have one of the disks.
+#[inline(always)]
+fn may_name(stamp: &Stamp, sides: &Sides) -> bool
+    ensures { result ≡ false → AreUnnamed stamp.now sides.now }
+{
+    (stamp.first == sides.first.disk)
+        | (stamp.first == sides.second.disk)
+        | (stamp.second == sides.first.disk)
+        | (stamp.second == sides.second.disk)
+}
+
+// Whether what stands in a narrow row may be in a cell that is adjacent to one of the disks'.
+#[inline(always)]
+fn may_be_beside(narrow: &[Compact], place: usize, sides: &Sides, grid: &Grid) -> bool
+    requires within { place < length narrow.now }
+    ensures { result ≡ false → IsAwayFrom grid.now sides.now (row_at narrow.now place) }
+{
+    match row_in(narrow, place) {
+        Some(placed) => {
+            may_be_adjacent(grid, placed.cell, sides.first.cell)
+                || may_be_adjacent(grid, placed.cell, sides.second.cell)
+        }
+        None => false,
+    }
+}
+
+// False only where two cells aren't adjacent, and mostly there. The numbers of adjacent cells differ by at most one, or
+// by that of the columns, one more or one less.
+#[inline(always)]
+fn may_be_adjacent(grid: &Grid, a: u32, b: u32) -> bool
+    ensures { result ≡ false → ¬ IsAdjacent grid.now a b }
+{
+    let columns = grid.columns();
+    let apart = a.abs_diff(b);
+    apart <= columns + 1 && (apart <= 1 || columns <= apart + 1)
+}
