@@ -43,6 +43,10 @@ pub record IsStepAside (h : Home) (rows : RowList) (t : Stamp) (back : RowList) 
 abbrev pub IsLateAside : Home → RowList → Logged → Type 0
 IsLateAside h rows l = IsStepAside h rows (logged_stamp l) l.1
 
+-- an entry has nothing to do with the rows
+abbrev pub IsOutOfWay : Home → RowList → Logged → Type 0
+IsOutOfWay h rows l = IsApart rows l.0 × IsLateAside h rows l
+
 -- what stands in rows that lead back is valid
 abbrev pub IsValidBack : Home → RowList → Type 0
 IsValidBack h back = (i : ℕ) (p : Placed) → get_over back i None ≡ Some p → IsValidPlaced h.rules h.grid (Some p)

@@ -12,7 +12,7 @@ ghost use Rattle.region_view.specs.Naming.{Names};
 ghost use Rattle.local_run.specs.LocalRun.{IsInPlace};
 ghost use Rattle.local_run.specs.Weaving.{IsApart, AreOthers};
 ghost use Rattle.event_log.specs.Logged.{entries_in};
-ghost use Rattle.region_core.specs.Weaving.{IsOwnTouch, TouchAfter, AllTouchAfter, IsStepAside, IsLateAside, IsValidBack};
+ghost use Rattle.region_core.specs.Weaving.{IsOwnTouch, TouchAfter, AllTouchAfter, IsStepAside, IsLateAside, IsOutOfWay, IsValidBack};
 
 use crate::moves::is_before;
 use crate::{Entry, Home};
@@ -20,16 +20,34 @@ use event_log::EventLog;
 use event_stamps::{Kind, Stamp};
 use region_view::{Placed, Rows, near_event};
 
-/// The stamp of the first entry of a log from a place on that has one of the disks of some rows.
-pub(crate) fn first_with_disk(log: &EventLog, kept: usize, rows: &Rows) -> Option<Stamp>
-    ensures { result ≡ None → All (IsApart rows.now) (drop kept (entries_in log.now)) }
+/// The stamp of the first entry of a log from a place on that has one of the disks of some rows, or over which rows
+/// lead back that touch them.
+pub(crate) fn first_in_way(log: &EventLog, kept: usize, rows: &Rows, home: &Home) -> Option<Stamp>
+    requires place { IsInPlace home.now }
+    requires valid { All (λ l. IsValidBack home.now l.1) log.now }
+    requires rows { AreValidRows home.now.rules home.now.grid rows.now }
+    ensures apart { result ≡ None → All (IsApart rows.now) (drop kept (entries_in log.now)) }
+    ensures aside { result ≡ None → All (IsLateAside home.now rows.now) (drop kept log.now) }
 {
-    for i in kept..log.len() {
-        if has_disk(log, i, rows) {
+    let mut next = kept;
+    while let Some(i) = log.next_near(next, rows, &home.grid) {
+        if is_hindrance(log, i, rows, home) {
             return Some(log.stamp(i));
         }
+        next = i + 1;
     }
     None
+}
+
+// Whether an entry of a log, by its place, has one of the disks of some rows, or rows lead back over it that touch them.
+fn is_hindrance(log: &EventLog, i: usize, rows: &Rows, home: &Home) -> bool
+    requires place { IsInPlace home.now }
+    requires valid { All (λ l. IsValidBack home.now l.1) log.now }
+    requires rows { AreValidRows home.now.rules home.now.grid rows.now }
+    requires within { i < length log.now }
+    ensures { result ≡ false → IfSome (slice_get log.now i) (IsOutOfWay home.now rows.now) }
+{
+    has_disk(log, i, rows) || is_in_way(&log.stamp(i), &log.back(i), rows, home)
 }
 
 // Whether one of the disks of some rows is that of an entry of a log, by its place.
@@ -80,22 +98,6 @@ fn has_row(rows: &Rows, disk: u32) -> bool
         [row] => row.0 == disk,
         [first, second, ..] => first.0 == disk || second.0 == disk,
     }
-}
-
-/// The stamp of the first entry of a log from a place on over which rows lead back that touch some rows.
-pub(crate) fn first_touched(log: &EventLog, kept: usize, rows: &Rows, home: &Home) -> Option<Stamp>
-    requires place { IsInPlace home.now }
-    requires valid { All (λ l. IsValidBack home.now l.1) log.now }
-    requires rows { AreValidRows home.now.rules home.now.grid rows.now }
-    ensures { result ≡ None → All (IsLateAside home.now rows.now) (drop kept log.now) }
-{
-    for i in kept..log.len() {
-        let at = log.stamp(i);
-        if is_in_way(&at, &log.back(i), rows, home) {
-            return Some(at);
-        }
-    }
-    None
 }
 
 // Whether rows that lead back are of the same disks as some rows, or what stood in them would touch these up to a

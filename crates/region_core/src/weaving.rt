@@ -1,20 +1,20 @@
 //! Weaving: a message that comes late is taken in at its place, and what was done since stays.
 
-ghost use Rattle.std.specs.Prelude.{◌≡◌, ◌↔◌, ◌<◌, ◌≤◌, ◌∷◌, [], length, take, drop, None, IfSome, IfOk, OnOk, IsTrue};
+ghost use Rattle.std.specs.Prelude.{◌≡◌, ◌↔◌, ◌<◌, ◌≤◌, ◌∷◌, [], length, take, drop, None, IfSome, IfOk, OnOk, IsTrue, All};
 ghost use Rattle.event_stamps.specs.Order.{Before};
 ghost use Rattle.cell_grid.specs.Grid.{IsRegion};
 ghost use Rattle.region_view.specs.Placing.{IsValidPlacing};
-ghost use Rattle.region_view.specs.Setting.{set_rows};
+ghost use Rattle.region_view.specs.Setting.{set_rows, AreValidRows};
 ghost use Rattle.region_view.specs.Views.{rows_in};
 ghost use Rattle.region_queue.specs.Queue.{IsOf, StandsFor};
 ghost use Rattle.local_run.specs.Entries.{entries_below, entries_from};
 ghost use Rattle.local_run.specs.LocalRun.{IsInPlace, IsHearable};
 ghost use Rattle.event_log.specs.Logged.{entries_in};
 ghost use Rattle.region_core.specs.Live.{base_in, run_in, IsLive};
-ghost use Rattle.region_core.specs.Weaving.{Weaves, IsSetLate, BeginsAfter, IsTried};
+ghost use Rattle.region_core.specs.Weaving.{Weaves, IsSetLate, BeginsAfter, IsTried, IsValidBack, IsLateAside};
 
 use crate::appending::touch;
-use crate::aside::{first_touched, first_with_disk};
+use crate::aside::first_in_way;
 use crate::live::Live;
 use crate::moves::is_before;
 use crate::{Entry, Home, MAX_ENTRIES};
@@ -133,16 +133,20 @@ impl Live {
             × Weaves from message (run_in floor self.old) hindrance (run_in floor self.new)) }
     {
         let kept = self.log.count_before(message.stamp);
-        match self.hindrance(from, kept, &message) {
+        match self.hindrance(home, from, kept, &message) {
             Some(at) => Ok(Some(at)),
             None => self.weave_at(alloc, home, floor, from, kept, message),
         }
     }
 
-    // What keeps a message of a region from coming before the entries from a place on, by the log alone.
-    fn hindrance(&self, from: u32, kept: usize, message: &Message) -> Option<Stamp>
+    // What keeps a message of a region from coming before the entries from a place on, by the log and what was heard.
+    fn hindrance(&self, home: &Home, from: u32, kept: usize, message: &Message) -> Option<Stamp>
+        requires place { IsInPlace home.now }
+        requires valid { All (λ l. IsValidBack home.now l.1) self.now.log }
+        requires rows { AreValidRows home.now.rules home.now.grid message.now.rows }
         requires heard { from < length self.now.inbox.heard }
-        ensures { result ≡ None → IsTried from kept message.now self.now }
+        ensures tried { result ≡ None → IsTried from kept message.now self.now }
+        ensures aside { result ≡ None → All (IsLateAside home.now message.now.rows) (drop kept self.now.log) }
     {
         if !begins_after(&self.log, kept, &message.stamp) {
             return Some(message.stamp);
@@ -153,10 +157,10 @@ impl Live {
         if self.log.len() >= MAX_ENTRIES {
             return Some(self.log.last_stamp().unwrap_or(message.stamp));
         }
-        first_with_disk(&self.log, kept, &message.rows)
+        first_in_way(&self.log, kept, &message.rows, home)
     }
 
-    // The same before the entries from a place on, where the log alone is no hindrance.
+    // The same before the entries from a place on, where these are no hindrance.
     fn weave_at(
         &mut self,
         alloc: Global,
@@ -174,6 +178,7 @@ impl Live {
         requires rest { drop kept (entries_in self.old.log) ≡ entries_from message.stamp (entries_in self.old.log) }
         requires within { kept ≤ length self.old.log }
         requires tried { IsTried from kept message self.old }
+        requires aside { All (IsLateAside home.now message.rows) (drop kept self.old.log) }
         ensures { IfOk result (λ hindrance. IsLive home.now floor self.new
             × Weaves from message (run_in floor self.old) hindrance (run_in floor self.new)) }
     {
@@ -181,10 +186,8 @@ impl Live {
         let Some(last) = self.log.last_stamp() else {
             return Ok(Some(message.stamp));
         };
-        if let Some(at) = first_touched(&self.log, kept, &message.rows, home) {
-            return Ok(Some(at));
-        }
-        let mut back = message.rows;
+        let rows = &message.rows;
+        let mut back = *rows;
         if let Some(at) = set_late(alloc, &mut self.queue, &mut self.view, &mut back, &last)? {
             return Ok(Some(at));
         }

@@ -1,18 +1,11 @@
-use Rattle.std.proofs.Common.{◌++◌, ◌∷◌, inl, Some, None, take, drop, ◌∙◌, sym, ap, refl}
+use Rattle.std.proofs.Common.{◌++◌, ◌∷◌, Some, None, take, drop, ◌∙◌, sym, ap, refl}
 use Rattle.region_view.specs.Setting.{RowList}
 use Rattle.region_view.specs.Views.{ViewData}
 use Rattle.local_run.specs.declared.entry.Entry.TheVariants.{Heard}
 use Rattle.region_core.specs.Live.{run_in, now_in}
 use Rattle.region_core.proofs.Traced.{now_is, stands_newest, last_stamp_is}
-use Rattle.region_core.proofs.WeavingLive.{IsParted, back_valid, put_live, may_be_woven, set_valid, same_live, of_again, set_is, all_later, few_taken}
+use Rattle.region_core.proofs.WeavingLive.{IsParted, put_live, may_be_woven, set_valid, same_live, of_again, set_is, all_later, few_taken}
 use Rattle.region_core.proofs.live.Live.weave_at.Goals as goal
-
-pub first_touched-requires-clause-valid : goal.first_touched-requires-clause-valid
-first_touched-requires-clause-valid c =
-    back_valid c.args.home.now c.args.floor c.args.self.now c.requires.place c.requires.live
-
-pub first_touched-requires-clause-rows : goal.first_touched-requires-clause-rows
-first_touched-requires-clause-rows c = (c.requires.hearable.rows c.args.message (inl refl)).1
 
 pub set_late-requires-clause-valid : goal.set_late-requires-clause-valid
 set_late-requires-clause-valid c = (set_valid c.args.home.now c.args.floor c.args.self.now c.args.from c.args.message
@@ -56,7 +49,7 @@ returns c =
     let later = all_later home c.set_late.new.queue c.in-Some.last live.view (now_in live).view c.set_late.new.view
     m.rows of (sym (now_is live c.requires.live.traced)) set.0 set.3 in
     let may = may_be_woven home c.args.floor live c.args.from c.args.kept m c.in-Some.last
-    c.requires.live parted c.requires.tried (c.first_touched.ensures c.in_default-first_touched.is)
+    c.requires.live parted c.requires.tried c.requires.aside
     (sym c.in-Some.is ∙ c.last_stamp.ensures ∙ last_stamp_is live.log) later in
     put_live home c.args.floor c.args.from c.args.kept m live _ c.requires.region c.requires.live
     parted c.requires.tried may c.requires.hearable (record {

@@ -1,0 +1,26 @@
+use Rattle.std.proofs.Common.{arith}
+use Rattle.region_core.proofs.Passed.{passed_more, passed_all, all_apart, all_aside}
+use Rattle.region_core.proofs.aside.first_in_way.Goals as goal
+
+pub overflow_add-next : goal.overflow_add-next
+overflow_add-next c =
+    let few = c.in-Some.ensures.few in
+    let place = c.in-Some.ensures.place in
+    omega arith
+
+pub loop-i-preserved : goal.loop-i-preserved
+loop-i-preserved c =
+    passed_more c.args.home.now c.args.rows.now c.args.log.now c.args.kept c.loop-i.next c.in-Some.i
+    c.loop-i.invariant c.in-Some.ensures.far (c.is_hindrance.ensures c.if-is_hindrance.false)
+
+pub returns-clause-apart : goal.returns-clause-apart
+returns-clause-apart c = λ none.
+    all_apart c.args.home.now c.args.rows.now c.args.log.now c.args.kept
+    (passed_all c.args.home.now c.args.rows.now c.args.log.now c.args.kept c.loop-i.next
+    c.loop-i.invariant c.in_default.ensures.far)
+
+pub returns-clause-aside : goal.returns-clause-aside
+returns-clause-aside c = λ none.
+    all_aside c.args.home.now c.args.rows.now c.args.log.now c.args.kept
+    (passed_all c.args.home.now c.args.rows.now c.args.log.now c.args.kept c.loop-i.next
+    c.loop-i.invariant c.in_default.ensures.far)

@@ -1,0 +1,14 @@
+use Rattle.region_core.specs.Weaving.{IsValidBack}
+use Rattle.region_core.proofs.Tests.{back_at, late_at}
+use Rattle.region_core.proofs.Passed.{tested_at}
+use Rattle.region_core.proofs.aside.is_hindrance.Goals as goal
+
+pub is_in_way-requires-clause-back : goal.is_in_way-requires-clause-back
+is_in_way-requires-clause-back c =
+    back_at (IsValidBack c.args.home.now) c.args.log.now c.args.i c.back.result c.requires.valid c.back.ensures
+
+pub returns-else-has_disk : goal.returns-else-has_disk
+returns-else-has_disk c = λ off.
+    tested_at c.args.home.now c.args.rows.now c.args.log.now c.args.i (c.has_disk.ensures c.if-has_disk.false)
+    (late_at c.args.home.now c.args.rows.now c.args.log.now c.args.i c.stamp.result c.back.result
+    c.stamp.ensures c.back.ensures (c.is_in_way.ensures off))
