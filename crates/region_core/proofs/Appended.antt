@@ -12,7 +12,7 @@ use Rattle.region_view.specs.Setting.{set_rows, rows_at, rows_set, after_action}
 use Rattle.region_view.specs.Messages.{message_of}
 use Rattle.region_messages.specs.Trails.{IsAmong, IsAfterAll}
 use Rattle.region_view.specs.Acting.{stamp_of}
-use Rattle.region_view.specs.Laws.{IsValidAction}
+use Rattle.region_view.specs.Laws.{HasCells, IsValidAction}
 use Rattle.region_queue.specs.Queue.{IsOf, StandsFor}
 use Rattle.local_run.specs.declared.home.Home.{Home}
 use Rattle.local_run.specs.declared.entry.Entry.{Entry}
@@ -29,6 +29,7 @@ use Rattle.region_core.specs.Live.{base_in, run_in, start_in, now_in, HasTrace, 
 use Rattle.event_log.specs.Logged.{Logged, entries_in}
 use Rattle.event_log.specs.Undoing.{rows_by}
 use Rattle.event_log.specs.Traced.{IsTraced}
+use Rattle.event_log.specs.Running.{acted}
 use Rattle.event_log.proofs.Traced.{traced_pushed}
 use Rattle.local_run.specs.Keeping.{SendsTo}
 use Rattle.local_run.specs.Moves.{Fits}
@@ -229,3 +230,47 @@ pub after_what_was_sent : (home : Home) (floor : Stamp) (live : Live) (x : Actio
 after_what_was_sent home floor live x is fits to sends m among =
     sent_before_turn home.grid to (base_in live) floor (stamp_of x) (entries_in live.log) is.right.rises fits.1.1 m
     (subst (IsAmong m) (is.sent.each to sends.0 sends.1) among)
+
+pub cells_are : (home : Home) (floor : Stamp) (live : Live) → IsInPlace home → IsLive home floor live →
+    HasCells home.grid (rows_in live.view)
+cells_are home floor live place is = subst (λ (v : ViewData). HasCells home.grid (rows_in v)) (now_is live is.traced)
+    (valid_now home (run_in floor live) place is.right).cell
+
+-- ---- what ran
+-- a body that ran an action and sent its messages, in parts
+pub record HasActed (home : Home) (live new : Live) (x : Action) : Type 0 where
+  pub inbox : new.inbox ≡ live.inbox
+  pub log : new.log ≡ live.log ++ acted live.view x ∷ []
+  pub view : new.view ≡ after_action live.view x
+  pub queue : IsOf new.queue live.queue.rules live.queue.grid live.queue.region
+  pub stands : StandsFor new.queue new.view
+  pub size : length new.sent.items ≡ length live.sent.items
+  pub told : (to : ℕ) → SendsTo home to → trail_of new.sent.items to ≡ trail_of live.sent.items to
+      ++ told (message_of home.grid to (rows_in live.view) x) []
+
+pub acted_is_live : (home : Home) (floor : Stamp) (live new : Live) (x : Action) → IsLive home floor live →
+    Fits home (run_in floor live) (Run x) → HasActed home live new x → IsLive home floor new
+acted_is_live home floor live new x kept fits is =
+    further_is home floor live new (Native x) kept fits.0.0 fits.1 fits.2
+    record {
+      heard = ap (λ (i : InboxData). i.heard) is.inbox;
+      log = is.log;
+      view = is.view;
+      queue = record {
+        rules = is.queue.rules ∙ kept.queue.rules;
+        grid = is.queue.grid ∙ kept.queue.grid;
+        region = is.queue.region ∙ kept.queue.region;
+      };
+      stands = is.stands;
+      inbox = subst (IsInbox home (entries_in live.log ++ Native x ∷ [])) (sym is.inbox)
+          (inbox_native home (entries_in live.log) live.inbox x kept.inbox);
+      sent = outbox_native home floor live x new.sent.items kept.sent is.size
+          (λ to sends. is.told to sends
+          ∙ ap (λ (v : ViewData). trail_of live.sent.items to
+          ++ told (message_of home.grid to (rows_in v) x) []) (sym (now_is live kept.traced)));
+    }
+
+pub acted_run : (home : Home) (floor : Stamp) (live new : Live) (x : Action) → IsLive home floor live →
+    HasActed home live new x → run_in floor new ≡ with_entry (run_in floor live) (Native x)
+acted_run home floor live new x kept is = further_run floor live new (Native x) kept.traced
+    (ap (λ (i : InboxData). i.heard) is.inbox) is.log is.view

@@ -1,6 +1,6 @@
 //! One more entry of a log, and what it changes beside the log.
 
-ghost use Rattle.std.specs.Prelude.{◌≡◌, ◌<◌, ◌++◌, ◌∷◌, [], ℕ, length, OnOk, IfSome};
+ghost use Rattle.std.specs.Prelude.{◌≡◌, ◌<◌, ◌++◌, ◌∷◌, [], ℕ, length, OnOk, IfSome, IsTrue};
 ghost use Rattle.region_view.specs.Placing.{IsValidPlacing};
 ghost use Rattle.region_view.specs.Views.{ViewData, rows_in};
 ghost use Rattle.region_view.specs.Acting.{stamp_of};
@@ -16,7 +16,7 @@ ghost use Rattle.local_run.specs.declared.moves.Move.TheVariants.{Run, TakeIn};
 ghost use Rattle.local_run.specs.LocalRun.{IsInPlace, trail_of, told};
 ghost use Rattle.local_run.specs.Answers.{with_entry};
 ghost use Rattle.event_log.specs.Running.{acted};
-ghost use Rattle.region_core.specs.Border.{IsBorderOf};
+ghost use Rattle.region_core.specs.Border.{IsBorderOf, IsUntold};
 ghost use Rattle.region_core.specs.Live.{run_in, IsLive};
 ghost use Rattle.local_run.specs.Keeping.{SendsTo};
 ghost use Rattle.local_run.specs.Moves.{Fits};
@@ -107,7 +107,8 @@ impl Live {
             (run_in floor self.new ≡ with_entry (run_in floor self.old) (Native action)) }
     {
         let _floor = floor;
-        send_if_seen(&mut self.sent, home, border, &self.view, &action)?;
+        let is_untold = border.is_untold(home, &self.view, &action);
+        send_if_told(&mut self.sent, home, &self.view, &action, is_untold)?;
         self.act(alloc, &action)?;
         Ok(())
     }
@@ -134,20 +135,20 @@ impl Live {
     }
 }
 
-// Sends the messages of an action, where others see what it has to do with. Few actions are so near a border.
+/// Sends the messages of an action, but where it is known that nobody is told of it. Few actions are so near a border.
 #[inline(always)]
-fn send_if_seen(
+pub(crate) fn send_if_told(
     sent: &mut Vec<Trail>,
     home: &Home,
-    border: &Border,
     before: &View,
     action: &Action,
+    is_untold: bool,
 ) -> Result<(), AllocError>
     requires number { IsRegion home.now.grid home.now.number }
-    requires border { IsBorderOf home.now border.now }
     requires cells { HasCells home.now.grid (rows_in before.now) }
     requires order { IsInOrder action.now }
     requires cell { RecordsCell home.now.grid action.now }
+    requires untold { IsTrue is_untold → IsUntold home.now (rows_in before.now) action.now }
     requires size { length sent.old.items ≡ home.now.grid.regions }
     requires after { (to : ℕ) → SendsTo home.now to →
         IsAfterAll (trail_of sent.old.items to) (stamp_of action.now) }
@@ -156,7 +157,7 @@ fn send_if_seen(
         ≡ trail_of sent.old.items to
         ++ told (message_of home.now.grid to (rows_in before.now) action.now) []) }
 {
-    if border.is_untold(home, before, action) {
+    if is_untold {
         return Ok(());
     }
     send(sent, home, before, action)
@@ -209,7 +210,12 @@ fn send_one(trail: &mut Trail, message: Option<Message>) -> Result<(), AllocErro
 
 // Tells the queue of an action that was run, and of the view after it.
 #[inline(always)]
-fn tell(alloc: Global, queue: &mut Queue, view: &View, action: &Action) -> Result<(), AllocError>
+pub(crate) fn tell(
+    alloc: Global,
+    queue: &mut Queue,
+    view: &View,
+    action: &Action,
+) -> Result<(), AllocError>
     requires valid { IsValidPlacing queue.old.rules queue.old.grid (rows_in view.now) }
     ensures queue { IsOf queue.new queue.old.rules queue.old.grid queue.old.region }
     ensures stands { OnOk result ((before : ViewData) → StandsFor queue.old before →

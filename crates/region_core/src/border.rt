@@ -42,6 +42,17 @@ impl Border {
         self.first <= column && column < self.end
     }
 
+    /// Whether no other region sees either of two cells.
+    #[inline(always)]
+    pub(crate) fn are_far(&self, home: &Home, cell: u32, other: u32) -> bool
+        requires border { IsBorderOf home.now self.now }
+        requires cell { IsCell home.now.grid cell }
+        requires other { IsCell home.now.grid other }
+        ensures { IsTrue result → IsFar home.now cell × IsFar home.now other }
+    {
+        self.is_far(home, cell) && self.is_far(home, other)
+    }
+
     /// Whether an action has to do with cells alone that no other region sees. Then nobody is told of it.
     #[inline(always)]
     pub(crate) fn is_untold(&self, home: &Home, before: &View, action: &Action) -> bool

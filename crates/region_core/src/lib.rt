@@ -17,6 +17,7 @@ mod moves;
 mod raising;
 mod region;
 mod rollback;
+mod running_events;
 mod weaving;
 
 pub use burst::Burst;

@@ -8,19 +8,34 @@ ghost use Rattle.region_view.specs.Views.{rows_in};
 ghost use Rattle.local_run.specs.LocalRun.{At, IsInPlace, IsOwn, IsOffered, IsDue, IsDueOrEnd, IsWaiting, ComesTo};
 ghost use Rattle.local_run.specs.Answers.{HasDue, IsInTurn, StepsTo};
 ghost use Rattle.region_core.specs.Border.{IsBorderOf};
+ghost use Rattle.region_core.specs.Choices.{Chooses};
 ghost use Rattle.region_core.specs.Inbox.{head_stamp, IsLeastHead, IsFirstOf};
 ghost use Rattle.region_core.specs.Live.{run_in, now_in, IsLive, HasRun, HasTrace, HasDueBefore, IsHeldBack};
-ghost use Rattle.local_run.specs.Moves.{Fits, ComesAfter};
+ghost use Rattle.local_run.specs.Moves.{ComesAfter};
 
 use crate::border::Border;
 use crate::live::Live;
 use crate::{Home, MAX_ENTRIES, Step};
 use event_rules::Limit;
 use event_stamps::{Kind, Stamp, compare, earlier};
-use local_run::Move;
 use region_view::{Action, Message, View, act};
 use std::alloc::{AllocError, Global};
 use std::cmp::Ordering;
+
+/// What a region does next.
+pub(crate) enum Choice {
+    /// Nothing: it answers this.
+    Answer(Step),
+    /// It runs the event with this stamp, of its own columns.
+    Run(Stamp),
+    /// It takes in the first message of a region.
+    TakeIn {
+        /// The number of the region that sent it.
+        from: u32,
+        /// The message.
+        message: Message,
+    },
+}
 
 impl Live {
     /// The view after the whole log.
@@ -77,27 +92,27 @@ impl Live {
         floor: Stamp,
         head: Option<(u32, Stamp)>,
         due: Option<Stamp>,
-    ) -> Move
+    ) -> Choice
         requires place { IsInPlace home.now }
         requires live { IsLive home.now floor self.now }
         requires head { IsLeastHead self.now.inbox head }
         requires due { IsLeastOf (IsOffered home.now (now_in self.now)) due }
-        ensures { Fits home.now (run_in floor self.now) result }
+        ensures { Chooses home.now (run_in floor self.now) result }
     {
         if self.log.len() >= MAX_ENTRIES {
-            return Move::Answer(Step::Held);
+            return Choice::Answer(Step::Held);
         }
         let Some(due) = due else {
-            return Move::Answer(Step::Idle);
+            return Choice::Answer(Step::Idle);
         };
         let last = self.log.last_stamp();
         if !is_in_turn(&floor, last, &due) {
             let clock = last.unwrap_or(floor);
-            return Move::Answer(Step::Past { due, clock });
+            return Choice::Answer(Step::Past { due, clock });
         }
         match self.sender_at(home, head, &due) {
             Some(from) => self.message_move(home, floor, from, due),
-            None => self.event_move(home, floor, due),
+            None => Choice::Run(due),
         }
     }
 
@@ -129,13 +144,12 @@ impl Live {
             return Ok(None);
         }
         match self.next_move(home, floor, head, due) {
-            Move::Answer(step) => Ok(Some(step)),
-            Move::Run(action) => {
-                let stamp = action.stamp();
-                self.run(alloc, home, border, floor, action)?;
-                Ok(Some(Step::Ran(stamp)))
-            }
-            Move::TakeIn { from, message } => {
+            Choice::Answer(step) => Ok(Some(step)),
+            Choice::Run(due) => match self.run_event(alloc, home, border, floor, &due)? {
+                None => Ok(Some(Step::Ran(due))),
+                Some(limit) => Ok(Some(Step::Halted(limit))),
+            },
+            Choice::TakeIn { from, message } => {
                 let stamp = message.stamp;
                 self.take_in(alloc, home, floor, from, message)?;
                 Ok(Some(Step::Heard(stamp)))
@@ -190,33 +204,18 @@ impl Live {
     }
 
     // What comes next where the first message of a region has the due stamp, which is in turn.
-    fn message_move(&self, home: &Home, floor: Stamp, from: u32, due: Stamp) -> Move
+    fn message_move(&self, home: &Home, floor: Stamp, from: u32, due: Stamp) -> Choice
         requires live { IsLive home.now floor self.now }
         requires due { HasDue home.now (run_in floor self.now) due }
         requires turn { IsInTurn (run_in floor self.now) due }
         requires first { IsFirstOf self.now.inbox from due }
-        ensures { Fits home.now (run_in floor self.now) result }
+        ensures { Chooses home.now (run_in floor self.now) result }
     {
         if self.is_own(home, &due) || self.inbox.is_shared(from, &due) {
-            Move::Answer(Step::Tied(due))
+            Choice::Answer(Step::Tied(due))
         } else {
             let message = *self.inbox.next(from).unwrap();
-            Move::TakeIn { from, message }
-        }
-    }
-
-    // What comes next where no message has the due stamp, which is in turn.
-    fn event_move(&self, home: &Home, floor: Stamp, due: Stamp) -> Move
-        requires place { IsInPlace home.now }
-        requires live { IsLive home.now floor self.now }
-        requires due { HasDue home.now (run_in floor self.now) due }
-        requires turn { IsInTurn (run_in floor self.now) due }
-        requires alone { ¬ IsWaiting (now_in self.now).waiting due }
-        ensures { Fits home.now (run_in floor self.now) result }
-    {
-        match outcome(home, self.view(), &due) {
-            Ok(action) => Move::Run(action),
-            Err(limit) => Move::Answer(Step::Halted(limit)),
+            Choice::TakeIn { from, message }
         }
     }
 }
@@ -266,7 +265,7 @@ fn stamp_of(head: Option<(u32, Stamp)>) -> Option<Stamp>
 }
 
 // What a native candidate of a view comes to.
-fn outcome(home: &Home, view: &View, stamp: &Stamp) -> Result<Action, Limit>
+pub(crate) fn outcome(home: &Home, view: &View, stamp: &Stamp) -> Result<Action, Limit>
     requires place { IsInPlace home.now }
     requires valid { IsValidPlacing home.now.rules home.now.grid (rows_in view.now) }
     requires own { IsOwn home.now view.now stamp.now }

@@ -36,10 +36,18 @@ message_move-requires-clause-turn c =
     (subst (λ (o : Option Stamp). ComesAfter c.args.floor o c.in-Some.due) last
     (c.is_in_turn.ensures.0 c.if-not-is_in_turn.false))
 
-pub event_move-requires-clause-turn : goal.event_move-requires-clause-turn
-event_move-requires-clause-turn c =
+pub returns-in-None : goal.returns-in-None
+returns-in-None c =
     let r = run_in c.args.floor c.args.self.now in
     let last = c.last_stamp-last.ensures ∙ last_stamp_is c.args.self.now.log in
-    (turn_by r c.in-Some.due).0
-    (subst (λ (o : Option Stamp). ComesAfter c.args.floor o c.in-Some.due) last
-    (c.is_in_turn.ensures.0 c.if-not-is_in_turn.false))
+    let many = as_many c.args.self.now.log in
+    record {
+      due = (
+        omega (arith, c.if-len-ge-MAX_ENTRIES.false, c.len.ensures),
+        subst (IsLeastOf (IsOffered c.args.home.now (now_in c.args.self.now))) c.in-Some.is c.requires.due,
+      );
+      turn = (turn_by r c.in-Some.due).0
+          (subst (λ (o : Option Stamp). ComesAfter c.args.floor o c.in-Some.due) last
+          (c.is_in_turn.ensures.0 c.if-not-is_in_turn.false));
+      alone = c.in-None.ensures;
+    }

@@ -1,30 +1,32 @@
-use Rattle.std.proofs.Common.{◌∷◌, [], ◌++◌, ap, ◌∙◌, sym, subst, arith}
-use Rattle.region_view.specs.Laws.{HasCells}
-use Rattle.region_view.specs.Views.{ViewData, rows_in}
+use Rattle.std.proofs.Common.{ap, ◌∙◌, arith}
+use Rattle.std.specs.Prelude.{length}
 use Rattle.local_run.specs.declared.entry.Entry.TheVariants.{Native}
-use Rattle.event_log.specs.Logged.{entries_in}
+use Rattle.local_run.specs.LocalRun.{trail_of}
 use Rattle.region_core.specs.Inbox.{InboxData}
-use Rattle.local_run.specs.LocalRun.{trail_of, told}
-use Rattle.region_view.specs.Messages.{message_of}
-use Rattle.region_core.specs.Live.{base_in, run_in, IsInbox, IsOutbox}
-use Rattle.local_run.proofs.Valid.{valid_now}
-use Rattle.region_core.proofs.Traced.{now_is, stands_newest, as_many}
-use Rattle.region_core.proofs.Appended.{further_is, further_run, native_action, native_valid, after_what_was_sent, inbox_native, outbox_native}
+use Rattle.region_core.proofs.Traced.{stands_newest, as_many}
+use Rattle.region_core.proofs.Appended.{cells_are, acted_is_live, further_run, native_action, native_valid, after_what_was_sent}
 use Rattle.region_core.proofs.live.Live.run.Goals as goal
 
-pub send_if_seen-requires : goal.send_if_seen-requires
-send_if_seen-requires c =
+pub is_untold-is_untold-requires-clause-cells : goal.is_untold-is_untold-requires-clause-cells
+is_untold-is_untold-requires-clause-cells c =
+    cells_are c.args.home.now c.args.floor c.args.self.now c.requires.place c.requires.live
+
+pub is_untold-is_untold-requires-clause-cell : goal.is_untold-is_untold-requires-clause-cell
+is_untold-is_untold-requires-clause-cell c = (native_action c.args.home.now c.args.floor c.args.self.now c.args.action
+    c.requires.place c.requires.live c.requires.fits).cell
+
+pub send_if_told-requires : goal.send_if_told-requires
+send_if_told-requires c =
     let home = c.args.home.now in
     let live = c.args.self.now in
     let valid = native_action home c.args.floor live c.args.action c.requires.place c.requires.live
     c.requires.fits in
     record {
       number = c.requires.place.number;
-      border = c.requires.border;
-      cells = subst (λ (v : ViewData). HasCells home.grid (rows_in v)) (now_is live c.requires.live.traced)
-          (valid_now home (run_in c.args.floor live) c.requires.place c.requires.live.right).cell;
+      cells = cells_are home c.args.floor live c.requires.place c.requires.live;
       order = valid.order;
       cell = valid.cell;
+      untold = c.is_untold-is_untold.ensures;
       size = c.requires.live.sent.regions;
       after = after_what_was_sent home c.args.floor live c.args.action c.requires.live c.requires.fits;
     }
@@ -40,32 +42,16 @@ act-requires c = record {
 }
 
 pub returns-clause-live : goal.returns-clause-live
-returns-clause-live c =
-    let home = c.args.home.now in
-    let live = c.args.self.now in
-    let e = Native c.args.action in
-    let queue = c.in_ok-act.ensures.queue in
-    further_is home c.args.floor live _ e c.requires.live c.requires.fits.0.0 c.requires.fits.1
-    c.requires.fits.2
+returns-clause-live c = acted_is_live c.args.home.now c.args.floor c.args.self.now c.act.new.self c.args.action
+    c.requires.live c.requires.fits
     record {
-      heard = ap (λ (x : InboxData). x.heard) c.act.ensures.inbox;
+      inbox = c.act.ensures.inbox;
       log = c.in_ok-act.ensures.log;
       view = c.in_ok-act.ensures.view;
-      queue = record {
-        rules = queue.rules ∙ c.requires.live.queue.rules;
-        grid = queue.grid ∙ c.requires.live.queue.grid;
-        region = queue.region ∙ c.requires.live.queue.region;
-      };
+      queue = c.in_ok-act.ensures.queue;
       stands = c.in_ok-act.ensures.stands;
-      inbox = subst (IsInbox home (entries_in live.log ++ e ∷ [])) (sym c.act.ensures.inbox)
-          (inbox_native home (entries_in live.log) live.inbox c.args.action c.requires.live.inbox);
-      sent = subst (IsOutbox home (base_in live) (entries_in live.log ++ e ∷ []))
-          (λ i. (sym c.act.ensures.sent i).items)
-          (outbox_native home c.args.floor live c.args.action c.send_if_seen.new.sent.items
-          c.requires.live.sent c.in_ok-send_if_seen.ensures.size
-          (λ to sends. c.in_ok-send_if_seen.ensures.told to sends
-          ∙ ap (λ (v : ViewData). trail_of live.sent.items to
-          ++ told (message_of home.grid to (rows_in v) c.args.action) []) (sym (now_is live c.requires.live.traced))));
+      size = (λ i. length (c.act.ensures.sent i).items) ∙ c.in_ok-send_if_told.ensures.size;
+      told = λ to sends. (λ i. trail_of (c.act.ensures.sent i).items to) ∙ c.in_ok-send_if_told.ensures.told to sends;
     }
 
 pub returns-clause-run : goal.returns-clause-run

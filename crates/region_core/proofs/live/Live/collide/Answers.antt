@@ -1,0 +1,17 @@
+use Rattle.std.proofs.Common.{◌∷◌, [], sym, subst}
+use Rattle.region_view.specs.Naming.{IsSameBut}
+use Rattle.event_log.specs.Running.{collision}
+use Rattle.local_run.proofs.Aside.{here_first, later_still}
+use Rattle.region_core.proofs.Told.{hit_leaves}
+use Rattle.region_core.proofs.live.Live.collide.Goals as goal
+
+pub returns-clause-stands : goal.returns-clause-stands
+returns-clause-stands c =
+    let view = c.args.self.now.view in
+    let stamp = c.args.stamp.now in
+    let ids = stamp.first ∷ stamp.second ∷ [] in
+    let change = collision stamp c.args.first.now c.args.second.now in
+    c.in_ok-touched.ensures.stands view c.requires.stands
+    (subst (IsSameBut ids view) (sym c.in_ok-collide.ensures.view)
+    (hit_leaves view change ids (here_first stamp.first (stamp.second ∷ []))
+    (later_still stamp.first (stamp.second ∷ []) stamp.second (here_first stamp.second []))))

@@ -1,0 +1,313 @@
+//! Events of a region's own columns, those of each kind run in a function of its own, on narrow rows.
+
+ghost use Rattle.std.specs.Prelude.{◌≡◌, ◌<◌, ◌++◌, ◌∷◌, [], length, IfOk, IfSome, OnOk, IsTrue, is_some};
+ghost use Rattle.std.specs.FinMap as map;
+ghost use Rattle.event_stamps.specs.declared.Kind.TheVariants.{Cross as Crossing, Pair};
+ghost use Rattle.region_view.specs.declared.action.Action.TheVariants.{Cross, Hit};
+ghost use Rattle.region_view.specs.Placing.{IsValidPlacing};
+ghost use Rattle.region_view.specs.Views.{rows_in};
+ghost use Rattle.region_view.specs.Compact.{IsRowThere, IsSmall};
+ghost use Rattle.region_view.specs.Setting.{after_action};
+ghost use Rattle.region_queue.specs.Queue.{IsOf, StandsFor};
+ghost use Rattle.local_run.specs.LocalRun.{IsInPlace};
+ghost use Rattle.local_run.specs.declared.entry.Entry.TheVariants.{Native};
+ghost use Rattle.local_run.specs.declared.moves.Move.TheVariants.{Run};
+ghost use Rattle.local_run.specs.Answers.{StepsTo, with_entry};
+ghost use Rattle.local_run.specs.Moves.{Fits};
+ghost use Rattle.event_log.specs.Heads.{disk_or};
+ghost use Rattle.event_log.specs.Running.{acted, collision, IsMoved};
+ghost use Rattle.region_core.specs.Border.{IsBorderOf, IsUntold};
+ghost use Rattle.region_core.specs.Choices.{IsAtTurn, answer_of};
+ghost use Rattle.region_core.specs.Live.{run_in, IsLive};
+
+use crate::appending::{send_if_told, tell};
+use crate::border::Border;
+use crate::live::Live;
+use crate::moves::outcome;
+use crate::{Home, MAX_ENTRIES};
+use event_log::HitRows;
+use event_rules::{Change, Limit, apply};
+use event_stamps::{Kind, Stamp};
+use fixed_motion::Disk;
+use region_view::{Action, Compact, Placed, crossed_cell};
+use std::alloc::{AllocError, Global};
+
+impl Live {
+    /// Runs the event of its own columns that is due, and sends its messages. None says that it ran; else it fails
+    /// at this limit, and nothing changes.
+    ///
+    /// # Errors
+    /// Out of memory: what is left is to be dropped.
+    #[inline(always)]
+    pub(crate) fn run_event(
+        &mut self,
+        alloc: Global,
+        home: &Home,
+        border: &Border,
+        floor: Stamp,
+        due: &Stamp,
+    ) -> Result<Option<Limit>, AllocError>
+        requires place { IsInPlace home.now }
+        requires border { IsBorderOf home.now border.now }
+        requires live { IsLive home.now floor self.old }
+        requires turn { IsAtTurn home.now (run_in floor self.old) due.now }
+        ensures live { OnOk result (IsLive home.now floor self.new) }
+        ensures steps { IfOk result (λ limit.
+            StepsTo home.now (run_in floor self.old) (answer_of due.now limit) (run_in floor self.new)) }
+    {
+        match due.kind {
+            Kind::Cross => self.run_crossing(alloc, home, border, floor, due),
+            Kind::Pair => self.run_pair(alloc, home, border, floor, due),
+            Kind::Wall => self.run_any(alloc, home, border, floor, due),
+        }
+    }
+
+    // The same of a crossing. Kept apart, so that nothing of other events is carried along.
+    #[inline(never)]
+    fn run_crossing(
+        &mut self,
+        alloc: Global,
+        home: &Home,
+        border: &Border,
+        floor: Stamp,
+        due: &Stamp,
+    ) -> Result<Option<Limit>, AllocError>
+        requires place { IsInPlace home.now }
+        requires border { IsBorderOf home.now border.now }
+        requires live { IsLive home.now floor self.old }
+        requires turn { IsAtTurn home.now (run_in floor self.old) due.now }
+        requires kind { due.now.kind ≡ Crossing }
+        ensures live { OnOk result (IsLive home.now floor self.new) }
+        ensures steps { IfOk result (λ limit.
+            StepsTo home.now (run_in floor self.old) (answer_of due.now limit) (run_in floor self.new)) }
+    {
+        let Some(before) = self.view.narrow(due.first) else {
+            return self.run_any(alloc, home, border, floor, due);
+        };
+        let row = before.get().unwrap();
+        match crossed_cell(&home.rules, &home.grid, due, &row.disk) {
+            Some(cell) => {
+                let is_untold = border.are_far(home, row.cell, cell);
+                self.cross_and_send(alloc, home, floor, due, &before, cell, is_untold)?;
+                Ok(None)
+            }
+            None => Ok(Some(Limit::Rounds(*due))),
+        }
+    }
+
+    // The same of a collision of two disks.
+    #[inline(never)]
+    fn run_pair(
+        &mut self,
+        alloc: Global,
+        home: &Home,
+        border: &Border,
+        floor: Stamp,
+        due: &Stamp,
+    ) -> Result<Option<Limit>, AllocError>
+        requires place { IsInPlace home.now }
+        requires border { IsBorderOf home.now border.now }
+        requires live { IsLive home.now floor self.old }
+        requires turn { IsAtTurn home.now (run_in floor self.old) due.now }
+        requires kind { due.now.kind ≡ Pair }
+        ensures live { OnOk result (IsLive home.now floor self.new) }
+        ensures steps { IfOk result (λ limit.
+            StepsTo home.now (run_in floor self.old) (answer_of due.now limit) (run_in floor self.new)) }
+    {
+        let Some(before) = self.view.narrow(due.first) else {
+            return self.run_any(alloc, home, border, floor, due);
+        };
+        let Some(beside) = self.view.narrow(due.second) else {
+            return self.run_any(alloc, home, border, floor, due);
+        };
+        let first = before.get().unwrap();
+        let second = beside.get().unwrap();
+        match apply(&home.rules, due, &first.disk, Some(&second.disk)) {
+            Ok(change) => {
+                let is_untold = border.are_far(home, first.cell, second.cell);
+                let partner = change.second.unwrap();
+                let one = rows_of_hit(before, first.cell, change.first);
+                let other = rows_of_hit(beside, second.cell, partner);
+                self.collide_and_send(alloc, home, floor, &change, &one, &other, is_untold)?;
+                Ok(None)
+            }
+            Err(limit) => Ok(Some(limit)),
+        }
+    }
+
+    // The same of any event.
+    #[inline(never)]
+    fn run_any(
+        &mut self,
+        alloc: Global,
+        home: &Home,
+        border: &Border,
+        floor: Stamp,
+        due: &Stamp,
+    ) -> Result<Option<Limit>, AllocError>
+        requires place { IsInPlace home.now }
+        requires border { IsBorderOf home.now border.now }
+        requires live { IsLive home.now floor self.old }
+        requires turn { IsAtTurn home.now (run_in floor self.old) due.now }
+        ensures live { OnOk result (IsLive home.now floor self.new) }
+        ensures steps { IfOk result (λ limit.
+            StepsTo home.now (run_in floor self.old) (answer_of due.now limit) (run_in floor self.new)) }
+    {
+        match outcome(home, &self.view, due) {
+            Ok(action) => {
+                self.run(alloc, home, border, floor, action)?;
+                Ok(None)
+            }
+            Err(limit) => Ok(Some(limit)),
+        }
+    }
+
+    // Runs a crossing, which is what comes next and whose disk has this row, and sends its messages, but where it is
+    // known that nobody is told of it.
+    #[inline(always)]
+    fn cross_and_send(
+        &mut self,
+        alloc: Global,
+        home: &Home,
+        floor: Stamp,
+        stamp: &Stamp,
+        before: &Compact,
+        cell: u32,
+        is_untold: bool,
+    ) -> Result<(), AllocError>
+        requires place { IsInPlace home.now }
+        requires live { IsLive home.now floor self.old }
+        requires fits { Fits home.now (run_in floor self.old) (Run (Cross stamp.now cell)) }
+        requires before { IsRowThere (map.get self.old.view stamp.now.first) before.now }
+        requires untold { IsTrue is_untold → IsUntold home.now (rows_in self.old.view) (Cross stamp.now cell) }
+        ensures live { OnOk result (IsLive home.now floor self.new) }
+        ensures run { OnOk result (run_in floor self.new
+            ≡ with_entry (run_in floor self.old) (Native (Cross stamp.now cell))) }
+    {
+        let _floor = floor;
+        let action = Action::Cross {
+            stamp: *stamp,
+            cell,
+        };
+        send_if_told(&mut self.sent, home, &self.view, &action, is_untold)?;
+        self.cross(alloc, stamp, before, cell)?;
+        Ok(())
+    }
+
+    // The same of a collision of two disks, which have these rows before it and after it.
+    #[inline(always)]
+    fn collide_and_send(
+        &mut self,
+        alloc: Global,
+        home: &Home,
+        floor: Stamp,
+        change: &Change,
+        first: &HitRows,
+        second: &HitRows,
+        is_untold: bool,
+    ) -> Result<(), AllocError>
+        requires place { IsInPlace home.now }
+        requires live { IsLive home.now floor self.old }
+        requires fits { Fits home.now (run_in floor self.old) (Run (Hit change.now)) }
+        requires change { change.now ≡ collision change.now.stamp first.now second.now }
+        requires first { IsMoved (map.get self.old.view change.now.stamp.first) (disk_or first.now.after) first.now }
+        requires second { IsMoved (map.get self.old.view change.now.stamp.second) (disk_or second.now.after) second.now }
+        requires untold { IsTrue is_untold → IsUntold home.now (rows_in self.old.view) (Hit change.now) }
+        ensures live { OnOk result (IsLive home.now floor self.new) }
+        ensures run { OnOk result (run_in floor self.new
+            ≡ with_entry (run_in floor self.old) (Native (Hit change.now))) }
+    {
+        let _floor = floor;
+        send_if_told(
+            &mut self.sent,
+            home,
+            &self.view,
+            &Action::Hit(*change),
+            is_untold,
+        )?;
+        self.collide(alloc, &change.stamp, first, second)?;
+        Ok(())
+    }
+
+    // Runs a crossing in the view after the whole log, in which this is the row of its disk, and appends it.
+    #[inline(always)]
+    fn cross(
+        &mut self,
+        alloc: Global,
+        stamp: &Stamp,
+        before: &Compact,
+        cell: u32,
+    ) -> Result<(), AllocError>
+        requires room { length self.old.log < MAX_ENTRIES }
+        requires before { IsRowThere (map.get self.old.view stamp.now.first) before.now }
+        requires stands { StandsFor self.old.queue self.old.view }
+        requires valid { IsValidPlacing self.old.queue.rules self.old.queue.grid
+            (rows_in (after_action self.old.view (Cross stamp.now cell))) }
+        ensures log { OnOk result
+            (self.new.log ≡ self.old.log ++ acted self.old.view (Cross stamp.now cell) ∷ []) }
+        ensures view { OnOk result (self.new.view ≡ after_action self.old.view (Cross stamp.now cell)) }
+        ensures queue { OnOk result (IsOf self.new.queue self.old.queue.rules self.old.queue.grid
+            self.old.queue.region) }
+        ensures stands { OnOk result (StandsFor self.new.queue self.new.view) }
+        ensures inbox { self.new.inbox ≡ self.old.inbox }
+        ensures sent { self.new.sent ≡ self.old.sent }
+    {
+        self.log.cross(&mut self.view, stamp, before, cell)?;
+        tell(
+            alloc,
+            &mut self.queue,
+            &self.view,
+            &Action::Cross {
+                stamp: *stamp,
+                cell,
+            },
+        )?;
+        Ok(())
+    }
+
+    // The same of a collision of two disks, given by their rows before it and after it.
+    #[inline(always)]
+    fn collide(
+        &mut self,
+        alloc: Global,
+        stamp: &Stamp,
+        first: &HitRows,
+        second: &HitRows,
+    ) -> Result<(), AllocError>
+        requires room { length self.old.log < MAX_ENTRIES }
+        requires order { stamp.now.first < stamp.now.second }
+        requires first { IsMoved (map.get self.old.view stamp.now.first) (disk_or first.now.after) first.now }
+        requires second { IsMoved (map.get self.old.view stamp.now.second) (disk_or second.now.after) second.now }
+        requires stands { StandsFor self.old.queue self.old.view }
+        requires valid { IsValidPlacing self.old.queue.rules self.old.queue.grid
+            (rows_in (after_action self.old.view (Hit (collision stamp.now first.now second.now)))) }
+        ensures log { OnOk result (self.new.log
+            ≡ self.old.log ++ acted self.old.view (Hit (collision stamp.now first.now second.now)) ∷ []) }
+        ensures view { OnOk result
+            (self.new.view ≡ after_action self.old.view (Hit (collision stamp.now first.now second.now))) }
+        ensures queue { OnOk result (IsOf self.new.queue self.old.queue.rules self.old.queue.grid
+            self.old.queue.region) }
+        ensures stands { OnOk result (StandsFor self.new.queue self.new.view) }
+        ensures inbox { self.new.inbox ≡ self.old.inbox }
+        ensures sent { self.new.sent ≡ self.old.sent }
+    {
+        self.log.collide(&mut self.view, stamp, first, second)?;
+        self.queue
+            .touched(alloc, &self.view, &[stamp.first, stamp.second])?;
+        Ok(())
+    }
+}
+
+// The row of a disk before a collision, and the one with the record that it has after it.
+#[inline(always)]
+fn rows_of_hit(before: Compact, cell: u32, disk: Disk) -> HitRows
+    requires there { IfSome before (λ p. p.cell ≡ cell) }
+    requires some { IsTrue (is_some before) }
+    requires small { IsSmall (record { disk = disk; cell = cell }) }
+    ensures { IsMoved before disk result }
+{
+    HitRows {
+        before,
+        after: Compact::some(&Placed { disk, cell }),
+    }
+}
