@@ -43,8 +43,8 @@ impl Model for Region {
     ghost invariant = { λ s. IsSound s.home s.border s.floor s.live };
 }
 
-ghost use Rattle.std.specs.Prelude.{◌≡◌, ◌↔◌, ◌⊎◌, List, length, slice_get, None, option_map, IsTrue, IfOk, OnErr, MatchOption};
-ghost use Rattle.event_stamps.specs.Order.{Before, end_stamp};
+ghost use Rattle.std.specs.Prelude.{◌≡◌, ◌↔◌, ◌⊎◌, List, length, slice_get, None, option_map, IsTrue, IfOk, IfSome, OnErr, MatchOption};
+ghost use Rattle.event_stamps.specs.Order.{Before, IsInRange, end_stamp};
 ghost use Rattle.cell_grid.specs.Grid.{IsRegion};
 ghost use Rattle.local_run.specs.LocalRun.{IsInPlace};
 ghost use Rattle.region_view.specs.Acting.{stamp_of};
@@ -202,9 +202,12 @@ impl Region {
         }
     }
 
-    /// The stamp of the action of an entry, by its place: none exactly where [`native`](Region::native) is none.
+    /// The stamp of the action of an entry, by its place, in the ranges of the events of a run: none exactly where
+    /// [`native`](Region::native) is none.
+    #[inline(always)]
     pub fn native_stamp(&self, i: usize) -> Option<Stamp>
         ensures value { result ≡ option_map stamp_of (native_in (slice_get (entries_of self.now) i)) }
+        ensures range { IfSome result IsInRange }
         ensures kept { IsKept self.now }
     {
         match &self.live {

@@ -1,0 +1,17 @@
+use Rattle.std.proofs.Common.{sym, subst, Option}
+use Rattle.std.specs.Prelude.{IfSome}
+use Rattle.event_stamps.specs.declared.Stamp.{Stamp}
+use Rattle.event_stamps.specs.Order.{IsInRange}
+use Rattle.region_core.specs.declared.live.Live.{Live}
+use Rattle.region_core.specs.Live.{run_in, IsLive}
+use Rattle.region_core.proofs.Ranges.{told_in_range}
+use Rattle.region_core.proofs.region.Region.native_stamp.Goals as goal
+
+pub returns-in-Some-clause-range : goal.returns-in-Some-clause-range
+returns-in-Some-clause-range c =
+    let home = c.self.inside.home in
+    let floor = c.self.inside.floor in
+    let live = c.in-Some.live in
+    let alive = subst (λ (o : Option Live). IfSome o (IsLive home floor)) c.in-Some.is c.self.invariant.alive in
+    subst (λ (o : Option Stamp). IfSome o IsInRange) (sym c.native_stamp.ensures)
+    (told_in_range home (run_in floor live) c.args.i c.self.invariant.place alive.right)
