@@ -23,9 +23,8 @@ use Rattle.local_run.specs.Opening.{RegionData}
 use Rattle.local_run.specs.Keeping.{entries_of}
 use Rattle.local_run.proofs.Among.{same_or_other}
 use Rattle.local_run.proofs.Logs.{rises_log_tail, among_after}
-use Rattle.commit_horizon.specs.declared.merging.Head.{Head}
 use Rattle.commit_horizon.specs.Horizon.{ActionsRise}
-use Rattle.commit_horizon.specs.Merging.{actions_below, IsLeft, IsHeadAfter, head_before, Heads, head_at, AreHeads, IsLeastHead, nearer_of}
+use Rattle.commit_horizon.specs.Merging.{Head, actions_below, IsLeft, IsHeadAfter, head_before, Heads, head_at, AreHeads, IsLeastHead, nearer_of}
 
 -- ---- the actions before a stamp
 pub actions_in : (h : Stamp) (x : Action) (es : List Entry) → Before (stamp_of x) h →

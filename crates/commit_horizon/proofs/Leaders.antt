@@ -1,132 +1,175 @@
 -- The least of some heads, and the second of them.
-use Rattle.std.proofs.Common.{◌≡◌, ◌≢◌, inl, inr, ℕ, ◌+◌, ◌<◌, ◌≤◌, Bool, true, false, length, sym, ap, ◌∙◌, subst, refl, arith}
-use Rattle.std.proofs.Common.{Option, Some, None, set, get_or-set_other}
-use Rattle.std.specs.Prelude.{IfSome, if◌then◌else◌, option_map}
+use Rattle.std.proofs.Common.{◌≡◌, ◌≢◌, ◌⊎◌, inl, inr, ℕ, ◌+◌, ◌<◌, ◌≤◌, length, sym, ap, ◌∙◌, subst, refl, arith}
+use Rattle.std.proofs.Common.{Some, None, List, get_or, set, get_or-set_other}
+use Rattle.std.specs.Prelude.{option_map}
+use Rattle.std.proofs.lemmas.List.{get_or-map, map-set}
 use Rattle.std.proofs.lemmas.Option.{none-some, same_Some}
 use Rattle.event_stamps.specs.declared.Stamp.{Stamp}
 use Rattle.event_stamps.specs.Order.{Before}
-use Rattle.event_stamps.proofs.StampOrder.{before_trans, not_before_itself}
-use Rattle.region_messages.specs.Trails.{is_before}
-use Rattle.region_messages.proofs.Order.{before_from_true, not_before_from_false}
+use Rattle.event_stamps.specs.Least.{earlier_of}
+use Rattle.event_stamps.proofs.StampOrder.{before_trans, before_decides, not_before_itself}
+use Rattle.event_tree.specs.Keys.{Key, IsNotAfter, IsKeyBefore}
+use Rattle.event_tree.proofs.Trees.{lesser, not_after_trans}
+use Rattle.region_messages.proofs.Order.{is_before_true, is_before_false}
 use Rattle.local_run.proofs.Among.{same_or_other}
-use Rattle.commit_horizon.specs.declared.merging.Head.{Head}
-use Rattle.commit_horizon.specs.Merging.{Heads, head_at, head_with, nearer_of, IsLeastHead}
-use Rattle.commit_horizon.specs.Leading.{NoOtherBefore, IsLeader, least_with}
+use Rattle.commit_horizon.specs.declared.merging.PackedHead.{PackedHead}
+use Rattle.commit_horizon.specs.declared.leading.Leader.{Leader}
+use Rattle.commit_horizon.specs.Merging.{Head, Heads, head_of, head_in, heads_in, head_at, nearer_of, IsLeastHead}
+use Rattle.commit_horizon.specs.Leading.{NoOtherBefore, IsLeader, IsNearer, head_with}
 use Rattle.commit_horizon.proofs.Heads.{IsLeastOfFirst, nearer_is, least_of_all, below_or_last, head_within}
 
--- ---- the lesser of two stamps
-not_past_least : (o : Option (ℕ × Head)) (s t : Stamp) → ¬ Before t s → ¬ Before t (least_with o s)
-not_past_least None s t not = not
-not_past_least (Some other) s t not = by_test (is_before other.1.stamp s) refl
-  where
-    by_test : (b : Bool) → is_before other.1.stamp s ≡ b → ¬ Before t (if b then other.1.stamp else s)
-    by_test true e = λ less. not (before_trans t other.1.stamp s less (before_from_true other.1.stamp s e))
-    by_test false e = not
+-- ---- packed heads
+pub packed_at : (packed : List PackedHead) (k : ℕ) (head : PackedHead) → k < length packed →
+    head ≡ get_or packed k head → head_at (heads_in packed) k ≡ head_in head
+packed_at packed k head lt at = get_or-map head_in packed k head None lt ∙ ap head_in (sym at)
 
-not_past_own : (other : ℕ × Head) (s : Stamp) → ¬ Before other.1.stamp (least_with (Some other) s)
-not_past_own other s = by_test (is_before other.1.stamp s) refl
-  where
-    by_test : (b : Bool) → is_before other.1.stamp s ≡ b →
-        ¬ Before other.1.stamp (if b then other.1.stamp else s)
-    by_test true e = not_before_itself other.1.stamp
-    by_test false e = not_before_from_false other.1.stamp s e
+-- ---- the order of keys
+key_before_decides : (a b : Key) → IsKeyBefore a b ⊎ ¬ IsKeyBefore a b
+key_before_decides None b = inr (λ none. absurd none)
+key_before_decides (Some s) None = inl tt
+key_before_decides (Some s) (Some t) = before_decides s t
 
--- the head of a number isn't before the lesser
-own_head : (heads : Heads) (q : ℕ) (other : Head) (s : Stamp) → head_at heads q ≡ Some other →
-    ¬ Before other.stamp (least_with (head_with heads (Some q)) s)
-own_head heads q other s at = subst
-    (λ (v : Option Head). ¬ Before other.stamp (least_with (option_map (λ head. (q, head)) v) s)) (sym at)
-    (not_past_own (q, other) s)
+-- ---- the earlier of two keys
+not_after_own : (a : Key) (t : Stamp) → IsNotAfter (earlier_of a (Some t)) (Some t)
+not_after_own a t = (lesser a (Some t)).second
+
+not_after_earlier : (a b : Key) (t : Stamp) → IsNotAfter a (Some t) → IsNotAfter (earlier_of a b) (Some t)
+not_after_earlier a b t = not_after_trans (earlier_of a b) a (Some t) (lesser a b).first
 
 -- ---- as heads are compared
--- the least of the first so many heads, and a stamp that no other of them is before
-pub record LeadsOfFirst (heads : Heads) (n : ℕ) (first : Option ℕ) (second : Stamp) : Type 0 where
-  pub within : IfSome first (λ f. f < length heads)
-  pub least : IsLeastOfFirst heads n (head_with heads first)
-  pub others : (q : ℕ) (other : Head) → q < n → first ≢ Some q → head_at heads q ≡ Some other →
-      ¬ Before other.stamp second
+-- the leader of the first so many heads
+pub record LeadsOfFirst (heads : Heads) (n : ℕ) (first : Leader) : Type 0 where
+  pub least : IsLeastOfFirst heads n (head_with first)
+  pub others : (q : ℕ) (other : Head) → q < n → q ≢ first.number → head_at heads q ≡ Some other →
+      IsNotAfter first.second (Some other.stamp)
 
--- one of the first so many isn't before the lesser of the second and the least of them
-not_past_first : (heads : Heads) (n : ℕ) (first : Option ℕ) (second : Stamp) (q : ℕ) (other : Head) →
-    LeadsOfFirst heads n first second → q < n → head_at heads q ≡ Some other →
-    ¬ Before other.stamp (least_with (head_with heads first) second)
-not_past_first heads n None second q other so_far below at =
-    so_far.others q other below (λ e. none-some q e) at
-not_past_first heads n (Some f) second q other so_far below at = elim (same_or_other q f) [
-  | inl same ↦ subst (λ (v : ℕ). ¬ Before other.stamp (least_with (head_with heads (Some v)) second)) same
-      (own_head heads q other second at)
-  | inr others ↦ not_past_least (head_with heads (Some f)) second other.stamp
-      (so_far.others q other below (λ e. others (sym (same_Some f q e))) at)
-]
+-- the least is not after any of them
+not_after_least : (heads : Heads) (n k place : ℕ) (key : Key) (q : ℕ) (other : Head) →
+    IsLeastOfFirst heads n (option_map (λ head. (k, head)) (head_of key place)) → q < n → head_at heads q ≡ Some other →
+    IsNotAfter key (Some other.stamp)
+not_after_least heads n k place None q other least below at = none-some other (sym (least q below) ∙ at)
+not_after_least heads n k place (Some s) q other least below at = least.2 q other below at
+
+-- the lesser of two leads
+nearer_leads : (k j place at : ℕ) (key own : Key) → IsKeyBefore key own →
+    nearer_of (option_map (λ head. (j, head)) (head_of own at)) k (head_of key place) ≡ option_map (λ head. (k, head)) (head_of key place)
+nearer_leads k j place at None own before = absurd before
+nearer_leads k j place at (Some s) None before = refl
+nearer_leads k j place at (Some s) (Some t) before = rw (is_before_true s t before) refl
+
+nearer_follows : (k j place at : ℕ) (key own : Key) → ¬ IsKeyBefore key own →
+    nearer_of (option_map (λ head. (j, head)) (head_of own at)) k (head_of key place) ≡ option_map (λ head. (j, head)) (head_of own at)
+nearer_follows k j place at None own not = refl
+nearer_follows k j place at (Some s) None not = absurd (not tt)
+nearer_follows k j place at (Some s) (Some t) not = rw (is_before_false s t not) refl
+
+-- no head is compared yet
+pub leads_none : (heads : Heads) (first : Leader) → first.stamp ≡ None → LeadsOfFirst heads 0 first
+leads_none heads first none = record {
+  least = subst (λ (key : Key). IsLeastOfFirst heads 0 (option_map (λ head. (first.number, head)) (head_of key first.place)))
+      (sym none) (λ k below. absurd (omega arith));
+  others = λ q other below not at. absurd (omega arith);
+}
 
 -- one head more is compared
-pub leads_on : (heads : Heads) (n : ℕ) (first : Option ℕ) (second : Stamp) (leads : Bool) →
-    n < length heads → LeadsOfFirst heads n first second →
-    head_with heads (if leads then Some n else first) ≡ nearer_of (head_with heads first) n (head_at heads n) →
-    LeadsOfFirst heads (n + 1) (if leads then Some n else first)
-    (least_with (head_with heads (if leads then first else Some n)) second)
-leads_on heads n first second true lt so_far is = record {
-  within = lt;
-  least = subst (IsLeastOfFirst heads (n + 1)) (sym is)
-      (nearer_is heads n (head_with heads first) (head_at heads n) lt refl so_far.least);
-  others = λ q other below not at. elim (below_or_last q n below) [
-    | inl less ↦ not_past_first heads n first second q other so_far less at
-    | inr same ↦ absurd (not (ap Some (sym same)))
-  ];
-}
-leads_on heads n first second false lt so_far is = record {
-  within = so_far.within;
-  least = subst (IsLeastOfFirst heads (n + 1)) (sym is)
-      (nearer_is heads n (head_with heads first) (head_at heads n) lt refl so_far.least);
-  others = λ q other below not at. elim (below_or_last q n below) [
-    | inl less ↦ not_past_least (head_with heads (Some n)) second other.stamp
-        (so_far.others q other less not at)
-    | inr same ↦ subst (λ (v : ℕ). ¬ Before other.stamp (least_with (head_with heads (Some v)) second)) same
-        (own_head heads q other second at)
-  ];
-}
-
--- ---- when all were compared
--- the number of a head is its own
-number_is : (heads : Heads) (first : Option ℕ) (k : ℕ) (head : Head) →
-    head_with heads first ≡ Some (k, head) → first ≡ Some k
-number_is heads None k head is = absurd (none-some (k, head) is)
-number_is heads (Some f) k head is = by_head (head_at heads f) is
+pub leads_on : (heads : Heads) (n : ℕ) (first : Leader) (head : PackedHead) (new : Leader) → n < length heads →
+    head_at heads n ≡ head_in head → LeadsOfFirst heads n first → IsNearer first n head new →
+    LeadsOfFirst heads (n + 1) new
+leads_on heads n first head new lt at so_far is = elim (key_before_decides head.stamp first.stamp) [
+  | inl before ↦ subst (LeadsOfFirst heads (n + 1)) (sym (is.leads before)) (leads before)
+  | inr not ↦ subst (LeadsOfFirst heads (n + 1)) (sym (is.follows not)) (follows not)
+]
   where
-    by_head : (found : Option Head) → option_map {U = ℕ × Head} (λ (v : Head). (f, v)) found ≡ Some (k, head) → Some f ≡ Some k
-    by_head None e = absurd (none-some (k, head) e)
-    by_head (Some v) e = ap (λ (p : ℕ × Head). Some p.0) (same_Some (f, v) (k, head) e)
+    least : IsLeastOfFirst heads (n + 1) (nearer_of (head_with first) n (head_in head))
+    least = nearer_is heads n (head_with first) (head_in head) lt at so_far.least
 
-pub leader_of_all : (heads : Heads) (n : ℕ) (first : Option ℕ) (second : Stamp) (k : ℕ) (head : Head) →
-    length heads ≤ n → LeadsOfFirst heads n first second → head_with heads first ≡ Some (k, head) →
-    IsLeader heads (Some (record { number = k; head = head; second = second }))
-leader_of_all heads n first second k head le so_far is = (
-  subst (IsLeastHead heads) is (least_of_all heads n (head_with heads first) le so_far.least),
-  λ q other others at. so_far.others q other (omega (arith, head_within heads q other at))
-      (λ e. others (same_Some q k (sym e ∙ number_is heads first k head is))) at,
-)
+    leads : IsKeyBefore head.stamp first.stamp →
+        LeadsOfFirst heads (n + 1) (record { number = n; stamp = head.stamp; place = head.place; second = first.stamp })
+    leads before = record {
+      least = subst (IsLeastOfFirst heads (n + 1))
+          (nearer_leads n first.number head.place first.place head.stamp first.stamp before) least;
+      others = λ q other below not there. elim (below_or_last q n below) [
+        | inl less ↦ not_after_least heads n first.number first.place first.stamp q other so_far.least less there
+        | inr same ↦ absurd (not same)
+      ];
+    }
+
+    own : (key : Key) (place q : ℕ) (other : Head) → head_of key place ≡ Some other → key ≡ Some other.stamp
+    own None place q other is = absurd (none-some other is)
+    own (Some s) place q other is = ap (λ (v : Head). Some v.stamp) (same_Some (record { stamp = s; place = place }) other is)
+
+    follows : ¬ IsKeyBefore head.stamp first.stamp →
+        LeadsOfFirst heads (n + 1) (record { number = first.number; stamp = first.stamp; place = first.place; second = earlier_of first.second head.stamp })
+    follows not = record {
+      least = subst (IsLeastOfFirst heads (n + 1))
+          (nearer_follows n first.number head.place first.place head.stamp first.stamp not) least;
+      others = λ q other below others there. elim (below_or_last q n below) [
+        | inl less ↦ not_after_earlier first.second head.stamp other.stamp (so_far.others q other less others there)
+        | inr same ↦
+            let is : head.stamp ≡ Some other.stamp =
+            own head.stamp head.place q other (sym at ∙ ap (head_at heads) (sym same) ∙ there) in
+            subst (λ (key : Key). IsNotAfter (earlier_of first.second key) (Some other.stamp)) (sym is)
+            (not_after_own first.second other.stamp)
+      ];
+    }
+
+-- all were compared
+pub leader_of_all : (heads : Heads) (n : ℕ) (first : Leader) → length heads ≤ n → LeadsOfFirst heads n first →
+    IsLeader heads first
+leader_of_all heads n first le so_far = record {
+  least = least_of_all heads n (head_with first) le so_far.least;
+  others = λ q other others at. so_far.others q other (omega (arith, head_within heads q other at)) others at;
+}
+
+-- ---- what a leader says
+-- its head, by its stamp
+pub leads_at : (heads : Heads) (first : Leader) (s : Stamp) → IsLeader heads first → Some s ≡ first.stamp →
+    IsLeastHead heads (Some (first.number, record { stamp = s; place = first.place }))
+leads_at heads first s leads is = subst (λ (key : Key). IsLeastHead heads
+    (option_map (λ head. (first.number, head)) (head_of key first.place))) (sym is) leads.least
+
+pub none_leads : (heads : Heads) (first : Leader) → IsLeader heads first → None ≡ first.stamp →
+    IsLeastHead heads None
+none_leads heads first leads is = subst (λ (key : Key). IsLeastHead heads
+    (option_map (λ head. (first.number, head)) (head_of key first.place))) (sym is) leads.least
 
 -- ---- a region that runs on
 -- its next head leads, where it is before the second
-pub leads_still : (heads : Heads) (k : ℕ) (head : Head) (second : Stamp) → k < length heads →
-    NoOtherBefore heads k second → head_at heads k ≡ Some head → Before head.stamp second →
-    IsLeader heads (Some (record { number = k; head = head; second = second }))
-leads_still heads k head second lt others at less = (
-  (
-    lt,
-    at,
-    λ q other there. elim (same_or_other q k) [
-      | inl same ↦
-          let is : other ≡ head = same_Some other head (sym there ∙ ap (head_at heads) same ∙ at) in
-          subst (λ (v : Head). ¬ Before v.stamp head.stamp) (sym is) (not_before_itself head.stamp)
-      | inr not ↦ λ before. others q other not there (before_trans other.stamp head.stamp second before less)
-    ],
-  ),
-  others,
-)
+pub leads_still : (heads : Heads) (k : ℕ) (head : PackedHead) (second : Key) → k < length heads →
+    NoOtherBefore heads k second → head_at heads k ≡ head_in head → IsKeyBefore head.stamp second →
+    IsLeader heads (record { number = k; stamp = head.stamp; place = head.place; second = second })
+leads_still heads k head second lt others at before = record {
+  least = by_key head.stamp at before;
+  others = others;
+}
+  where
+    still : (s t : Stamp) (key : Key) → IsKeyBefore (Some s) key → IsNotAfter key (Some t) → ¬ Before t s
+    still s t None before not = absurd not
+    still s t (Some r) before not = λ less. not (before_trans t s r less before)
+
+    by_key : (key : Key) → head_at heads k ≡ head_of key head.place → IsKeyBefore key second →
+        IsLeastHead heads (option_map (λ v. (k, v)) (head_of key head.place))
+    by_key None at before = absurd before
+    by_key (Some s) at before = (
+      lt,
+      at,
+      λ q other there. elim (same_or_other q k) [
+        | inl same ↦
+            let is : other ≡ record { stamp = s; place = head.place } =
+            same_Some other (record { stamp = s; place = head.place }) (sym there ∙ ap (head_at heads) same ∙ at) in
+            subst (λ (v : Head). ¬ Before v.stamp s) (sym is) (not_before_itself s)
+        | inr not ↦ still s other.stamp second before (others q other not there)
+      ],
+    )
+
+-- another head in the place of one
+pub set_in : (packed : List PackedHead) (k : ℕ) (new : PackedHead) →
+    heads_in (set packed k new) ≡ set (heads_in packed) k (head_in new)
+set_in packed k new = map-set head_in packed k new
 
 -- the others' heads stay
-pub others_stay : (heads : Heads) (k : ℕ) (new : Option Head) (second : Stamp) →
-    NoOtherBefore heads k second → NoOtherBefore (set heads k new) k second
-others_stay heads k new second others q other not at =
-    others q other not (sym (get_or-set_other heads k q new None not) ∙ at)
+pub others_stay : (packed : List PackedHead) (k : ℕ) (new : PackedHead) (second : Key) →
+    NoOtherBefore (heads_in packed) k second → NoOtherBefore (heads_in (set packed k new)) k second
+others_stay packed k new second others q other not at = others q other not
+    (sym (get_or-set_other (heads_in packed) k q (head_in new) None not)
+    ∙ ap (λ (v : Heads). head_at v q) (sym (set_in packed k new)) ∙ at)

@@ -23,12 +23,11 @@ use Rattle.local_run.specs.declared.entry.Entry.TheVariants.{Native, Heard}
 use Rattle.local_run.specs.Entries.{entry_stamp, native_in}
 use Rattle.local_run.specs.LocalRun.{Local}
 use Rattle.local_run.proofs.Among.{same_or_other}
-use Rattle.commit_horizon.specs.declared.merging.Head.{Head}
 use Rattle.local_run.specs.declared.entry.TheConstants.{MAX_ENTRIES}
 use Rattle.local_run.specs.Opening.{RegionData}
 use Rattle.local_run.specs.Keeping.{entries_of}
 use Rattle.commit_horizon.specs.Horizon.{Runs, runs_of, AllStand, AllKept, IsBound, ActionsRise, IsDone, IsMerged}
-use Rattle.commit_horizon.specs.Merging.{actions_below, BeginsAt, IsLeft, IsHeadAfter, Heads, head_at, AreHeads, IsLeastHead, Merges}
+use Rattle.commit_horizon.specs.Merging.{Head, actions_below, BeginsAt, IsLeft, IsHeadAfter, Heads, head_at, AreHeads, IsLeastHead, Merges}
 use Rattle.commit_horizon.proofs.GoesOn.{CellLaws, AllGoOn, past, IsLeastEntry, NoneBefore, HeadNotBefore}
 use Rattle.commit_horizon.proofs.Past.{head_is, past_cases, past_first, past_after, past_keeps}
 use Rattle.commit_horizon.proofs.Steps.{central_step, heads_late}
@@ -346,15 +345,16 @@ module _ (old : CellStateData) (regions : List RegionData) (h : Stamp) (heads : 
   log_is : (runs_of regions k).log ≡ entries_of region
   log_is = ap entries_of (region_is old regions k region stand at).1
 
+  head_left : List Action
+  head_left = actions_below h (keeps.merging.left k).log
+
+  begins_at : BeginsAt h (runs_of regions k).log head_left head
+  unfolding head_left
+  begins_at = subst (IsLeft h (runs_of regions k).log head_left) least.1 (keeps.merging.actions k within_now)
+
   pub has_action : IsSome (native_in (slice_get (entries_of region) head.place))
   has_action = subst (λ (log : List Entry). IsSome (native_in (slice_get log head.place))) log_is
-      (ap is_some begins.at)
-    where
-      left : List Action
-      left = actions_below h (keeps.merging.left k).log
-
-      begins : BeginsAt h (runs_of regions k).log left head
-      begins = subst (IsLeft h (runs_of regions k).log left) least.1 (keeps.merging.actions k within_now)
+      (ap is_some begins_at.at)
 
   pub costs_less : (new : Option Head) → IsHeadAfter h (entries_of region) (head.place + 1) new →
       sum_by cost_of (set heads k new) < sum_by cost_of heads
@@ -366,6 +366,10 @@ module _ (old : CellStateData) (regions : List RegionData) (h : Stamp) (heads : 
 
     read : native_in (slice_get (runs_of regions k).log head.place) ≡ Some x
     read = subst (λ (log : List Entry). native_in (slice_get log head.place) ≡ Some x) (sym log_is) found
+
+    -- its stamp is that of the head
+    pub stamp_is : stamp_of x ≡ head.stamp
+    stamp_is = ap stamp_of (same_Some x begins_at.action (sym read ∙ begins_at.at)) ∙ begins_at.stamp
 
     pub next_of_heads : IsNextAction now x
     next_of_heads = next_is old (runs_of regions) h heads done now keeps.merging laws k head within_now least

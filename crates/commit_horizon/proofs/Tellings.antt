@@ -1,13 +1,18 @@
 -- What was told of actions as they are merged.
-use Rattle.std.proofs.Common.{◌≡◌, ℕ, ◌+◌, ◌<◌, ◌≤◌, List, [], ◌∷◌, ◌++◌, length, map, set}
+use Rattle.std.proofs.Common.{◌≡◌, ◌≢◌, Bool, true, false, Ok, Err, ℕ, ◌+◌, ◌<◌, ◌≤◌, List, [], ◌∷◌, ◌++◌, length, map, set}
 use Rattle.std.proofs.Common.{sym, ap, ◌∙◌, subst, refl, arith, Option, Some, None}
-use Rattle.std.specs.Prelude.{slice_get}
+use Rattle.std.specs.Prelude.{slice_get, IfSome, ◌==◌, if◌then◌else◌}
 use Rattle.std.specs.Option.{IsSome}
 use Rattle.std.specs.List.{sum_by}
 use Rattle.fixed_motion.specs.declared.rules.Rules.{Rules}
+use Rattle.fixed_motion.specs.Motion.{place_of}
 use Rattle.event_stamps.specs.declared.Stamp.{Stamp}
+use Rattle.event_stamps.specs.declared.Kind.{Kind}
+use Rattle.event_stamps.specs.declared.Kind.TheVariants.{Cross as Crossing}
 use Rattle.event_stamps.specs.Order.{end_stamp}
 use Rattle.event_rules.specs.declared.change.Change.{Change}
+use Rattle.event_rules.specs.declared.change.Limit.{Limit}
+use Rattle.event_rules.specs.declared.change.Limit.TheVariants.{Rounds}
 use Rattle.event_rules.specs.declared.outcome.RunFault.{RunFault}
 use Rattle.event_rules.specs.declared.outcome.RunFault.TheVariants.{Listener, NoMemory}
 use Rattle.event_rules.specs.Told.{told, Told, PrefixTold}
@@ -15,7 +20,8 @@ use Rattle.event_rules.proofs.Ran.{ran, ran_tellable}
 use Rattle.event_rules.proofs.Telling.{told_none, torn_next, all_told, prefix_longer}
 use Rattle.region_view.specs.declared.action.Action.{Action}
 use Rattle.region_view.specs.declared.action.Action.TheVariants.{Cross, Hit}
-use Rattle.region_view.specs.Acting.{stamp_of}
+use Rattle.cell_grid.specs.Grid.{cell_at}
+use Rattle.region_view.specs.Acting.{stamp_of, partner_in, action_of, crossed}
 use Rattle.cell_sequence.specs.Run.{hits, disks_of}
 use Rattle.cell_sequence.specs.State.{CellStateData, IsCellState, followed, followed_by, last_stamp}
 use Rattle.cell_sequence.specs.State.{raised as raised_state}
@@ -28,17 +34,16 @@ use Rattle.local_run.specs.Opening.{RegionData}
 use Rattle.local_run.specs.Entries.{native_in}
 use Rattle.local_run.specs.Keeping.{entries_of}
 use Rattle.local_run.specs.Raising.{raised as raised_region}
-use Rattle.commit_horizon.specs.declared.merging.Head.{Head}
 use Rattle.commit_horizon.specs.Horizon.{runs_of, AllKept, IsHorizon}
 use Rattle.commit_horizon.specs.Bounds.{HoldsUpTo, IsWithin}
-use Rattle.commit_horizon.specs.Merging.{IsHeadAfter, Heads, AreHeads, IsLeastHead, Merges}
+use Rattle.commit_horizon.specs.Merging.{Head, IsHeadAfter, Heads, AreHeads, IsLeastHead, Merges}
 use Rattle.commit_horizon.specs.Raising.{AllMayRise}
-use Rattle.commit_horizon.specs.Telling.{IsStateOf, IsMergedFrom, MayBeTold, HitRefused, MergeTold, MergeCutShort, FinalTold, CommitCutShort}
+use Rattle.commit_horizon.specs.Telling.{IsStateOf, IsMergedFrom, MayBeTold, MayBeToldBy, HitRefused, MergeTold, MergeCutShort, FinalTold, CommitCutShort}
 use Rattle.commit_horizon.proofs.Commit.{commits, may_rise}
 use Rattle.commit_horizon.proofs.Merged.{merged_is_next}
 use Rattle.commit_horizon.proofs.Standing.{are_standing, horizon_is}
 use Rattle.commit_horizon.proofs.Heads.{cost_of}
-use Rattle.commit_horizon.proofs.Merges.{KeepsMerging, keeps_begin, has_action, costs_less, keeps_on, keeps_end, next_of_heads}
+use Rattle.commit_horizon.proofs.Merges.{KeepsMerging, keeps_begin, has_action, costs_less, keeps_on, keeps_end, next_of_heads, stamp_is}
 use Rattle.commit_horizon.proofs.Whole.{some_head, merge_ends, merge_whole}
 
 -- ---- tellings, one after the other
@@ -64,11 +69,54 @@ next_tellable state (Hit change) is next =
     let turned = turn state.rules state.grid state.placed k.from (Hit change) k.checked k.of k.settled next.0 next.1 in
     ran_tellable state.rules disks change (ran state.rules disks change turned.0.0 turned.1)
 
+-- ---- by its kind
+no_crossing : (b : Bool) (change : Change) (limit : Limit) (x : Action) → Ok (Hit change) ≡ (if b then Err limit else Ok x) →
+    x ≡ Hit change
+no_crossing true change limit x is = let same : Ok (Hit change) ≡ Err limit = is in absurd cc
+no_crossing false change limit x is = let same : Ok (Hit change) ≡ Ok x = is in cc
+
+-- what comes of a crossing's stamp isn't a collision
+pub hit_kind : (state : CellStateData) (change : Change) → IsNextAction state (Hit change) → change.stamp.kind ≢ Crossing
+hit_kind state change next kind =
+    let s = change.stamp in
+    let a = next.1.0.disk in
+    let b = partner_in s.kind (slice_get state.placed) s.second in
+    let cell = cell_at state.grid (place_of a s.tick) in
+    let is : Ok (Hit change) ≡ crossed state.rules state.grid s a =
+    subst (λ (v : Kind). Ok (Hit change) ≡ action_of state.rules state.grid s a b v) kind next.1.2 in
+    let same : Cross s cell ≡ Hit change =
+    no_crossing (s.round == state.rules.round_limit) change (Rounds s) (Cross s cell) is in
+    cc
+
+-- the next action of a cell state can be told by the kind of its stamp
+pub next_tellable_by : (state : CellStateData) (x : Action) (s : Stamp) → IsCellState state → IsNextAction state x →
+    stamp_of x ≡ s → MayBeToldBy s.kind x
+next_tellable_by state (Cross t cell) s is next same = tt
+next_tellable_by state (Hit change) s is next same = (
+  next_tellable state (Hit change) is next,
+  λ kind. hit_kind state change next (ap (λ (v : Stamp). v.kind) same ∙ kind),
+)
+
+pub tellable : (kind : Kind) (x : Action) → MayBeToldBy kind x → MayBeTold x
+tellable kind (Cross s cell) may = tt
+tellable kind (Hit change) may = may.0
+
+-- where the kind is that of a crossing, all of it is told
+pub crossing_told : {M : Type 0} (after : M → Change → M) (m : Option M) (kind : Kind) (found : Option Action) →
+    kind ≡ Crossing → IfSome found (MayBeToldBy kind) → IfSome found (λ x. Told after m (hits (x ∷ [])) m)
+crossing_told after m kind None is may = tt
+crossing_told after m kind (Some (Cross s cell)) is may = told_none after m
+crossing_told after m kind (Some (Hit change)) is may = absurd (may.1 is)
+
 -- ---- the last of some actions
 last_of_more : (xs : List Action) (x : Action) → Some (stamp_of x) ≡ last_stamp (xs ++ x ∷ [])
 last_of_more [] x = refl
 last_of_more (y ∷ []) x = refl
 last_of_more (y ∷ z ∷ xs) x = last_of_more (z ∷ xs) x
+
+there : (found : Option Action) → IsSome found → (x : Action) × (found ≡ Some x)
+there None is = absurd cc
+there (Some x) is = (x, refl)
 
 -- ---- as logs are merged
 -- a state would have followed some actions, of which the last has this stamp, and exactly their collisions were told
@@ -124,6 +172,9 @@ module _ {M : Type 0} (after : M → Change → M) (torn : M → Change → M �
         reads_action = has_action old regions h heads so_far.done so_far.now so_far.keeps from.stand kept k head
             least region at
 
+        pub action_there : (x : Action) × (native_in (slice_get (entries_of region) head.place) ≡ Some x)
+        action_there = there (native_in (slice_get (entries_of region) head.place)) reads_action
+
         pub tells_less : (new : Option Head) → IsHeadAfter h (entries_of region) (head.place + 1) new →
             sum_by cost_of (set heads k new) < sum_by cost_of heads
         tells_less new next = costs_less old regions h heads so_far.done so_far.now so_far.keeps from.stand kept k
@@ -136,8 +187,12 @@ module _ {M : Type 0} (after : M → Change → M) (torn : M → Change → M �
       goes_on_next = next_of_heads old regions h heads so_far.done so_far.now so_far.keeps from.stand kept k head
           least region at x found
 
-      pub may_be_told : MayBeTold x
-      may_be_told = next_tellable so_far.now x so_far.keeps.merging.is goes_on_next
+      stamp_at : stamp_of x ≡ head.stamp
+      stamp_at = stamp_is old regions h heads so_far.done so_far.now so_far.keeps from.stand kept k head
+          least region at x found
+
+      pub may_be_told : MayBeToldBy head.stamp.kind x
+      may_be_told = next_tellable_by so_far.now x head.stamp so_far.keeps.merging.is goes_on_next stamp_at
 
       goes_on : (new : Option Head) → IsHeadAfter h (entries_of region) (head.place + 1) new →
           KeepsMerging old regions h (set heads k new) (so_far.done ++ x ∷ []) (followed so_far.now x)
@@ -147,14 +202,14 @@ module _ {M : Type 0} (after : M → Change → M) (torn : M → Change → M �
       -- one more action was told
       pub telling_goes_on : (new : Option Head) (later : Option M) →
           IsHeadAfter h (entries_of region) (head.place + 1) new → Told after mid (hits (x ∷ [])) later →
-          KeepsTelling after old regions h (set heads k new) (Some (stamp_of x)) before later
+          KeepsTelling after old regions h (set heads k new) (Some head.stamp) before later
       telling_goes_on new later next told = record {
         done = so_far.done ++ x ∷ [];
         now = followed so_far.now x;
         keeps = goes_on new next;
         told = subst (λ (v : List Change). Told after before v later) (sym (hits_join so_far.done (x ∷ [])))
             (told_in_turn after before mid later (hits so_far.done) (hits (x ∷ [])) so_far.told told);
-        is_last = last_of_more so_far.done x;
+        is_last = ap Some (sym stamp_at) ∙ last_of_more so_far.done x;
       }
 
       -- it was refused

@@ -1,24 +1,34 @@
 -- The least head and the second, as logs are merged.
-use Rattle.std.specs.Prelude.{◌≡◌, ◌≢◌, ℕ, Option, Some, None, if◌then◌else◌}
-use Rattle.event_stamps.specs.declared.Stamp.{Stamp}
-use Rattle.event_stamps.specs.Order.{Before}
-use Rattle.region_messages.specs.Trails.{is_before}
-use Rattle.commit_horizon.specs.declared.merging.Head.{Head}
+use Rattle.std.specs.Prelude.{◌≡◌, ◌≢◌, ℕ, Option, Some, option_map}
+use Rattle.event_stamps.specs.Least.{earlier_of}
+use Rattle.event_tree.specs.Keys.{Key, IsNotAfter, IsKeyBefore}
+use Rattle.commit_horizon.specs.declared.merging.PackedHead.{PackedHead}
 use Rattle.commit_horizon.specs.declared.leading.Leader.{Leader}
-use Rattle.commit_horizon.specs.Merging.{Heads, head_at, IsLeastHead}
+use Rattle.commit_horizon.specs.Merging.{Head, Heads, head_of, head_at, IsLeastHead}
 
--- no head of another region is before the stamp
-abbrev pub NoOtherBefore : Heads → ℕ → Stamp → Type 0
-NoOtherBefore heads k s = (q : ℕ) (other : Head) → q ≢ k → head_at heads q ≡ Some other →
-    ¬ Before other.stamp s
+-- the stamp isn't after any head of another region; no stamp, where there is no other head
+abbrev pub NoOtherBefore : Heads → ℕ → Key → Type 0
+NoOtherBefore heads k second = (q : ℕ) (other : Head) → q ≢ k → head_at heads q ≡ Some other →
+    IsNotAfter second (Some other.stamp)
 
--- a head before which no other comes, and a stamp that no other is before; or that there is no head
-abbrev pub IsLeader : Heads → Option Leader → Type 0
-IsLeader heads None = IsLeastHead heads None
-IsLeader heads (Some leader) = IsLeastHead heads (Some (leader.number, leader.head))
-    × NoOtherBefore heads leader.number leader.second
+-- its head, with the number of its region
+abbrev pub head_with : Leader → Option (ℕ × Head)
+head_with leader = option_map (λ head. (leader.number, head)) (head_of leader.stamp leader.place)
 
--- the lesser of a head's stamp, where there is one, and another
-abbrev pub least_with : Option (ℕ × Head) → Stamp → Stamp
-least_with None s = s
-least_with (Some other) s = if is_before other.1.stamp s then other.1.stamp else s
+-- a head before which no other comes, or none where there is none; and a stamp that no other is before
+pub record IsLeader (heads : Heads) (leader : Leader) : Type 0 where
+  pub least : IsLeastHead heads (head_with leader)
+  pub others : NoOtherBefore heads leader.number leader.second
+
+-- of two heads the lesser leads, the first one where they share a stamp; the other is the second, or what was the
+-- second where that is before it
+pub record IsNearer (first : Leader) (k : ℕ) (head : PackedHead) (new : Leader) : Type 0 where
+  pub leads : IsKeyBefore head.stamp first.stamp →
+      new ≡ record { number = k; stamp = head.stamp; place = head.place; second = first.stamp }
+  pub follows : ¬ IsKeyBefore head.stamp first.stamp →
+      new ≡ record {
+        number = first.number;
+        stamp = first.stamp;
+        place = first.place;
+        second = earlier_of first.second head.stamp;
+      }

@@ -1,5 +1,5 @@
 -- The logs of regions as they are merged: what is left of each before a stamp, by its head.
-use Rattle.std.specs.Prelude.{◌≡◌, ℕ, ◌+◌, ◌<◌, ◌≤◌, List, [], ◌∷◌, Option, Some, None, IfSome, option_map, length, drop, get_or, slice_get, if◌then◌else◌}
+use Rattle.std.specs.Prelude.{◌≡◌, ℕ, ◌+◌, ◌<◌, ◌≤◌, List, [], ◌∷◌, Option, Some, None, IfSome, map, length, drop, get_or, slice_get, if◌then◌else◌}
 use Rattle.event_stamps.specs.declared.Stamp.{Stamp}
 use Rattle.event_stamps.specs.Order.{Before}
 use Rattle.region_view.specs.declared.action.Action.{Action}
@@ -11,9 +11,24 @@ use Rattle.local_run.specs.declared.entry.Entry.TheVariants.{Native, Heard}
 use Rattle.local_run.specs.Opening.{RegionData}
 use Rattle.local_run.specs.Entries.{native_in}
 use Rattle.local_run.specs.Keeping.{entries_of}
-use Rattle.commit_horizon.specs.declared.merging.Head.{Head}
+use Rattle.event_tree.specs.Keys.{Key}
+use Rattle.commit_horizon.specs.declared.merging.PackedHead.{PackedHead}
 use Rattle.commit_horizon.specs.Horizon.{runs_of, IsMerged}
 use Rattle.commit_horizon.specs.Laws.{IsNext}
+
+-- ---- heads
+-- the next action of a region, by its stamp and its place in the log
+pub record Head : Type 0 where
+  pub stamp : Stamp
+  pub place : ℕ
+
+-- the head of a stamp, where there is one, and a place
+abbrev pub head_of : Key → ℕ → Option Head
+head_of None place = None
+head_of (Some s) place = Some (record { stamp = s; place = place })
+
+abbrev pub head_in : PackedHead → Option Head
+head_in packed = head_of packed.stamp packed.place
 
 -- ---- one log
 -- what a region ran before a stamp, of a log whose stamps rise
@@ -47,6 +62,9 @@ head_before h s place = if is_before s h then Some (record { stamp = s; place = 
 abbrev pub Heads : Type 0
 Heads = List (Option Head)
 
+abbrev pub heads_in : List PackedHead → Heads
+heads_in packed = map head_in packed
+
 abbrev pub head_at : Heads → ℕ → Option Head
 head_at heads k = get_or heads k None
 
@@ -62,11 +80,6 @@ IsLeastHead heads None = (k : ℕ) → head_at heads k ≡ None
 IsLeastHead heads (Some least) = (least.0 < length heads) × (head_at heads least.0 ≡ Some least.1)
     × ((k : ℕ) (head : Head) → head_at heads k ≡ Some head →
     ¬ Before head.stamp least.1.stamp)
-
--- the head of a number, with this number
-abbrev pub head_with : Heads → Option ℕ → Option (ℕ × Head)
-head_with heads None = None
-head_with heads (Some k) = option_map (λ head. (k, head)) (head_at heads k)
 
 -- the lesser of two heads; of one stamp, the one that was there
 abbrev pub nearer_of : Option (ℕ × Head) → ℕ → Option Head → Option (ℕ × Head)

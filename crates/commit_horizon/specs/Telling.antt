@@ -1,7 +1,9 @@
 -- What a listener is told of a commit.
-use Rattle.std.specs.Prelude.{◌≡◌, ℕ, List, take, ⊤, Option}
+use Rattle.std.specs.Prelude.{◌≡◌, ◌≢◌, ℕ, List, take, ⊤, Option}
 use Rattle.fixed_motion.specs.declared.rules.Rules.{Rules}
 use Rattle.event_stamps.specs.declared.Stamp.{Stamp}
+use Rattle.event_stamps.specs.declared.Kind.{Kind}
+use Rattle.event_stamps.specs.declared.Kind.TheVariants.{Cross as Crossing}
 use Rattle.event_rules.specs.declared.change.Change.{Change}
 use Rattle.event_rules.specs.declared.outcome.RunFault.{RunFault}
 use Rattle.event_rules.specs.declared.outcome.RunFault.TheVariants.{Listener, NoMemory}
@@ -21,6 +23,11 @@ use Rattle.commit_horizon.specs.Merging.{Merges}
 abbrev pub MayBeTold : Action → Type 0
 MayBeTold (Cross s cell) = ⊤
 MayBeTold (Hit change) = IsTellable change
+
+-- the same, and the kind tells a collision from a crossing
+abbrev pub MayBeToldBy : Kind → Action → Type 0
+MayBeToldBy kind (Cross s cell) = ⊤
+MayBeToldBy kind (Hit change) = IsTellable change × (kind ≢ Crossing)
 
 -- a collision was refused
 abbrev pub HitRefused : {M : Type 0} → (M → Change → M → Type 0) → Option M → Action → Option M → Type 0

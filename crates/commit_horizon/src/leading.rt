@@ -1,12 +1,11 @@
 //! The head that is merged next, and how far its region leads the others.
 
-ghost use Rattle.std.specs.Prelude.{◌≡◌, ◌<◌, length, Some, IfSome, if◌then◌else◌};
-ghost use Rattle.region_messages.specs.Trails.{is_before};
-ghost use Rattle.commit_horizon.specs.Merging.{head_at, head_with, nearer_of};
-ghost use Rattle.commit_horizon.specs.Leading.{NoOtherBefore, IsLeader, least_with};
+ghost use Rattle.std.specs.Prelude.{◌<◌, length};
+ghost use Rattle.commit_horizon.specs.Merging.{heads_in};
+ghost use Rattle.commit_horizon.specs.Leading.{NoOtherBefore, IsLeader, IsNearer};
 
-use crate::merging::{Head, head_with};
-use event_stamps::Stamp;
+use crate::merging::PackedHead;
+use event_tree::Packed;
 
 /// The least of some heads, and the number of its region. Its region runs on while what it did is before the
 /// second: so the heads aren't compared for each action.
@@ -14,82 +13,65 @@ use event_stamps::Stamp;
 pub(crate) struct Leader {
     /// The number of the region.
     pub(crate) number: usize,
-    /// The head.
-    pub(crate) head: Head,
-    /// A stamp that no other head is before.
-    pub(crate) second: Stamp,
+    /// The stamp of the head; none where no region has one.
+    pub(crate) stamp: Packed,
+    /// The place of the head.
+    pub(crate) place: usize,
+    /// A stamp that no other head is before; none where there is no other head.
+    pub(crate) second: Packed,
 }
 
-/// The leader of some heads, which are before the horizon; none where there is no head.
-pub(crate) fn find_leader(heads: &[Option<Head>], horizon: Stamp) -> Option<Leader>
-    ensures { IsLeader heads.now result }
+/// The leader of some heads.
+pub(crate) fn find_leader(heads: &[PackedHead]) -> Leader
+    ensures { IsLeader (heads_in heads.now) result }
 {
-    let mut first = None;
-    let mut second = horizon;
+    let mut first = Leader {
+        number: 0,
+        stamp: Packed::new(None),
+        place: 0,
+        second: Packed::new(None),
+    };
     for k in 0..heads.len() {
-        if leads(heads, first, k) {
-            second = least_with(heads, first, second);
-            first = Some(k);
-        } else {
-            second = least_with(heads, Some(k), second);
+        first = nearer(first, k, heads[k]);
+    }
+    first
+}
+
+// The leader, where one head more is compared.
+#[inline(always)]
+fn nearer(first: Leader, k: usize, head: PackedHead) -> Leader
+    ensures { IsNearer first k head result }
+{
+    if head.stamp.is_before(first.stamp) {
+        Leader {
+            number: k,
+            stamp: head.stamp,
+            place: head.place,
+            second: first.stamp,
+        }
+    } else {
+        Leader {
+            second: first.second.earlier(head.stamp),
+            ..first
         }
     }
-    let least = head_with(heads, first)?;
-    Some(Leader {
-        number: least.0,
-        head: least.1,
-        second,
-    })
 }
 
 /// The leader after one whose region has another head now: the same region, while it is before the second.
-pub(crate) fn leader_after(heads: &[Option<Head>], last: &Leader, horizon: Stamp) -> Option<Leader>
+#[inline(always)]
+pub(crate) fn leader_after(heads: &[PackedHead], last: &Leader) -> Leader
     requires within { last.now.number < length heads.now }
-    requires others { NoOtherBefore heads.now last.now.number last.now.second }
-    ensures { IsLeader heads.now result }
+    requires others { NoOtherBefore (heads_in heads.now) last.now.number last.now.second }
+    ensures { IsLeader (heads_in heads.now) result }
 {
-    match &heads[last.number] {
-        Some(head) if comes_before(&head.stamp, &last.second) => Some(Leader {
-            number: last.number,
-            head: *head,
-            second: last.second,
-        }),
-        _ => find_leader(heads, horizon),
-    }
-}
-
-fn comes_before(stamp: &Stamp, other: &Stamp) -> bool
-    ensures { result ≡ is_before stamp.now other.now }
-{
-    stamp < other
-}
-
-// Whether the head of a number is before the least so far, that of another number.
-fn leads(heads: &[Option<Head>], least: Option<usize>, k: usize) -> bool
-    requires within { k < length heads.now }
-    requires least { IfSome least (λ first. first < length heads.now) }
-    ensures { head_with heads.now (if result then Some k else least)
-        ≡ nearer_of (head_with heads.now least) k (head_at heads.now k) }
-{
-    let Some(head) = &heads[k] else {
-        return false;
-    };
-    let Some(first) = least else {
-        return true;
-    };
-    match &heads[first] {
-        Some(other) => head.stamp < other.stamp,
-        None => true,
-    }
-}
-
-// The lesser of the stamp of the head of a number, where there is one, and another.
-fn least_with(heads: &[Option<Head>], number: Option<usize>, stamp: Stamp) -> Stamp
-    requires { IfSome number (λ k. k < length heads.now) }
-    ensures { result ≡ least_with (head_with heads.now number) stamp }
-{
-    match head_with(heads, number) {
-        Some((_, head)) if head.stamp < stamp => head.stamp,
-        _ => stamp,
+    let head = heads[last.number];
+    if head.stamp.is_before(last.second) {
+        Leader {
+            stamp: head.stamp,
+            place: head.place,
+            ..*last
+        }
+    } else {
+        find_leader(heads)
     }
 }

@@ -1,24 +1,28 @@
 //! Merging what the regions did.
 
-ghost use Rattle.std.specs.Prelude.{◌≡◌, ◌<◌, length, Some, slice_get, IfOk, IfSome};
+ghost use Rattle.std.specs.Prelude.{◌≡◌, length, None, Some, slice_get, IfOk};
 ghost use Rattle.std.specs.Option.{IsSome};
+ghost use Rattle.event_stamps.specs.Order.{IsInRange};
+ghost use Rattle.region_messages.specs.Trails.{is_before};
 ghost use Rattle.local_run.specs.Entries.{native_in};
 ghost use Rattle.local_run.specs.Keeping.{entries_of};
 ghost use Rattle.commit_horizon.specs.Horizon.{runs_of, AllStand, AllKept, IsBound};
-ghost use Rattle.commit_horizon.specs.Merging.{IsHeadAfter, head_before, head_at, head_with, AreHeads, IsLeastHead, nearer_of, Merges};
+ghost use Rattle.commit_horizon.specs.Merging.{IsHeadAfter, head_before, head_in, heads_in, AreHeads, Merges};
 
+use crate::leading::{find_leader, leader_after};
 use cell_sequence::CellState;
 use event_stamps::Stamp;
+use event_tree::Packed;
 use region_core::Region;
 use region_view::Action;
 use std::alloc::{AllocError, Global};
 
-/// The next action of a region that is to be merged, by its stamp and its place. All heads are compared for
-/// each action that is merged, so they are small: an action isn't.
+/// The next action of a region that is to be merged, by its stamp and its place. Heads are compared again and
+/// again, so they are small, and their stamps are packed.
 #[derive(Clone, Copy)]
-pub(crate) struct Head {
-    /// The stamp of the action.
-    pub(crate) stamp: Stamp,
+pub(crate) struct PackedHead {
+    /// The stamp of the action; none where no action is left.
+    pub(crate) stamp: Packed,
     /// Its place in the region's log, from 0 on.
     pub(crate) place: usize,
 }
@@ -41,12 +45,14 @@ pub(crate) fn merge(
     let _floor = state.floor();
     let mut heads = first_heads(alloc, regions, horizon)?;
     let mut actions = Vec::with_capacity(alloc, entries_of_all(regions))?;
-    while let Some((k, head)) = least(&heads) {
-        let region = &regions[k];
-        let action = action_at(region, head.place);
+    let mut first = find_leader(&heads);
+    'actions: while let Some(_) = first.stamp.key() {
+        let region = &regions[first.number];
+        let action = action_at(region, first.place);
         state.follow(&action);
         actions.push(action)?;
-        heads[k] = head_after(region, head.place + 1, horizon);
+        heads[first.number] = head_after(region, first.place + 1, horizon);
+        first = leader_after(&heads, &first);
     }
     Ok(actions)
 }
@@ -76,8 +82,8 @@ pub(crate) fn first_heads(
     alloc: Global,
     regions: &[Region],
     horizon: Stamp,
-) -> Result<Vec<Option<Head>>, AllocError>
-    ensures { IfOk result (λ heads. AreHeads horizon regions.now (length regions.now) heads.items) }
+) -> Result<Vec<PackedHead>, AllocError>
+    ensures { IfOk result (λ heads. AreHeads horizon regions.now (length regions.now) (heads_in heads.items)) }
 {
     let mut heads = Vec::new(alloc);
     for region in regions {
@@ -87,64 +93,52 @@ pub(crate) fn first_heads(
 }
 
 /// The first action of a region after so many entries; none where it isn't before the horizon.
-pub(crate) fn head_after(region: &Region, done: usize, horizon: Stamp) -> Option<Head>
-    ensures { IsHeadAfter horizon (entries_of region.now) done result }
+#[inline(always)]
+pub(crate) fn head_after(region: &Region, done: usize, horizon: Stamp) -> PackedHead
+    ensures { IsHeadAfter horizon (entries_of region.now) done (head_in result) }
 {
     for place in done..region.entries() {
         if let Some(stamp) = region.native_stamp(place) {
             return head_before(horizon, stamp, place);
         }
     }
-    None
+    no_head()
 }
 
-fn head_before(horizon: Stamp, stamp: Stamp, place: usize) -> Option<Head>
-    ensures { result ≡ head_before horizon stamp place }
+#[inline(always)]
+fn head_before(horizon: Stamp, stamp: Stamp, place: usize) -> PackedHead
+    requires { IsInRange stamp }
+    ensures { head_in result ≡ head_before horizon stamp place }
 {
-    if stamp < horizon {
-        Some(Head { stamp, place })
+    if comes_before(&stamp, &horizon) {
+        PackedHead {
+            stamp: Packed::new(Some(stamp)),
+            place,
+        }
     } else {
-        None
+        no_head()
     }
 }
 
-// The head with the least stamp, with the number of its region.
-fn least(heads: &[Option<Head>]) -> Option<(usize, Head)>
-    ensures { IsLeastHead heads.now result }
+// Whether a stamp comes before another. Mostly the ticks decide.
+#[inline(always)]
+fn comes_before(stamp: &Stamp, other: &Stamp) -> bool
+    ensures { result ≡ is_before stamp.now other.now }
 {
-    // Its number alone is kept on the way, as whole heads would be copied for each one that is asked.
-    let mut least = None;
-    for k in 0..heads.len() {
-        least = nearer(heads, least, k);
+    if stamp.tick == other.tick {
+        stamp < other
+    } else {
+        stamp.tick < other.tick
     }
-    head_with(heads, least)
 }
 
-/// The head of a number, with this number.
-pub(crate) fn head_with(heads: &[Option<Head>], number: Option<usize>) -> Option<(usize, Head)>
-    requires { IfSome number (λ k. k < length heads.now) }
-    ensures { result ≡ head_with heads.now number }
+// No head.
+#[inline(always)]
+fn no_head() -> PackedHead
+    ensures { head_in result ≡ None }
 {
-    let k = number?;
-    let head = heads[k]?;
-    Some((k, head))
-}
-
-// The number of the lesser of two heads; of one stamp, of the one that was there.
-fn nearer(heads: &[Option<Head>], least: Option<usize>, k: usize) -> Option<usize>
-    requires within { k < length heads.now }
-    requires least { IfSome least (λ first. first < length heads.now) }
-    ensures within { IfSome result (λ first. first < length heads.now) }
-    ensures value { head_with heads.now result ≡ nearer_of (head_with heads.now least) k (head_at heads.now k) }
-{
-    let Some(head) = &heads[k] else {
-        return least;
-    };
-    let Some(first) = least else {
-        return Some(k);
-    };
-    match &heads[first] {
-        Some(other) if !(head.stamp < other.stamp) => least,
-        _ => Some(k),
+    PackedHead {
+        stamp: Packed::new(None),
+        place: 0,
     }
 }

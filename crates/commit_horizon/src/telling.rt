@@ -1,19 +1,23 @@
 //! Commits whose collisions are told while the logs are merged, and whose rows nobody sets.
 
-ghost use Rattle.std.specs.Prelude.{◌≡◌, ◌∷◌, [], OnOk, OnErr, IfOk, IfErr};
+ghost use Rattle.std.specs.Prelude.{◌≡◌, ◌∷◌, [], slice_get, IfSome, OnOk, OnErr, IfOk, IfErr};
+ghost use Rattle.std.specs.Option.{IsSome};
 ghost use Rattle.event_rules.specs.Told.{Told, CountsRefusal};
 ghost use Rattle.event_rules.specs.Tellings.{CountsRun};
 ghost use Rattle.cell_sequence.specs.Run.{hits};
 ghost use Rattle.cell_sequence.specs.State.{CellStateData};
+ghost use Rattle.local_run.specs.Entries.{native_in};
+ghost use Rattle.local_run.specs.Keeping.{entries_of};
 ghost use Rattle.commit_horizon.specs.Horizon.{AllKept};
-ghost use Rattle.commit_horizon.specs.Telling.{IsStateOf, IsMergedFrom, MayBeTold, HitRefused, MergeTold, MergeCutShort, FinalTold, CommitCutShort};
+ghost use Rattle.commit_horizon.specs.Telling.{IsStateOf, IsMergedFrom, MayBeTold, MayBeToldBy, HitRefused, MergeTold, MergeCutShort, FinalTold, CommitCutShort};
 
 use crate::bounding::least_bound;
 use crate::leading::{find_leader, leader_after};
 use crate::merging::{action_at, first_heads, head_after};
 use crate::raising::raise_floors;
 use event_rules::{Deaf, Listener, RunFault};
-use event_stamps::Stamp;
+use event_stamps::{Kind, Stamp};
+use event_tree::Packed;
 use fixed_motion::Rules;
 use region_core::Region;
 use region_view::Action;
@@ -74,20 +78,43 @@ fn merge_telling<L: Listener>(
     ensures counts { CountsRun (L.faults listener.old) (L.faults listener.new) result }
 {
     let mut heads = first_heads(alloc, regions, horizon)?;
-    let mut last = None;
-    let mut next = find_leader(&heads, horizon);
-    'actions: while let Some(first) = next {
+    let mut last = Packed::new(None);
+    let mut first = find_leader(&heads);
+    'actions: while let Some(stamp) = first.stamp.key() {
         let region = &regions[first.number];
-        let action = action_at(region, first.head.place);
-        tell_hit(&action, listener)?;
-        last = Some(action.stamp());
-        heads[first.number] = head_after(region, first.head.place + 1, horizon);
-        next = leader_after(&heads, &first, horizon);
+        tell_at(region, first.place, stamp.kind, listener)?;
+        last = first.stamp;
+        heads[first.number] = head_after(region, first.place + 1, horizon);
+        first = leader_after(&heads, &first);
     }
-    Ok(last)
+    Ok(last.key())
+}
+
+// Tells the collision at a place of a region's log, where there is one by the kind of its stamp: a crossing isn't even
+// read.
+#[inline(always)]
+fn tell_at<L: Listener>(
+    region: &Region,
+    place: usize,
+    kind: Kind,
+    listener: &mut L,
+) -> Result<(), Deaf>
+    requires there { IsSome (native_in (slice_get (entries_of region.now) place)) }
+    requires kind { IfSome (native_in (slice_get (entries_of region.now) place)) (MayBeToldBy kind) }
+    ensures told { OnOk result (IfSome (native_in (slice_get (entries_of region.now) place))
+        (λ x. Told L.after (L.meaning listener.old) (hits (x ∷ [])) (L.meaning listener.new))) }
+    ensures refused { OnErr result (IfSome (native_in (slice_get (entries_of region.now) place))
+        (λ x. HitRefused L.torn (L.meaning listener.old) x (L.meaning listener.new))) }
+    ensures counts { CountsRefusal (L.faults listener.old) (L.faults listener.new) result }
+{
+    match kind {
+        Kind::Cross => Ok(()),
+        Kind::Wall | Kind::Pair => tell_hit(&action_at(region, place), listener),
+    }
 }
 
 // Tells a collision; a crossing isn't told.
+#[inline(always)]
 fn tell_hit<L: Listener>(action: &Action, listener: &mut L) -> Result<(), Deaf>
     requires { MayBeTold action.now }
     ensures told { OnOk result

@@ -1,24 +1,22 @@
-use Rattle.std.proofs.Common.{◌+◌, ℕ, Option, Some, true, false, sym, subst, ◌∙◌, arith}
-use Rattle.commit_horizon.proofs.Leaders.{LeadsOfFirst, leads_on, leader_of_all}
-use Rattle.commit_horizon.proofs.leading.find_leader.Goals.{then-leads, else-leads}
+use Rattle.std.proofs.Common.{ℕ, ◌<◌, ◌≤◌, sym, subst, arith}
+use Rattle.std.proofs.lemmas.List.{length-map}
+use Rattle.commit_horizon.specs.Merging.{head_in, heads_in}
+use Rattle.commit_horizon.proofs.Leaders.{packed_at, leads_none, leads_on, leader_of_all}
 use Rattle.commit_horizon.proofs.leading.find_leader.Goals as goal
+
+pub loop-k-init : goal.loop-k-init
+loop-k-init c = leads_none (heads_in c.args.heads.now) _ c.new.ensures
 
 pub loop-k-preserved : goal.loop-k-preserved
 loop-k-preserved c =
-    let heads = c.args.heads.now in
+    let packed = c.args.heads.now in
     let k = c.loop-k.k in
-    let first = c.loop-k.first in
-    let second = c.loop-k.second in
-    elim c.if-leads.branch [
-      | then-leads w ↦ subst (λ (v : Option ℕ). LeadsOfFirst heads (k + 1) v c.if-leads.second) (sym w.first-is)
-          (subst (LeadsOfFirst heads (k + 1) (Some k)) (sym (w.second-is ∙ w.least_with-second.ensures))
-          (leads_on heads k first second true c.loop-k-test.true c.loop-k.invariant w.if-leads.ensures))
-      | else-leads w ↦ subst (λ (v : Option ℕ). LeadsOfFirst heads (k + 1) v c.if-leads.second) (sym w.first-is)
-          (subst (LeadsOfFirst heads (k + 1) first)
-          (sym (w.second-is ∙ w.least_with-second-else-leads.ensures))
-          (leads_on heads k first second false c.loop-k-test.true c.loop-k.invariant w.if-leads.ensures))
-    ]
+    leads_on (heads_in packed) k c.loop-k.first _ c.nearer-first.result
+    (subst (λ (n : ℕ). k < n) (sym (length-map packed head_in)) c.loop-k-test.true)
+    (packed_at packed k c.index-heads-k.result c.loop-k-test.true c.index-heads-k.is) c.loop-k.invariant c.nearer-first.ensures
 
 pub returns : goal.returns
-returns c = leader_of_all c.args.heads.now c.loop-k.k c.loop-k.first c.loop-k.second c.in_ok-least.least.0
-    c.in_ok-least.least.1 (omega arith) c.loop-k.invariant (sym c.in_ok-least.ensures)
+returns c =
+    let packed = c.args.heads.now in
+    leader_of_all (heads_in packed) c.loop-k.k c.loop-k.first
+    (subst (λ (n : ℕ). n ≤ c.loop-k.k) (sym (length-map packed head_in)) (omega arith)) c.loop-k.invariant

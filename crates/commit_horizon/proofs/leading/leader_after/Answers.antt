@@ -1,11 +1,14 @@
-use Rattle.std.proofs.Common.{sym, ◌∙◌}
-use Rattle.region_messages.proofs.Order.{before_from_true}
-use Rattle.commit_horizon.proofs.Leaders.{leads_still}
+use Rattle.std.proofs.Common.{ℕ, ◌<◌, sym, subst}
+use Rattle.std.proofs.lemmas.List.{length-map}
+use Rattle.commit_horizon.specs.Merging.{head_in, heads_in}
+use Rattle.commit_horizon.proofs.Leaders.{packed_at, leads_still}
 use Rattle.commit_horizon.proofs.leading.leader_after.Goals as goal
 
-pub returns-in-Some : goal.returns-in-Some
-returns-in-Some c =
+pub returns-then-is_before : goal.returns-then-is_before
+returns-then-is_before c =
+    let packed = c.args.heads.now in
     let last = c.args.last.now in
-    let head = c.in-Some.head in
-    leads_still c.args.heads.now last.number head last.second c.requires.within c.requires.others c.in-Some.is
-    (before_from_true head.stamp last.second (sym c.comes_before.ensures ∙ c.if-comes_before.true))
+    let head = c.index-heads-last.result in
+    leads_still (heads_in packed) last.number head last.second
+    (subst (λ (n : ℕ). last.number < n) (sym (length-map packed head_in)) c.requires.within) c.requires.others
+    (packed_at packed last.number head c.requires.within c.index-heads-last.is) (c.is_before.ensures.0 c.if-is_before.true)

@@ -1,6 +1,7 @@
-use Rattle.std.proofs.Common.{◌+◌, length, sym, subst, refl}
+use Rattle.std.proofs.Common.{◌+◌, ◌∷◌, [], length, sym, subst, refl, ap, ◌∙◌}
+use Rattle.std.proofs.lemmas.List.{map-append}
 use Rattle.std.proofs.lemmas.Option.{slice_get_read}
-use Rattle.commit_horizon.specs.Merging.{Heads, AreHeads}
+use Rattle.commit_horizon.specs.Merging.{Heads, head_in, heads_in, AreHeads}
 use Rattle.commit_horizon.proofs.Heads.{one_more_head}
 use Rattle.commit_horizon.proofs.merging.first_heads.Goals as goal
 
@@ -10,7 +11,10 @@ loop-region-preserved c =
     let regions = c.args.regions.now in
     let n = c.loop-region.region-index in
     let region = c.region-item.result in
-    subst (AreHeads h regions (n + 1)) (sym {A = Heads} c.in_ok-push.ensures.items)
-    (one_more_head h regions n c.loop-region.heads.items region c.head_after.result
+    let packed = c.loop-region.heads.items in
+    let new = c.head_after.result in
+    subst (AreHeads h regions (n + 1))
+    (sym {A = Heads} (ap heads_in c.in_ok-push.ensures.items ∙ map-append head_in packed (new ∷ [])))
+    (one_more_head h regions n (heads_in packed) region (head_in new)
     (slice_get_read regions (length regions) n region refl c.loop-region-test.true c.region-item.is)
     c.loop-region.invariant c.head_after.ensures)

@@ -23,4 +23,8 @@ pub returns : goal.returns
 returns c =
     let log = entries_of c.args.region.now in
     let count = c.entries-place-end.ensures.value in
-    head_past c.args.horizon log c.args.done c.loop-place.place (omega arith) c.loop-place.invariant
+    subst (IsHeadAfter c.args.horizon log c.args.done) (sym c.no_head.ensures)
+    (head_past c.args.horizon log c.args.done c.loop-place.place (omega arith) c.loop-place.invariant)
+
+pub head_before-requires : goal.head_before-requires
+head_before-requires c = c.in-Some.ensures.range
