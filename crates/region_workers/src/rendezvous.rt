@@ -16,11 +16,12 @@ use std::sync::atomic::{AtomicU64, Ordering};
 use std::time::Duration;
 
 // How often a worker looks for the end of a phase in a loop of its own.
-const LOOKS: u32 = 5000;
+const LOOKS: u32 = 2500;
 
-// How often it reads a number of its own between two looks, so that it doesn't ask all the time for the line of
-// the cache that the others have to write. (The processor's own pause may give a virtual machine's processor away.)
-const READS: u32 = 50;
+// How many divisions it makes between two looks, so that it doesn't ask all the time for the line of the cache that the
+// others have to write. They are slow, and hardly take anything from a thread that shares the core. (The processor's own
+// pause may give a virtual machine's processor away.)
+const DIVISIONS: u32 = 5;
 
 // How often a worker sleeps at one wait.
 const SLEEPS: u32 = 100;
@@ -126,14 +127,12 @@ impl Rendezvous {
 
     /// Looks for the end of a phase for a while, and says whether it came.
     pub(crate) fn is_seen_to_pass(&self, phase: u32) -> bool {
-        let own = AtomicU64::new(0);
+        let quotient = AtomicU64::new(3);
         for _ in 0..LOOKS {
             if self.is_past(phase) {
                 return true;
             }
-            for _ in 0..READS {
-                own.load(Ordering::SeqCst);
-            }
+            divide(&quotient);
         }
         false
     }
@@ -157,4 +156,14 @@ impl Rendezvous {
         }
         self.sleepers.fetch_sub(1, Ordering::SeqCst);
     }
+}
+
+// Takes a while: each division waits for what the one before it gave. The number is read and written as an atomic one,
+// so that no division is left out.
+fn divide(quotient: &AtomicU64) {
+    let mut last = quotient.load(Ordering::SeqCst);
+    for _ in 0..DIVISIONS {
+        last = u64::MAX / last.max(1);
+    }
+    quotient.store(last, Ordering::SeqCst);
 }
