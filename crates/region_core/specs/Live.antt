@@ -12,6 +12,7 @@ use Rattle.region_core.specs.declared.border.Border.{Border}
 use Rattle.local_run.specs.LocalRun.{Local, At, Trails, trail_of, after_log, sent_to, IsDueOrEnd, IsInPlace, IsRight}
 use Rattle.region_core.specs.Border.{IsBorderOf}
 use Rattle.region_core.specs.Inbox.{InboxData, taken_from}
+use Rattle.local_run.specs.Opening.{RegionData}
 use Rattle.local_run.specs.Taken.{taken_of}
 use Rattle.event_log.specs.Logged.{entries_in, backs_in}
 use Rattle.event_log.specs.Undoing.{undone}
@@ -29,6 +30,10 @@ run_in floor live = record {
   heard = live.inbox.heard;
   log = entries_in live.log;
 }
+
+-- a region that isn't spent
+abbrev pub region_in : Home → Stamp → Live → RegionData
+region_in home floor live = record { home = home; floor = floor; run = Some (run_in floor live) }
 
 -- what the region is at where it begins, and after its whole log
 abbrev pub start_in : Live → At

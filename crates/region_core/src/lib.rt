@@ -18,6 +18,7 @@ mod raising;
 mod region;
 mod rollback;
 mod running_events;
+mod running_on;
 mod weaving;
 
 pub use burst::Burst;

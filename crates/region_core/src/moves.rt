@@ -243,7 +243,7 @@ pub(crate) fn is_before(a: &Stamp, b: &Stamp) -> bool
 }
 
 // Whether the stamp isn't before the floor, and is after that of the last entry, if there is one.
-fn is_in_turn(floor: &Stamp, clock: Option<Stamp>, stamp: &Stamp) -> bool
+pub(crate) fn is_in_turn(floor: &Stamp, clock: Option<Stamp>, stamp: &Stamp) -> bool
     ensures { IsTrue result ↔ ComesAfter floor.now clock stamp.now }
 {
     if is_before(stamp, floor) {

@@ -4,8 +4,8 @@ use Rattle.local_run.specs.Opening.{RegionData}
 use Rattle.local_run.specs.Running.{IsDueBefore, IsDueLater}
 use Rattle.local_run.specs.Steps.{Steps}
 use Rattle.region_core.specs.declared.live.Live.{Live}
-use Rattle.region_core.specs.Live.{run_in}
-use Rattle.region_core.proofs.Bounded.{region_of, bounded_step}
+use Rattle.region_core.specs.Live.{run_in, region_in}
+use Rattle.region_core.proofs.Bounded.{bounded_step}
 use Rattle.region_core.proofs.region.Region.step_before.Goals as goal
 
 pub returns-in-Ok-clause-step : goal.returns-in-Ok-clause-step
@@ -13,7 +13,7 @@ returns-in-Ok-clause-step c =
     let home = c.self.inside.home in
     let floor = c.self.inside.floor in
     let bound = c.args.bound.now in
-    let new = region_of home floor c.step.new.self in
+    let new = region_in home floor c.step.new.self in
     let Made : RegionData → Type 0 = λ old. MatchOption c.in-Ok.last (IsDueLater bound old × (new ≡ old))
     (λ answer. IsDueBefore bound old × Steps old answer new) in
     subst Made c.self.view_is

@@ -1,0 +1,32 @@
+-- Events of a region's own columns that run one after the other.
+use Rattle.std.specs.Prelude.{◌≡◌, ℕ, zero, suc, ◌+◌}
+use Rattle.event_stamps.specs.declared.Stamp.{Stamp}
+use Rattle.event_stamps.specs.Order.{Before}
+use Rattle.local_run.specs.declared.home.Home.{Home}
+use Rattle.local_run.specs.declared.answers.Step.{Step}
+use Rattle.local_run.specs.declared.answers.Step.TheVariants.{Ran}
+use Rattle.local_run.specs.Answers.{StepsTo}
+use Rattle.local_run.specs.LocalRun.{Local, Trails, IsWaiting}
+use Rattle.local_run.specs.Opening.{RegionData}
+use Rattle.local_run.specs.Running.{GoesOn, IsDueBefore}
+use Rattle.local_run.specs.Steps.{Steps}
+use Rattle.region_core.specs.declared.running_on.Course.{Course}
+
+-- no message before this stamp waits, nor at it
+abbrev pub IsClear : Stamp → Trails → Type 0
+IsClear limit waiting = (s : Stamp) → IsWaiting waiting s → ¬ Before s limit
+
+-- the step runs this event, which is before a stamp
+abbrev pub RunsNext : Home → Stamp → Stamp → Local → Local → Type 0
+RunsNext h limit s old new = Before s limit × StepsTo h old (Ran s) new
+
+-- so many steps that did something, each where what is due is before a bound: from one answer to another
+abbrev pub Follow : Stamp → ℕ → Step → RegionData → Step → RegionData → Type 0
+Follow bound zero before old answer new = (answer ≡ before) × (new ≡ old)
+Follow bound (suc rest) before old answer new = (last : Step) × (mid : RegionData)
+    × Follow bound rest before old last mid × IsDueBefore bound mid × Steps mid answer new × GoesOn answer
+
+-- as many as are left fewer
+abbrev pub RunsOn : Stamp → Course → RegionData → RegionData → Course → Type 0
+RunsOn bound given old new course = (made : ℕ) × (course.left + made ≡ given.left)
+    × Follow bound made given.answer old course.answer new
