@@ -1,5 +1,5 @@
 -- The options that the words may name, as clap's command of them.
-use Rattle.std.specs.Prelude.{◌≡◌, ℕ, true, List, [], ◌∷◌, Some, codes, map}
+use Rattle.std.specs.Prelude.{◌≡◌, ℕ, true, List, [], ◌∷◌, ◌++◌, Some, codes, map}
 use Rattle.std.specs.Borrow.{Bor}
 use Rattle.clap.specs.Simple.{App, new_app, new_rule}
 use Rattle.clap.specs.Walk.{Rule, Text}
@@ -42,29 +42,44 @@ format_names = codes "lines" ∷ codes "summary" ∷ []
 abbrev pub burst_names : List Text
 burst_names = codes "locks" ∷ codes "table" ∷ []
 
+-- how a run is divided
+abbrev pub run_options : List Rule
+run_options =
+    number_option (codes "regions") 1 64 (codes "4")
+    ∷ number_option (codes "workers") 1 64 (codes "2")
+    ∷ number_option (codes "turns") 1 65536 (codes "16")
+    ∷ number_option (codes "steps") 1 4096 (codes "64")
+    ∷ []
+
+-- what scene is made, and where a run is cut
+abbrev pub scene_options : List Rule
+scene_options =
+    number_option (codes "number") 0 18446744073709551615 (codes "1")
+    ∷ number_option (codes "disks") 0 65536 (codes "100")
+    ∷ number_option (codes "at") 0 1099511627776 (codes "0")
+    ∷ []
+
 abbrev pub options_of : Names → Names → Names → List Rule
 options_of modes formats bursts =
     choice_option (codes "mode") modes (codes "run")
     ∷ choice_option (codes "format") formats (codes "lines")
-    ∷ number_option (codes "regions") 1 64 (codes "4")
-    ∷ number_option (codes "workers") 1 64 (codes "2")
-    ∷ number_option (codes "turns") 1 65536 (codes "16")
-    ∷ number_option (codes "steps") 1 4096 (codes "64")
-    ∷ number_option (codes "number") 0 18446744073709551615 (codes "1")
-    ∷ number_option (codes "disks") 0 65536 (codes "100")
-    ∷ number_option (codes "at") 0 1099511627776 (codes "0")
-    ∷ choice_option (codes "burst") bursts (codes "locks")
-    ∷ []
+    ∷ run_options ++ scene_options ++ choice_option (codes "burst") bursts (codes "locks") ∷ []
 
--- the command has these options alone: neither `--help` nor `--version`, and no word before them
-abbrev pub command_of : Names → Names → Names → App
-command_of modes formats bursts = record {
+-- no option yet: neither `--help` nor `--version`, and no word before them
+abbrev pub bare_command : App
+bare_command = record {
   top = record (new_app (codes "hard_disks")).top {
-    rules = options_of modes formats bursts;
     no_binary_name = true;
     disable_help_flag = true;
     disable_version_flag = true;
   };
+  subs = [];
+}
+
+-- the command has these options alone
+abbrev pub command_of : Names → Names → Names → App
+command_of modes formats bursts = record {
+  top = record bare_command.top { rules = options_of modes formats bursts };
   subs = [];
 }
 

@@ -1,9 +1,9 @@
 //! The options that the words may name.
 
-ghost use Rattle.std.specs.Prelude.{◌≡◌, IfOk, false};
-ghost use Rattle.clap.specs.Words.{app_of, rule_of};
-ghost use Rattle.command_words.specs.Options.{IsCommand, burst_names, choice_option, format_names, mode_names};
-ghost use Rattle.command_words.specs.Options.{named_option, number_option, texts_of};
+ghost use Rattle.std.specs.Prelude.{◌≡◌, IfOk, false, fold};
+ghost use Rattle.clap.specs.Words.{app_of, rule_of, with_rule};
+ghost use Rattle.command_words.specs.Options.{IsCommand, bare_command, burst_names, choice_option, format_names, mode_names};
+ghost use Rattle.command_words.specs.Options.{named_option, number_option, run_options, scene_options, texts_of};
 
 use clap::builder::ValueParser;
 use clap::{Arg, Command};
@@ -68,22 +68,45 @@ fn number_option<'a>(
     named_option(alloc, name, default).value_parser(ValueParser::Unsigned(least, most))
 }
 
-/// The command of the options.
-pub(crate) fn command<'a>(alloc: Global) -> Result<Command<'a>, AllocError>
-    ensures { IfOk result (λ made. IsCommand (app_of made)) }
+/// The command before its options: neither `--help` nor `--version`, and no word before them.
+fn bare_command<'a>(alloc: Global) -> Command<'a>
+    ensures { app_of result ≡ bare_command }
 {
     Command::new(alloc, "hard_disks")
         .no_binary_name(true)
         .disable_help_flag(true)
         .disable_version_flag(true)
-        .arg(choice_option(alloc, "mode", mode_names(), "run"))?
-        .arg(choice_option(alloc, "format", format_names(), "lines"))?
+}
+
+/// Adds the options of how a run is divided.
+fn with_run_options<'a>(alloc: Global, command: Command<'a>) -> Result<Command<'a>, AllocError>
+    ensures { IfOk result (λ made. app_of made ≡ fold with_rule (app_of command.entry) run_options) }
+{
+    command
         .arg(number_option(alloc, "regions", 1, 64, "4"))?
         .arg(number_option(alloc, "workers", 1, 64, "2"))?
         .arg(number_option(alloc, "turns", 1, 65_536, "16"))?
-        .arg(number_option(alloc, "steps", 1, 4_096, "64"))?
+        .arg(number_option(alloc, "steps", 1, 4_096, "64"))
+}
+
+/// Adds the options of what scene is made and where a run is cut.
+fn with_scene_options<'a>(alloc: Global, command: Command<'a>) -> Result<Command<'a>, AllocError>
+    ensures { IfOk result (λ made. app_of made ≡ fold with_rule (app_of command.entry) scene_options) }
+{
+    command
         .arg(number_option(alloc, "number", 0, u64::MAX, "1"))?
         .arg(number_option(alloc, "disks", 0, 65_536, "100"))?
-        .arg(number_option(alloc, "at", 0, 1_099_511_627_776, "0"))?
-        .arg(choice_option(alloc, "burst", burst_names(), "locks"))
+        .arg(number_option(alloc, "at", 0, 1_099_511_627_776, "0"))
+}
+
+/// The command of the options.
+pub(crate) fn command<'a>(alloc: Global) -> Result<Command<'a>, AllocError>
+    ensures { IfOk result (λ made. IsCommand (app_of made)) }
+{
+    let command = bare_command(alloc)
+        .arg(choice_option(alloc, "mode", mode_names(), "run"))?
+        .arg(choice_option(alloc, "format", format_names(), "lines"))?;
+    let command = with_run_options(alloc, command)?;
+    let command = with_scene_options(alloc, command)?;
+    command.arg(choice_option(alloc, "burst", burst_names(), "locks"))
 }

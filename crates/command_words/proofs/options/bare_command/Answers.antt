@@ -1,0 +1,11 @@
+use Rattle.std.proofs.Common.{◌∙◌, ap, true}
+use Rattle.clap.specs.Words.{App}
+use Rattle.clap.specs.Simple.{app_of_fields, on_top}
+use Rattle.command_words.proofs.options.bare_command.Goals as goal
+
+pub returns : goal.returns
+returns c =
+    ap app_of_fields c.disable_version_flag.ensures
+    ∙ ap (λ (a : App). on_top (λ shape. record shape { disable_version_flag = true }) a) (ap app_of_fields c.disable_help_flag.ensures)
+    ∙ ap (λ (a : App). on_top (λ shape. record shape { disable_help_flag = true; disable_version_flag = true }) a) (ap app_of_fields c.no_binary_name.ensures)
+    ∙ ap (λ (a : App). on_top (λ shape. record shape { no_binary_name = true; disable_help_flag = true; disable_version_flag = true }) a) c.new.ensures.app
