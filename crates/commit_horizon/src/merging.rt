@@ -67,6 +67,7 @@ fn entries_of_all(regions: &[Region]) -> usize {
 }
 
 /// The action at a place of a region's log, which has one there.
+#[inline(always)]
 pub(crate) fn action_at(region: &Region, place: usize) -> Action
     requires { IsSome (native_in (slice_get (entries_of region.now) place)) }
     ensures { native_in (slice_get (entries_of region.now) place) ≡ Some result }

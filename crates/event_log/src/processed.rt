@@ -109,6 +109,7 @@ impl EventLog {
     }
 
     /// An entry, by its place.
+    #[inline(always)]
     pub fn entry(&self, i: usize) -> Entry
         requires within { i < length self.now }
         ensures { slice_get (entries_in self.now) i ≡ Some result }
@@ -154,6 +155,7 @@ impl EventLog {
     }
 
     /// The action of an entry, by its place; none exactly where there is no such entry, or it is a message.
+    #[inline(always)]
     pub fn native(&self, i: usize) -> Option<Action>
         ensures { result ≡ native_at self.now i }
     {

@@ -192,6 +192,7 @@ impl Region {
 
     /// The action of an entry, by its place in the log from 0 on. None exactly where there is no such entry,
     /// and where it is a message that was taken in.
+    #[inline(always)]
     pub fn native(&self, i: usize) -> Option<Action>
         ensures value { result ≡ native_in (slice_get (entries_of self.now) i) }
         ensures kept { IsKept self.now }

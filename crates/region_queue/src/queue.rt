@@ -6,7 +6,6 @@ use crate::listing::{list_again, list_event};
 use cell_grid::Grid;
 use cell_lists::Lists;
 use event_stamps::Stamp;
-use event_tree::Packed;
 use fixed_motion::Rules;
 use region_view::View;
 use std::alloc::{AllocError, Global};
@@ -77,15 +76,6 @@ impl Queue {
             IsLeastOf (IsNative self.now.rules self.now.grid self.now.region (rows_in view)) result }
     {
         self.keys.tree.least()
-    }
-
-    /// The same, packed.
-    #[inline(always)]
-    pub fn top(&self) -> Packed
-        ensures { (view : ViewData) → StandsFor self.now view →
-            IsLeastOf (IsNative self.now.rules self.now.grid self.now.region (rows_in view)) result }
-    {
-        self.keys.tree.top()
     }
 
     /// Takes in the changes of these disks, to what stands at their numbers in a view. The queue then stands
