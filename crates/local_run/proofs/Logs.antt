@@ -10,8 +10,9 @@ use Rattle.region_messages.specs.Trails.{IsAmong}
 use Rattle.local_run.specs.declared.home.Home.{Home}
 use Rattle.local_run.specs.declared.entry.Entry.{Entry}
 use Rattle.local_run.specs.Entries.{entry_stamp, RiseAfter, RiseFrom, entries_below, entries_from, clock_of}
-use Rattle.local_run.specs.LocalRun.{At, after_entry, after_log}
-use Rattle.local_run.specs.LocalRun.{Moves}
+use Rattle.local_run.specs.LocalRun.{At, Local, after_entry, after_log, start_of}
+use Rattle.local_run.specs.LocalRun.{now_of, Moves}
+use Rattle.local_run.specs.Answers.{with_entry}
 
 -- ---- moves and what they leave
 pub moves_split : (h : Home) (a : At) (xs ys : List Entry) → Moves h a (xs ++ ys) →
@@ -28,6 +29,9 @@ moves_join h a (x ∷ xs) ys m n = (m.0, moves_join h (after_entry a x) xs ys m.
 pub after_join : (a : At) (xs ys : List Entry) → after_log a (xs ++ ys) ≡ after_log (after_log a xs) ys
 after_join a [] ys = refl
 after_join a (x ∷ xs) ys = after_join (after_entry a x) xs ys
+
+pub now_appended : (r : Local) (e : Entry) → now_of (with_entry r e) ≡ after_entry (now_of r) e
+now_appended r e = after_join (start_of r) r.log (e ∷ [])
 
 -- ---- lists by stamps, for those who read logs
 abbrev pub AllBefore : Stamp → List Entry → Type 0
