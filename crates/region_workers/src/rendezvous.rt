@@ -5,23 +5,17 @@
 //! for that are at work on a region.
 //!
 //! A worker that waits looks for a while, since where each has a processor of its own the others mostly come soon, and
-//! to be woken would take longer than a slice. Then it sleeps until it is woken. It never gives way to other threads:
-//! where other programs want the processors too, it would get none back for some milliseconds.
+//! to be woken would take longer than a slice: whoever sleeps comes late, so that others sleep, and so on. Then it sleeps
+//! until it is woken. It never gives way to other threads: where other programs want the processors too, it would get
+//! none back for some milliseconds.
 
 use crate::roll::{Roll, Share};
 use crossbeam_utils::CachePadded;
+use region_locks::Pause;
 use std::alloc::{AllocError, Global};
 use std::sync::Wait;
 use std::sync::atomic::{AtomicU64, Ordering};
 use std::time::Duration;
-
-// How often a worker looks for the end of a phase in a loop of its own.
-const LOOKS: u32 = 2500;
-
-// How many divisions it makes between two looks, so that it doesn't ask all the time for the line of the cache that the
-// others have to write. They are slow, and hardly take anything from a thread that shares the core. (The processor's own
-// pause may give a virtual machine's processor away.)
-const DIVISIONS: u32 = 5;
 
 // How often a worker sleeps at one wait.
 const SLEEPS: u32 = 100;
@@ -125,14 +119,14 @@ impl Rendezvous {
         self.roll().phase != phase
     }
 
-    /// Looks for the end of a phase for a while, and says whether it came.
-    pub(crate) fn is_seen_to_pass(&self, phase: u32) -> bool {
-        let quotient = AtomicU64::new(3);
-        for _ in 0..LOOKS {
+    /// Looks for the end of a phase so many times, and says whether it came.
+    pub(crate) fn is_seen_to_pass(&self, phase: u32, looks: u32) -> bool {
+        let pause = Pause::new();
+        for _ in 0..looks {
             if self.is_past(phase) {
                 return true;
             }
-            divide(&quotient);
+            pause.wait();
         }
         false
     }
@@ -156,14 +150,4 @@ impl Rendezvous {
         }
         self.sleepers.fetch_sub(1, Ordering::SeqCst);
     }
-}
-
-// Takes a while: each division waits for what the one before it gave. The number is read and written as an atomic one,
-// so that no division is left out.
-fn divide(quotient: &AtomicU64) {
-    let mut last = quotient.load(Ordering::SeqCst);
-    for _ in 0..DIVISIONS {
-        last = u64::MAX / last.max(1);
-    }
-    quotient.store(last, Ordering::SeqCst);
 }
