@@ -269,8 +269,3 @@ acted_is_live home floor live new x kept fits is =
           ∙ ap (λ (v : ViewData). trail_of live.sent.items to
           ++ told (message_of home.grid to (rows_in v) x) []) (sym (now_is live kept.traced)));
     }
-
-pub acted_run : (home : Home) (floor : Stamp) (live new : Live) (x : Action) → IsLive home floor live →
-    HasActed home live new x → run_in floor new ≡ with_entry (run_in floor live) (Native x)
-acted_run home floor live new x kept is = further_run floor live new (Native x) kept.traced
-    (ap (λ (i : InboxData). i.heard) is.inbox) is.log is.view

@@ -1,10 +1,10 @@
 -- Events of a region's own columns that run one after the other.
-use Rattle.std.proofs.Common.{◌≡◌, inl, inr, ℕ, zero, suc, ◌+◌, ◌<◌, length, sym, ap, ◌∙◌, subst, refl, arith, Option, Some, None, Result, Ok, Err}
+use Rattle.std.proofs.Common.{◌≡◌, inl, inr, ℕ, zero, suc, ◌+◌, ◌<◌, length, sym, ap, ◌∙◌, subst, refl, arith, Option, Some, Result, Ok, Err}
 use Rattle.std.specs.Prelude.{MatchOption, OnErr}
 use Rattle.event_stamps.specs.declared.Stamp.{Stamp}
 use Rattle.event_stamps.specs.Order.{Before}
 use Rattle.event_stamps.specs.Least.{IsLeast}
-use Rattle.event_stamps.proofs.StampOrder.{before_trans, not_before_itself}
+use Rattle.event_stamps.proofs.StampOrder.{before_trans}
 use Rattle.event_stamps.proofs.IsBefore.{before_not_before}
 use Rattle.local_run.specs.declared.home.Home.{Home}
 use Rattle.local_run.specs.declared.entry.Entry.TheVariants.{Native}
@@ -31,9 +31,6 @@ pub clear_of_bound : (first bound : Stamp) (waiting : Trails) → IsLeast (IsWai
     ¬ Before first bound → IsClear bound waiting
 clear_of_bound first bound waiting least late s waits lt =
     least.1 s waits (before_not_before s first bound lt late)
-
-pub not_before_first : (first bound : Stamp) → Before first bound → ¬ Before bound first
-not_before_first first bound lt more = not_before_itself first (before_trans first bound first lt more)
 
 -- an event of its own columns leaves the messages that wait
 pub still_clear : (h : Home) (limit s : Stamp) (r new : Local) → RunsNext h limit s r new →
@@ -74,9 +71,6 @@ next_follows home floor bound limit s live new near next = (
 -- the one that ran
 pub one_ran : (o : Option Stamp) (s : Stamp) (P : Type 0) (Q : Stamp → Type 0) → o ≡ Some s → MatchOption o P Q → Q s
 one_ran o s P Q is found = subst (λ (v : Option Stamp). MatchOption v P Q) is found
-
-pub none_ran : (o : Option Stamp) (P : Type 0) (Q : Stamp → Type 0) → o ≡ None → MatchOption o P Q → P
-none_ran o P Q is found = subst (λ (v : Option Stamp). MatchOption v P Q) is found
 
 pub went_on : (bound : Stamp) (made n : ℕ) (first : RegionData) (before answer : Step) (old new : RegionData) →
     IsUnderWayBefore bound made first before old → GoesOn before → Follow bound n before old answer new →
