@@ -1,6 +1,6 @@
 -- The columns that no other region reaches, and what happens there.
-use Rattle.std.proofs.Common.{◌≡◌, ◌≢◌, ◌⊎◌, inl, inr, ℕ, ◌+◌, ◌-◌, ◌*◌, ◌/◌, ◌%◌, ◌<◌, ◌≤◌, List, [], ◌∷◌, ◌++◌, Bool, true, false, refl, sym, ap, ◌∙◌, subst, arith, Option, Some, None}
-use Rattle.std.specs.Prelude.{⊤, IfSome, nat_le, ◌&&◌, if◌then◌else◌, ◌||◌, map as each}
+use Rattle.std.proofs.Common.{◌≡◌, ◌≢◌, inl, inr, ℕ, ◌+◌, ◌-◌, ◌*◌, ◌/◌, ◌<◌, ◌≤◌, List, [], ◌∷◌, ◌++◌, Bool, true, false, refl, sym, ap, subst, arith, Option, Some, None}
+use Rattle.std.specs.Prelude.{⊤, IfSome, if◌then◌else◌, ◌||◌, map as each}
 use Rattle.std.proofs.Math.Nat.{mul-le-mul, le-div_iff_mul-le}
 use Rattle.std.proofs.lemmas.Bool.{cases_lt}
 use Rattle.std.proofs.lemmas.List.{append-nil}
@@ -8,16 +8,16 @@ use Rattle.event_stamps.proofs.Decision.{Decision, same_number}
 use Rattle.fixed_motion.specs.declared.disk.Disk.{Disk}
 use Rattle.event_stamps.specs.declared.Stamp.{Stamp}
 use Rattle.event_rules.specs.declared.change.Change.{Change}
-use Rattle.cell_grid.specs.Grid.{GridData, HasSizes, IsCell, IsRegion, Reaches, column_of, strip_start}
+use Rattle.cell_grid.specs.Grid.{HasSizes, IsCell, IsRegion, column_of, strip_start}
 use Rattle.cell_grid.proofs.Owners.{each_cell_has_one_owner, own_is_in_reach}
 use Rattle.region_view.specs.declared.action.Placed.{Placed}
 use Rattle.region_view.specs.declared.action.Action.{Action}
 use Rattle.region_view.specs.declared.action.Action.TheVariants.{Cross, Hit}
 use Rattle.region_view.specs.Placing.{Placing}
-use Rattle.region_view.specs.Acting.{stamp_of, recelled, redisked, new_rows}
+use Rattle.region_view.specs.Acting.{stamp_of, recelled, redisked}
 use Rattle.region_view.specs.Setting.{RowList, rows_set}
 use Rattle.region_view.proofs.After.{reaches_is}
-use Rattle.region_view.specs.Messages.{message_of, message_with, told_rows, told_row, sees, seen_by, reaches}
+use Rattle.region_view.specs.Messages.{message_of, message_with, told_rows, sees, seen_by, reaches}
 use Rattle.local_run.specs.declared.home.Home.{Home}
 use Rattle.local_run.specs.Keeping.{SendsTo}
 use Rattle.region_core.specs.declared.border.Border.{Border}
