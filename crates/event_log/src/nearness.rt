@@ -16,7 +16,7 @@ use region_view::{Compact, Placed, Rows};
 /// the number of one of their disks, or the narrow row of what stood there has a cell that may be adjacent to one of
 /// theirs. None where there is no such head.
 #[inline(always)]
-pub fn first_near(
+pub(crate) fn first_near(
     heads: &[Head],
     narrow: &[Compact],
     from: usize,
