@@ -10,7 +10,7 @@ use Rattle.local_run.specs.LocalRun.{Local, Trails, IsWaiting}
 use Rattle.local_run.specs.Opening.{RegionData}
 use Rattle.local_run.specs.Running.{GoesOn, IsDueBefore}
 use Rattle.local_run.specs.Steps.{Steps}
-use Rattle.region_core.specs.declared.running_on.Course.{Course}
+use Rattle.region_core.specs.declared.running_on.RunSoFar.{RunSoFar}
 
 -- no message before this stamp waits, nor at it
 abbrev pub IsClear : Stamp → Trails → Type 0
@@ -27,6 +27,6 @@ Follow bound (suc rest) before old answer new = (last : Step) × (mid : RegionDa
     × Follow bound rest before old last mid × IsDueBefore bound mid × Steps mid answer new × GoesOn answer
 
 -- as many as are left fewer
-abbrev pub RunsOn : Stamp → Course → RegionData → RegionData → Course → Type 0
-RunsOn bound given old new course = (made : ℕ) × (course.left + made ≡ given.left)
-    × Follow bound made given.answer old course.answer new
+abbrev pub RunsOn : Stamp → RunSoFar → RegionData → RegionData → RunSoFar → Type 0
+RunsOn bound given old new so_far = (made : ℕ) × (so_far.left + made ≡ given.left)
+    × Follow bound made given.answer old so_far.answer new

@@ -14,10 +14,10 @@ use crate::{Home, MAX_ENTRIES, Step};
 use event_stamps::Stamp;
 use std::alloc::{AllocError, Global};
 
-/// How far several steps came.
+/// What a run of steps came to so far.
 #[derive(Clone, Copy)]
-pub(crate) struct Course {
-    /// What the last one answered.
+pub(crate) struct RunSoFar {
+    /// What the last step answered.
     pub(crate) answer: Step,
     /// How many more may follow.
     pub(crate) left: u32,
@@ -37,18 +37,18 @@ impl Live {
         border: &Border,
         floor: Stamp,
         bound: &Stamp,
-        course: Course,
-    ) -> Result<Course, AllocError>
+        so_far: RunSoFar,
+    ) -> Result<RunSoFar, AllocError>
         requires place { IsInPlace home.now }
         requires border { IsBorderOf home.now border.now }
         requires live { IsLive home.now floor self.old }
         ensures live { OnOk result (IsLive home.now floor self.new) }
-        ensures ran { IfOk result (RunsOn bound.now course (region_in home.now floor self.old)
+        ensures ran { IfOk result (RunsOn bound.now so_far (region_in home.now floor self.old)
             (region_in home.now floor self.new)) }
     {
         let limit = self.limit(home, bound);
-        let mut answer = course.answer;
-        let mut left = course.left;
+        let mut answer = so_far.answer;
+        let mut left = so_far.left;
         while left > 0 {
             match self.run_own(alloc, home, border, floor, &limit)? {
                 Some(due) => answer = Step::Ran(due),
@@ -56,7 +56,7 @@ impl Live {
             }
             left -= 1;
         }
-        Ok(Course { answer, left })
+        Ok(RunSoFar { answer, left })
     }
 
     // The earlier one of a bound and of the first message that waits.

@@ -7,7 +7,7 @@ abbrev pub invariant-loop-left : goal.invariant-loop-left
 invariant-loop-left l = record {
   live : IsLive l.home l.floor l.self;
   clear : IsClear l.limit (now_in l.self).waiting;
-  ran : RunsOn l.bound l.fn.course (region_in l.home l.floor l.fn.self) (region_in l.home l.floor l.self)
+  ran : RunsOn l.bound l.fn.so_far (region_in l.home l.floor l.fn.self) (region_in l.home l.floor l.self)
       (record { answer = l.answer; left = l.left });
 }
 

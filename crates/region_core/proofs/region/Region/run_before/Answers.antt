@@ -15,8 +15,8 @@ loop-left-init c =
 pub returns-in_err-step-clause-spent : goal.returns-in_err-step-clause-spent
 returns-in_err-step-clause-spent c =
     let inv = c.loop-left.invariant in
-    let ran = c.in_ok-course.ensures.ran in
-    let went = went_on c.args.bound inv.0 ran.0 c.args.self.now c.loop-left.answer c.in_ok-course.course.answer
+    let ran = c.in_ok-so_far.ensures.ran in
+    let went = went_on c.args.bound inv.0 ran.0 c.args.self.now c.loop-left.answer c.in_ok-so_far.so_far.answer
     c.loop-left.self c.run_on.new.self inv.2 (follows c.loop-left.answer c.in-Ran.is) ran.2 in
     let before = inv.1 in
     let left = ran.1 in
@@ -25,8 +25,8 @@ returns-in_err-step-clause-spent c =
 pub loop-left-preserved : goal.loop-left-preserved
 loop-left-preserved c =
     let inv = c.loop-left.invariant in
-    let ran = c.in_ok-course.ensures.ran in
-    let went = went_on c.args.bound inv.0 ran.0 c.args.self.now c.loop-left.answer c.in_ok-course.course.answer
+    let ran = c.in_ok-so_far.ensures.ran in
+    let went = went_on c.args.bound inv.0 ran.0 c.args.self.now c.loop-left.answer c.in_ok-so_far.so_far.answer
     c.loop-left.self c.run_on.new.self inv.2 (follows c.loop-left.answer c.in-Ran.is) ran.2 in
     let before = inv.1 in
     let left = ran.1 in
@@ -58,8 +58,8 @@ returns-in_default-answer c =
 pub returns-then-left-eq0-clause-run : goal.returns-then-left-eq0-clause-run
 returns-then-left-eq0-clause-run c =
     let inv = c.loop-left.invariant in
-    let ran = c.in_ok-course.ensures.ran in
-    let went = went_on c.args.bound inv.0 ran.0 c.args.self.now c.loop-left.answer c.in_ok-course.course.answer
+    let ran = c.in_ok-so_far.ensures.ran in
+    let went = went_on c.args.bound inv.0 ran.0 c.args.self.now c.loop-left.answer c.in_ok-so_far.so_far.answer
     c.loop-left.self c.run_on.new.self inv.2 (follows c.loop-left.answer c.in-Ran.is) ran.2 in
     let before = inv.1 in
     let left = ran.1 in
@@ -73,15 +73,15 @@ returns-then-left-eq0-clause-begins c =
 pub returns-in-None-clause-run : goal.returns-in-None-clause-run
 returns-in-None-clause-run c =
     let inv = c.loop-left.invariant in
-    let ran = c.in_ok-course.ensures.ran in
-    let went = went_on c.args.bound inv.0 ran.0 c.args.self.now c.loop-left.answer c.in_ok-course.course.answer
+    let ran = c.in_ok-so_far.ensures.ran in
+    let went = went_on c.args.bound inv.0 ran.0 c.args.self.now c.loop-left.answer c.in_ok-so_far.so_far.answer
     c.loop-left.self c.run_on.new.self inv.2 (follows c.loop-left.answer c.in-Ran.is) ran.2 in
     let before = inv.1 in
     let left = ran.1 in
     let waits = of_none _ _ _ c.in-None.is c.in_ok-step.ensures.step in
-    subst (λ (new : RegionData). RunsBefore c.args.bound c.args.steps c.args.self.now c.in_ok-course.course.answer new)
+    subst (λ (new : RegionData). RunsBefore c.args.bound c.args.steps c.args.self.now c.in_ok-so_far.so_far.answer new)
     (sym waits.1)
-    (went.0.ends c.in_ok-course.course.left c.args.steps (omega arith) (λ on. inr waits.0))
+    (went.0.ends c.in_ok-so_far.so_far.left c.args.steps (omega arith) (λ on. inr waits.0))
 
 pub returns-in-None-clause-begins : goal.returns-in-None-clause-begins
 returns-in-None-clause-begins c =
