@@ -1,7 +1,8 @@
 -- Events of a region's own columns that run one after the other.
-use Rattle.std.specs.Prelude.{◌≡◌, ℕ, zero, suc, ◌+◌}
+use Rattle.std.specs.Prelude.{◌≡◌, ℕ, zero, suc, ◌+◌, Option}
 use Rattle.event_stamps.specs.declared.Stamp.{Stamp}
 use Rattle.event_stamps.specs.Order.{Before}
+use Rattle.event_rules.specs.declared.change.Limit.{Limit}
 use Rattle.local_run.specs.declared.home.Home.{Home}
 use Rattle.local_run.specs.declared.answers.Step.{Step}
 use Rattle.local_run.specs.declared.answers.Step.TheVariants.{Ran}
@@ -11,6 +12,13 @@ use Rattle.local_run.specs.Opening.{RegionData}
 use Rattle.local_run.specs.Running.{GoesOn, IsDueBefore}
 use Rattle.local_run.specs.Steps.{Steps}
 use Rattle.region_core.specs.declared.running_on.RunSoFar.{RunSoFar}
+use Rattle.region_core.specs.declared.live.Live.{Live}
+use Rattle.region_core.specs.Choices.{answer_of}
+use Rattle.region_core.specs.Live.{run_in}
+
+-- the event ran, or failed this limit
+abbrev pub RunsOrFails : Home → Stamp → Stamp → Live → Live → Option Limit → Type 0
+RunsOrFails h floor s old new limit = StepsTo h (run_in floor old) (answer_of s limit) (run_in floor new)
 
 -- no message before this stamp waits, nor at it
 abbrev pub IsClear : Stamp → Trails → Type 0

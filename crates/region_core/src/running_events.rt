@@ -12,13 +12,14 @@ ghost use Rattle.region_queue.specs.Queue.{IsOf, StandsFor};
 ghost use Rattle.local_run.specs.LocalRun.{IsInPlace};
 ghost use Rattle.local_run.specs.declared.entry.Entry.TheVariants.{Native};
 ghost use Rattle.local_run.specs.declared.moves.Move.TheVariants.{Run};
-ghost use Rattle.local_run.specs.Answers.{StepsTo, with_entry};
+ghost use Rattle.local_run.specs.Answers.{with_entry};
 ghost use Rattle.local_run.specs.Moves.{Fits};
 ghost use Rattle.event_log.specs.Heads.{disk_or};
 ghost use Rattle.event_log.specs.Running.{acted, collision, IsMoved};
 ghost use Rattle.region_core.specs.Border.{IsBorderOf, IsUntold};
-ghost use Rattle.region_core.specs.Choices.{IsAtTurn, answer_of};
+ghost use Rattle.region_core.specs.Choices.{IsAtTurn};
 ghost use Rattle.region_core.specs.Live.{run_in, IsLive};
+ghost use Rattle.region_core.specs.RunsOn.{RunsOrFails};
 
 use crate::appending::{send_if_told, tell};
 use crate::border::Border;
@@ -52,8 +53,7 @@ impl Live {
         requires live { IsLive home.now floor self.old }
         requires turn { IsAtTurn home.now (run_in floor self.old) due.now }
         ensures live { OnOk result (IsLive home.now floor self.new) }
-        ensures steps { IfOk result (λ limit.
-            StepsTo home.now (run_in floor self.old) (answer_of due.now limit) (run_in floor self.new)) }
+        ensures steps { IfOk result (RunsOrFails home.now floor due.now self.old self.new) }
     {
         match due.kind {
             Kind::Cross => self.run_crossing(alloc, home, border, floor, due),
@@ -78,8 +78,7 @@ impl Live {
         requires turn { IsAtTurn home.now (run_in floor self.old) due.now }
         requires kind { due.now.kind ≡ Crossing }
         ensures live { OnOk result (IsLive home.now floor self.new) }
-        ensures steps { IfOk result (λ limit.
-            StepsTo home.now (run_in floor self.old) (answer_of due.now limit) (run_in floor self.new)) }
+        ensures steps { IfOk result (RunsOrFails home.now floor due.now self.old self.new) }
     {
         let Some(before) = self.view.narrow(due.first) else {
             return self.run_any(alloc, home, border, floor, due);
@@ -111,8 +110,7 @@ impl Live {
         requires turn { IsAtTurn home.now (run_in floor self.old) due.now }
         requires kind { due.now.kind ≡ Pair }
         ensures live { OnOk result (IsLive home.now floor self.new) }
-        ensures steps { IfOk result (λ limit.
-            StepsTo home.now (run_in floor self.old) (answer_of due.now limit) (run_in floor self.new)) }
+        ensures steps { IfOk result (RunsOrFails home.now floor due.now self.old self.new) }
     {
         let Some(before) = self.view.narrow(due.first) else {
             return self.run_any(alloc, home, border, floor, due);
@@ -150,8 +148,7 @@ impl Live {
         requires live { IsLive home.now floor self.old }
         requires turn { IsAtTurn home.now (run_in floor self.old) due.now }
         ensures live { OnOk result (IsLive home.now floor self.new) }
-        ensures steps { IfOk result (λ limit.
-            StepsTo home.now (run_in floor self.old) (answer_of due.now limit) (run_in floor self.new)) }
+        ensures steps { IfOk result (RunsOrFails home.now floor due.now self.old self.new) }
     {
         match outcome(home, &self.view, due) {
             Ok(action) => {

@@ -1,4 +1,4 @@
-use Rattle.std.proofs.Common.{◌≡◌, ◌∙◌, sym, Some, Ok, Err}
+use Rattle.std.proofs.Common.{◌∙◌, sym, Ok, Err}
 use Rattle.event_rules.specs.declared.change.Limit.TheVariants.{Rounds}
 use Rattle.region_view.specs.declared.action.Action.TheVariants.{Cross}
 use Rattle.region_view.specs.Views.{rows_in}
@@ -8,91 +8,64 @@ use Rattle.region_core.proofs.live.Live.run_crossing.Goals as goal
 
 pub crossed_cell-requires-clause-valid : goal.crossed_cell-requires-clause-valid
 crossed_cell-requires-clause-valid c =
-    let home = c.args.home.now in
-    let live = c.args.self.now in
-    let due = c.args.due.now in
-    let row = c.unwrap-row.result in
-    let here : rows_in live.view due.first ≡ Some row =
-    sym c.in-Some.ensures.0 ∙ sym c.get.ensures ∙ c.unwrap-row.ensures in
-    (valid_row home c.args.floor live due.first row c.requires.place c.requires.live here).0
+    let here = sym c.in-Some.ensures.0 ∙ sym c.get.ensures ∙ c.unwrap-row.ensures in
+    (valid_row c.args.home.now c.args.floor c.args.self.now c.args.due.now.first c.unwrap-row.result
+    c.requires.place c.requires.live here).0
 
 pub crossed_cell-requires-clause-base : goal.crossed_cell-requires-clause-base
 crossed_cell-requires-clause-base c =
-    let home = c.args.home.now in
-    let live = c.args.self.now in
-    let due = c.args.due.now in
-    let row = c.unwrap-row.result in
-    let here : rows_in live.view due.first ≡ Some row =
-    sym c.in-Some.ensures.0 ∙ sym c.get.ensures ∙ c.unwrap-row.ensures in
-    (crossing_event home c.args.floor live due row c.requires.live c.requires.turn c.requires.kind here).0.leaving.base
+    let here = sym c.in-Some.ensures.0 ∙ sym c.get.ensures ∙ c.unwrap-row.ensures in
+    (crossing_event c.args.home.now c.args.floor c.args.self.now c.args.due.now c.unwrap-row.result
+    c.requires.live c.requires.turn c.requires.kind here).0.leaving.base
 
 pub crossed_cell-requires-clause-tick : goal.crossed_cell-requires-clause-tick
 crossed_cell-requires-clause-tick c =
     let home = c.args.home.now in
-    let live = c.args.self.now in
     let due = c.args.due.now in
     let row = c.unwrap-row.result in
-    let here : rows_in live.view due.first ≡ Some row =
-    sym c.in-Some.ensures.0 ∙ sym c.get.ensures ∙ c.unwrap-row.ensures in
+    let here = sym c.in-Some.ensures.0 ∙ sym c.get.ensures ∙ c.unwrap-row.ensures in
     crossing_in_range home due row c.requires.place
-    (crossing_event home c.args.floor live due row c.requires.live c.requires.turn c.requires.kind here)
+    (crossing_event home c.args.floor c.args.self.now due row c.requires.live c.requires.turn c.requires.kind here)
 
 pub crossed_cell-requires-clause-inside : goal.crossed_cell-requires-clause-inside
 crossed_cell-requires-clause-inside c =
-    let home = c.args.home.now in
-    let live = c.args.self.now in
-    let due = c.args.due.now in
-    let row = c.unwrap-row.result in
-    let here : rows_in live.view due.first ≡ Some row =
-    sym c.in-Some.ensures.0 ∙ sym c.get.ensures ∙ c.unwrap-row.ensures in
-    (crossing_event home c.args.floor live due row c.requires.live c.requires.turn c.requires.kind here).0.inside
+    let here = sym c.in-Some.ensures.0 ∙ sym c.get.ensures ∙ c.unwrap-row.ensures in
+    (crossing_event c.args.home.now c.args.floor c.args.self.now c.args.due.now c.unwrap-row.result
+    c.requires.live c.requires.turn c.requires.kind here).0.inside
 
 pub are_far-is_untold-requires-clause-cell : goal.are_far-is_untold-requires-clause-cell
 are_far-is_untold-requires-clause-cell c =
-    let home = c.args.home.now in
-    let live = c.args.self.now in
-    let due = c.args.due.now in
-    let row = c.unwrap-row.result in
-    let here : rows_in live.view due.first ≡ Some row =
-    sym c.in-Some.ensures.0 ∙ sym c.get.ensures ∙ c.unwrap-row.ensures in
-    (valid_row home c.args.floor live due.first row c.requires.place c.requires.live here).1
+    let here = sym c.in-Some.ensures.0 ∙ sym c.get.ensures ∙ c.unwrap-row.ensures in
+    (valid_row c.args.home.now c.args.floor c.args.self.now c.args.due.now.first c.unwrap-row.result
+    c.requires.place c.requires.live here).1
 
 pub cross_and_send-requires-clause-fits : goal.cross_and_send-requires-clause-fits
 cross_and_send-requires-clause-fits c =
     let home = c.args.home.now in
     let live = c.args.self.now in
     let due = c.args.due.now in
-    let row = c.unwrap-row.result in
-    let here : rows_in live.view due.first ≡ Some row =
-    sym c.in-Some.ensures.0 ∙ sym c.get.ensures ∙ c.unwrap-row.ensures in
-    let cell = c.in-Some-crossed_cell.cell in
-    turn_fits home c.args.floor live due (Cross due cell) c.requires.place c.requires.live c.requires.turn
-    (crossing_comes home c.args.floor live due row (Ok (Cross due cell)) c.requires.live c.requires.kind here
+    let action = Cross due c.in-Some-crossed_cell.cell in
+    let here = sym c.in-Some.ensures.0 ∙ sym c.get.ensures ∙ c.unwrap-row.ensures in
+    turn_fits home c.args.floor live due action c.requires.place c.requires.live c.requires.turn
+    (crossing_comes home c.args.floor live due c.unwrap-row.result (Ok action) c.requires.live c.requires.kind here
     c.in-Some-crossed_cell.ensures.crossed)
 
 pub cross_and_send-requires-clause-untold : goal.cross_and_send-requires-clause-untold
 cross_and_send-requires-clause-untold c =
-    let home = c.args.home.now in
-    let live = c.args.self.now in
-    let due = c.args.due.now in
-    let row = c.unwrap-row.result in
-    let here : rows_in live.view due.first ≡ Some row =
-    sym c.in-Some.ensures.0 ∙ sym c.get.ensures ∙ c.unwrap-row.ensures in
-    λ far. crossing_is_untold home (rows_in live.view) due c.in-Some-crossed_cell.cell row here
-    (c.are_far-is_untold.ensures far)
+    let here = sym c.in-Some.ensures.0 ∙ sym c.get.ensures ∙ c.unwrap-row.ensures in
+    λ far. crossing_is_untold c.args.home.now (rows_in c.args.self.now.view) c.args.due.now
+    c.in-Some-crossed_cell.cell c.unwrap-row.result here (c.are_far-is_untold.ensures far)
 
 pub returns-in_ok-cross_and_send-in-Some-crossed_cell-clause-steps : goal.returns-in_ok-cross_and_send-in-Some-crossed_cell-clause-steps
 returns-in_ok-cross_and_send-in-Some-crossed_cell-clause-steps c =
     let home = c.args.home.now in
     let live = c.args.self.now in
     let due = c.args.due.now in
-    let row = c.unwrap-row.result in
-    let here : rows_in live.view due.first ≡ Some row =
-    sym c.in-Some.ensures.0 ∙ sym c.get.ensures ∙ c.unwrap-row.ensures in
-    let cell = c.in-Some-crossed_cell.cell in
-    turn_ran home c.args.floor live due (Cross due cell) (run_in c.args.floor c.cross_and_send.new.self)
+    let action = Cross due c.in-Some-crossed_cell.cell in
+    let here = sym c.in-Some.ensures.0 ∙ sym c.get.ensures ∙ c.unwrap-row.ensures in
+    turn_ran home c.args.floor live due action (run_in c.args.floor c.cross_and_send.new.self)
     c.requires.place c.requires.live c.requires.turn
-    (crossing_comes home c.args.floor live due row (Ok (Cross due cell)) c.requires.live c.requires.kind here
+    (crossing_comes home c.args.floor live due c.unwrap-row.result (Ok action) c.requires.live c.requires.kind here
     c.in-Some-crossed_cell.ensures.crossed)
     c.in_ok-cross_and_send-in-Some-crossed_cell.ensures.run
 
@@ -101,9 +74,7 @@ returns-in-None-clause-steps c =
     let home = c.args.home.now in
     let live = c.args.self.now in
     let due = c.args.due.now in
-    let row = c.unwrap-row.result in
-    let here : rows_in live.view due.first ≡ Some row =
-    sym c.in-Some.ensures.0 ∙ sym c.get.ensures ∙ c.unwrap-row.ensures in
+    let here = sym c.in-Some.ensures.0 ∙ sym c.get.ensures ∙ c.unwrap-row.ensures in
     halted_is home (run_in c.args.floor live) due (Rounds due) c.requires.turn
-    (crossing_comes home c.args.floor live due row (Err (Rounds due)) c.requires.live c.requires.kind here
-    c.in-None.ensures.crossed)
+    (crossing_comes home c.args.floor live due c.unwrap-row.result (Err (Rounds due)) c.requires.live c.requires.kind
+    here c.in-None.ensures.crossed)

@@ -1,4 +1,4 @@
-use Rattle.std.proofs.Common.{◌≡◌, ◌∙◌, sym, ap, subst, Some, Ok, Err}
+use Rattle.std.proofs.Common.{◌∙◌, sym, ap, subst, Ok, Err}
 use Rattle.std.proofs.lemmas.Option.{same_Some}
 use Rattle.std.specs.FinMap as map
 use Rattle.fixed_motion.specs.Motion.{IsValidDisk}
@@ -11,204 +11,121 @@ use Rattle.region_core.proofs.live.Live.run_pair.Goals as goal
 
 pub apply-requires-clause-first : goal.apply-requires-clause-first
 apply-requires-clause-first c =
-    let home = c.args.home.now in
-    let live = c.args.self.now in
-    let due = c.args.due.now in
-    let p = c.unwrap-first.result in
-    let q = c.unwrap-second.result in
-    let here : rows_in live.view due.first ≡ Some p =
-    sym c.in-Some.ensures.0 ∙ sym c.get.ensures ∙ c.unwrap-first.ensures in
-    let there : rows_in live.view due.second ≡ Some q =
-    sym c.in-Some-narrow.ensures.0 ∙ sym c.get-2.ensures ∙ c.unwrap-second.ensures in
-    (valid_row home c.args.floor live due.first p c.requires.place c.requires.live here).0
+    let here = sym c.in-Some.ensures.0 ∙ sym c.get.ensures ∙ c.unwrap-first.ensures in
+    (valid_row c.args.home.now c.args.floor c.args.self.now c.args.due.now.first c.unwrap-first.result
+    c.requires.place c.requires.live here).0
 
 pub apply-requires-clause-second : goal.apply-requires-clause-second
 apply-requires-clause-second c =
     let home = c.args.home.now in
-    let live = c.args.self.now in
-    let due = c.args.due.now in
-    let p = c.unwrap-first.result in
     let q = c.unwrap-second.result in
-    let here : rows_in live.view due.first ≡ Some p =
-    sym c.in-Some.ensures.0 ∙ sym c.get.ensures ∙ c.unwrap-first.ensures in
-    let there : rows_in live.view due.second ≡ Some q =
-    sym c.in-Some-narrow.ensures.0 ∙ sym c.get-2.ensures ∙ c.unwrap-second.ensures in
+    let there = sym c.in-Some-narrow.ensures.0 ∙ sym c.get-2.ensures ∙ c.unwrap-second.ensures in
     λ d is. subst (IsValidDisk home.rules) (same_Some q.disk d is)
-    (valid_row home c.args.floor live due.second q c.requires.place c.requires.live there).0
+    (valid_row home c.args.floor c.args.self.now c.args.due.now.second q c.requires.place c.requires.live there).0
 
 pub apply-requires-clause-event : goal.apply-requires-clause-event
 apply-requires-clause-event c =
-    let home = c.args.home.now in
-    let live = c.args.self.now in
-    let due = c.args.due.now in
-    let p = c.unwrap-first.result in
-    let q = c.unwrap-second.result in
-    let here : rows_in live.view due.first ≡ Some p =
-    sym c.in-Some.ensures.0 ∙ sym c.get.ensures ∙ c.unwrap-first.ensures in
-    let there : rows_in live.view due.second ≡ Some q =
-    sym c.in-Some-narrow.ensures.0 ∙ sym c.get-2.ensures ∙ c.unwrap-second.ensures in
-    pair_event home c.args.floor live due p q c.requires.live c.requires.turn c.requires.kind here there
+    let here = sym c.in-Some.ensures.0 ∙ sym c.get.ensures ∙ c.unwrap-first.ensures in
+    let there = sym c.in-Some-narrow.ensures.0 ∙ sym c.get-2.ensures ∙ c.unwrap-second.ensures in
+    pair_event c.args.home.now c.args.floor c.args.self.now c.args.due.now c.unwrap-first.result
+    c.unwrap-second.result c.requires.live c.requires.turn c.requires.kind here there
 
 pub are_far-is_untold-requires-clause-cell : goal.are_far-is_untold-requires-clause-cell
 are_far-is_untold-requires-clause-cell c =
-    let home = c.args.home.now in
-    let live = c.args.self.now in
-    let due = c.args.due.now in
-    let p = c.unwrap-first.result in
-    let q = c.unwrap-second.result in
-    let here : rows_in live.view due.first ≡ Some p =
-    sym c.in-Some.ensures.0 ∙ sym c.get.ensures ∙ c.unwrap-first.ensures in
-    let there : rows_in live.view due.second ≡ Some q =
-    sym c.in-Some-narrow.ensures.0 ∙ sym c.get-2.ensures ∙ c.unwrap-second.ensures in
-    (valid_row home c.args.floor live due.first p c.requires.place c.requires.live here).1
+    let here = sym c.in-Some.ensures.0 ∙ sym c.get.ensures ∙ c.unwrap-first.ensures in
+    (valid_row c.args.home.now c.args.floor c.args.self.now c.args.due.now.first c.unwrap-first.result
+    c.requires.place c.requires.live here).1
 
 pub are_far-is_untold-requires-clause-other : goal.are_far-is_untold-requires-clause-other
 are_far-is_untold-requires-clause-other c =
-    let home = c.args.home.now in
-    let live = c.args.self.now in
-    let due = c.args.due.now in
-    let p = c.unwrap-first.result in
-    let q = c.unwrap-second.result in
-    let here : rows_in live.view due.first ≡ Some p =
-    sym c.in-Some.ensures.0 ∙ sym c.get.ensures ∙ c.unwrap-first.ensures in
-    let there : rows_in live.view due.second ≡ Some q =
-    sym c.in-Some-narrow.ensures.0 ∙ sym c.get-2.ensures ∙ c.unwrap-second.ensures in
-    (valid_row home c.args.floor live due.second q c.requires.place c.requires.live there).1
+    let there = sym c.in-Some-narrow.ensures.0 ∙ sym c.get-2.ensures ∙ c.unwrap-second.ensures in
+    (valid_row c.args.home.now c.args.floor c.args.self.now c.args.due.now.second c.unwrap-second.result
+    c.requires.place c.requires.live there).1
 
 pub rows_of_hit-one-requires-clause-small : goal.rows_of_hit-one-requires-clause-small
 rows_of_hit-one-requires-clause-small c =
-    let home = c.args.home.now in
-    let live = c.args.self.now in
-    let due = c.args.due.now in
-    let p = c.unwrap-first.result in
-    let q = c.unwrap-second.result in
-    let here : rows_in live.view due.first ≡ Some p =
-    sym c.in-Some.ensures.0 ∙ sym c.get.ensures ∙ c.unwrap-first.ensures in
-    let there : rows_in live.view due.second ≡ Some q =
-    sym c.in-Some-narrow.ensures.0 ∙ sym c.get-2.ensures ∙ c.unwrap-second.ensures in
-    let change = c.in-Ok.change in
-    valid_is_small home.rules (record { disk = change.first; cell = p.cell }) c.requires.place.checked
-    c.in-Ok.ensures.valid.0
+    valid_is_small c.args.home.now.rules (record { disk = c.in-Ok.change.first; cell = c.unwrap-first.result.cell })
+    c.requires.place.checked c.in-Ok.ensures.valid.0
 
 pub rows_of_hit-other-requires-clause-small : goal.rows_of_hit-other-requires-clause-small
 rows_of_hit-other-requires-clause-small c =
-    let home = c.args.home.now in
-    let live = c.args.self.now in
-    let due = c.args.due.now in
-    let p = c.unwrap-first.result in
-    let q = c.unwrap-second.result in
-    let here : rows_in live.view due.first ≡ Some p =
-    sym c.in-Some.ensures.0 ∙ sym c.get.ensures ∙ c.unwrap-first.ensures in
-    let there : rows_in live.view due.second ≡ Some q =
-    sym c.in-Some-narrow.ensures.0 ∙ sym c.get-2.ensures ∙ c.unwrap-second.ensures in
-    let change = c.in-Ok.change in
+    let rules = c.args.home.now.rules in
     let partner = c.unwrap-partner.result in
-    valid_is_small home.rules (record { disk = partner; cell = q.cell }) c.requires.place.checked
-    (second_valid home.rules change partner c.in-Ok.ensures.valid c.unwrap-partner.ensures)
+    valid_is_small rules (record { disk = partner; cell = c.unwrap-second.result.cell }) c.requires.place.checked
+    (second_valid rules c.in-Ok.change partner c.in-Ok.ensures.valid c.unwrap-partner.ensures)
 
 pub collide_and_send-requires-clause-fits : goal.collide_and_send-requires-clause-fits
 collide_and_send-requires-clause-fits c =
     let home = c.args.home.now in
     let live = c.args.self.now in
     let due = c.args.due.now in
-    let p = c.unwrap-first.result in
-    let q = c.unwrap-second.result in
-    let here : rows_in live.view due.first ≡ Some p =
-    sym c.in-Some.ensures.0 ∙ sym c.get.ensures ∙ c.unwrap-first.ensures in
-    let there : rows_in live.view due.second ≡ Some q =
-    sym c.in-Some-narrow.ensures.0 ∙ sym c.get-2.ensures ∙ c.unwrap-second.ensures in
     let change = c.in-Ok.change in
+    let here = sym c.in-Some.ensures.0 ∙ sym c.get.ensures ∙ c.unwrap-first.ensures in
+    let there = sym c.in-Some-narrow.ensures.0 ∙ sym c.get-2.ensures ∙ c.unwrap-second.ensures in
     turn_fits home c.args.floor live due (Hit change) c.requires.place c.requires.live c.requires.turn
-    (hit_comes home c.args.floor live due p q (Ok change) c.requires.live c.requires.kind here there
-    c.in-Ok.ensures.exact)
+    (hit_comes home c.args.floor live due c.unwrap-first.result c.unwrap-second.result (Ok change) c.requires.live
+    c.requires.kind here there c.in-Ok.ensures.exact)
 
 pub collide_and_send-requires-clause-change : goal.collide_and_send-requires-clause-change
 collide_and_send-requires-clause-change c =
-    let home = c.args.home.now in
-    let live = c.args.self.now in
-    let due = c.args.due.now in
-    let p = c.unwrap-first.result in
-    let q = c.unwrap-second.result in
-    let here : rows_in live.view due.first ≡ Some p =
-    sym c.in-Some.ensures.0 ∙ sym c.get.ensures ∙ c.unwrap-first.ensures in
-    let there : rows_in live.view due.second ≡ Some q =
-    sym c.in-Some-narrow.ensures.0 ∙ sym c.get-2.ensures ∙ c.unwrap-second.ensures in
     let change = c.in-Ok.change in
     let partner = c.unwrap-partner.result in
-    change_is change partner c.rows_of_hit-one.result c.rows_of_hit-other.result c.unwrap-partner.ensures
-    (moved_has c.in-Some.before p change.first c.rows_of_hit-one.result
+    let one = c.rows_of_hit-one.result in
+    let other = c.rows_of_hit-other.result in
+    change_is change partner one other c.unwrap-partner.ensures
+    (moved_has c.in-Some.before c.unwrap-first.result change.first one
     (sym c.get.ensures ∙ c.unwrap-first.ensures) c.rows_of_hit-one.ensures)
-    (moved_has c.in-Some-narrow.beside q partner c.rows_of_hit-other.result
+    (moved_has c.in-Some-narrow.beside c.unwrap-second.result partner other
     (sym c.get-2.ensures ∙ c.unwrap-second.ensures) c.rows_of_hit-other.ensures)
 
 pub collide_and_send-requires-clause-first : goal.collide_and_send-requires-clause-first
 collide_and_send-requires-clause-first c =
-    let home = c.args.home.now in
-    let live = c.args.self.now in
-    let due = c.args.due.now in
-    let p = c.unwrap-first.result in
-    let q = c.unwrap-second.result in
-    let here : rows_in live.view due.first ≡ Some p =
-    sym c.in-Some.ensures.0 ∙ sym c.get.ensures ∙ c.unwrap-first.ensures in
-    let there : rows_in live.view due.second ≡ Some q =
-    sym c.in-Some-narrow.ensures.0 ∙ sym c.get-2.ensures ∙ c.unwrap-second.ensures in
+    let view = c.args.self.now.view in
     let change = c.in-Ok.change in
-    moved_to (map.get live.view change.stamp.first) c.in-Some.before p change.first c.rows_of_hit-one.result
+    let p = c.unwrap-first.result in
+    let both = change_of_both c.args.home.now.rules c.args.due.now p.disk c.unwrap-second.result.disk change
+    c.in-Ok.ensures.exact in
+    moved_to (map.get view change.stamp.first) c.in-Some.before p change.first c.rows_of_hit-one.result
     (sym c.get.ensures ∙ c.unwrap-first.ensures)
-    (c.in-Some.ensures.0 ∙ ap (λ (s : Stamp). map.get live.view s.first) (sym (change_of_both home.rules due p.disk q.disk change c.in-Ok.ensures.exact).stamp))
-    c.rows_of_hit-one.ensures
+    (c.in-Some.ensures.0 ∙ ap (λ (s : Stamp). map.get view s.first) (sym both.stamp)) c.rows_of_hit-one.ensures
 
 pub collide_and_send-requires-clause-second : goal.collide_and_send-requires-clause-second
 collide_and_send-requires-clause-second c =
-    let home = c.args.home.now in
-    let live = c.args.self.now in
-    let due = c.args.due.now in
-    let p = c.unwrap-first.result in
-    let q = c.unwrap-second.result in
-    let here : rows_in live.view due.first ≡ Some p =
-    sym c.in-Some.ensures.0 ∙ sym c.get.ensures ∙ c.unwrap-first.ensures in
-    let there : rows_in live.view due.second ≡ Some q =
-    sym c.in-Some-narrow.ensures.0 ∙ sym c.get-2.ensures ∙ c.unwrap-second.ensures in
+    let view = c.args.self.now.view in
     let change = c.in-Ok.change in
-    let partner = c.unwrap-partner.result in
-    moved_to (map.get live.view change.stamp.second) c.in-Some-narrow.beside q partner c.rows_of_hit-other.result
-    (sym c.get-2.ensures ∙ c.unwrap-second.ensures)
-    (c.in-Some-narrow.ensures.0 ∙ ap (λ (s : Stamp). map.get live.view s.second) (sym (change_of_both home.rules due p.disk q.disk change c.in-Ok.ensures.exact).stamp))
+    let q = c.unwrap-second.result in
+    let both = change_of_both c.args.home.now.rules c.args.due.now c.unwrap-first.result.disk q.disk change
+    c.in-Ok.ensures.exact in
+    moved_to (map.get view change.stamp.second) c.in-Some-narrow.beside q c.unwrap-partner.result
+    c.rows_of_hit-other.result (sym c.get-2.ensures ∙ c.unwrap-second.ensures)
+    (c.in-Some-narrow.ensures.0 ∙ ap (λ (s : Stamp). map.get view s.second) (sym both.stamp))
     c.rows_of_hit-other.ensures
 
 pub collide_and_send-requires-clause-untold : goal.collide_and_send-requires-clause-untold
 collide_and_send-requires-clause-untold c =
     let home = c.args.home.now in
-    let live = c.args.self.now in
     let due = c.args.due.now in
     let p = c.unwrap-first.result in
     let q = c.unwrap-second.result in
-    let here : rows_in live.view due.first ≡ Some p =
-    sym c.in-Some.ensures.0 ∙ sym c.get.ensures ∙ c.unwrap-first.ensures in
-    let there : rows_in live.view due.second ≡ Some q =
-    sym c.in-Some-narrow.ensures.0 ∙ sym c.get-2.ensures ∙ c.unwrap-second.ensures in
     let change = c.in-Ok.change in
-    let partner = c.unwrap-partner.result in
-    λ far. pair_is_untold home (rows_in live.view) due change partner p q
-    (change_of_both home.rules due p.disk q.disk change c.in-Ok.ensures.exact).stamp c.unwrap-partner.ensures here there
-    (c.are_far-is_untold.ensures far)
+    let both = change_of_both home.rules due p.disk q.disk change c.in-Ok.ensures.exact in
+    let here = sym c.in-Some.ensures.0 ∙ sym c.get.ensures ∙ c.unwrap-first.ensures in
+    let there = sym c.in-Some-narrow.ensures.0 ∙ sym c.get-2.ensures ∙ c.unwrap-second.ensures in
+    λ far. pair_is_untold home (rows_in c.args.self.now.view) due change c.unwrap-partner.result p q both.stamp
+    c.unwrap-partner.ensures here there (c.are_far-is_untold.ensures far)
 
 pub returns-in_ok-collide_and_send-in-Ok-clause-steps : goal.returns-in_ok-collide_and_send-in-Ok-clause-steps
 returns-in_ok-collide_and_send-in-Ok-clause-steps c =
     let home = c.args.home.now in
     let live = c.args.self.now in
     let due = c.args.due.now in
-    let p = c.unwrap-first.result in
-    let q = c.unwrap-second.result in
-    let here : rows_in live.view due.first ≡ Some p =
-    sym c.in-Some.ensures.0 ∙ sym c.get.ensures ∙ c.unwrap-first.ensures in
-    let there : rows_in live.view due.second ≡ Some q =
-    sym c.in-Some-narrow.ensures.0 ∙ sym c.get-2.ensures ∙ c.unwrap-second.ensures in
     let change = c.in-Ok.change in
+    let here = sym c.in-Some.ensures.0 ∙ sym c.get.ensures ∙ c.unwrap-first.ensures in
+    let there = sym c.in-Some-narrow.ensures.0 ∙ sym c.get-2.ensures ∙ c.unwrap-second.ensures in
     turn_ran home c.args.floor live due (Hit change) (run_in c.args.floor c.collide_and_send.new.self)
     c.requires.place c.requires.live c.requires.turn
-    (hit_comes home c.args.floor live due p q (Ok change) c.requires.live c.requires.kind here there
-    c.in-Ok.ensures.exact)
+    (hit_comes home c.args.floor live due c.unwrap-first.result c.unwrap-second.result (Ok change) c.requires.live
+    c.requires.kind here there c.in-Ok.ensures.exact)
     c.in_ok-collide_and_send-in-Ok.ensures.run
 
 pub returns-in-Err-clause-steps : goal.returns-in-Err-clause-steps
@@ -216,13 +133,9 @@ returns-in-Err-clause-steps c =
     let home = c.args.home.now in
     let live = c.args.self.now in
     let due = c.args.due.now in
-    let p = c.unwrap-first.result in
-    let q = c.unwrap-second.result in
-    let here : rows_in live.view due.first ≡ Some p =
-    sym c.in-Some.ensures.0 ∙ sym c.get.ensures ∙ c.unwrap-first.ensures in
-    let there : rows_in live.view due.second ≡ Some q =
-    sym c.in-Some-narrow.ensures.0 ∙ sym c.get-2.ensures ∙ c.unwrap-second.ensures in
     let limit = c.in-Err.limit in
+    let here = sym c.in-Some.ensures.0 ∙ sym c.get.ensures ∙ c.unwrap-first.ensures in
+    let there = sym c.in-Some-narrow.ensures.0 ∙ sym c.get-2.ensures ∙ c.unwrap-second.ensures in
     halted_is home (run_in c.args.floor live) due limit c.requires.turn
-    (hit_comes home c.args.floor live due p q (Err limit) c.requires.live c.requires.kind here there
-    c.in-Err.ensures.exact)
+    (hit_comes home c.args.floor live due c.unwrap-first.result c.unwrap-second.result (Err limit) c.requires.live
+    c.requires.kind here there c.in-Err.ensures.exact)
