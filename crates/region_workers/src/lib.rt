@@ -8,6 +8,8 @@ mod job;
 mod pace;
 mod rendezvous;
 mod roll;
+mod shared;
+mod turns;
 mod virtual_time;
 mod workers;
 

@@ -1,0 +1,55 @@
+ghost use Rattle.std.specs.Prelude.{◌≡◌, ◌+◌, ◌<◌, ◌^◌};
+
+use crate::scope_mut;
+use std::sync::Wait;
+use std::sync::atomic::{AtomicU64, Ordering};
+use std::thread;
+use std::thread::Threads;
+
+// Adds to a number. The answer is its own, so that it is seen to come through.
+fn add(total: &mut u64, more: u64) -> u64
+    requires { total.old + more < 2 ^ 64 }
+    ensures total { total.new ≡ total.old + more }
+    ensures before { result ≡ total.old }
+{
+    let before = *total;
+    *total += more;
+    before
+}
+
+// Adds to a number in a scope, where a thread counts beside it; the answer is what the number was.
+fn add_in_scope<R: Threads + Wait + Sync>(
+    rt: &R,
+    total: &mut u64,
+    more: u64,
+    counted: &AtomicU64,
+) -> u64
+    requires { total.old + more < 2 ^ 64 }
+    ensures total { total.new ≡ total.old + more }
+    ensures before { result ≡ total.old }
+{
+    scope_mut(
+        thread::scope_env(),
+        rt,
+        &mut |scope| -> u64
+            requires { total.now + more < 2 ^ 64 }
+            ensures { (total.exit.now ≡ total.entry.now + more) × (result ≡ total.entry.now) }
+        {
+            let started = scope.spawn(move || {
+                counted.fetch_add(1, Ordering::SeqCst);
+            });
+            drop(started);
+            add(total, more)
+        },
+    )
+}
+
+#[test]
+fn a_closure_leaves_what_it_wrote_and_its_thread_has_ended(rt: HostRuntime) {
+    let counted = AtomicU64::new(0);
+    let mut total = 5;
+    let before = add_in_scope(&rt, &mut total, 2, &counted);
+    assert_eq!(rt; before, 5);
+    assert_eq!(rt; total, 7);
+    assert_eq!(rt; counted.load(Ordering::SeqCst), 1);
+}

@@ -1,0 +1,54 @@
+//! What the workers of a burst share.
+
+ghost use Rattle.std.specs.Prelude.{◌≡◌, ◌<◌};
+
+use crate::course::Course;
+use crate::job::Job;
+use crate::pace::Pace;
+use crate::rendezvous::Rendezvous;
+use crate::turns::Turns;
+use cell_grid::Grid;
+use region_core::Gate;
+use region_locks::{Locks, Origin};
+use std::alloc::{AllocError, Global};
+use std::sync::Wait;
+
+/// What the workers of a burst share. Whoever comes once the burst is over finds nothing to do.
+#[derive(Drop)]
+pub(crate) struct Shared<'g, G: Gate, O: Origin> {
+    pub alloc: Global,
+    pub locks: Locks<O>,
+    pub grid: Grid,
+    pub turns: Turns<'g, G>,
+    pub pace: Pace,
+    pub course: Course,
+    pub rendezvous: Rendezvous,
+    /// How many workers there are, 1 at least.
+    pub workers: u32,
+    /// How many steps a region makes in a turn at most.
+    pub steps: u32,
+    ghost each: { locks ≡ grid.regions },
+    ghost some_workers: { 0 < workers },
+}
+
+impl<'g, G: Gate, O: Origin> Shared<'g, G, O> {
+    /// Makes the turns of a worker.
+    ///
+    /// # Errors
+    /// Out of memory: a region is spent.
+    pub(crate) fn work<R: Wait>(&self, rt: &R, worker: u32) -> Result<(), AllocError> {
+        let job = Job {
+            alloc: self.alloc,
+            locks: &self.locks,
+            grid: &self.grid,
+            turns: &self.turns,
+            pace: &self.pace,
+            course: &self.course,
+            rendezvous: &self.rendezvous,
+            worker,
+            workers: self.workers,
+            steps: self.steps,
+        };
+        job.run(rt)
+    }
+}
