@@ -11,7 +11,7 @@ use region_table::TableWorkers;
 use region_workers::Workers;
 use std::alloc::{AllocError, Global};
 use std::sync::Wait;
-use std::thread::Threads;
+use std::thread::{Scope, Threads};
 
 /// Workers of one of the two kinds.
 #[derive(Drop)]
@@ -43,22 +43,27 @@ impl<'g, G: Gate> Crew<'g, G> {
         }
     }
 
-    /// Works on the regions of a grid, as a burst does that keeps them: gives back each at its place, run on.
+    /// Works on the regions of a grid, as a burst does that keeps them: gives back each at its place, run on. Workers
+    /// with locks work by threads of the scope, which may end after it; those with a table by threads of their own,
+    /// which have ended then.
     ///
     /// # Errors
     /// Out of memory.
-    pub fn burst<R: Threads + Wait + Sync>(
+    pub fn burst_in<'s, R: Threads + Wait + Sync, E>(
         &self,
-        rt: &R,
+        rt: &'s R,
         alloc: Global,
         regions: Vec<Region>,
+        scope: &Scope<'s, E>,
     ) -> Result<Vec<Region>, AllocError>
+    where
+        'g: 's,
         requires together { AreTogether regions.items }
         ensures count { IfOk result (λ worked. length worked.items ≡ length regions.items) }
         ensures kept { IfOk result (λ worked. AreRunOn regions.items worked.items) }
     {
         match self {
-            Crew::Locks(workers) => workers.burst(rt, alloc, regions),
+            Crew::Locks(workers) => workers.burst_in(rt, alloc, regions, scope),
             Crew::Table(workers) => workers.burst(rt, alloc, regions),
         }
     }

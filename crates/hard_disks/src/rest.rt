@@ -19,11 +19,13 @@ use collision_report::{Format, Reporter, StateTable};
 use command_words::Settings;
 use event_rules::{Outcome, RunFault};
 use fixed_motion::Scene;
+use lent_scope::scope_mut;
 use region_core::{Gate, Region};
 use region_workers::{ByCall, Call};
 use report_ports::Sink;
 use std::alloc::{AllocError, Global};
 use std::sync::Wait;
+use std::thread;
 use std::thread::Threads;
 
 /// Runs the scene over regions up to the tick of the settings, and writes what is left of it.
@@ -43,20 +45,32 @@ pub fn cut_regions<R: Threads + Wait + Sync, K: Sink, G: Gate>(
 {
     let crew = Crew::new(settings, gate);
     let format = format_of(settings.format);
-    let (regions, at) = (settings.regions, settings.at);
-    cut_by_call(
+    let (count, at) = (settings.regions, settings.at);
+    scope_mut(
+        thread::scope_env(),
         rt,
-        alloc,
-        |regions: Vec<Region>| -> Result<Vec<Region>, AllocError>
-            requires { AreTogether regions.items }
-            ensures { IfOk result (λ worked. (length worked.items ≡ length regions.items)
-                × AreRunOn regions.items worked.items) }
-        { crew.burst(rt, alloc, regions) },
-        regions,
-        format,
-        at,
-        scene,
-        sink,
+        &mut |scope| -> Status
+            requires { IsAsked count }
+            ensures wrote { Wrote (IsCutText format at scene.entry.now)
+                (K.taken sink.entry.now) (K.taken sink.exit.now) result }
+            ensures of_scene { IsOfScene result }
+            ensures counts { CountsWrites (K.faults sink.entry.now) (K.faults sink.exit.now) result }
+        {
+            cut_by_call(
+                rt,
+                alloc,
+                |regions: Vec<Region>| -> Result<Vec<Region>, AllocError>
+                    requires { AreTogether regions.items }
+                    ensures { IfOk result (λ worked. (length worked.items ≡ length regions.items)
+                        × AreRunOn regions.items worked.items) }
+                { crew.burst_in(rt, alloc, regions, scope) },
+                count,
+                format,
+                at,
+                scene,
+                sink,
+            )
+        },
     )
 }
 

@@ -1,7 +1,6 @@
 //! What mode `audit` writes: the verdict on a claimed report.
 
 ghost use Rattle.std.specs.Prelude.{◌≡◌, ◌≢◌, ◌≤◌, ◌++◌, ◌∷◌, [], Some, length, codes, decimal, IfOk};
-ghost use Rattle.cell_grid.specs.Grid.{IsAsked};
 ghost use Rattle.local_run.specs.Bursts.{AreTogether};
 ghost use Rattle.local_run.specs.RunOn.{AreRunOn};
 ghost use Rattle.command_words.specs.Ranges.{AreInRange};
@@ -18,12 +17,14 @@ use crate::refusals::refusal_line;
 use crate::show::write_text;
 use crate::status::Status;
 use command_words::{Mode, Settings};
+use lent_scope::scope_mut;
 use region_core::{Gate, Region};
 use region_workers::{ByCall, Call};
 use report_audit::Verdict;
 use report_ports::{Sink, Source};
 use std::alloc::{AllocError, Global};
 use std::sync::Wait;
+use std::thread;
 use std::thread::Threads;
 use text_lines::Line;
 
@@ -46,39 +47,54 @@ pub fn audit_regions<R: Threads + Wait + Sync, S: Source, K: Sink, G: Gate>(
     ensures writes { CountsWrites (K.faults sink.old) (K.faults sink.new) result }
 {
     let crew = Crew::new(settings, gate);
-    audit_by_call(
+    scope_mut(
+        thread::scope_env(),
         rt,
-        alloc,
-        |regions: Vec<Region>| -> Result<Vec<Region>, AllocError>
-            requires { AreTogether regions.items }
-            ensures { IfOk result (λ worked. (length worked.items ≡ length regions.items)
-                × AreRunOn regions.items worked.items) }
-        { crew.burst(rt, alloc, regions) },
-        settings.regions,
-        source,
-        sink,
+        &mut |scope| -> Status
+            requires ranges { AreInRange settings.now }
+            requires mode { settings.now.mode ≡ Mode.Audit }
+            ensures answers { Answers (Some settings.entry.now) (S.left source.entry.now)
+                (K.taken sink.entry.now) (K.taken sink.exit.now) result }
+            ensures emptied { LeavesNothing (S.left source.entry.now) (S.left source.exit.now) result }
+            ensures reads { CountsReads (S.faults source.entry.now) (S.faults source.exit.now) result }
+            ensures writes { CountsWrites (K.faults sink.entry.now) (K.faults sink.exit.now) result }
+        {
+            audit_by_call(
+                rt,
+                alloc,
+                |regions: Vec<Region>| -> Result<Vec<Region>, AllocError>
+                    requires { AreTogether regions.items }
+                    ensures { IfOk result (λ worked. (length worked.items ≡ length regions.items)
+                        × AreRunOn regions.items worked.items) }
+                { crew.burst_in(rt, alloc, regions, scope) },
+                settings,
+                source,
+                sink,
+            )
+        },
     )
 }
 
-// The same over so many regions, on which a call works between two commits.
+// The same over regions on which a call works between two commits.
 fn audit_by_call<R: Threads + Wait + Sync, S: Source, K: Sink, C: Call + Drop>(
     rt: &R,
     alloc: Global,
     call: C,
-    regions: u32,
+    settings: &Settings,
     source: &mut S,
     sink: &mut K,
 ) -> Status
     requires keeping { C.keeping call }
-    requires asked { IsAsked regions }
-    ensures answers { (settings : Settings) → settings.mode ≡ Audit →
-        Answers (Some settings) (S.left source.old) (K.taken sink.old) (K.taken sink.new) result }
+    requires ranges { AreInRange settings.now }
+    requires mode { settings.now.mode ≡ Mode.Audit }
+    ensures answers { Answers (Some settings.now) (S.left source.old)
+        (K.taken sink.old) (K.taken sink.new) result }
     ensures emptied { LeavesNothing (S.left source.old) (S.left source.new) result }
     ensures reads { CountsReads (S.faults source.old) (S.faults source.new) result }
     ensures writes { CountsWrites (K.faults sink.old) (K.faults sink.new) result }
 {
     let mut engine = Regions {
-        regions,
+        regions: settings.regions,
         burst: ByCall::new(call),
     };
     show_audit(rt, alloc, &mut engine, source, sink)
