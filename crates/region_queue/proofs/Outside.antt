@@ -13,7 +13,7 @@ use Rattle.region_view.specs.Views.{ViewData, rows_in}
 use Rattle.region_queue.specs.declared.finder.Finder.{Finder}
 use Rattle.region_queue.specs.declared.parts.Parts.{Parts}
 use Rattle.region_queue.specs.Outside.{IsIn, IsPart, AreParts, IsListedOutside, IsListedInParts}
-use Rattle.region_queue.specs.Finding.{IsReady, IsNativeWith, IsPairedBeyond, IsBestBeyond, AreListed, cell_in}
+use Rattle.region_queue.specs.Finding.{IsReady, IsNativeWith, IsPairedBeyond, IsBestBeyond, IsBlockBeside, AreListed, cell_in}
 use Rattle.region_queue.proofs.Candidates.{IsAround, with_more, pair_found, pair_of, listed_beside}
 
 -- ---- one part
@@ -28,6 +28,11 @@ in_block block known part column row is x =
     let c = x.1.0 in
     let d = x.1.1 in
     ((omega arith, omega arith), (omega arith, omega arith))
+
+pub part_beside : (grid : GridData) (cell : ℕ) (block known part : Block) → IsBlockBeside grid cell block → IsPart block known part →
+    IsBlockBeside grid cell part
+part_beside grid cell block known part beside is other of x =
+    beside other of (in_block block known part (column_of grid other) (row_of grid other) is x)
 
 part_outside : (lists : ListsData) (block known part : Block) (i : ℕ) → IsPart block known part → IsListedWithin lists part i →
     IsListedOutside lists block known i

@@ -64,10 +64,19 @@ impl Queue {
         ensures { IfOk result (λ queue. IsOf queue rules.now grid.now region
             × StandsFor queue view.now) }
     {
-        let mut queue = Queue::empty(alloc, grid, rules, region)?;
         let disks = disks_of(alloc, view)?;
-        queue.touched(alloc, view, &disks)?;
-        Ok(queue)
+        Queue::empty(alloc, grid, rules, region)?.with(alloc, view, &disks)
+    }
+
+    // With these disks taken in.
+    fn with(mut self, alloc: Global, view: &View, disks: &[u32]) -> Result<Queue, AllocError>
+        requires valid { IsValidPlacing self.rules self.grid (rows_in view.now) }
+        ensures { IfOk result (λ queue. IsOf queue self.rules self.grid self.region
+            × ((before : ViewData) → StandsFor self before → IsSameBut disks.now before view.now →
+            StandsFor queue view.now)) }
+    {
+        self.touched(alloc, view, disks)?;
+        Ok(self)
     }
 
     /// The stamp of the least native candidate; none where there is none. Takes constant time and no memory.

@@ -7,8 +7,28 @@ use Rattle.region_queue.specs.Outside.{IsListedOutside, IsListedInParts}
 use Rattle.region_queue.specs.Finding.{IsNativeWith}
 use Rattle.region_queue.proofs.Among.{best_gathered}
 use Rattle.region_queue.proofs.Candidates.{with_same}
-use Rattle.region_queue.proofs.Outside.{best_of_parts, parts_outside, whole}
+use Rattle.region_queue.proofs.Outside.{best_of_parts, part_beside, parts_outside, whole}
 use Rattle.region_queue.proofs.finder.Finder.best_outside.Goals as goal
+
+pub best_by_rows-requires-clause-beside : goal.best_by_rows-requires-clause-beside
+best_by_rows-requires-clause-beside c =
+    let parts = c.parts_outside-parts in
+    part_beside c.args.self.now.grid c.args.placed.now.cell c.args.block c.args.known parts.result.left c.requires.beside parts.ensures.left
+
+pub best_by_rows-requires-else-gather_parts-clause-beside : goal.best_by_rows-requires-else-gather_parts-clause-beside
+best_by_rows-requires-else-gather_parts-clause-beside c =
+    let parts = c.parts_outside-parts in
+    part_beside c.args.self.now.grid c.args.placed.now.cell c.args.block c.args.known parts.result.right c.requires.beside parts.ensures.right
+
+pub best_by_rows-requires-else-gather_parts-2-clause-beside : goal.best_by_rows-requires-else-gather_parts-2-clause-beside
+best_by_rows-requires-else-gather_parts-2-clause-beside c =
+    let parts = c.parts_outside-parts in
+    part_beside c.args.self.now.grid c.args.placed.now.cell c.args.block c.args.known parts.result.low c.requires.beside parts.ensures.low
+
+pub best_by_rows-requires-else-gather_parts-3-clause-beside : goal.best_by_rows-requires-else-gather_parts-3-clause-beside
+best_by_rows-requires-else-gather_parts-3-clause-beside c =
+    let parts = c.parts_outside-parts in
+    part_beside c.args.self.now.grid c.args.placed.now.cell c.args.block c.args.known parts.result.high c.requires.beside parts.ensures.high
 
 pub returns-then-have_rows : goal.returns-then-have_rows
 returns-then-have_rows c = λ listed.
