@@ -1,10 +1,16 @@
 //! Grids, lists of the disks in cells, and when disks leave their cells: tables worked out by hand, and a body that
 //! tries each tick.
 
+ghost use Rattle.std.specs.Prelude.{◌≡◌, IfOk};
+ghost use Rattle.cell_grid.specs.Grid.{IsCell};
+ghost use Rattle.std.specs.FinMap as map;
+ghost use Rattle.cell_lists.specs.Listing.{lists_of, with_disk};
+
 use cell_grid::Grid;
 use cell_lists::{Gathered, Lists, block_around};
 use event_stamps::Stamp;
 use fixed_motion::{Disk, Rules};
+use std::alloc::{AllocError, Global};
 use std::test::Fail;
 use test_scenes::Numbers;
 
@@ -309,31 +315,68 @@ fn link_of(asked: u32, a: u32, b: u32) -> Result<bool, ()> {
     }
 }
 
+// What lists of one disk say: the first in its cell and the one after it; those near another cell, and those
+// gathered around its own, by how many there are and the first; whether the gathering came to its end; and the first
+// in its cell once it is taken off.
+type Listed = (
+    Option<u32>,
+    Option<u32>,
+    (usize, Option<u32>),
+    (usize, Option<u32>),
+    bool,
+    Option<u32>,
+);
+
 // No clause says that anything is ever gathered.
 #[test]
 fn a_disk_is_listed_and_gathered_and_taken_off(rt: HostRuntime) -> Result<(), Fail> {
+    let found = found_of_one(rt.alloc())?;
+    let one = (1, Some(ONE));
+    let want: Listed = (Some(ONE), None, one, one, true, None);
+    assert_eq!(rt; found, want, "what lists of the disk {ONE} say");
+    Ok(())
+}
+
+const ONE: u32 = 7;
+
+fn found_of_one(alloc: Global) -> Result<Listed, AllocError> {
     let grid = Grid::new(&BLOCK, 1);
     let cell = grid.cell_of(30, 30);
-    let mut lists = Lists::new(rt.alloc(), &grid)?;
-    lists.put(rt.alloc(), 7, cell)?;
-    assert_eq!(rt; lists.first_in(cell), Some(7), "the first that is listed");
-    assert_eq!(rt; lists.next_in(7, cell), None, "the one after it");
-    let listed = lists.near(rt.alloc(), grid.cell_of(10, 10))?;
-    assert_eq!(rt;
-        listed.as_slice(),
-        [7].as_slice(),
-        "those near another cell"
-    );
-    let mut near = Gathered::new();
-    let done = lists.gather(block_around(&grid, cell), &mut near);
-    assert_eq!(rt;
-        (done, near.as_slice()),
-        (true, [7].as_slice()),
-        "what is gathered"
-    );
-    lists.take(7, cell);
-    assert_eq!(rt; lists.first_in(cell), None, "once it is taken off");
-    Ok(())
+    let mut lists = lists_of_one(alloc, &grid, cell)?;
+    let (first, after) = (lists.first_in(cell), lists.next_in(ONE, cell));
+    let near = near_in(alloc, &lists, grid.cell_of(10, 10))?;
+    let mut around = Gathered::new();
+    let done = lists.gather(block_around(&grid, cell), &mut around);
+    lists.take(ONE, cell);
+    Ok((
+        first,
+        after,
+        near,
+        counted(around.as_slice()),
+        done,
+        lists.first_in(cell),
+    ))
+}
+
+fn lists_of_one(alloc: Global, grid: &Grid, cell: u32) -> Result<Lists, AllocError>
+    requires { IsCell grid.now cell }
+    ensures { IfOk result (λ lists. lists ≡ with_disk (lists_of grid.now map.empty) 7 cell) }
+{
+    let mut lists = Lists::new(alloc, grid)?;
+    lists.put(alloc, ONE, cell)?;
+    Ok(lists)
+}
+
+// The disks near a cell.
+fn near_in(alloc: Global, lists: &Lists, cell: u32) -> Result<(usize, Option<u32>), AllocError>
+    requires { IsCell lists.now.grid cell }
+{
+    let near = lists.near(alloc, cell)?;
+    Ok(counted(&near))
+}
+
+fn counted(disks: &[u32]) -> (usize, Option<u32>) {
+    (disks.len(), disks.first().copied())
 }
 
 #[test]

@@ -1,8 +1,10 @@
 //! Queues of regions that take in one change of a cell run after the other, against queues opened anew, and against a
 //! walk over the disks near each one.
 
-ghost use Rattle.std.specs.Prelude.{◌≡◌};
+ghost use Rattle.std.specs.Prelude.{◌≡◌, IfOk};
 ghost use Rattle.cell_grid.specs.Grid.{IsRegion};
+ghost use Rattle.region_view.specs.Placing.{IsValidPlacing};
+ghost use Rattle.region_view.specs.Views.{rows_in};
 ghost use Rattle.region_queue.specs.Queue.{IsOf};
 
 use super::helpers::view_of;
@@ -11,6 +13,7 @@ use cell_sequence::CellState;
 use event_stamps::{Kind, Stamp};
 use fixed_motion::Scene;
 use region_queue::Queue;
+use region_view::View;
 use std::alloc::{AllocError, Global};
 use std::test::Fail;
 use test_scenes::scene_of;
@@ -48,6 +51,14 @@ struct Tally {
 }
 
 impl Tally {
+    fn none() -> Tally {
+        Tally {
+            calls: 0,
+            found: 0,
+            wrong: None,
+        }
+    }
+
     fn add(&mut self, (kept, anew, walked): Found) {
         self.calls = self.calls.wrapping_add(1);
         self.found = self.found.wrapping_add(u32::from(kept.is_some()));
@@ -82,32 +93,91 @@ fn compare(
     ensures { IsOf queue.new state.now.rules state.now.grid region }
 {
     let view = view_of(alloc, state, region)?;
+    take_in(alloc, &view, queue, event)?;
+    found_in(alloc, state, &view, region, queue.least())
+}
+
+// Has a queue take in what an event changed.
+fn take_in(alloc: Global, view: &View, queue: &mut Queue, event: &Stamp) -> Result<(), AllocError>
+    requires { IsValidPlacing queue.old.rules queue.old.grid (rows_in view.now) }
+    ensures { IsOf queue.new queue.old.rules queue.old.grid queue.old.region }
+{
     let both = [event.first, event.second];
     let changed = if event.kind == Kind::Pair { 2 } else { 1 };
-    queue.touched(alloc, &view, &both[..changed])?;
-    let anew = Queue::open(alloc, &view, state.grid(), state.rules(), region)?;
-    let walked = least_by_walk(alloc, state, &view, region)?;
-    Ok((queue.least(), anew.least(), walked))
+    queue.touched(alloc, view, &both[..changed])
+}
+
+// What was found, with what a queue opened anew and a walk find.
+fn found_in(
+    alloc: Global,
+    state: &CellState,
+    view: &View,
+    region: u32,
+    kept: Option<Stamp>,
+) -> Result<Found, AllocError>
+    requires region { IsRegion state.now.grid region }
+    requires valid { IsValidPlacing state.now.rules state.now.grid (rows_in view.now) }
+{
+    let anew = least_anew(alloc, state, view, region)?;
+    let walked = least_by_walk(alloc, state, view, region)?;
+    Ok((kept, anew, walked))
+}
+
+fn least_anew(
+    alloc: Global,
+    state: &CellState,
+    view: &View,
+    region: u32,
+) -> Result<Option<Stamp>, AllocError>
+    requires region { IsRegion state.now.grid region }
+    requires valid { IsValidPlacing state.now.rules state.now.grid (rows_in view.now) }
+{
+    let queue = opened(alloc, state, view, region)?;
+    Ok(queue.least())
+}
+
+// The queue of a region in what it sees of a state.
+fn opened(alloc: Global, state: &CellState, view: &View, region: u32) -> Result<Queue, AllocError>
+    requires region { IsRegion state.now.grid region }
+    requires valid { IsValidPlacing state.now.rules state.now.grid (rows_in view.now) }
+    ensures { IfOk result (λ queue. IsOf queue state.now.rules state.now.grid region) }
+{
+    Queue::open(alloc, view, state.grid(), state.rules(), region)
 }
 
 // Compares the queue of a region after each action of the cell run.
 fn follow(alloc: Global, scene: &Scene, region: u32) -> Result<Tally, AllocError> {
-    let mut tally = Tally {
-        calls: 0,
-        found: 0,
-        wrong: None,
-    };
     let mut state = CellState::open(alloc, scene, REGIONS)?;
     if region >= state.grid().regions() {
-        return Ok(tally);
+        return Ok(Tally::none());
     }
-    let view = view_of(alloc, &state, region)?;
-    let mut queue = Queue::open(alloc, &view, state.grid(), state.rules(), region)?;
+    let mut queue = at_the_start(alloc, &state, region)?;
+    follow_on(alloc, &mut state, &mut queue, region)
+}
+
+fn at_the_start(alloc: Global, state: &CellState, region: u32) -> Result<Queue, AllocError>
+    requires { IsRegion state.now.grid region }
+    ensures { IfOk result (λ queue. IsOf queue state.now.rules state.now.grid region) }
+{
+    let view = view_of(alloc, state, region)?;
+    opened(alloc, state, &view, region)
+}
+
+fn follow_on(
+    alloc: Global,
+    state: &mut CellState,
+    queue: &mut Queue,
+    region: u32,
+) -> Result<Tally, AllocError>
+    requires region { IsRegion state.old.grid region }
+    requires queue { IsOf queue.old state.old.rules state.old.grid region }
+{
+    let mut tally = Tally::none();
     for _ in 0..MOST_ACTIONS {
-        let Some(event) = run_next(&mut state) else {
+        let Some(event) = run_next(state) else {
             break;
         };
-        tally.add(compare(alloc, &state, &mut queue, region, &event)?);
+        tally.add(compare(alloc, state, queue, region, &event)?);
     }
     Ok(tally)
 }

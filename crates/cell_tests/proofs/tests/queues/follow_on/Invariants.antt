@@ -1,7 +1,7 @@
 -- The queue is that of the region in what it sees of the state.
 use Rattle.cell_grid.specs.Grid.{IsRegion}
 use Rattle.region_queue.specs.Queue.{IsOf}
-use Rattle.cell_tests.proofs.tests.queues.follow.Given as goal
+use Rattle.cell_tests.proofs.tests.queues.follow_on.Given as goal
 
 abbrev pub invariant-loop : goal.invariant-loop
 invariant-loop l = record {
