@@ -1,6 +1,7 @@
 //! What regions see of a scene of two disks, and what they are told of some actions.
 
 ghost use Rattle.std.specs.Prelude.{IsTrue};
+ghost use Rattle.cell_grid.specs.Grid.{IsRegion};
 ghost use Rattle.region_view.specs.Setting.{IsInOrder};
 ghost use Rattle.region_view.specs.Messages.{RecordsCell};
 
@@ -112,34 +113,53 @@ fn cell_in(view: &View, disk: u32) -> Option<u32> {
 
 #[test]
 fn regions_see_what_is_in_their_reach(rt: HostRuntime) -> Result<(), Fail> {
-    let opened = opened(rt.alloc())?;
-    assert!(rt; opened.is_some(), "the scene is refused");
-    if let Some(state) = opened {
-        for region in 0..state.grid().regions() {
-            let view = view_of(rt.alloc(), &state, region)?;
-            let want = AT_THE_START.get(region as usize).copied();
-            assert_eq!(rt; Some(seen_in(&view)), want, "region {region}");
-        }
+    for (region, &want) in AT_THE_START.iter().enumerate() {
+        let found = seen_at_the_start(rt.alloc(), region as u32)?;
+        assert_eq!(rt; found, Some(want), "region {region}");
     }
     Ok(())
+}
+
+// None where the scene is refused, or the grid has no such region.
+fn seen_at_the_start(alloc: Global, region: u32) -> Result<Option<Seen>, AllocError> {
+    match opened(alloc)? {
+        Some(state) => seen_by(alloc, &state, region),
+        None => Ok(None),
+    }
+}
+
+fn seen_by(alloc: Global, state: &CellState, region: u32) -> Result<Option<Seen>, AllocError> {
+    if region >= state.grid().regions() {
+        return Ok(None);
+    }
+    let view = view_of(alloc, state, region)?;
+    Ok(Some(seen_in(&view)))
 }
 
 #[test]
 fn regions_are_told_what_they_see(rt: HostRuntime) -> Result<(), Fail> {
-    let opened = opened(rt.alloc())?;
-    assert!(rt; opened.is_some(), "the scene is refused");
-    if let Some(state) = opened {
-        for (row, (action, home, region, told, seen)) in ACTIONS.iter().enumerate() {
-            let found = heard(rt.alloc(), &state, action, *home, *region)?;
-            assert_eq!(rt; found, Some((*told, *seen)), "row {row}");
-        }
+    for (row, (action, home, region, told, seen)) in ACTIONS.iter().enumerate() {
+        let found = heard(rt.alloc(), action, *home, *region)?;
+        assert_eq!(rt; found, Some((*told, *seen)), "row {row}");
     }
     Ok(())
 }
 
-// What a region is told of an action, and what it sees then; none where the grid has no such region, or not the
-// new cell.
+// What a region is told of an action, and what it sees then; none where the scene is refused, or the grid has no
+// such region, or not the new cell.
 fn heard(
+    alloc: Global,
+    action: &Action,
+    home: u32,
+    region: u32,
+) -> Result<Option<(Told, Seen)>, AllocError> {
+    match opened(alloc)? {
+        Some(state) => heard_in(alloc, &state, action, home, region),
+        None => Ok(None),
+    }
+}
+
+fn heard_in(
     alloc: Global,
     state: &CellState,
     action: &Action,
@@ -151,12 +171,24 @@ fn heard(
         return Ok(None);
     }
     let before = view_of(alloc, state, home)?;
-    let mut view = view_of(alloc, state, region)?;
     let message = message_for(&before, action, grid, region);
-    if let Some(rows) = &message {
+    let seen = seen_after(alloc, state, region, message.as_ref())?;
+    Ok(Some((told_by(message.as_ref()), seen)))
+}
+
+fn seen_after(
+    alloc: Global,
+    state: &CellState,
+    region: u32,
+    message: Option<&Message>,
+) -> Result<Seen, AllocError>
+    requires { IsRegion state.now.grid region }
+{
+    let mut view = view_of(alloc, state, region)?;
+    if let Some(rows) = message {
         view.take_in(rows)?;
     }
-    Ok(Some((told_by(message.as_ref()), seen_in(&view))))
+    Ok(seen_in(&view))
 }
 
 // Whether the new cell of a crossing is one of the grid, and two disks that collide are in order.

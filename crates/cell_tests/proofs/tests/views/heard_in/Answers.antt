@@ -1,7 +1,7 @@
 -- What a region sees is in cells of the grid.
 use Rattle.std.proofs.Common.{sym, subst}
 use Rattle.cell_grid.specs.Grid.{GridData, IsCell}
-use Rattle.cell_tests.proofs.tests.views.heard.Goals as goal
+use Rattle.cell_tests.proofs.tests.views.heard_in.Goals as goal
 
 pub message_for-message-requires-clause-cells : goal.message_for-message-requires-clause-cells
 message_for-message-requires-clause-cells c = λ i p at.
