@@ -1,5 +1,5 @@
 -- What each region keeps, as its value tells it.
-use Rattle.std.proofs.Common.{◌≡◌, Option, Some, None, subst, refl}
+use Rattle.std.proofs.Common.{◌≡◌, Option, Some, None, subst, sym, refl}
 use Rattle.std.specs.Prelude.{option_map, IfSome}
 use Rattle.event_stamps.specs.declared.Stamp.{Stamp}
 use Rattle.local_run.specs.declared.home.Home.{Home}
@@ -28,3 +28,22 @@ kept_is home floor live region is sound = subst IsKept is record {
     begins : (o : Option Live) → IfSome (option_map (run_in floor) o) (λ run. run.floor ≡ floor)
     begins None = tt
     begins (Some live) = refl
+
+-- ---- what it keeps after a step
+pub still_sound : {border : Border} (home : Home) (floor : Stamp) (old new : Option Live) →
+    IsSound home border floor old → IfSome new (IsLive home floor) → IsSound home border floor new
+still_sound home floor old new sound alive = record {
+  place = sound.place;
+  far = sound.far;
+  in_time = sound.in_time;
+  alive = alive;
+}
+
+pub spent_sound : {border : Border} (home : Home) (floor : Stamp) (old new : Option Live) →
+    IsSound home border floor old → new ≡ None → IsSound home border floor new
+spent_sound home floor old new sound gone = still_sound home floor old new sound
+    (subst (λ (o : Option Live). IfSome o (IsLive home floor)) (sym gone) tt)
+
+pub body_is : {border : Border} (home : Home) (floor : Stamp) (o : Option Live) (live : Live) →
+    IsSound home border floor o → o ≡ Some live → IsLive home floor live
+body_is home floor o live sound here = subst (λ (p : Option Live). IfSome p (IsLive home floor)) here sound.alive

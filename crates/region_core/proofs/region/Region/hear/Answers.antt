@@ -1,8 +1,7 @@
-use Rattle.std.proofs.Common.{◌≡◌, Option, sym, subst, ap, ◌∙◌}
-use Rattle.std.specs.Prelude.{IfSome}
-use Rattle.region_core.specs.declared.live.Live.{Live}
+use Rattle.std.proofs.Common.{◌≡◌, Some, sym, ap, ◌∙◌}
 use Rattle.local_run.specs.declared.answers.Hearing.TheVariants.{Apart}
-use Rattle.region_core.specs.Live.{run_in, IsLive}
+use Rattle.region_core.specs.Live.{run_in}
+use Rattle.region_core.proofs.Kept.{still_sound, spent_sound, body_is}
 use Rattle.region_core.proofs.Shown.{seen_as}
 use Rattle.region_core.proofs.Pairs.{heard_region, heard_hearable, no_apart, region_of}
 use Rattle.region_core.proofs.region.Region.hear.Goals as goal
@@ -12,8 +11,8 @@ hear-requires c = record {
   place = c.self.invariant.place;
   live = (
     c.self.inside.floor,
-    subst (λ (o : Option Live). IfSome o (IsLive c.self.inside.home c.self.inside.floor))
-        c.in-Some-live.is c.self.invariant.alive,
+    body_is c.self.inside.home c.self.inside.floor c.self.inside.live c.in-Some-live.live c.self.invariant
+        c.in-Some-live.is,
   );
   region = region_of c.self.inside.home c.from.inside.home _ _ c.self.inside.live c.from.inside.live
       c.args.self.now c.args.from.now c.self.view_is c.from.view_is c.in-Some.ensures.0 c.from.invariant.place;
@@ -23,17 +22,16 @@ pub invariant_of-self-in-Ok : goal.invariant_of-self-in-Ok
 invariant_of-self-in-Ok c =
     let home = c.self.inside.home in
     let floor = c.self.inside.floor in
-    record {
-      place = c.self.invariant.place;
-      far = c.self.invariant.far;
-      in_time = c.self.invariant.in_time;
-      alive = c.in-Ok.ensures.live floor
-          (subst (λ (o : Option Live). IfSome o (IsLive home floor)) c.in-Some-live.is
-          c.self.invariant.alive)
-          (heard_hearable home c.from.inside.home floor c.from.inside.floor c.self.inside.live
-          c.from.inside.live c.args.self.now c.args.from.now c.in-Some.sent.now c.self.view_is c.from.view_is
-          c.from.invariant c.in-Some.ensures.0 c.in-Some.ensures.1);
-    }
+    still_sound home floor c.self.inside.live (Some c.hear.new.self) c.self.invariant
+    (c.in-Ok.ensures.live floor
+    (body_is home floor c.self.inside.live c.in-Some-live.live c.self.invariant c.in-Some-live.is)
+    (heard_hearable home c.from.inside.home floor c.from.inside.floor c.self.inside.live
+    c.from.inside.live c.args.self.now c.args.from.now c.in-Some.sent.now c.self.view_is c.from.view_is
+    c.from.invariant c.in-Some.ensures.0 c.in-Some.ensures.1))
+
+pub invariant_of-self-in-Err : goal.invariant_of-self-in-Err
+invariant_of-self-in-Err c = spent_sound c.self.inside.home c.self.inside.floor c.self.inside.live c.let_go.new.live
+    c.self.invariant c.let_go.ensures
 
 pub returns-in-Ok-clause-apart : goal.returns-in-Ok-clause-apart
 returns-in-Ok-clause-apart c = (
