@@ -39,10 +39,7 @@ impl Inbox {
     pub(crate) fn new(alloc: Global, regions: u32) -> Result<Inbox, AllocError>
         ensures { IfOk result (λ inbox. inbox ≡ empty_inbox regions) }
     {
-        let mut taken = Vec::new(alloc);
-        for _ in 0..regions {
-            taken.push(0)?;
-        }
+        let taken = vec![in alloc; 0; regions as usize]?;
         Ok(Inbox {
             regions,
             heard: empty_trails(alloc, regions)?,

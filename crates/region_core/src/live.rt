@@ -28,6 +28,7 @@ ghost use Rattle.region_view.specs.Placing.{IsValidPlacing};
 ghost use Rattle.cell_grid.specs.Grid.{IsRegion};
 ghost use Rattle.local_run.specs.LocalRun.{IsInPlace, trail_of, sent_to};
 ghost use Rattle.event_log.specs.Logged.{entries_in};
+ghost use Rattle.region_core.specs.Inbox.{empty_inbox};
 ghost use Rattle.region_core.specs.Live.{base_in, IsLive, IsInbox, IsOutbox};
 ghost use Rattle.local_run.specs.Keeping.{SendsTo, HearsOf};
 
@@ -46,13 +47,14 @@ impl Live {
         ensures live { IfOk result (λ live. (floor : Stamp) → ¬ Before (end_stamp home.now.rules.end) floor →
             IsLive home.now floor live) }
     {
-        let regions = home.grid.regions();
+        let queue = Queue::open(alloc, &base, &home.grid, &home.rules, home.number)?;
+        let (inbox, sent) = no_messages(alloc, home)?;
         Ok(Live {
-            queue: Queue::open(alloc, &base, &home.grid, &home.rules, home.number)?,
-            inbox: Inbox::new(alloc, regions)?,
-            sent: empty_trails(alloc, regions)?,
-            log: EventLog::new(alloc),
             view: base,
+            log: EventLog::new(alloc),
+            queue,
+            inbox,
+            sent,
         })
     }
 
@@ -84,4 +86,15 @@ impl Live {
             None
         }
     }
+}
+
+// Nothing heard and nothing sent.
+fn no_messages(alloc: Global, home: &Home) -> Result<(Inbox, Vec<Trail>), AllocError>
+    ensures inbox { IfOk result (λ both. both.0 ≡ empty_inbox home.now.grid.regions) }
+    ensures sent { IfOk result (λ both. both.1.items ≡ replicate home.now.grid.regions []) }
+{
+    let regions = home.grid.regions();
+    let inbox = Inbox::new(alloc, regions)?;
+    let sent = empty_trails(alloc, regions)?;
+    Ok((inbox, sent))
 }

@@ -1,5 +1,4 @@
-use Rattle.std.proofs.Common.{◌∙◌, ap, refl, replicate, List, [], ℕ}
-use Rattle.region_core.specs.Inbox.{empty_inbox}
+use Rattle.std.proofs.Common.{ap, refl, List}
 use Rattle.event_log.specs.Logged.{Logged, backs_in}
 use Rattle.event_log.specs.Undoing.{undone}
 use Rattle.region_core.proofs.Opened.{opened_is}
@@ -7,11 +6,8 @@ use Rattle.region_core.proofs.live.Live.open.Goals as goal
 
 pub returns-clause-live : goal.returns-clause-live
 returns-clause-live c = λ floor in_time.
-    opened_is c.args.home.now floor c.args.base _ c.requires.valid in_time c.new-2.ensures refl
-    (c.in_ok-new.ensures ∙ ap empty_inbox c.regions-regions.ensures.value)
-    (c.in_ok-empty_trails.ensures
-    ∙ ap (λ (n : ℕ). replicate n []) c.regions-regions.ensures.value)
-    c.in_ok-open.ensures.0 c.in_ok-open.ensures.1
+    opened_is c.args.home.now floor c.args.base _ c.requires.valid in_time c.new.ensures refl
+    c.in_ok-inbox.ensures.inbox c.in_ok-inbox.ensures.sent c.in_ok-queue.ensures.0 c.in_ok-queue.ensures.1
 
 pub returns-clause-base : goal.returns-clause-base
-returns-clause-base c = ap (λ (log : List Logged). undone c.args.base (backs_in log)) c.new-2.ensures
+returns-clause-base c = ap (λ (log : List Logged). undone c.args.base (backs_in log)) c.new.ensures
