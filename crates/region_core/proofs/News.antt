@@ -185,18 +185,3 @@ if_ok (Err e) P Q f h = h
 pub on_ok : {A E : Type 0} (r : Result A E) (P Q : Type 0) → (P → Q) → OnOk r P → OnOk r Q
 on_ok (Ok x) P Q f h = f h
 on_ok (Err e) P Q f h = h
-
-any_default : (ts : Trails) (k : ℕ) (d e : List Message) → k < length ts → get_or ts k d ≡ get_or ts k e
-any_default [] k d e lt = absurd (omega arith)
-any_default (t ∷ ts) zero d e lt = refl
-any_default (t ∷ ts) (suc k) d e lt = any_default ts k d e (omega arith)
-
--- the trail from the stamp on becomes what is sent
-pub replaced_by : (ts all : Trails) (k : ℕ) (at : Stamp) (was sent now : List Message) →
-    ts ≡ all → was ≡ get_or ts k was → k < length all → now ≡ mixed at was sent →
-    slice_set ts k now ≡ slice_set all k (mixed at (trail_of all k) sent)
-replaced_by ts all k at was sent now same here lt is =
-    let there : was ≡ trail_of all k =
-    here ∙ ap (λ (v : Trails). get_or v k was) same ∙ any_default all k was [] lt in
-    ap (λ (v : Trails). slice_set v k now) same
-    ∙ ap (slice_set all k) (is ∙ ap (λ (v : List Message). mixed at v sent) there)

@@ -1,5 +1,5 @@
 -- What the tests of weaving tell.
-use Rattle.std.proofs.Common.{◌≡◌, inl, inr, ℕ, zero, suc, ◌==◌, ◌∙◌, ◌<◌, ◌≤◌, Bool, List, [], ◌∷◌, length, drop, get_or, slice_get, Option, Some, None, sym, ap, subst, refl, arith}
+use Rattle.std.proofs.Common.{◌≡◌, ◌⊎◌, inl, inr, ℕ, zero, suc, ◌==◌, ◌∙◌, ◌<◌, ◌≤◌, Bool, List, [], ◌∷◌, length, drop, get_or, slice_get, Option, Some, None, sym, ap, subst, refl, arith}
 use Rattle.std.specs.Prelude.{if◌then◌else◌, option_map, IfSome, All}
 use Rattle.std.specs.List.{Contains}
 use Rattle.std.proofs.lemmas.Option.{none-some, same_Some}
@@ -27,7 +27,8 @@ use Rattle.local_run.specs.Entries.{native_in}
 use Rattle.local_run.specs.LocalRun.{Trails, trail_of}
 use Rattle.local_run.specs.Weaving.{IsApart}
 use Rattle.local_run.proofs.Touched.{over_others, same_but}
-use Rattle.region_core.specs.Weaving.{IsStepAside, IsLateAside, IsValidBack, BeginsAfter}
+use Rattle.region_core.specs.Weaving.{IsOwnTouch, TouchAfter, IsStepAside, IsLateAside, IsValidBack, BeginsAfter}
+use Rattle.region_core.proofs.Lists.{read_or}
 
 -- ---- at most two rows
 pub of_one : (P : ℕ × Option Placed → Type 0) (slice : RowList) (d : ℕ × Option Placed) → 1 ≤ length slice →
@@ -87,12 +88,6 @@ second_back h (r ∷ s ∷ []) d are valid some = by_placed h.rules h.grid s.1
     (λ p is. valid s.0 p (ap (λ (b : Bool). if b then s.1 else (if s.0 == r.0 then r.1 else None))
     (same_is s.0 s.0 refl) ∙ is))
 second_back h (r ∷ s ∷ t ∷ rows) d are valid some = absurd are
-
--- ---- all of a slice
-read_or : {A : Type 0} (xs : List A) (n : ℕ) (d e : A) → n < length xs → get_or xs n d ≡ get_or xs n e
-read_or [] n d e lt = absurd (omega arith)
-read_or (x ∷ xs) zero d e lt = refl
-read_or (x ∷ xs) (suc n) d e lt = read_or xs n d e (omega arith)
 
 -- ---- the entries of a log one by one
 -- where the test of each place from one on says so
@@ -169,3 +164,15 @@ still_valid queue rules grid region view again of same valid =
     subst (λ (v : ViewData). IsValidPlacing queue.rules queue.grid (rows_in v)) (sym same)
     (subst (λ (r : Rules). IsValidPlacing r queue.grid (rows_in view)) (sym of.rules)
     (subst (λ (g : GridData). IsValidPlacing rules g (rows_in view)) (sym of.grid) valid))
+
+-- what stands in two rows touches after a stamp alone, whichever of them is the first of the event
+pub touch_after : (h : Home) (at : Stamp) (row other : ℕ × Option Placed) (p q : Placed) → row.1 ≡ Some p →
+    other.1 ≡ Some q → ((s : Stamp) → IsOwnTouch h row.0 p other.0 q s → Before at s) →
+    ((s : Stamp) → IsOwnTouch h other.0 q row.0 p s → Before at s) → TouchAfter h at row other
+touch_after h at row other p q here there one two =
+    subst (λ (o : Option Placed). TouchAfter h at (row.0, o) other) (sym here)
+    (subst (λ (o : Option Placed). TouchAfter h at (row.0, Some p) (other.0, o)) (sym there) each)
+  where
+    each : (s : Stamp) → IsOwnTouch h row.0 p other.0 q s ⊎ IsOwnTouch h other.0 q row.0 p s → Before at s
+    each s (inl touch) = one s touch
+    each s (inr touch) = two s touch

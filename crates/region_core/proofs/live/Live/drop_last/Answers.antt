@@ -59,3 +59,9 @@ returns-clause-base c =
     on_ok c.take_back-2.result _ _
     (λ stands. undone_is (base_in live) c.take_back.new.view c.take_back.new.self back.traced)
     c.take_back-2.ensures.stands
+
+pub returns-clause-log : goal.returns-clause-log
+returns-clause-log c = on_ok c.take_back-2.result _ _ (λ stands. c.in_ok-entry.ensures.log) c.take_back-2.ensures.stands
+
+pub take_back-requires-2-clause-of : goal.take_back-requires-2-clause-of
+take_back-requires-2-clause-of c = c.requires.along.1.queue

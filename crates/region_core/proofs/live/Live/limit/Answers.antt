@@ -1,5 +1,6 @@
 use Rattle.std.proofs.Common.{None, Some, sym, subst, ◌∙◌}
 use Rattle.std.proofs.lemmas.Bool.{false≢true}
+use Rattle.event_stamps.proofs.StampOrder.{before_trans, not_before_itself}
 use Rattle.region_core.specs.Inbox.{IsLeastHead}
 use Rattle.region_core.specs.Live.{now_in}
 use Rattle.region_core.proofs.NextMove.{least_waiting}
@@ -27,3 +28,14 @@ returns-in-None-clause-clear c =
     let none = least_waiting c.args.home.now c.requires.0 live None c.requires.1
     (subst (IsLeastHead live.inbox) c.in-None.is c.least.ensures) in
     λ s waits lt. none s waits
+
+pub returns-then-is_before-clause-bound : goal.returns-then-is_before-clause-bound
+returns-then-is_before-clause-bound c = λ after.
+    not_before_itself c.in-Some.stamp
+    (before_trans c.in-Some.stamp c.args.bound.now c.in-Some.stamp (c.is_before.ensures.0 c.if-is_before.true) after)
+
+pub returns-else-is_before-clause-bound : goal.returns-else-is_before-clause-bound
+returns-else-is_before-clause-bound c = not_before_itself c.args.bound.now
+
+pub returns-in-None-clause-bound : goal.returns-in-None-clause-bound
+returns-in-None-clause-bound c = not_before_itself c.args.bound.now

@@ -51,3 +51,32 @@ returns-in-None c =
           (c.is_in_turn.ensures.0 c.if-not-is_in_turn.false));
       alone = c.in-None.ensures;
     }
+
+pub returns-then-len-ge-MAX_ENTRIES : goal.returns-then-len-ge-MAX_ENTRIES
+returns-then-len-ge-MAX_ENTRIES c =
+    let many = as_many c.args.self.now.log in ((omega (arith, c.if-len-ge-MAX_ENTRIES.true, c.len.ensures)), refl)
+
+pub returns-in_default : goal.returns-in_default
+returns-in_default c =
+    let many = as_many c.args.self.now.log in (
+      omega (arith, c.if-len-ge-MAX_ENTRIES.false, c.len.ensures),
+      subst (IsLeastOf (IsOffered c.args.home.now (now_in c.args.self.now))) c.in_default.is c.requires.due,
+      refl,
+    )
+
+pub sender_at-requires-clause-due : goal.sender_at-requires-clause-due
+sender_at-requires-clause-due c =
+    subst (IsLeastOf (IsOffered c.args.home.now (now_in c.args.self.now))) c.in-Some.is c.requires.due
+
+pub message_move-requires-clause-due : goal.message_move-requires-clause-due
+message_move-requires-clause-due c =
+    let many = as_many c.args.self.now.log in (
+      omega (arith, c.if-len-ge-MAX_ENTRIES.false, c.len.ensures),
+      subst (IsLeastOf (IsOffered c.args.home.now (now_in c.args.self.now))) c.in-Some.is c.requires.due,
+    )
+
+pub message_move-requires-clause-first : goal.message_move-requires-clause-first
+message_move-requires-clause-first c = c.in-Some-sender_at.ensures
+
+pub returns-in-Some-sender_at : goal.returns-in-Some-sender_at
+returns-in-Some-sender_at c = c.message_move.ensures
