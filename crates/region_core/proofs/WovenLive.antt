@@ -1,5 +1,5 @@
 -- A body into which a message is woven keeps all.
-use Rattle.std.proofs.Common.{◌≡◌, ◌≢◌, inl, inr, ℕ, ◌+◌, ◌<◌, List, ◌∷◌, ◌++◌, length, get_or, slice_set, sym, ap, ◌∙◌, subst, refl, arith}
+use Rattle.std.proofs.Common.{◌≡◌, ◌≢◌, inl, inr, ℕ, ◌+◌, ◌<◌, List, ◌∷◌, ◌++◌, length, get_or, slice_set, Option, Some, None, sym, ap, ◌∙◌, subst, refl, arith}
 use Rattle.std.proofs.lemmas.List.{get_or-set_same, get_or-set_other, length-set}
 use Rattle.event_stamps.specs.declared.Stamp.{Stamp}
 use Rattle.cell_grid.specs.Grid.{IsRegion}
@@ -12,12 +12,13 @@ use Rattle.local_run.specs.declared.entry.Entry.{Entry}
 use Rattle.local_run.specs.declared.entry.Entry.TheVariants.{Heard}
 use Rattle.region_core.specs.declared.live.Live.{Live}
 use Rattle.local_run.specs.Entries.{entries_below, entries_from}
-use Rattle.local_run.specs.LocalRun.{trail_of, now_of, IsHearable, IsRight, sent_to}
+use Rattle.local_run.specs.LocalRun.{Local, trail_of, now_of, IsHearable, IsRight, sent_to}
 use Rattle.region_core.specs.Inbox.{InboxData, taken_from}
 use Rattle.local_run.specs.Taken.{taken_of}
 use Rattle.event_log.specs.Logged.{entries_in}
 use Rattle.region_core.specs.Live.{base_in, run_in, HasTrace, IsInbox, IsLive}
 use Rattle.local_run.specs.Weaving.{IsWoven, MayWeave}
+use Rattle.region_core.specs.Weaving.{Weaves}
 use Rattle.local_run.proofs.Among.{same_or_other}
 use Rattle.local_run.proofs.Logs.{below_then_from}
 use Rattle.local_run.proofs.Taken.{taken_joined, taken_here, taken_other, other_is_of}
@@ -117,3 +118,9 @@ woven_live home floor q m old new region live may hearable is = record {
         × ((k : ℕ) → sent_to home.grid k (base_in new) (entries_in new.log)
         ≡ sent_to home.grid k (base_in old) (entries_in old.log))
     law = weaving_keeps_right home (run_in floor old) (run_in floor new) q m live.right may hearable woven
+
+-- whether a message is woven in or not, the run begins in the same view
+pub woven_base : (q : ℕ) (m : Message) (r new : Local) (hindrance : Option Stamp) → Weaves q m r hindrance new →
+    new.base ≡ r.base
+woven_base q m r new None woven = woven.base
+woven_base q m r new (Some at) same = ap (λ (run : Local). run.base) same

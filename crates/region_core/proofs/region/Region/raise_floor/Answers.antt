@@ -1,5 +1,8 @@
-use Rattle.std.proofs.Common.{Some, sym, ap, ◌∙◌}
+use Rattle.std.proofs.Common.{Some, sym, subst, ap, ◌∙◌}
+use Rattle.event_stamps.specs.Order.{Before, end_stamp}
+use Rattle.local_run.specs.Opening.{RegionData}
 use Rattle.local_run.specs.Raising.{raised}
+use Rattle.region_core.proofs.Kept.{body_is}
 use Rattle.region_core.proofs.Shown.{seen_as}
 use Rattle.region_core.proofs.region.Region.raise_floor.Goals as goal
 
@@ -10,3 +13,23 @@ returns-clause-raised c =
     let run = c.raise_floor.ensures.run floor in
     (λ i. record { home = home; floor = c.args.to; run = Some (run i) })
     ∙ ap (raised c.args.to) (ap (seen_as home floor) (sym c.in-Some.is) ∙ c.self.view_is)
+
+pub invariant_of-self-2 : goal.invariant_of-self-2
+invariant_of-self-2 c = record {
+  place = c.self.invariant.place;
+  far = c.self.invariant.far;
+  in_time = subst (λ (region : RegionData). ¬ Before (end_stamp region.home.rules.end) c.args.to) (sym c.self.view_is)
+      c.requires.in_time;
+  alive = c.raise_floor.ensures.live;
+}
+
+pub raise_floor-requires-clause-live : goal.raise_floor-requires-clause-live
+raise_floor-requires-clause-live c = (
+  c.self.inside.floor,
+  body_is c.self.inside.home c.self.inside.floor c.self.inside.live c.in-Some.live c.self.invariant c.in-Some.is,
+)
+
+pub raise_floor-requires-clause-in_time : goal.raise_floor-requires-clause-in_time
+raise_floor-requires-clause-in_time c =
+    subst (λ (region : RegionData). ¬ Before (end_stamp region.home.rules.end) c.args.to) (sym c.self.view_is)
+    c.requires.in_time
