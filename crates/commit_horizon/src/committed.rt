@@ -75,13 +75,12 @@ impl Committed {
         requires { IsRegion self.now.grid number }
         ensures { IfOk result (Adopts self.now number region) }
     {
-        match region.stands_on(&self.state, number) {
-            Ok(()) => Ok(Adopted::Kept(region)),
-            Err(differs) => {
-                let made = Region::open(alloc, &self.state, number)?;
-                Ok(Adopted::Made(made, differs))
-            }
-        }
+        let Err(differs) = region.stands_on(&self.state, number) else {
+            return Ok(Adopted::Kept(region));
+        };
+        drop(region);
+        let made = Region::open(alloc, &self.state, number)?;
+        Ok(Adopted::Made(made, differs))
     }
 
     /// The commit horizon of regions that stand on the committed state, by number: the least of the end, of

@@ -57,12 +57,11 @@ impl Committed {
         requires { IsRegion self.now.grid number }
         ensures { OnOk result (IsAdopted self.now number region.old region.new) }
     {
-        match region.stands_on(&self.state, number) {
-            Ok(()) => Ok(()),
-            Err(_) => {
-                *region = Region::open(alloc, &self.state, number)?;
-                Ok(())
-            }
-        }
+        let Err(_) = region.stands_on(&self.state, number) else {
+            return Ok(());
+        };
+        let made = Region::open(alloc, &self.state, number)?;
+        drop(std::mem::replace(region, made));
+        Ok(())
     }
 }

@@ -1,12 +1,13 @@
-use Rattle.std.proofs.Common.{List, length, set, sym, subst, refl, ◌<◌, arith}
+use Rattle.std.proofs.Common.{ℕ, List, length, set, sym, subst, refl, ◌<◌, arith}
 use Rattle.std.proofs.lemmas.Option.{slice_get_read}
 use Rattle.std.specs.List.{sum_by}
 use Rattle.region_view.specs.declared.action.Action.{Action}
 use Rattle.cell_sequence.specs.State.{CellStateData, followed}
+use Rattle.commit_horizon.specs.declared.merging.PackedHead.{PackedHead}
 use Rattle.commit_horizon.specs.Merging.{Head, Heads, head_in, heads_in}
 use Rattle.commit_horizon.specs.Leading.{IsLeader, NoOtherBefore}
 use Rattle.commit_horizon.proofs.Heads.{cost_of}
-use Rattle.commit_horizon.proofs.Leaders.{leads_at, none_leads, set_in, others_stay}
+use Rattle.commit_horizon.proofs.Leaders.{leads_at, leader_within, none_leads, set_in, still_within, others_stay}
 use Rattle.commit_horizon.proofs.Merges.{KeepsMerging, keeps_begin, has_action, next_of_heads, keeps_on, costs_less, keeps_end}
 use Rattle.commit_horizon.proofs.merging.merge.Goals as goal
 
@@ -22,6 +23,13 @@ actions-init c =
           (keeps_begin state regions c.args.horizon heads c.floor-floor.ensures.kept
           c.requires.stand c.requires.kept c.requires.bound c.in_ok-heads.ensures);
     }
+
+pub bounds-regions-first : goal.bounds-regions-first
+bounds-regions-first c =
+    let heads = heads_in c.actions.heads.items in
+    let first = c.actions.first in
+    let least = leads_at heads first c.in-Some.field-0 c.actions.invariant.leads c.in-Some.ensures.value in
+    subst (λ n. first.number < n) c.actions.invariant.keeps.count least.0
 
 pub action_at-action-requires : goal.action_at-action-requires
 action_at-action-requires c =
@@ -87,6 +95,20 @@ actions-smaller c =
     (costs_less state regions c.args.horizon heads c.actions.actions.items c.actions.state
     c.actions.invariant.keeps c.requires.stand c.requires.kept first.number head least region at
     (head_in new) c.head_after.ensures)
+
+pub index_mut-requires : goal.index_mut-requires
+index_mut-requires c =
+    let packed = c.actions.heads in
+    subst (λ (n : ℕ). c.actions.first.number < n) (sym packed.ok.0)
+    (leader_within packed.items c.actions.first c.in-Some.field-0 c.actions.invariant.leads c.in-Some.ensures.value)
+
+pub leader_after-first-requires-clause-within : goal.leader_after-first-requires-clause-within
+leader_after-first-requires-clause-within c =
+    let packed = c.actions.heads.items in
+    let k = c.actions.first.number in
+    subst (λ (v : List PackedHead). k < length v) (sym c.deref-in-Some.ensures.value)
+    (still_within packed k c.head_after.result
+    (leader_within packed c.actions.first c.in-Some.field-0 c.actions.invariant.leads c.in-Some.ensures.value))
 
 pub leader_after-first-requires-clause-others : goal.leader_after-first-requires-clause-others
 leader_after-first-requires-clause-others c =

@@ -1,4 +1,4 @@
-use Rattle.std.proofs.Common.{◌∷◌, [], Option, ◌∙◌, ◌+◌, ◌<◌, ◌≤◌, length, set, sym, subst, refl, arith}
+use Rattle.std.proofs.Common.{◌∷◌, [], ℕ, List, Option, ◌∙◌, ◌+◌, ◌<◌, ◌≤◌, length, set, sym, subst, refl, arith}
 use Rattle.std.proofs.lemmas.Option.{slice_get_read}
 use Rattle.std.proofs.lemmas.Result.{err_from_is_err_and}
 use Rattle.event_stamps.specs.declared.Stamp.{Stamp}
@@ -8,11 +8,12 @@ use Rattle.std.specs.List.{sum_by}
 use Rattle.event_rules.specs.Told.{Told}
 use Rattle.region_view.specs.declared.action.Action.{Action}
 use Rattle.cell_sequence.specs.Run.{hits}
+use Rattle.commit_horizon.specs.declared.merging.PackedHead.{PackedHead}
 use Rattle.commit_horizon.specs.Merging.{Head, Heads, head_in, heads_in}
 use Rattle.commit_horizon.specs.Telling.{MayBeToldBy, HitRefused, MergeTold}
 use Rattle.commit_horizon.proofs.Heads.{cost_of}
 use Rattle.commit_horizon.specs.Leading.{IsLeader, NoOtherBefore}
-use Rattle.commit_horizon.proofs.Leaders.{leads_at, none_leads, set_in, others_stay}
+use Rattle.commit_horizon.proofs.Leaders.{leads_at, leader_within, none_leads, set_in, still_within, others_stay}
 use Rattle.commit_horizon.proofs.Tellings.{KeepsTelling, nothing_told, telling_begins, few_more, of_region}
 use Rattle.commit_horizon.proofs.Tellings.{reads_action, action_there, tells_less, may_be_told}
 use Rattle.commit_horizon.proofs.Tellings.{telling_refused, telling_goes_on, telling_ends}
@@ -36,6 +37,19 @@ actions-init g c = let L = g.L.Listener in record {
       c.requires.kept (L.meaning c.args.listener.now) (heads_in c.in_ok-heads.heads.items) c.in_ok-heads.ensures);
   count = refl;
 }
+
+pub bounds-regions-first : goal.bounds-regions-first
+bounds-regions-first g c =
+    let L = g.L.Listener in
+    let state = c.requires.state.0 in
+    let from = c.requires.state.1 in
+    let heads = heads_in c.actions.heads.items in
+    let first = c.actions.first in
+    let head : Head = record { stamp = c.in-Some.stamp; place = first.place } in
+    of_region L.after L.torn state c.args.regions.now c.args.horizon from c.requires.kept
+    (L.meaning c.args.listener.now) heads c.actions.last (L.meaning c.actions.listener)
+    (c.actions.invariant.telling state from) first.number head
+    (leads_at heads first c.in-Some.stamp c.actions.invariant.leads c.in-Some.ensures.value)
 
 pub tell_at-requires-clause-there : goal.tell_at-requires-clause-there
 tell_at-requires-clause-there g c =
@@ -134,6 +148,20 @@ overflow_add-first g c =
     let least = leads_at heads first c.in-Some.stamp c.actions.invariant.leads c.in-Some.ensures.value in
     let few : head.place + 1 ≤ MAX_ENTRIES = few_more L.after L.torn state regions h from kept before heads last mid so_far first.number head least in
     omega (arith, few)
+
+pub index_mut-requires : goal.index_mut-requires
+index_mut-requires g c =
+    let packed = c.actions.heads in
+    subst (λ (n : ℕ). c.actions.first.number < n) (sym packed.ok.0)
+    (leader_within packed.items c.actions.first c.in-Some.stamp c.actions.invariant.leads c.in-Some.ensures.value)
+
+pub leader_after-first-requires-clause-within : goal.leader_after-first-requires-clause-within
+leader_after-first-requires-clause-within g c =
+    let packed = c.actions.heads.items in
+    let k = c.actions.first.number in
+    subst (λ (v : List PackedHead). k < length v) (sym c.deref-in-Some.ensures.value)
+    (still_within packed k c.head_after.result
+    (leader_within packed c.actions.first c.in-Some.stamp c.actions.invariant.leads c.in-Some.ensures.value))
 
 pub leader_after-first-requires-clause-others : goal.leader_after-first-requires-clause-others
 leader_after-first-requires-clause-others g c =

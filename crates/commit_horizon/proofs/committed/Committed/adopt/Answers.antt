@@ -4,10 +4,10 @@ use Rattle.local_run.specs.Opening.{IsOpened}
 use Rattle.local_run.specs.Standing.{DiffersBy}
 use Rattle.commit_horizon.proofs.committed.Committed.adopt.Goals as goal
 
-pub returns-in_ok-made-in-Err : goal.returns-in_ok-made-in-Err
-returns-in_ok-made-in-Err c = (
+pub returns : goal.returns
+returns c = (
   subst (λ (v : CellStateData). DiffersBy v c.args.number c.args.region c.in-Err.differs) c.self.view_is
       c.in-Err.ensures.value,
-  subst (λ (v : CellStateData). IsOpened v c.args.number c.in_ok-made-in-Err.made) c.self.view_is
-      c.in_ok-made-in-Err.ensures,
+  subst (λ (v : CellStateData). IsOpened v c.args.number c.in_ok-made.made) c.self.view_is
+      c.in_ok-made.ensures,
 )

@@ -5,20 +5,20 @@ use Rattle.local_run.specs.Standing.{StandsOn, DiffersBy}
 use Rattle.commit_horizon.specs.declared.committed.Adopted.TheVariants.{Kept, Made}
 use Rattle.commit_horizon.proofs.committed.Committed.renew.Goals as goal
 
-pub returns-in-Ok : goal.returns-in-Ok
-returns-in-Ok c =
+pub returns-in_default : goal.returns-in_default
+returns-in_default c =
     let given = c.args.region.now in
     let stands = subst (λ (state : CellStateData). StandsOn state c.args.number given) c.self.view_is
-    c.in-Ok.ensures.value in
+    c.in_default.ensures.value in
     (Kept given, (stands, refl), refl)
 
-pub returns-in_ok-region-in-Err : goal.returns-in_ok-region-in-Err
-returns-in_ok-region-in-Err c =
+pub returns : goal.returns
+returns c =
     let number = c.args.number in
-    let made = c.in_ok-region-in-Err.field-0 in
+    let made = c.in_ok-made.made in
     let differs = c.in-Err.field-0 in
     let why = subst (λ (state : CellStateData). DiffersBy state number c.args.region.now differs)
     c.self.view_is c.in-Err.ensures.value in
     let opened = subst (λ (state : CellStateData). IsOpened state number made) c.self.view_is
-    c.in_ok-region-in-Err.ensures in
-    (Made made differs, (why, opened), refl)
+    c.in_ok-made.ensures in
+    (Made made differs, (why, opened), c.replace.ensures.after)
