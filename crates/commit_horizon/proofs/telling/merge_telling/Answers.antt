@@ -1,11 +1,11 @@
-use Rattle.std.proofs.Common.{◌∷◌, [], ℕ, List, Option, ◌∙◌, ◌+◌, ◌<◌, ◌≤◌, length, set, sym, subst, refl, arith}
+use Rattle.std.proofs.Common.{◌∷◌, [], ℕ, List, Option, Err, ◌∙◌, ◌+◌, ◌<◌, ◌≤◌, length, set, sym, subst, refl, arith}
 use Rattle.std.proofs.lemmas.Option.{slice_get_read}
 use Rattle.std.proofs.lemmas.Result.{err_from_is_err_and}
 use Rattle.event_stamps.specs.declared.Stamp.{Stamp}
 use Rattle.local_run.specs.declared.entry.TheConstants.{MAX_ENTRIES}
 use Rattle.std.specs.Prelude.{IfSome}
 use Rattle.std.specs.List.{sum_by}
-use Rattle.event_rules.specs.Told.{Told}
+use Rattle.event_rules.specs.Told.{Told, CountsRefusal}
 use Rattle.region_view.specs.declared.action.Action.{Action}
 use Rattle.cell_sequence.specs.Run.{hits}
 use Rattle.commit_horizon.specs.declared.merging.PackedHead.{PackedHead}
@@ -25,6 +25,16 @@ returns-in_err-heads-clause-cut_short g c =
     let fault = err_from_is_err_and c.from_residual.result c.from_residual.ensures.1 in
     rw (fault.1, fault.2) (λ state from. nothing_told L.after L.torn state c.args.regions.now c.args.horizon from
     c.requires.kept (L.meaning c.args.listener.now))
+
+pub returns-in_err-heads-clause-told : goal.returns-in_err-heads-clause-told
+returns-in_err-heads-clause-told g c =
+    let fault = err_from_is_err_and c.from_residual.result c.from_residual.ensures.1 in
+    rw (fault.1) tt
+
+pub returns-in_err-heads-clause-counts : goal.returns-in_err-heads-clause-counts
+returns-in_err-heads-clause-counts g c =
+    let fault = err_from_is_err_and c.from_residual.result c.from_residual.ensures.1 in
+    rw (fault.1, fault.2) refl
 
 pub actions-init : goal.actions-init
 actions-init g c = let L = g.L.Listener in record {
@@ -128,6 +138,21 @@ returns-in_err-tell_at-clause-cut_short g c =
     c.in_err-tell_at.ensures.refused in
     rw (fault.1, fault.2) (λ other of. telling_refused L.after L.torn other regions h of kept before heads last mid
     (c.actions.invariant.telling other of) first.number head least region at x.0 x.1 later refused)
+
+pub returns-in_err-tell_at-clause-told : goal.returns-in_err-tell_at-clause-told
+returns-in_err-tell_at-clause-told g c =
+    let fault = err_from_is_err_and c.from_residual-in_err-tell_at.result
+    c.from_residual-in_err-tell_at.ensures.1 in
+    rw (fault.1) tt
+
+pub returns-in_err-tell_at-clause-counts : goal.returns-in_err-tell_at-clause-counts
+returns-in_err-tell_at-clause-counts g c =
+    let L = g.L.Listener in
+    let new = L.faults c.tell_at.new.listener in
+    let fault = err_from_is_err_and c.from_residual-in_err-tell_at.result
+    c.from_residual-in_err-tell_at.ensures.1 in
+    rw (fault.1, fault.2) (subst (λ (old : ℕ). CountsRefusal old new (Err c.in_err-tell_at.field-0.0))
+    c.actions.invariant.count c.in_err-tell_at.ensures.counts)
 
 pub overflow_add-first : goal.overflow_add-first
 overflow_add-first g c =
@@ -259,3 +284,9 @@ returns-clause-told g c =
     (L.meaning c.args.listener.now) heads c.actions.last (L.meaning c.actions.listener)
     (c.actions.invariant.telling state from)
     (none_leads heads c.actions.first c.actions.invariant.leads c.in_default.ensures.value))
+
+pub returns-clause-cut_short : goal.returns-clause-cut_short
+returns-clause-cut_short g c = tt
+
+pub returns-clause-counts : goal.returns-clause-counts
+returns-clause-counts g c = c.actions.invariant.count
