@@ -1,13 +1,15 @@
 -- One of some regions that steps or hears, in a list of two parts.
-use Rattle.std.proofs.Common.{◌≡◌, ◌↔◌, ℕ, ◌-◌, ◌<◌, List, ◌++◌, length, get_or, slice_get, slice_set, sym, ap, ◌∙◌, arith, Some, Result, Ok, Err}
+use Rattle.std.proofs.Common.{◌≡◌, ◌↔◌, ℕ, ◌-◌, ◌<◌, List, ◌++◌, length, get_or, slice_get, slice_set, sym, ap, ◌∙◌, refl, arith, Some, Result, Ok, Err}
 use Rattle.std.specs.Prelude.{IfOk, OnErr}
 use Rattle.std.proofs.lemmas.List.{get_or_append_left, get_or-append_right, set-append_left, set-append_right}
 use Rattle.std.proofs.lemmas.Option.{slice_get-get_or}
+use Rattle.local_run.specs.declared.answers.Step.{Step}
 use Rattle.local_run.specs.declared.answers.Hearing.{Hearing}
 use Rattle.local_run.specs.declared.answers.Hearing.TheVariants.{Apart}
 use Rattle.local_run.specs.Opening.{RegionData, AreApart, spent}
+use Rattle.local_run.specs.Steps.{Steps}
 use Rattle.local_run.specs.Hearing.{HearsRegion}
-use Rattle.run_core.specs.Turns.{Meets, SpendsOne}
+use Rattle.run_core.specs.Turns.{Turns, Meets, SpendsOne}
 
 -- ---- lists in two parts
 module _ {A : Type 0} (xs front back : List A) (n : ℕ) (parts : xs ≡ front ++ back)
@@ -57,10 +59,26 @@ module _ {E : Type 0} (regions after : List RegionData) (k q : ℕ) (hearer send
         is = is;
       }
 
-  pub spends : OnErr r (left ≡ spent hearer) → OnErr r (SpendsOne regions k after)
+-- ---- one steps
+module _ {E : Type 0} (regions : List RegionData) (k : ℕ) (region left : RegionData) (r : Result Step E)
+    (here : slice_get regions k ≡ Some region) where
+  pub turns : IfOk r (λ answer. Steps region answer left) →
+      IfOk r (λ answer. Turns regions k answer (slice_set regions k left))
+  turns steps = by_result r steps
+    where
+      by_result : (r : Result Step E) → IfOk r (λ answer. Steps region answer left) →
+          IfOk r (λ answer. Turns regions k answer (slice_set regions k left))
+      by_result (Err e) steps = tt
+      by_result (Ok answer) steps =
+          record { region = region; here = here; left = left; steps = steps; is = refl }
+
+-- ---- one is spent
+module _ {T E : Type 0} (regions after : List RegionData) (k : ℕ) (region left : RegionData) (r : Result T E)
+    (here : slice_get regions k ≡ Some region) (is : after ≡ slice_set regions k left) where
+  pub spends : OnErr r (left ≡ spent region) → OnErr r (SpendsOne regions k after)
   spends gone = by_result r gone
     where
-      by_result : (r : Result Hearing E) → OnErr r (left ≡ spent hearer) → OnErr r (SpendsOne regions k after)
+      by_result : (r : Result T E) → OnErr r (left ≡ spent region) → OnErr r (SpendsOne regions k after)
       by_result (Ok answer) gone = tt
       by_result (Err e) gone =
-          record { region = hearer; here = here; is = is ∙ ap (slice_set regions k) gone }
+          record { region = region; here = here; is = is ∙ ap (slice_set regions k) gone }

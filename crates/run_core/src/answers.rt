@@ -15,7 +15,7 @@ pub enum Advance {
 }
 
 /// What an advance comes to, whatever it committed.
-#[derive(Clone, Copy, Debug, PartialEq, Eq)]
+#[derive(Clone, Copy)]
 pub(crate) enum Course {
     /// Some actions were committed.
     Raised,

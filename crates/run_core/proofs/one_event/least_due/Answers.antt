@@ -1,6 +1,7 @@
-use Rattle.std.proofs.Common.{length, refl, sym, ◌∙◌}
+use Rattle.std.proofs.Common.{◌≡◌, ℕ, length, refl, sym, ◌∙◌, subst, arith}
 use Rattle.std.proofs.lemmas.Option.{slice_get_read}
 use Rattle.region_messages.proofs.Order.{before_from_true, not_before_from_false}
+use Rattle.run_core.specs.Taking.{IsFirstDue}
 use Rattle.run_core.proofs.Dues.{due_first, due_there, due_before}
 use Rattle.run_core.proofs.one_event.least_due.Goals.{then-comes_before, else-comes_before}
 use Rattle.run_core.proofs.one_event.least_due.Goals as goal
@@ -28,3 +29,11 @@ loop-k-preserved c =
           (not_before_from_false c.due-due.result c.loop-k.least
           (sym c.comes_before.ensures ∙ w.if-comes_before.false))))
     ]
+
+pub returns : goal.returns
+returns c =
+    let regions = c.args.regions.now in
+    let all : c.loop-k.k ≡ length regions = omega arith in (
+      c.loop-k.least,
+      subst (λ (n : ℕ). IsFirstDue regions n c.loop-k.home c.loop-k.least) all c.loop-k.invariant,
+    )

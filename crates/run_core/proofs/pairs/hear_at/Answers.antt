@@ -20,7 +20,7 @@ returns-then-hearer-from-clause-spent c =
     let lt = c.if-hearer-from.true in
     let at = in_front c.args.regions.now _ _ c.args.from e.value e.front_len c.args.hearer
     c.index-front-hearer.result lt c.requires.sender in
-    spends c.args.regions.now _ c.args.hearer c.args.from _ c.hear.new.self c.hear.new.self c.hear.result at
+    spends c.args.regions.now _ c.args.hearer _ c.hear.new.self c.hear.result at
     (set_in_front c.args.regions.now _ _ c.args.from e.value e.front_len c.args.hearer _ lt)
     c.hear.ensures.spent
 
@@ -41,7 +41,6 @@ returns-else-hearer-from-clause-spent c =
     let e = c.split_at_mut-front-else-hearer-from.ensures in
     let at = in_back c.args.regions.now _ _ c.args.hearer e.value e.front_len
     c.index-back-0-else-hearer-from.result c.requires.hearer in
-    spends c.args.regions.now _ c.args.hearer c.args.from _ c.hear-else-hearer-from.new.self
-    c.hear-else-hearer-from.new.self c.hear-else-hearer-from.result at
+    spends c.args.regions.now _ c.args.hearer _ c.hear-else-hearer-from.new.self c.hear-else-hearer-from.result at
     (set_in_back c.args.regions.now _ _ c.args.hearer e.value e.front_len _)
     c.hear-else-hearer-from.ensures.spent
