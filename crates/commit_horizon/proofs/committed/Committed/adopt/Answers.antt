@@ -1,8 +1,14 @@
-use Rattle.std.proofs.Common.{subst}
+use Rattle.std.proofs.Common.{subst, refl}
 use Rattle.cell_sequence.specs.State.{CellStateData}
 use Rattle.local_run.specs.Opening.{IsOpened}
-use Rattle.local_run.specs.Standing.{DiffersBy}
+use Rattle.local_run.specs.Standing.{StandsOn, DiffersBy}
 use Rattle.commit_horizon.proofs.committed.Committed.adopt.Goals as goal
+
+pub returns-in_default : goal.returns-in_default
+returns-in_default c = (
+  subst (λ (v : CellStateData). StandsOn v c.args.number c.args.region) c.self.view_is c.in_default.ensures.value,
+  refl,
+)
 
 pub returns : goal.returns
 returns c = (
