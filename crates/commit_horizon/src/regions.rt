@@ -61,6 +61,7 @@ impl Committed {
             return Ok(());
         };
         let made = Region::open(alloc, &self.state, number)?;
+        // By calls, as an assignment that drops the old region is dear to prove.
         drop(std::mem::replace(region, made));
         Ok(())
     }
