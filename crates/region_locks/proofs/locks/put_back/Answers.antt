@@ -1,16 +1,15 @@
-use Rattle.std.proofs.Common.{rules, ◌≡◌, ◌≢◌, length, None, sym, subst}
+use Rattle.std.proofs.Common.{rules, ◌≡◌, length, sym, subst}
 use Rattle.local_run.specs.RunOn.{AreRunOn}
 use Rattle.region_locks.specs.Holding.{IsHeld}
-use Rattle.region_locks.proofs.Holds.{not_both, one_more_out}
+use Rattle.region_locks.proofs.Holds.{one_more_out}
 use Rattle.region_locks.proofs.locks.put_back.Goals as goal
 
 pub returns-clause-kept : goal.returns-clause-kept
 returns-clause-kept g c =
     let regions = c.args.regions.now.items in
     let region = c.in-Some.region in
-    let alive : region.run ≢ None
-    = λ none. not_both c.is_spent.result (c.is_spent.ensures.value.1 none) c.if-is_spent.false in
-    let held : IsHeld g.O.Origin.given region = search rules in
+    let alive = c.is_next.ensures.alive c.if-not-is_next.false in
     let number : region.home.number ≡ length regions = search rules in
+    let held : IsHeld g.O.Origin.given region = search rules in
     subst (AreRunOn g.O.Origin.given) (sym c.in_ok-push.ensures.items)
     (one_more_out g.O.Origin.given regions region c.requires.kept held alive number)
