@@ -20,7 +20,7 @@ const HEARS: u32 = 41;
 const OVER: u32 = u32::MAX;
 
 /// How far the workers of a burst are.
-#[derive(Clone, Copy, Debug, PartialEq, Eq)]
+#[derive(Clone, Copy)]
 pub(crate) struct Roll {
     /// What they are at, counted from 0 on: a phase is a slice or a hearing.
     pub phase: u32,
@@ -35,7 +35,7 @@ pub(crate) struct Roll {
 }
 
 /// What a worker did in a phase.
-#[derive(Clone, Copy, Debug)]
+#[derive(Clone, Copy)]
 pub(crate) struct Share {
     /// Of how many regions it did the phase's work.
     pub regions: u32,
