@@ -107,25 +107,26 @@ fn cell_runs_tell_the_plain_run(rt: HostRuntime) -> Result<(), Fail> {
     Ok(())
 }
 
-fn expect_counts(
-    rt: &impl Abort,
-    alloc: Global,
-    &(sizes, rounds, end, disks, want): &RunRow,
-) -> Result<(), AllocError> {
-    let text = scene(alloc, sizes, rounds, end, disks)?;
-    let found = run_beside(rt, alloc, text.as_str(), 4)?;
+fn expect_counts(rt: &impl Abort, alloc: Global, row: &RunRow) -> Result<(), AllocError> {
+    let &(_, _, _, disks, want) = row;
     assert_eq!(rt;
-        counts_of(&found),
+        counts_of(rt, alloc, row)?,
         Some(want),
         "{disks}: crossings and collisions"
     );
     Ok(())
 }
 
-fn counts_of(run: &Option<CellRun>) -> Option<(u32, usize)> {
-    match run {
-        Some(run) => Some((run.crossings, run.told.changes.len())),
-        None => None,
+// How many crossings and collisions the cell run of a row has; none where its scene is refused.
+fn counts_of(
+    rt: &impl Abort,
+    alloc: Global,
+    &(sizes, rounds, end, disks, _): &RunRow,
+) -> Result<Option<(u32, usize)>, AllocError> {
+    let text = scene(alloc, sizes, rounds, end, disks)?;
+    match run_beside(rt, alloc, text.as_str(), 4)? {
+        Some(run) => Ok(Some((run.crossings, run.told.changes.len()))),
+        None => Ok(None),
     }
 }
 
@@ -206,11 +207,15 @@ fn cell_runs_of_generated_scenes_tell_the_plain_run(rt: HostRuntime) -> Result<(
 fn expect_enough(rt: &impl Abort, tally: &Tally) {
     let (scenes, crossings) = (tally.scenes, tally.crossings);
     let (pairs, limits) = (tally.pairs, tally.limits);
-    assert!(rt; scenes >= LEAST_SCENES, "only {scenes} scenes");
-    assert!(rt; crossings >= LEAST_CROSSINGS, "only {crossings} crossings");
     assert!(rt;
-        pairs >= LEAST_PAIRS,
-        "only {pairs} collisions of two disks"
+        is_enough(tally),
+        "only {scenes} scenes, {crossings} crossings, {pairs} collisions of two disks, {limits} limits"
     );
-    assert!(rt; limits >= LEAST_LIMITS, "only {limits} limits");
+}
+
+fn is_enough(tally: &Tally) -> bool {
+    tally.scenes >= LEAST_SCENES
+        && tally.crossings >= LEAST_CROSSINGS
+        && tally.pairs >= LEAST_PAIRS
+        && tally.limits >= LEAST_LIMITS
 }
