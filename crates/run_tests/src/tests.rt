@@ -3,6 +3,7 @@
 mod bursts;
 mod cell_runs;
 mod listeners;
+mod scenes;
 mod texts;
 mod told;
 mod workers;

@@ -5,8 +5,9 @@ ghost use Rattle.cell_grid.specs.Grid.{IsAsked};
 ghost use Rattle.local_run.specs.Bursts.{AreTogether};
 ghost use Rattle.local_run.specs.RunOn.{AreRunOn};
 
+use super::scenes::valid_scene;
 use super::texts::{report, sums};
-use super::told::{Keeping, Told, expect_same, told_plainly};
+use super::told::{Keeping, Told, expect_plain};
 use cell_grid::MAX_REGIONS;
 use cell_sequence::CellState;
 use fixed_motion::Scene;
@@ -20,7 +21,7 @@ use std::test::Fail;
 use std::thread::Threads;
 use test_scenes::{
     BOUNCING, BOUNCING_SUMMARY, FOUR_IN_A_ROW, LONG, MISLED, MISLED_REPORT, Numbers, ROLLED_BACK,
-    ROLLED_BACK_REPORT, USUAL, generated, scene, scene_of,
+    ROLLED_BACK_REPORT, USUAL, generated, scene_of,
 };
 
 // What is done to the regions in a burst.
@@ -172,13 +173,14 @@ fn spend_all(regions: &mut [Region]) {
 
 fn spend_one(region: Option<&mut Region>) {
     if let Some(region) = region {
-        *region = Region::spent(
-            region.number(),
-            region.rules(),
-            region.grid(),
-            region.floor(),
-        );
+        let (rules, grid) = (region.rules(), region.grid());
+        let spent = Region::spent(region.number(), rules, grid, region.floor());
+        put(region, spent);
     }
+}
+
+fn put(place: &mut Region, region: Region) {
+    *place = region;
 }
 
 fn run_last(alloc: Global, regions: &mut [Region]) -> Result<(), AllocError> {
@@ -208,11 +210,12 @@ fn replace(
     region: Option<&mut Region>,
     other: &CellState,
 ) -> Result<(), AllocError> {
-    if let Some(region) = region {
-        let number = region.number();
-        if number < other.grid().regions() {
-            *region = Region::open(alloc, other, number)?;
-        }
+    let Some(region) = region else {
+        return Ok(());
+    };
+    let number = region.number();
+    if number < other.grid().regions() {
+        put(region, Region::open(alloc, other, number)?);
     }
     Ok(())
 }
@@ -245,18 +248,8 @@ fn run_beside<B: Burst>(
     requires asked { IsAsked regions }
 {
     let found = told_over(rt, alloc, scene, regions, burst)?;
-    expect_same(rt, case, &found, &told_plainly(alloc, scene)?);
+    expect_plain(rt, alloc, case, scene, &found)?;
     Ok(found)
-}
-
-// The scene of a text that is refused by no rule.
-fn valid_scene(rt: &impl Abort, alloc: Global, text: &str) -> Result<Scene, AllocError> {
-    let read = scene_of(alloc, text)?;
-    assert!(rt; read.is_some(), "refused: {text}");
-    match read {
-        Some(scene) => Ok(scene),
-        None => Err(AllocError),
-    }
 }
 
 // What stands before the limits of a scene, its end, its disks, how many regions there are, and what is done to them.
@@ -265,16 +258,37 @@ type DeedRow = (&'static str, u32, &'static str, u32, Deed);
 fn expect_row(
     rt: &(impl Threads + Wait + Sync + Abort),
     alloc: Global,
-    &(sizes, end, disks, regions, deed): &DeedRow,
+    row: &DeedRow,
 ) -> Result<(), AllocError> {
+    let &(sizes, end, disks, regions, _) = row;
     assert!(rt; 1 <= regions && regions <= MAX_REGIONS, "{regions} regions");
+    let scene = valid_scene(rt, alloc, sizes, 8, end, disks)?;
+    let mut burst = tampering_of(rt, alloc, row)?;
+    expect_plain_run(rt, alloc, row, &scene, &mut burst)
+}
+
+// Does the deed of a row; the other scene is that of the row with a later end.
+fn tampering_of(rt: &impl Abort, alloc: Global, row: &DeedRow) -> Result<Tampering, AllocError>
+    requires { IsAsked row.now.3 }
+{
+    let &(sizes, end, disks, regions, deed) = row;
+    let later = end.wrapping_add(1);
+    let other = valid_scene(rt, alloc, sizes, 8, later, disks)?;
+    Tampering::new(alloc, deed, &other, regions)
+}
+
+fn expect_plain_run(
+    rt: &(impl Threads + Wait + Sync + Abort),
+    alloc: Global,
+    row: &DeedRow,
+    scene: &Scene,
+    burst: &mut Tampering,
+) -> Result<(), AllocError>
+    requires { IsAsked row.now.3 }
+{
+    let &(_, _, disks, regions, deed) = row;
     let case = format!(in alloc; "{deed:?} with {regions} regions of {disks}")?;
-    let text = scene(alloc, sizes, 8, end, disks)?;
-    let later = scene(alloc, sizes, 8, end.wrapping_add(1), disks)?;
-    let scene = valid_scene(rt, alloc, text.as_str())?;
-    let other = valid_scene(rt, alloc, later.as_str())?;
-    let mut burst = Tampering::new(alloc, deed, &other, regions)?;
-    run_beside(rt, alloc, case.as_str(), &scene, regions, &mut burst)?;
+    run_beside(rt, alloc, case.as_str(), scene, regions, burst)?;
     Ok(())
 }
 
@@ -308,21 +322,23 @@ fn regions_that_are_moved_or_lost_tell_the_plain_run(rt: HostRuntime) -> Result<
     Ok(())
 }
 
-// What a run tells over four regions, which workers keep, and whether they say that they do.
-fn told_by_workers<R: Threads + Wait + Sync>(
+// Whether workers say that they keep the four regions over which a run tells what the plain one does.
+fn workers_keep<R: Threads + Wait + Sync + Abort>(
     rt: &R,
     alloc: Global,
+    case: &str,
     scene: &Scene,
-) -> Result<(Told, bool), AllocError> {
+) -> Result<bool, AllocError> {
     let workers = Workers {
         workers: 2,
         turns: 1,
         steps: STEPS,
         gate: &OpenGate,
     };
-    told_by_call(
+    call_keeps(
         rt,
         alloc,
+        case,
         scene,
         |regions: Vec<Region>| -> Result<Vec<Region>, AllocError>
             requires { AreTogether regions.items }
@@ -332,50 +348,71 @@ fn told_by_workers<R: Threads + Wait + Sync>(
     )
 }
 
-fn told_by_call<C: Call + Drop>(
-    rt: &(impl Threads + Wait + Sync),
+fn call_keeps<C: Call + Drop>(
+    rt: &(impl Threads + Wait + Sync + Abort),
     alloc: Global,
+    case: &str,
     scene: &Scene,
     call: C,
-) -> Result<(Told, bool), AllocError>
+) -> Result<bool, AllocError>
     requires { C.keeping call }
 {
     let mut burst = ByCall::new(call);
-    let told = told_over(rt, alloc, scene, 4, &mut burst)?;
-    Ok((told, burst.keeps()))
+    run_beside(rt, alloc, case, scene, 4, &mut burst)?;
+    Ok(burst.keeps())
 }
 
-// The same, where the regions run in one thread and two of them are swapped.
-fn told_by_swapping<R: Threads + Wait + Sync>(
-    rt: &R,
+// The same of those who run the regions in one thread and then swap two of them.
+fn swapping_keeps(
+    rt: &(impl Threads + Wait + Sync + Abort),
     alloc: Global,
+    case: &str,
     scene: &Scene,
-) -> Result<(Told, bool), AllocError> {
+) -> Result<bool, AllocError> {
     let mut burst = Tampering::new(alloc, Deed::RunAndSwap, scene, 4)?;
-    let told = told_over(rt, alloc, scene, 4, &mut burst)?;
-    Ok((told, burst.keeps()))
+    run_beside(rt, alloc, case, scene, 4, &mut burst)?;
+    Ok(burst.keeps())
 }
 
 // The end and the disks of scenes.
-const KEPT_OR_SWAPPED: &[(u32, &'static str)] = &[(40, FOUR_IN_A_ROW), (20, ROLLED_BACK)];
+type KeptRow = (u32, &'static str);
+
+const KEPT_OR_SWAPPED: &[KeptRow] = &[(40, FOUR_IN_A_ROW), (20, ROLLED_BACK)];
 
 // Of workers the regions are taken over as they come, and of those who swap them only where they stand; nobody who
 // is told of the run sees a difference.
 #[test]
 fn bursts_that_keep_and_that_swap_are_told_apart_by_nothing(rt: HostRuntime) -> Result<(), Fail> {
-    for &(end, disks) in KEPT_OR_SWAPPED {
-        let text = scene(rt.alloc(), LONG, 8, end, disks)?;
-        let scene = valid_scene(&rt, rt.alloc(), text.as_str())?;
-        let (kept, keeps) = told_by_workers(&rt, rt.alloc(), &scene)?;
-        let (swapped, swaps) = told_by_swapping(&rt, rt.alloc(), &scene)?;
-        assert!(rt;
-            keeps && !swaps,
-            "the workers keep their regions, and nobody else"
-        );
-        expect_same(&rt, disks, &swapped, &kept);
-        expect_same(&rt, disks, &kept, &told_plainly(rt.alloc(), &scene)?);
+    for row in KEPT_OR_SWAPPED {
+        expect_keepers(&rt, rt.alloc(), row)?;
     }
     Ok(())
+}
+
+fn expect_keepers<R: Threads + Wait + Sync + Abort>(
+    rt: &R,
+    alloc: Global,
+    row: &KeptRow,
+) -> Result<(), AllocError> {
+    let &(_, disks) = row;
+    assert_eq!(rt;
+        keep_and_swap(rt, alloc, row)?,
+        (true, false),
+        "{disks}: the workers keep their regions, and nobody else"
+    );
+    Ok(())
+}
+
+// Whether the workers say that they keep the regions, and whether those who swap them do.
+fn keep_and_swap<R: Threads + Wait + Sync + Abort>(
+    rt: &R,
+    alloc: Global,
+    &(end, disks): &KeptRow,
+) -> Result<(bool, bool), AllocError> {
+    let scene = valid_scene(rt, alloc, LONG, 8, end, disks)?;
+    let workers = workers_keep(rt, alloc, disks, &scene)?;
+    let swapping = swapping_keeps(rt, alloc, disks, &scene)?;
+    Ok((workers, swapping))
 }
 
 #[test]
@@ -390,13 +427,36 @@ fn regions_of_another_scene_tell_the_plain_run(rt: HostRuntime) -> Result<(), Fa
 
 #[test]
 fn a_long_run_of_one_region_tells_the_plain_run_and_its_sums(rt: HostRuntime) -> Result<(), Fail> {
-    let text = scene(rt.alloc(), USUAL, 8, 10_000, BOUNCING)?;
-    let scene = valid_scene(&rt, rt.alloc(), text.as_str())?;
-    let mut burst = Tampering::new(rt.alloc(), Deed::Rest, &scene, 1)?;
-    let told = run_beside(&rt, rt.alloc(), BOUNCING, &scene, 1, &mut burst)?;
-    let found = sums(rt.alloc(), &scene, &told)?;
+    expect_sums_of_bouncing(&rt, rt.alloc())?;
+    Ok(())
+}
+
+fn expect_sums_of_bouncing(
+    rt: &(impl Threads + Wait + Sync + Abort),
+    alloc: Global,
+) -> Result<(), AllocError> {
+    let found = sums_of_bouncing(rt, alloc)?;
     assert_eq!(rt; found.as_str(), BOUNCING_SUMMARY);
     Ok(())
+}
+
+fn sums_of_bouncing(
+    rt: &(impl Threads + Wait + Sync + Abort),
+    alloc: Global,
+) -> Result<String, AllocError> {
+    let scene = valid_scene(rt, alloc, USUAL, 8, 10_000, BOUNCING)?;
+    let told = told_at_rest(rt, alloc, &scene)?;
+    sums(alloc, &scene, &told)
+}
+
+// What the run over one region tells with which nothing is done.
+fn told_at_rest(
+    rt: &(impl Threads + Wait + Sync + Abort),
+    alloc: Global,
+    scene: &Scene,
+) -> Result<Told, AllocError> {
+    let mut burst = Tampering::new(alloc, Deed::Rest, scene, 1)?;
+    run_beside(rt, alloc, BOUNCING, scene, 1, &mut burst)
 }
 
 // The calls of a script: how often each one is made, one after the other.
@@ -449,15 +509,33 @@ fn scripts_tell_their_reports(rt: HostRuntime) -> Result<(), Fail> {
 fn expect_report_of_script(
     rt: &(impl Threads + Wait + Sync + Abort),
     alloc: Global,
-    &(disks, end, calls, want): &ScriptRow,
+    row: &ScriptRow,
 ) -> Result<(), AllocError> {
-    let text = scene(alloc, LONG, 8, end, disks)?;
-    let scene = valid_scene(rt, alloc, text.as_str())?;
-    let mut burst = script(alloc, calls)?;
-    let told = run_beside(rt, alloc, disks, &scene, 4, &mut burst)?;
-    let found = report(alloc, &scene, &told)?;
+    let &(disks, _, _, want) = row;
+    let found = report_of_script(rt, alloc, row)?;
     assert_eq!(rt; found.as_str(), want, "{disks}");
     Ok(())
+}
+
+fn report_of_script(
+    rt: &(impl Threads + Wait + Sync + Abort),
+    alloc: Global,
+    &(disks, end, calls, _): &ScriptRow,
+) -> Result<String, AllocError> {
+    let scene = valid_scene(rt, alloc, LONG, 8, end, disks)?;
+    let told = told_by_script(rt, alloc, disks, &scene, calls)?;
+    report(alloc, &scene, &told)
+}
+
+fn told_by_script(
+    rt: &(impl Threads + Wait + Sync + Abort),
+    alloc: Global,
+    case: &str,
+    scene: &Scene,
+    calls: &[Calls],
+) -> Result<Told, AllocError> {
+    let mut burst = script(alloc, calls)?;
+    run_beside(rt, alloc, case, scene, 4, &mut burst)
 }
 
 // How many generated scenes are run; others are refused.

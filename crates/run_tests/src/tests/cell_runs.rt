@@ -2,7 +2,7 @@
 
 ghost use Rattle.cell_grid.specs.Grid.{IsAsked};
 
-use super::told::{Told, expect_same, told_plainly};
+use super::told::{Told, expect_plain};
 use cell_sequence::CellState;
 use event_rules::{Limit, Spot};
 use fixed_motion::{Disk, Scene};
@@ -144,7 +144,7 @@ fn run_beside(
         return Ok(None);
     };
     let run = cell_run(alloc, &scene, regions)?;
-    expect_same(rt, text, &run.told, &told_plainly(alloc, &scene)?);
+    expect_plain(rt, alloc, text, &scene, &run.told)?;
     Ok(Some(run))
 }
 

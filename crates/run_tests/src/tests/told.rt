@@ -85,28 +85,50 @@ impl Told {
     }
 }
 
-/// What the engine that looks at all pairs tells of a scene.
-pub fn told_plainly(alloc: Global, scene: &Scene) -> Result<Told, AllocError> {
+/// Stops a test where a run of a scene told something else than the engine that looks at all pairs tells.
+pub fn expect_plain(
+    rt: &impl Abort,
+    alloc: Global,
+    case: &str,
+    scene: &Scene,
+    found: &Told,
+) -> Result<(), AllocError> {
+    let want = told_plainly(alloc, scene)?;
+    expect_same(rt, case, found, &want);
+    Ok(())
+}
+
+fn told_plainly(alloc: Global, scene: &Scene) -> Result<Told, AllocError> {
     let mut kept = Keeping::new(alloc);
     let outcome = simulate_plain(alloc, scene, &mut kept);
     Told::new(alloc, kept, outcome)
 }
 
-/// Stops a test at the first change that differs, or where the ends differ.
-pub fn expect_same(rt: &impl Abort, case: &str, found: &Told, want: &Told) {
-    for (place, (found, want)) in found.changes.iter().zip(&want.changes).enumerate() {
-        assert_eq!(rt; found, want, "{case}: change {place}");
+// Stops a test at the first change that differs or that one of the two has alone, or where the ends differ.
+fn expect_same(rt: &impl Abort, case: &str, found: &Told, want: &Told) {
+    let place = first_difference(&found.changes, &want.changes);
+    assert_eq!(rt;
+        seen_at(found, place),
+        seen_at(want, place),
+        "{case}: change {place}, the limit and the end"
+    );
+}
+
+// How many changes two runs have in common from the first one on.
+fn first_difference(found: &[Change], want: &[Change]) -> usize {
+    let mut place: usize = 0;
+    for (found, want) in found.iter().zip(want) {
+        if found != want {
+            break;
+        }
+        place = place.wrapping_add(1);
     }
-    let (found_changes, want_changes) = (found.changes.len(), want.changes.len());
-    assert_eq!(rt;
-        found_changes,
-        want_changes,
-        "{case}: the number of changes"
-    );
-    assert_eq!(rt; found.limit, want.limit, "{case}: the limit");
-    assert_eq!(rt;
-        found.spots.as_slice(),
-        want.spots.as_slice(),
-        "{case}: the end"
-    );
+    place
+}
+
+// The change of a run at a place, the limit at which it ended, and where the disks are in the end.
+type Seen<'a> = (Option<&'a Change>, Option<Limit>, &'a [Spot]);
+
+fn seen_at(told: &Told, place: usize) -> Seen<'_> {
+    (told.changes.get(place), told.limit, told.spots.as_slice())
 }
