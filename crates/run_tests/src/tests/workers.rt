@@ -5,6 +5,7 @@ ghost use Rattle.local_run.specs.Bursts.{AreTogether};
 
 use commit_horizon::Committed;
 use event_stamps::{Kind, Stamp};
+use fixed_motion::Scene;
 use region_core::{OpenGate, Region};
 use region_workers::Workers;
 use std::alloc::{AllocError, Global};
@@ -22,10 +23,11 @@ const CROSSING: Stamp = Stamp {
     second: 0,
 };
 
-// The regions of a committed state.
-fn opened(alloc: Global, committed: &Committed) -> Result<Vec<Region>, AllocError>
+// The regions at the start of a scene.
+fn opened(alloc: Global, scene: &Scene) -> Result<Vec<Region>, AllocError>
     ensures { IfOk result (λ regions. AreTogether regions.items) }
 {
+    let committed = Committed::open(alloc, scene, 4)?;
     committed.open_all(alloc)
 }
 
@@ -64,17 +66,42 @@ const ONE_STEP_ON: &[Seen] = &[
 
 #[test]
 fn a_worker_steps_and_hears(rt: HostRuntime) -> Result<(), Fail> {
-    let text = scene(rt.alloc(), LONG, 8, 40, FOUR_IN_A_ROW)?;
-    let read = scene_of(rt.alloc(), text.as_str())?;
-    assert!(rt; read.is_some(), "{FOUR_IN_A_ROW} is refused");
-    if let Some(scene) = read {
-        let committed = Committed::open(rt.alloc(), &scene, 4)?;
-        let regions = opened(rt.alloc(), &committed)?;
-        let regions = after_one_step(&rt, rt.alloc(), regions)?;
-        assert_eq!(rt; regions.len(), ONE_STEP_ON.len(), "regions");
-        for (region, &want) in regions.iter().zip(ONE_STEP_ON) {
-            assert_eq!(rt; seen(region), want, "region {}", region.number());
-        }
+    for (number, &want) in ONE_STEP_ON.iter().enumerate() {
+        let found = seen_after_one_step(&rt, rt.alloc(), number)?;
+        assert_eq!(rt;
+            found,
+            Some((ONE_STEP_ON.len(), want)),
+            "regions, and region {number}"
+        );
     }
     Ok(())
+}
+
+// How many regions there are after the burst, and one of them; none where there is no such region, or the scene is
+// refused.
+fn seen_after_one_step<R: Threads + Wait + Sync>(
+    rt: &R,
+    alloc: Global,
+    number: usize,
+) -> Result<Option<(usize, Seen)>, AllocError> {
+    let text = scene(alloc, LONG, 8, 40, FOUR_IN_A_ROW)?;
+    match scene_of(alloc, text.as_str())? {
+        Some(scene) => seen_in(rt, alloc, &scene, number),
+        None => Ok(None),
+    }
+}
+
+fn seen_in<R: Threads + Wait + Sync>(
+    rt: &R,
+    alloc: Global,
+    scene: &Scene,
+    number: usize,
+) -> Result<Option<(usize, Seen)>, AllocError> {
+    let regions = opened(alloc, scene)?;
+    let regions = after_one_step(rt, alloc, regions)?;
+    Ok(
+        regions
+            .get(number)
+            .map(|region| (regions.len(), seen(region))),
+    )
 }

@@ -1,11 +1,7 @@
-use Rattle.std.proofs.Common.{Result, Ok, Err}
-use Rattle.std.specs.Prelude.{IfOk}
+-- Regions that stand on one state are together.
+use Rattle.std.proofs.lemmas.Result.{IfOk-weaker}
 use Rattle.run_core.proofs.SoFar.{stand_together}
 use Rattle.run_tests.proofs.tests.workers.opened.Goals as goal
 
-under : {A E : Type 0} (P Q : A → Type 0) → ((x : A) → P x → Q x) → (r : Result A E) → IfOk r P → IfOk r Q
-under P Q f (Ok x) h = f x h
-under P Q f (Err e) h = tt
-
 pub returns : goal.returns
-returns c = under _ _ (λ regions. stand_together c.args.committed.now regions.items) c.open_all.result c.open_all.ensures
+returns c = IfOk-weaker c.open_all.result _ _ (λ regions. stand_together c.in_ok-committed.committed regions.items) c.open_all.ensures
