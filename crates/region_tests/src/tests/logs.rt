@@ -173,24 +173,73 @@ fn run_all(log: &mut EventLog, view: &mut View) -> Result<bool, AllocError> {
     Ok(true)
 }
 
+// What is taken back last, if anything, and what the view then says of disks 0 and 1, and of disk 0 before the log.
+type Taken = (
+    Option<Entry>,
+    Option<Placed>,
+    Option<Placed>,
+    Option<Placed>,
+);
+
+// What there is after so many are taken back; none where the rules are refused, or there is no room.
+fn taken_back(alloc: Global, times: usize) -> Result<Option<Taken>, AllocError> {
+    match empty_view(alloc)? {
+        Some(mut view) => taken_from(alloc, &mut view, times),
+        None => Ok(None),
+    }
+}
+
+fn taken_from(alloc: Global, view: &mut View, times: usize) -> Result<Option<Taken>, AllocError> {
+    let mut log = EventLog::new(alloc);
+    if run_all(&mut log, view)? {
+        Ok(Some(take_back(&mut log, view, times)?))
+    } else {
+        Ok(None)
+    }
+}
+
+fn take_back(log: &mut EventLog, view: &mut View, times: usize) -> Result<Taken, AllocError> {
+    let mut entry = None;
+    for _ in 0..times {
+        entry = log.take_back(view)?;
+    }
+    let before = log.first_row(view, 0);
+    Ok((entry, view.get(0), view.get(1), before))
+}
+
+// What there has to be after none is taken back, after one, and so on.
+fn all_taken() -> [Taken; 7] {
+    let far = Some(Placed { disk: FAR, cell: 2 });
+    let rising = Some(Placed {
+        disk: RISING,
+        cell: 2,
+    });
+    let at_rest = Some(Placed {
+        disk: AT_REST,
+        cell: 2,
+    });
+    [
+        (None, far, at_rest, None),
+        (Some(Entry::Native(FAR_HIT)), rising, at_rest, None),
+        (Some(Entry::Native(BOTH_HIT)), at_rest, at_rest, None),
+        (Some(Entry::Native(HIT)), at_rest, rising, None),
+        (
+            Some(Entry::Native(CROSSING)),
+            Some(FIRST),
+            Some(SECOND),
+            None,
+        ),
+        (Some(message()), None, None, None),
+        (None, None, None, None),
+    ]
+}
+
 #[test]
 fn taking_back_leads_to_the_first_view(rt: HostRuntime) -> Result<(), Fail> {
-    let Some(mut view) = empty_view(rt.alloc())? else {
-        assert!(rt; false, "the rules are refused");
-        return Ok(());
-    };
-    let mut log = EventLog::new(rt.alloc());
-    assert!(rt; run_all(&mut log, &mut view)?, "there is no room");
-    let newest = Placed { disk: FAR, cell: 2 };
-    assert_eq!(rt; view.get(0), Some(newest));
-    assert_eq!(rt; log.first_row(&view, 0), None);
-    for action in ACTIONS.iter().rev() {
-        assert_eq!(rt; log.take_back(&mut view)?, Some(Entry::Native(*action)));
+    for (times, taken) in all_taken().iter().enumerate() {
+        let found = taken_back(rt.alloc(), times)?;
+        assert_eq!(rt; found, Some(*taken), "{times} taken back");
     }
-    assert_eq!(rt; (view.get(0), view.get(1)), (Some(FIRST), Some(SECOND)));
-    assert_eq!(rt; log.take_back(&mut view)?, Some(message()));
-    assert_eq!(rt; (view.get(0), view.get(1)), (None, None));
-    assert_eq!(rt; log.take_back(&mut view)?, None);
     Ok(())
 }
 
@@ -207,21 +256,40 @@ fn put_both(log: &mut EventLog) -> Result<bool, AllocError> {
     Ok(true)
 }
 
+// What a log holds: the number of entries, the stamp of the last, and the actions of the first two.
+type Held = (usize, Option<Stamp>, Option<Action>, Option<Action>);
+
+fn held(log: &EventLog) -> Held {
+    (log.len(), log.last_stamp(), log.native(0), log.native(1))
+}
+
+// The last two entries, with what leads back over them, and how many are left when they are taken off.
+type Dropped = (Option<(Entry, Rows)>, Option<(Entry, Rows)>, usize);
+
+fn dropped(log: &mut EventLog) -> Dropped {
+    let last = log.drop_last();
+    let first = log.drop_last();
+    (last, first, log.len())
+}
+
+// What a log holds into which a message came late, and what is taken off it; none where there is no room.
+fn put_late(alloc: Global) -> Result<Option<(Held, Dropped)>, AllocError> {
+    let mut log = EventLog::new(alloc);
+    if put_both(&mut log)? {
+        Ok(Some((held(&log), dropped(&mut log))))
+    } else {
+        Ok(None)
+    }
+}
+
 #[test]
 fn a_late_message_is_put_before_later_entries(rt: HostRuntime) -> Result<(), Fail> {
-    let mut log = EventLog::new(rt.alloc());
-    assert!(rt; put_both(&mut log)?, "there is no room");
-    assert_eq!(rt; log.len(), 2);
-    assert_eq!(rt; log.last_stamp(), Some(CROSSING.stamp()));
-    assert_eq!(rt; (log.native(0), log.native(1)), (None, Some(CROSSING)));
-    if let Some((entry, back)) = log.drop_last() {
-        assert_eq!(rt; entry, Entry::Native(CROSSING));
-        assert_eq!(rt; back, Rows::one((0, Some(FIRST))));
-    }
+    let held = (2, Some(CROSSING.stamp()), None, Some(CROSSING));
+    let last = (Entry::Native(CROSSING), Rows::one((0, Some(FIRST))));
+    let first = (message(), Rows::two((0, None), (1, None)));
     assert_eq!(rt;
-        log.drop_last(),
-        Some((message(), Rows::two((0, None), (1, None))))
+        put_late(rt.alloc())?,
+        Some((held, (Some(last), Some(first), 0)))
     );
-    assert_eq!(rt; log.len(), 0);
     Ok(())
 }
