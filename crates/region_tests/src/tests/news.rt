@@ -2,7 +2,7 @@
 
 use super::scripts::Answer::{Entries, Heard, News, Ran, Same};
 use super::scripts::Call::{CatchesUp, HasNews, Hears, Rewinds, Runs};
-use super::scripts::{DOWN, Key, Member, Script, UP, first_wrong};
+use super::scripts::{DOWN, Key, Member, Script, UP, play};
 use event_stamps::Kind::Wall;
 use std::test::Fail;
 use test_scenes::ROLLED_BACK;
@@ -33,8 +33,7 @@ const WAITING: &[Script] = &[(
 
 #[test]
 fn what_was_taken_back_is_waited_for(rt: HostRuntime) -> Result<(), Fail> {
-    assert_eq!(rt; first_wrong(rt.alloc(), WAITING)?, None);
-    Ok(())
+    play(&rt, rt.alloc(), WAITING)
 }
 
 const NEWS: &[Script] = &[(
@@ -58,8 +57,7 @@ const NEWS: &[Script] = &[(
 
 #[test]
 fn there_is_news_until_it_is_heard(rt: HostRuntime) -> Result<(), Fail> {
-    assert_eq!(rt; first_wrong(rt.alloc(), NEWS)?, None);
-    Ok(())
+    play(&rt, rt.alloc(), NEWS)
 }
 
 // Disk 0 goes up and down in region 1, at the border of region 2, and disk 1 far from it in region 2.
@@ -78,6 +76,5 @@ const LATE: &[Script] = &[(
 
 #[test]
 fn what_comes_late_is_taken_in(rt: HostRuntime) -> Result<(), Fail> {
-    assert_eq!(rt; first_wrong(rt.alloc(), LATE)?, None);
-    Ok(())
+    play(&rt, rt.alloc(), LATE)
 }

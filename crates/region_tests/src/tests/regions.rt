@@ -4,7 +4,7 @@ use super::scripts::Answer::{
     Apart, Entries, Heard, Held, Later, PassedSpeed, Past, Ran, Rewound, Spent, Tied,
 };
 use super::scripts::Call::{Hears, Rewinds, Runs, Steps};
-use super::scripts::{DOWN, Key, Script, UP, first_wrong};
+use super::scripts::{DOWN, Key, Script, UP, play};
 use event_stamps::Kind::{Cross, Pair, Wall};
 use std::test::Fail;
 use test_scenes::{BOUNCING, MISLED, ROLLED_BACK};
@@ -61,8 +61,7 @@ const ROLLBACKS: &[Script] = &[
 
 #[test]
 fn regions_roll_back_and_go_on(rt: HostRuntime) -> Result<(), Fail> {
-    assert_eq!(rt; first_wrong(rt.alloc(), ROLLBACKS)?, None);
-    Ok(())
+    play(&rt, rt.alloc(), ROLLBACKS)
 }
 
 const MOST_ENTRIES: u32 = 4_096;
@@ -84,8 +83,7 @@ const FULL_LOG: &[Script] = &[(
 
 #[test]
 fn a_region_holds_with_a_full_log(rt: HostRuntime) -> Result<(), Fail> {
-    assert_eq!(rt; first_wrong(rt.alloc(), FULL_LOG)?, None);
-    Ok(())
+    play(&rt, rt.alloc(), FULL_LOG)
 }
 
 // A disk that goes up and down in region 1, near the border.
@@ -143,6 +141,5 @@ const STRANGERS: &[Script] = &[
 
 #[test]
 fn regions_meet_strangers(rt: HostRuntime) -> Result<(), Fail> {
-    assert_eq!(rt; first_wrong(rt.alloc(), STRANGERS)?, None);
-    Ok(())
+    play(&rt, rt.alloc(), STRANGERS)
 }

@@ -1,10 +1,14 @@
 //! Scripts: what is asked of a few regions, call by call, and what each call has to answer.
 
+ghost use Rattle.cell_grid.specs.Grid.{IsRegion};
+
 use cell_sequence::CellState;
 use event_rules::Limit;
 use event_stamps::{Kind, Stamp};
 use region_core::{Hearing, Region, Step};
 use std::alloc::{AllocError, Global};
+use std::process::Abort;
+use std::test::Fail;
 use test_scenes::{LONG, scene, scene_of};
 
 /// A tick, a round, a kind and two numbers: a stamp, in the room of a row.
@@ -61,11 +65,17 @@ pub type Row = (usize, Call, Answer);
 /// What a script shows, its regions, and its rows.
 pub type Script = (&'static str, &'static [Member], &'static [Row]);
 
-/// Where a script goes wrong: what it shows, the number of the row, from 0 on, and what was answered.
-pub type Wrong = (&'static str, usize, Answer);
+// Where a script goes wrong: what it shows, the number of the row, from 0 on, and what was answered.
+type Wrong = (&'static str, usize, Answer);
 
-/// The first row of some scripts that is answered otherwise.
-pub fn first_wrong(alloc: Global, scripts: &[Script]) -> Result<Option<Wrong>, AllocError> {
+/// Plays some scripts: each row has to be answered as it says.
+pub fn play(rt: &impl Abort, alloc: Global, scripts: &[Script]) -> Result<(), Fail> {
+    assert_eq!(rt; first_wrong(alloc, scripts)?, None);
+    Ok(())
+}
+
+// The first row of some scripts that is answered otherwise.
+fn first_wrong(alloc: Global, scripts: &[Script]) -> Result<Option<Wrong>, AllocError> {
     for &(shows, members, rows) in scripts {
         if let Some((row, answer)) = first_wrong_row(alloc, members, rows)? {
             return Ok(Some((shows, row, answer)));
@@ -105,12 +115,31 @@ fn region_of(
     &(disks, end, number, is_spent): &Member,
 ) -> Result<Option<Region>, AllocError> {
     match state_of(alloc, disks, end)? {
-        Some(state) if number < state.grid().regions() => {
-            let region = Region::open(alloc, &state, number)?;
-            Ok(Some(if is_spent { spent(&region) } else { region }))
-        }
-        _ => Ok(None),
+        Some(state) => region_in(alloc, &state, number, is_spent),
+        None => Ok(None),
     }
+}
+
+fn region_in(
+    alloc: Global,
+    state: &CellState,
+    number: u32,
+    is_spent: bool,
+) -> Result<Option<Region>, AllocError> {
+    if number >= state.grid().regions() {
+        Ok(None)
+    } else if is_spent {
+        Ok(Some(spent(state, number)))
+    } else {
+        Ok(Some(Region::open(alloc, state, number)?))
+    }
+}
+
+// A region of a state, spent.
+fn spent(state: &CellState, number: u32) -> Region
+    requires { IsRegion state.now.grid number }
+{
+    Region::spent(number, state.rules(), state.grid(), state.floor())
 }
 
 // The state with which the run of some disks begins.
@@ -122,16 +151,6 @@ fn state_of(alloc: Global, disks: &str, end: u32) -> Result<Option<CellState>, A
     }
 }
 
-// The same region, spent.
-fn spent(region: &Region) -> Region {
-    Region::spent(
-        region.number(),
-        region.rules(),
-        region.grid(),
-        region.floor(),
-    )
-}
-
 // What the region at a place answers.
 fn answer_to(
     alloc: Global,
@@ -140,8 +159,9 @@ fn answer_to(
     call: Call,
 ) -> Result<Answer, AllocError> {
     match call {
-        Call::Hears(from) => hear(alloc, regions, place, from),
-        Call::CatchesUp(from) => catch_up(alloc, regions, place, from),
+        Call::Hears(from) | Call::CatchesUp(from) => {
+            answer_of_two(alloc, regions, (place, from), call)
+        }
         _ => match regions.get_mut(place) {
             Some(region) => answer_alone(alloc, region, call),
             None => Ok(Answer::Other),
@@ -165,47 +185,37 @@ fn rewind(alloc: Global, region: &mut Region, at: Stamp) -> Result<Answer, Alloc
     Ok(Answer::Entries(region.entries()))
 }
 
-fn hear(
+// What the region at the first of two places answers to what is asked of it and the one at the second.
+fn answer_of_two(
     alloc: Global,
     regions: &mut [Region],
-    place: usize,
-    from: usize,
+    (place, from): (usize, usize),
+    call: Call,
 ) -> Result<Answer, AllocError> {
     let Some(between) = regions.get_mut(place.min(from)..=place.max(from)) else {
         return Ok(Answer::Other);
     };
     match between {
-        [hearer, .., teller] if place < from => hear_one(alloc, hearer, teller),
-        [teller, .., hearer] => hear_one(alloc, hearer, teller),
+        [hearer, .., teller] if place < from => answer_beside(alloc, hearer, teller, call),
+        [teller, .., hearer] => answer_beside(alloc, hearer, teller, call),
         _ => Ok(Answer::Other),
     }
 }
 
-fn hear_one(alloc: Global, hearer: &mut Region, teller: &Region) -> Result<Answer, AllocError> {
-    Ok(answer_of_hearing(hearer.hear(alloc, teller)?))
-}
-
-fn catch_up(
-    alloc: Global,
-    regions: &mut [Region],
-    place: usize,
-    from: usize,
-) -> Result<Answer, AllocError> {
-    let Some(between) = regions.get_mut(place.min(from)..=place.max(from)) else {
-        return Ok(Answer::Other);
-    };
-    match between {
-        [hearer, .., teller] if place < from => catch_up_with(alloc, hearer, teller),
-        [teller, .., hearer] => catch_up_with(alloc, hearer, teller),
-        _ => Ok(Answer::Other),
-    }
-}
-
-fn catch_up_with(
+fn answer_beside(
     alloc: Global,
     hearer: &mut Region,
     teller: &mut Region,
+    call: Call,
 ) -> Result<Answer, AllocError> {
+    match call {
+        Call::Hears(_) => Ok(answer_of_hearing(hearer.hear(alloc, teller)?)),
+        Call::CatchesUp(_) => catch_up(alloc, hearer, teller),
+        _ => Ok(Answer::Other),
+    }
+}
+
+fn catch_up(alloc: Global, hearer: &mut Region, teller: &mut Region) -> Result<Answer, AllocError> {
     hearer.catch_up(alloc, teller)?;
     Ok(Answer::Entries(hearer.entries()))
 }
