@@ -42,18 +42,31 @@ struct Scene {
 
 // The scene that is drawn from a number on; none where it is refused.
 fn scene_from(alloc: Global, numbers: &mut Numbers) -> Result<Option<Scene>, AllocError> {
+    match drawn(alloc, numbers)? {
+        Some(scene) => Ok(Some(opened(alloc, &scene)?)),
+        None => Ok(None),
+    }
+}
+
+fn drawn(alloc: Global, numbers: &mut Numbers) -> Result<Option<fixed_motion::Scene>, AllocError> {
     let text = crowd(alloc, numbers)?;
-    let Some(scene) = scene_of(alloc, text.as_str())? else {
-        return Ok(None);
-    };
-    let state = CellState::open(alloc, &scene, REGIONS)?;
+    scene_of(alloc, text.as_str())
+}
+
+fn opened(alloc: Global, scene: &fixed_motion::Scene) -> Result<Scene, AllocError> {
+    let state = CellState::open(alloc, scene, REGIONS)?;
+    let regions = regions_of(alloc, &state)?;
+    Ok(Scene { state, regions })
+}
+
+fn regions_of(alloc: Global, state: &CellState) -> Result<Vec<Region>, AllocError> {
     let mut regions = Vec::new(alloc);
     for number in 0..REGIONS {
-        if let Some(region) = region_of(alloc, &state, number)? {
+        if let Some(region) = region_of(alloc, state, number)? {
             regions.push(region)?;
         }
     }
-    Ok(Some(Scene { state, regions }))
+    Ok(regions)
 }
 
 fn region_of(alloc: Global, state: &CellState, number: u32) -> Result<Option<Region>, AllocError> {
@@ -131,27 +144,47 @@ fn count_late(hearer: &Region, teller: &Region) -> usize {
 
 // Compares the region at a place with one that hears the same at the start and then makes as many steps.
 fn compare(alloc: Global, scene: &Scene, place: usize) -> Result<Option<bool>, AllocError> {
-    let Some(region) = scene.regions.get(place) else {
-        return Ok(None);
-    };
-    if !scene
-        .regions
-        .iter()
-        .all(|other| has_heard_all(region, other))
-    {
-        return Ok(None);
+    match scene.regions.get(place) {
+        Some(region) if has_heard_all_of(region, &scene.regions) => {
+            compare_with_first(alloc, scene, region)
+        }
+        _ => Ok(None),
     }
+}
+
+fn compare_with_first(
+    alloc: Global,
+    scene: &Scene,
+    region: &Region,
+) -> Result<Option<bool>, AllocError> {
     let Some(mut first) = region_of(alloc, &scene.state, region.number())? else {
         return Ok(None);
     };
-    for other in &scene.regions {
+    let are_alike = is_as_if_in_time(alloc, region, &mut first, &scene.regions);
+    // By a call: where it goes out of scope, each of its parts would be let go, and proved, on its own.
+    drop(first);
+    Ok(Some(are_alike?))
+}
+
+// Whether a region did what one does that hears all others first.
+fn is_as_if_in_time(
+    alloc: Global,
+    region: &Region,
+    first: &mut Region,
+    others: &[Region],
+) -> Result<bool, AllocError> {
+    for other in others {
         first.hear(alloc, other)?;
     }
     let entries = region.entries() as u32;
     if entries > 0 {
         first.run(alloc, entries)?;
     }
-    Ok(Some(did_the_same(region, &first)))
+    Ok(did_the_same(region, first))
+}
+
+fn has_heard_all_of(region: &Region, others: &[Region]) -> bool {
+    others.iter().all(|other| has_heard_all(region, other))
 }
 
 // Whether what a region heard of another is what that one sends to it now.
