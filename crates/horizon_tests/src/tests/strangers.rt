@@ -1,5 +1,7 @@
 //! What is taken over of regions of other scenes.
 
+ghost use Rattle.cell_grid.specs.Grid.{IsRegion};
+
 use super::opened::committed_of;
 use cell_grid::MAX_REGIONS;
 use commit_horizon::{Adopted, Committed};
@@ -110,21 +112,17 @@ fn given_region(
     if !(1..=MAX_REGIONS).contains(&asked) {
         return Ok(None);
     }
-    let Some(committed) = committed_of(alloc, disks, end, asked)? else {
+    let Some(mut committed) = committed_of(alloc, disks, end, asked)? else {
         return Ok(None);
     };
-    let regions = regions_of(alloc, committed, matches!(form, Form::Raised))?;
-    let region = regions.into_iter().nth(number as usize);
-    match form {
-        Form::Spent => Ok(region.map(|region| spent(&region))),
-        Form::Opened | Form::Raised => Ok(region),
-    }
+    let regions = regions_of(alloc, &mut committed, matches!(form, Form::Raised))?;
+    Ok(picked(regions, number, form))
 }
 
 // The regions of a committed state, after a commit where their floors are to be raised.
 fn regions_of(
     alloc: Global,
-    mut committed: Committed,
+    committed: &mut Committed,
     are_raised: bool,
 ) -> Result<Vec<Region>, AllocError> {
     let mut regions = committed.open_all(alloc)?;
@@ -132,6 +130,14 @@ fn regions_of(
         committed.commit(alloc, regions.as_mut_slice())?;
     }
     Ok(regions)
+}
+
+// The region of a number, in a form.
+fn picked(regions: Vec<Region>, number: u32, form: Form) -> Option<Region> {
+    match form {
+        Form::Spent => regions.get(number as usize).map(spent),
+        Form::Opened | Form::Raised => regions.into_iter().nth(number as usize),
+    }
 }
 
 // The same region, spent.
@@ -147,32 +153,49 @@ fn spent(region: &Region) -> Region {
 // What is found where a region is to be adopted; none where there is no region or no such place.
 fn adopted(
     alloc: Global,
-    place: &Place,
+    &(disks, end, number): &Place,
     given: &Given,
 ) -> Result<Option<Option<Differs>>, AllocError> {
-    match given_region(alloc, given)? {
-        Some(region) => adopted_in_place(alloc, place, region),
+    match committed_of(alloc, disks, end, 4)? {
+        Some(committed) => adopted_by(alloc, &committed, number, given),
         None => Ok(None),
     }
 }
 
-fn adopted_in_place(
+fn adopted_by(
     alloc: Global,
-    &(disks, end, number): &Place,
-    region: Region,
+    committed: &Committed,
+    number: u32,
+    given: &Given,
 ) -> Result<Option<Option<Differs>>, AllocError> {
-    match committed_of(alloc, disks, end, 4)? {
-        Some(committed) if number < committed.state().grid().regions() => {
-            Ok(Some(differs(committed.adopt(alloc, number, region)?)))
-        }
-        _ => Ok(None),
+    if number >= committed.state().grid().regions() {
+        return Ok(None);
+    }
+    match given_region(alloc, given)? {
+        Some(region) => Ok(Some(differs_of(alloc, committed, number, region)?)),
+        None => Ok(None),
     }
 }
 
-fn differs(adopted: Adopted) -> Option<Differs> {
+fn differs_of(
+    alloc: Global,
+    committed: &Committed,
+    number: u32,
+    region: Region,
+) -> Result<Option<Differs>, AllocError>
+    requires { IsRegion committed.now.grid number }
+{
+    let adopted = committed.adopt(alloc, number, region)?;
+    let differs = differs(&adopted);
+    // By a call: where it goes out of scope, each of its parts would be let go, and proved, on its own.
+    drop(adopted);
+    Ok(differs)
+}
+
+fn differs(adopted: &Adopted) -> Option<Differs> {
     match adopted {
         Adopted::Kept(_) => None,
-        Adopted::Made(_, differs) => Some(differs),
+        Adopted::Made(_, differs) => Some(*differs),
     }
 }
 
