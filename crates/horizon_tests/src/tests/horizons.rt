@@ -62,13 +62,17 @@ impl Found {
 
 // What is found after some calls; none where the scene is refused.
 fn found_after(alloc: Global, calls: &[Call]) -> Result<Option<Found>, AllocError> {
-    let Some(committed) = committed_of(alloc, ROLLED_BACK, 20, 4)? else {
-        return Ok(None);
-    };
+    match committed_of(alloc, ROLLED_BACK, 20, 4)? {
+        Some(mut committed) => Ok(Some(found_by(alloc, &mut committed, calls)?)),
+        None => Ok(None),
+    }
+}
+
+fn found_by(alloc: Global, committed: &mut Committed, calls: &[Call]) -> Result<Found, AllocError> {
     let mut regions = committed.open_all(alloc)?;
     make_calls(alloc, &mut regions, calls)?;
-    let regions = committed.adopt_all(alloc, regions)?;
-    Ok(Some(found_in(alloc, committed, regions)?))
+    let mut regions = committed.adopt_all(alloc, regions)?;
+    found_in(alloc, committed, &mut regions)
 }
 
 fn make_calls(alloc: Global, regions: &mut [Region], calls: &[Call]) -> Result<(), AllocError> {
@@ -80,11 +84,15 @@ fn make_calls(alloc: Global, regions: &mut [Region], calls: &[Call]) -> Result<(
     Ok(())
 }
 
-fn found_in(alloc: Global, committed: Committed, regions: Vec<Region>) -> Result<Found, AllocError>
-    requires { AllStand committed regions.items }
+fn found_in(
+    alloc: Global,
+    committed: &mut Committed,
+    regions: &mut [Region],
+) -> Result<Found, AllocError>
+    requires { AllStand committed.old regions.old }
 {
-    let due = due_of(alloc, &regions)?;
-    let horizon = key_of(&committed.horizon(&regions));
+    let due = due_of(alloc, regions)?;
+    let horizon = key_of(&committed.horizon(regions));
     let committed = committed_by(alloc, committed, regions)?;
     Ok(Found {
         due,
@@ -104,12 +112,12 @@ fn due_of(alloc: Global, regions: &[Region]) -> Result<Vec<Key>, AllocError> {
 // The stamps of what a commit makes final.
 fn committed_by(
     alloc: Global,
-    mut committed: Committed,
-    mut regions: Vec<Region>,
+    committed: &mut Committed,
+    regions: &mut [Region],
 ) -> Result<Vec<Key>, AllocError>
-    requires { AllStand committed regions.items }
+    requires { AllStand committed.old regions.old }
 {
-    let batch = committed.commit(alloc, regions.as_mut_slice())?;
+    let batch = committed.commit(alloc, regions)?;
     let mut keys = Vec::new(alloc);
     for action in batch.as_slice() {
         keys.push(key_of(&action.stamp()))?;
