@@ -1,13 +1,12 @@
 //! What mode `cut` writes: what is left of a scene after a tick, as a scene of its own.
 
-ghost use Rattle.std.specs.Prelude.{◌≡◌, ◌≤◌, length, IfOk};
+ghost use Rattle.std.specs.Prelude.{◌≤◌};
 ghost use Rattle.cell_grid.specs.Grid.{IsAsked};
 ghost use Rattle.local_run.specs.Bursts.{AreTogether};
-ghost use Rattle.local_run.specs.RunOn.{AreRunOn};
 ghost use Rattle.command_words.specs.Ranges.{AreInRange};
 ghost use Rattle.hard_disks.specs.Output.{format_of, IsCutText};
 ghost use Rattle.hard_disks.specs.Answers.{Wrote, CountsWrites};
-ghost use Rattle.hard_disks.specs.Shows.{IsOfScene};
+ghost use Rattle.hard_disks.specs.Shows.{IsOfScene, GivesBack};
 
 use crate::crew::Crew;
 use crate::cut::{Cut, cut_at};
@@ -61,8 +60,7 @@ pub fn cut_regions<R: Threads + Wait + Sync, K: Sink, G: Gate>(
                 alloc,
                 |regions: Vec<Region>| -> Result<Vec<Region>, AllocError>
                     requires { AreTogether regions.items }
-                    ensures { IfOk result (λ worked. (length worked.items ≡ length regions.items)
-                        × AreRunOn regions.items worked.items) }
+                    ensures { GivesBack regions.items result }
                 { crew.burst_in(rt, alloc, regions, scope) },
                 count,
                 format,

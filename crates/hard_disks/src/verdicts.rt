@@ -1,13 +1,13 @@
 //! What mode `audit` writes: the verdict on a claimed report.
 
-ghost use Rattle.std.specs.Prelude.{◌≡◌, ◌≢◌, ◌≤◌, ◌++◌, ◌∷◌, [], Some, length, codes, decimal, IfOk};
+ghost use Rattle.std.specs.Prelude.{◌≡◌, ◌≢◌, ◌≤◌, ◌++◌, ◌∷◌, [], Some, length, codes, decimal};
 ghost use Rattle.local_run.specs.Bursts.{AreTogether};
-ghost use Rattle.local_run.specs.RunOn.{AreRunOn};
 ghost use Rattle.command_words.specs.Ranges.{AreInRange};
 ghost use Rattle.command_words.specs.declared.settings.Settings.{Settings};
 ghost use Rattle.command_words.specs.declared.settings.Mode.TheVariants.{Audit};
 ghost use Rattle.text_lines.specs.Lines.{line_of};
 ghost use Rattle.hard_disks.specs.Answers.{Answers, LeavesNothing, CountsReads, CountsWrites};
+ghost use Rattle.hard_disks.specs.Shows.{GivesBack};
 ghost use Rattle.hard_disks.specs.Verdicts.{expected_line, verdict_text, verdict_status};
 
 use crate::audit::{AuditFault, audit};
@@ -64,8 +64,7 @@ pub fn audit_regions<R: Threads + Wait + Sync, S: Source, K: Sink, G: Gate>(
                 alloc,
                 |regions: Vec<Region>| -> Result<Vec<Region>, AllocError>
                     requires { AreTogether regions.items }
-                    ensures { IfOk result (λ worked. (length worked.items ≡ length regions.items)
-                        × AreRunOn regions.items worked.items) }
+                    ensures { GivesBack regions.items result }
                 { crew.burst_in(rt, alloc, regions, scope) },
                 settings,
                 source,
