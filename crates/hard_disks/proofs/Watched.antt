@@ -1,7 +1,5 @@
 -- What a watched reporter has published and written that was told a run.
-use Rattle.std.proofs.Common.{◌≡◌, ◌≤◌, inl, ℕ, List, [], Option, Some, Result, Err, ap, subst}
-use Rattle.std.specs.Io.KnownBytes.{Appends}
-use Rattle.report_ports.specs.Ports.{AppendsPrefix, Rose}
+use Rattle.std.proofs.Common.{◌≡◌, ◌∙◌, inl, ℕ, List, [], Option, Some, Result, Err, ap, arith}
 use Rattle.fixed_motion.specs.Scene.{SceneData, IsValidScene}
 use Rattle.event_rules.specs.declared.change.Change.{Change}
 use Rattle.event_rules.specs.declared.outcome.Outcome.{Outcome}
@@ -16,8 +14,10 @@ use Rattle.live_progress.specs.Lists.{StartsWith}
 use Rattle.live_progress.specs.Watching.{SoFar, with_change, IsTorn, pairs_of}
 use Rattle.live_progress.proofs.Watches.{run_watched, cut_watched}
 use Rattle.hard_disks.specs.Reports.{IsReport, status_of}
-use Rattle.hard_disks.specs.Answers.{Wrote, WrotePrefix}
-use Rattle.hard_disks.proofs.Reported.{told_on, serves_scene, wrote_report, wrote_part_of_end, begun}
+use Rattle.hard_disks.specs.declared.status.Status.{Status}
+use Rattle.hard_disks.specs.Answers.{Wrote, WrotePrefix, CountsWrites}
+use Rattle.hard_disks.specs.Shows.{WritesText, status_of_fault}
+use Rattle.hard_disks.proofs.Reported.{told_on, serves_scene, wrote_end, begun, failed_since}
 
 -- all changes were told: all pairs are published, and with the end the whole report is written
 pub record ToldAll (format : Format) (scene : SceneData) (outcome : Outcome) (taken : Option (List ℕ)) (m n : SoFar LentReport) : Type 0 where
@@ -28,10 +28,9 @@ pub record ToldAll (format : Format) (scene : SceneData) (outcome : Outcome) (ta
   pub list : n.list ≡ pairs_of changes
   pub sink : n.inner.0 ≡ m.inner.0
   pub table : IsSceneOf n.inner.1.table scene
-  pub whole : (after : Option (List ℕ)) → Appends n.inner.1.taken after (end_text n.inner.1 scene outcome) →
-      Wrote (IsReport format scene) taken after (status_of outcome)
-  pub part : (after : Option (List ℕ)) → AppendsPrefix n.inner.1.taken after (end_text n.inner.1 scene outcome) →
-      WrotePrefix (IsReport format scene) taken after
+  pub ended : (after : Option (List ℕ)) (status : Status) →
+      WritesText (end_text n.inner.1 scene outcome) (status_of outcome) n.inner.1.taken after status →
+      Wrote (IsReport format scene) taken after status
 
 pub told_all : (format : Format) (scene : SceneData) (outcome : Outcome) (taken : Option (List ℕ)) (m n : SoFar LentReport) →
     RunTold (with_change told_on_loan) scene outcome (Some m) (Some n) → IsValidScene scene → m.list ≡ [] →
@@ -47,8 +46,8 @@ told_all format scene outcome taken m n told valid none first =
       list = seen.list;
       sink = ap (λ (v : LentReport). v.0) (told_on loan start (nothing_yet format scene taken) changes n.inner first seen.inner);
       table = serves_scene loan format scene taken changes start n.inner first seen.inner;
-      whole = (λ after ends. wrote_report loan format scene taken after changes outcome start n.inner valid run first seen.inner ends);
-      part = (λ after ends. wrote_part_of_end loan format scene taken after changes outcome start n.inner valid run first seen.inner ends);
+      ended = (λ after status text.
+          wrote_end loan format scene taken after changes outcome start n.inner status valid run first seen.inner text);
     }
 
 -- a prefix was told, and perhaps one change refused: a prefix of the pairs is published, and one of the report written
@@ -86,10 +85,8 @@ told_part format scene taken m n Listener told valid none first = told_begun for
 told_part format scene taken m n NoMemory told valid none first =
     told_begun format scene taken m n (told.0, told.1, told.2, (told.3.0, inl told.3.1)) valid none first
 
--- the count of refusals after a run that broke off
-pub refused : (T : Type 0) (before after : ℕ) (fault : RunFault) → CountsRun {T = T} before after (Err fault) → fault ≡ Listener →
-    (before ≤ after) × Rose before after
-refused T before after fault h e = subst (λ (f : RunFault). CountsRun {T = T} before after (Err f)) e h
-
-pub unrefused : (T : Type 0) (before after : ℕ) (fault : RunFault) → CountsRun {T = T} before after (Err fault) → fault ≡ NoMemory → after ≡ before
-unrefused T before after fault h e = subst (λ (f : RunFault). CountsRun {T = T} before after (Err f)) e h
+-- the count of refusals after a run that broke off, which began with a count
+pub broken_counts : (T : Type 0) (first before after : ℕ) (fault : RunFault) → CountsRun {T = T} before after (Err fault) → before ≡ first →
+    CountsWrites first after (status_of_fault fault)
+broken_counts T first before after Listener h e = failed_since first before after e h
+broken_counts T first before after NoMemory h e = let same : after ≡ first = h ∙ e in omega (arith, same)

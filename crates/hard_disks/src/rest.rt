@@ -12,11 +12,11 @@ use crate::crew::Crew;
 use crate::cut::{Cut, cut_at};
 use crate::engines::{Engine, Regions};
 use crate::refusals::late_cut_line;
-use crate::show::{format_of, status_of, write_scene, write_text};
+use crate::show::{format_of, status_of, status_of_fault, write_scene, write_text};
 use crate::status::Status;
 use collision_report::{Format, Reporter, StateTable};
 use command_words::Settings;
-use event_rules::{Outcome, RunFault};
+use event_rules::Outcome;
 use fixed_motion::Scene;
 use lent_scope::scope_mut;
 use region_core::{Gate, Region};
@@ -149,7 +149,6 @@ fn write_rest<R: Threads + Wait + Sync, E: Engine, K: Sink>(
                 Err(_) => Status::WriteFault,
             }
         }
-        Err(RunFault::Listener) => Status::WriteFault,
-        Err(RunFault::NoMemory) => Status::NoMemory,
+        Err(fault) => status_of_fault(fault),
     }
 }

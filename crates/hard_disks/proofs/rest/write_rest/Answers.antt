@@ -1,4 +1,4 @@
-use Rattle.std.proofs.Common.{◌≡◌, ◌≤◌, ◌∙◌, ℕ, codes, ap, sym, subst, arith, rules}
+use Rattle.std.proofs.Common.{◌≡◌, ◌≤◌, ◌∙◌, ℕ, codes, ap, sym, subst, rules}
 use Rattle.report_ports.specs.Ports.{Rose}
 use Rattle.collision_report.specs.declared.format.Format.TheVariants.{Summary}
 use Rattle.collision_report.specs.Meaning.{TableData, so_far}
@@ -8,9 +8,10 @@ use Rattle.hard_disks.specs.declared.cut.Cut.{Cut}
 use Rattle.hard_disks.specs.Output.{IsSceneText, IsCutText}
 use Rattle.hard_disks.specs.Reports.{status_of}
 use Rattle.hard_disks.specs.Answers.{Wrote, WrotePrefix, CountsWrites}
-use Rattle.hard_disks.proofs.Wrote.{kept, own_counts}
+use Rattle.hard_disks.specs.Shows.{status_of_fault}
+use Rattle.hard_disks.proofs.Wrote.{kept, own_counts, broken_wrote}
 use Rattle.hard_disks.proofs.Reported.{own, failed_since}
-use Rattle.hard_disks.proofs.Watched.{refused, unrefused}
+use Rattle.hard_disks.proofs.Watched.{broken_counts}
 use Rattle.hard_disks.proofs.Left.{unwritten, cut_part, cut_rest, cut_limit}
 use Rattle.hard_disks.proofs.rest.write_rest.Goals as goal
 
@@ -91,7 +92,7 @@ returns-in-Ok-Limit-clause-wrote g c =
     let loan = told.sink ∙ c.new-reporter.ensures.loan in
     let last : c.sink-in-Ok-Limit-1.given.0 ≡ c.finish.new.self.0 = search (rules, loan) in
     subst (λ v. WrotePrefix (IsCutText c.args.format c.args.at scene) (K.taken c.args.sink.now) (K.taken v)) (sym last)
-    (told.part _ c.in-Err.ensures.prefix)
+    (told.part _ c.in-Err-finish.ensures.prefix)
 
 pub returns-in-Ok-Limit-clause-counts : goal.returns-in-Ok-Limit-clause-counts
 returns-in-Ok-Limit-clause-counts g c =
@@ -102,49 +103,30 @@ returns-in-Ok-Limit-clause-counts g c =
     let loan = told.sink ∙ c.new-reporter.ensures.loan in
     let last : c.sink-in-Ok-Limit-1.given.0 ≡ c.finish.new.self.0 = search (rules, loan) in
     subst (λ v. (K.faults c.args.sink.now ≤ K.faults v) × Rose (K.faults c.args.sink.now) (K.faults v)) (sym last)
-    (failed_since _ _ _ (c.in-Ok-Limit.ensures.counts ∙ ap K.faults c.new-reporter.ensures.sink) c.in-Err.ensures.counts)
-
-pub returns-in-Err-Listener-clause-wrote : goal.returns-in-Err-Listener-clause-wrote
-returns-in-Err-Listener-clause-wrote g c =
-    let K = g.K.Sink in let scene = c.args.scene.now in
-    let first = c.new-reporter.ensures.meaning ∙ ap (λ (t : TableData). so_far Summary t (K.taken c.args.sink.now) 0 0) c.in-Ok.ensures in
-    let told = cut_part c.args.format c.args.at scene (K.taken c.args.sink.now) _ _ c.in-Err-Listener.field-0
-    c.in-Err-Listener.ensures.cut_short c.requires.at c.count-count.ensures.valid first in
-    let loan = told.sink ∙ c.new-reporter.ensures.loan in
-    let last : c.in-Err-Listener.sink-in-Err-cut_at-1-own.given.0 ≡ c.cut_at.new.listener.sink.now = search (rules, loan) in
-    subst (λ v. WrotePrefix (IsCutText c.args.format c.args.at scene) (K.taken c.args.sink.now) (K.taken v)) (sym last) told.prefix
-
-pub returns-in-Err-Listener-clause-counts : goal.returns-in-Err-Listener-clause-counts
-returns-in-Err-Listener-clause-counts g c =
-    let K = g.K.Sink in let scene = c.args.scene.now in
-    let first = c.new-reporter.ensures.meaning ∙ ap (λ (t : TableData). so_far Summary t (K.taken c.args.sink.now) 0 0) c.in-Ok.ensures in
-    let told = cut_part c.args.format c.args.at scene (K.taken c.args.sink.now) _ _ c.in-Err-Listener.field-0
-    c.in-Err-Listener.ensures.cut_short c.requires.at c.count-count.ensures.valid first in
-    let loan = told.sink ∙ c.new-reporter.ensures.loan in
-    let last : c.in-Err-Listener.sink-in-Err-cut_at-1-own.given.0 ≡ c.cut_at.new.listener.sink.now = search (rules, loan) in
-    let counts = refused Cut _ _ c.in-Err-Listener.field-0 c.in-Err-Listener.ensures.counts c.in-Err-Listener.field-0-is in
-    subst (λ v. (K.faults c.args.sink.now ≤ K.faults v) × Rose (K.faults c.args.sink.now) (K.faults v)) (sym last)
-    (failed_since _ _ _ (ap K.faults c.new-reporter.ensures.sink) counts)
+    (failed_since _ _ _ (c.in-Ok-Limit.ensures.counts ∙ ap K.faults c.new-reporter.ensures.sink) c.in-Err-finish.ensures.counts)
 
 pub returns-clause-wrote : goal.returns-clause-wrote
 returns-clause-wrote g c =
     let K = g.K.Sink in let scene = c.args.scene.now in
     let first = c.new-reporter.ensures.meaning ∙ ap (λ (t : TableData). so_far Summary t (K.taken c.args.sink.now) 0 0) c.in-Ok.ensures in
-    let told = cut_part c.args.format c.args.at scene (K.taken c.args.sink.now) _ _ c.in-Err-NoMemory.field-0
-    c.in-Err-NoMemory.ensures.cut_short c.requires.at c.count-count.ensures.valid first in
+    let told = cut_part c.args.format c.args.at scene (K.taken c.args.sink.now) _ _ c.in-Err.fault
+    c.in-Err.ensures.cut_short c.requires.at c.count-count.ensures.valid first in
     let loan = told.sink ∙ c.new-reporter.ensures.loan in
-    let last : c.in-Err-NoMemory.sink-in-Err-cut_at-1-own.given.0 ≡ c.cut_at.new.listener.sink.now = search (rules, loan) in
-    subst (λ v. WrotePrefix (IsCutText c.args.format c.args.at scene) (K.taken c.args.sink.now) (K.taken v)) (sym last) told.prefix
+    let last : c.in-Err.sink-in-Err-cut_at-1-own.given.0 ≡ c.cut_at.new.listener.sink.now = search (rules, loan) in
+    subst (λ (s : Status). Wrote (IsCutText c.args.format c.args.at scene) (K.taken c.args.sink.now) (K.taken c.in-Err.sink-in-Err-cut_at-1-own.given.0) s)
+    (sym c.status_of_fault.ensures.status)
+    (subst (λ v. Wrote (IsCutText c.args.format c.args.at scene) (K.taken c.args.sink.now) (K.taken v) (status_of_fault c.in-Err.fault)) (sym last)
+    (broken_wrote _ _ _ c.in-Err.fault told.prefix))
 
 pub returns-clause-counts : goal.returns-clause-counts
 returns-clause-counts g c =
     let K = g.K.Sink in let scene = c.args.scene.now in
     let first = c.new-reporter.ensures.meaning ∙ ap (λ (t : TableData). so_far Summary t (K.taken c.args.sink.now) 0 0) c.in-Ok.ensures in
-    let told = cut_part c.args.format c.args.at scene (K.taken c.args.sink.now) _ _ c.in-Err-NoMemory.field-0
-    c.in-Err-NoMemory.ensures.cut_short c.requires.at c.count-count.ensures.valid first in
+    let told = cut_part c.args.format c.args.at scene (K.taken c.args.sink.now) _ _ c.in-Err.fault
+    c.in-Err.ensures.cut_short c.requires.at c.count-count.ensures.valid first in
     let loan = told.sink ∙ c.new-reporter.ensures.loan in
-    let last : c.in-Err-NoMemory.sink-in-Err-cut_at-1-own.given.0 ≡ c.cut_at.new.listener.sink.now = search (rules, loan) in
-    let counts = unrefused Cut _ _ c.in-Err-NoMemory.field-0 c.in-Err-NoMemory.ensures.counts c.in-Err-NoMemory.field-0-is in
-    let same : K.faults c.in-Err-NoMemory.sink-in-Err-cut_at-1-own.given.0 ≡ K.faults c.args.sink.now =
-    ap K.faults last ∙ counts ∙ ap K.faults c.new-reporter.ensures.sink in
-    omega (arith, same)
+    let last : c.in-Err.sink-in-Err-cut_at-1-own.given.0 ≡ c.cut_at.new.listener.sink.now = search (rules, loan) in
+    subst (λ (s : Status). CountsWrites (K.faults c.args.sink.now) (K.faults c.in-Err.sink-in-Err-cut_at-1-own.given.0) s)
+    (sym c.status_of_fault.ensures.status)
+    (subst (λ v. CountsWrites (K.faults c.args.sink.now) (K.faults v) (status_of_fault c.in-Err.fault)) (sym last)
+    (broken_counts Cut _ _ _ c.in-Err.fault c.in-Err.ensures.counts (ap K.faults c.new-reporter.ensures.sink)))

@@ -1,5 +1,4 @@
-use Rattle.std.proofs.Common.{◌≡◌, ◌≤◌, ◌∙◌, ap, sym, subst, arith, rules}
-use Rattle.report_ports.specs.Ports.{Rose}
+use Rattle.std.proofs.Common.{◌≡◌, ◌∙◌, ℕ, ap, sym, subst, rules}
 use Rattle.event_rules.specs.declared.outcome.Outcome.{Outcome}
 use Rattle.event_rules.proofs.Fits.{outcomes_fit}
 use Rattle.collision_report.specs.Meaning.{TableData, so_far}
@@ -7,13 +6,14 @@ use Rattle.live_progress.specs.Lists.{Known, StartsWith}
 use Rattle.live_progress.specs.Watching.{pairs_of}
 use Rattle.hard_disks.specs.declared.status.Status.{Status}
 use Rattle.hard_disks.specs.declared.status.Status.TheVariants.{NoMemory}
-use Rattle.hard_disks.specs.Reports.{IsReport, status_of}
-use Rattle.hard_disks.specs.Answers.{Wrote, WrotePrefix, CountsWrites}
+use Rattle.hard_disks.specs.Reports.{IsReport}
+use Rattle.hard_disks.specs.Answers.{Wrote, CountsWrites}
+use Rattle.hard_disks.specs.Shows.{status_of_fault}
 use Rattle.hard_disks.specs.Publishes.{PublishesPairs}
-use Rattle.hard_disks.proofs.Wrote.{own_counts}
-use Rattle.hard_disks.proofs.Reported.{unreported, own, failed_since}
-use Rattle.hard_disks.proofs.Published.{all_published, all_begun, run_unpublished}
-use Rattle.hard_disks.proofs.Watched.{told_all, told_part, refused, unrefused}
+use Rattle.hard_disks.proofs.Wrote.{broken_wrote}
+use Rattle.hard_disks.proofs.Reported.{unreported}
+use Rattle.hard_disks.proofs.Published.{ended_published, broken_published, run_unpublished}
+use Rattle.hard_disks.proofs.Watched.{told_all, told_part, broken_counts}
 use Rattle.hard_disks.proofs.show.write_report.Goals as goal
 
 pub returns-in_default-clause-wrote : goal.returns-in_default-clause-wrote
@@ -35,57 +35,6 @@ end_report-requires-clause-scene g c =
     c.count-count.ensures.valid c.requires.unwritten first in
     told.table
 
-pub returns-in-Ok-end_report-clause-wrote : goal.returns-in-Ok-end_report-clause-wrote
-returns-in-Ok-end_report-clause-wrote g c =
-    let K = g.K.Sink in let scene = c.args.scene.now in
-    let first = c.new-reporter.ensures.meaning ∙ ap (λ (t : TableData). so_far c.args.format t (K.taken c.args.sink.now) 0 0) c.in-Ok.ensures in
-    let told = told_all c.args.format scene c.in-Ok-run.outcome (K.taken c.args.sink.now) _ _ c.in-Ok-run.ensures.run
-    c.count-count.ensures.valid c.requires.unwritten first in
-    let kept = c.end_report.ensures.loan ∙ told.sink ∙ c.new-reporter.ensures.loan in
-    let last : c.sink-1.given.0 ≡ c.end_report.new.watched.inner.sink.now = search (rules, kept) in
-    subst (λ (s : Status). Wrote (IsReport c.args.format scene) (K.taken c.args.sink.now) (K.taken c.sink-1.given.0) s) (sym c.status_of.ensures)
-    (subst (λ v. Wrote (IsReport c.args.format scene) (K.taken c.args.sink.now) (K.taken v) (status_of c.in-Ok-run.outcome)) (sym last)
-    (told.whole _ c.in-Ok-end_report.ensures.whole))
-
-pub returns-in-Ok-end_report-clause-counts : goal.returns-in-Ok-end_report-clause-counts
-returns-in-Ok-end_report-clause-counts g c =
-    let K = g.K.Sink in let scene = c.args.scene.now in
-    let first = c.new-reporter.ensures.meaning ∙ ap (λ (t : TableData). so_far c.args.format t (K.taken c.args.sink.now) 0 0) c.in-Ok.ensures in
-    let told = told_all c.args.format scene c.in-Ok-run.outcome (K.taken c.args.sink.now) _ _ c.in-Ok-run.ensures.run
-    c.count-count.ensures.valid c.requires.unwritten first in
-    let kept = c.end_report.ensures.loan ∙ told.sink ∙ c.new-reporter.ensures.loan in
-    let last : c.sink-1.given.0 ≡ c.end_report.new.watched.inner.sink.now = search (rules, kept) in
-    subst (λ (s : Status). CountsWrites (K.faults c.args.sink.now) (K.faults c.sink-1.given.0) s) (sym c.status_of.ensures)
-    (own_counts _ _ _ (own c.in-Ok-run.outcome)
-    (ap K.faults last ∙ c.in-Ok-end_report.ensures.counts ∙ c.in-Ok-run.ensures.counts ∙ ap K.faults c.new-reporter.ensures.sink))
-
-pub returns-in-Ok-end_report-clause-board_kept : goal.returns-in-Ok-end_report-clause-board_kept
-returns-in-Ok-end_report-clause-board_kept g c =
-    let K = g.K.Sink in let scene = c.args.scene.now in
-    let first = c.new-reporter.ensures.meaning ∙ ap (λ (t : TableData). so_far c.args.format t (K.taken c.args.sink.now) 0 0) c.in-Ok.ensures in
-    let told = told_all c.args.format scene c.in-Ok-run.outcome (K.taken c.args.sink.now) _ _ c.in-Ok-run.ensures.run
-    c.count-count.ensures.valid c.requires.unwritten first in
-    let kept = c.end_report.ensures.pen_loan ∙ told.pen in
-    let given : c.pen-1.given.0 ≡ c.end_report.new.watched.pen.now = search (rules, kept) in
-    let last = given ∙ c.end_report.ensures.pen in
-    ap (λ (k : Known). k.board) last ∙ told.board
-
-pub returns-in-Ok-end_report-clause-published : goal.returns-in-Ok-end_report-clause-published
-returns-in-Ok-end_report-clause-published g c =
-    let K = g.K.Sink in let scene = c.args.scene.now in
-    let first = c.new-reporter.ensures.meaning ∙ ap (λ (t : TableData). so_far c.args.format t (K.taken c.args.sink.now) 0 0) c.in-Ok.ensures in
-    let told = told_all c.args.format scene c.in-Ok-run.outcome (K.taken c.args.sink.now) _ _ c.in-Ok-run.ensures.run
-    c.count-count.ensures.valid c.requires.unwritten first in
-    let kept = c.end_report.ensures.pen_loan ∙ told.pen in
-    let given : c.pen-1.given.0 ≡ c.end_report.new.watched.pen.now = search (rules, kept) in
-    let last = given ∙ c.end_report.ensures.pen in
-    let all = all_published c.in-Ok-run.outcome (pairs_of told.changes) c.pen-1.given.0.list (ap (λ (k : Known). k.list) last ∙ told.list) in (
-      told.changes,
-      c.in-Ok-run.outcome,
-      told.run,
-      subst (λ (s : Status). PublishesPairs (pairs_of told.changes) s c.pen-1.given.0.list) (sym c.status_of.ensures) all,
-    )
-
 pub returns-in-Ok-run-clause-wrote : goal.returns-in-Ok-run-clause-wrote
 returns-in-Ok-run-clause-wrote g c =
     let K = g.K.Sink in let scene = c.args.scene.now in
@@ -94,8 +43,8 @@ returns-in-Ok-run-clause-wrote g c =
     c.count-count.ensures.valid c.requires.unwritten first in
     let kept = c.end_report.ensures.loan ∙ told.sink ∙ c.new-reporter.ensures.loan in
     let last : c.sink-1.given.0 ≡ c.end_report.new.watched.inner.sink.now = search (rules, kept) in
-    subst (λ v. WrotePrefix (IsReport c.args.format scene) (K.taken c.args.sink.now) (K.taken v)) (sym last)
-    (told.part _ c.in-Err.ensures.prefix)
+    subst (λ v. Wrote (IsReport c.args.format scene) (K.taken c.args.sink.now) (K.taken v) c.end_report.result) (sym last)
+    (told.ended _ _ c.end_report.ensures.text)
 
 pub returns-in-Ok-run-clause-counts : goal.returns-in-Ok-run-clause-counts
 returns-in-Ok-run-clause-counts g c =
@@ -105,8 +54,9 @@ returns-in-Ok-run-clause-counts g c =
     c.count-count.ensures.valid c.requires.unwritten first in
     let kept = c.end_report.ensures.loan ∙ told.sink ∙ c.new-reporter.ensures.loan in
     let last : c.sink-1.given.0 ≡ c.end_report.new.watched.inner.sink.now = search (rules, kept) in
-    subst (λ v. (K.faults c.args.sink.now ≤ K.faults v) × Rose (K.faults c.args.sink.now) (K.faults v)) (sym last)
-    (failed_since _ _ _ (c.in-Ok-run.ensures.counts ∙ ap K.faults c.new-reporter.ensures.sink) c.in-Err.ensures.counts)
+    let same = c.in-Ok-run.ensures.counts ∙ ap K.faults c.new-reporter.ensures.sink in
+    subst (λ v. CountsWrites (K.faults c.args.sink.now) (K.faults v) c.end_report.result) (sym last)
+    (subst (λ (n : ℕ). CountsWrites n (K.faults c.end_report.new.watched.inner.sink.now) c.end_report.result) same c.end_report.ensures.counts)
 
 pub returns-in-Ok-run-clause-board_kept : goal.returns-in-Ok-run-clause-board_kept
 returns-in-Ok-run-clause-board_kept g c =
@@ -127,92 +77,58 @@ returns-in-Ok-run-clause-published g c =
     c.count-count.ensures.valid c.requires.unwritten first in
     let kept = c.end_report.ensures.pen_loan ∙ told.pen in
     let given : c.pen-1.given.0 ≡ c.end_report.new.watched.pen.now = search (rules, kept) in
-    let last = given ∙ c.end_report.ensures.pen in (
-      told.changes,
-      c.in-Ok-run.outcome,
-      told.run,
-      all_begun c.pen-1.given.0.list (pairs_of told.changes) (ap (λ (k : Known). k.list) last ∙ told.list),
-    )
-
-pub returns-in-Err-Listener-clause-wrote : goal.returns-in-Err-Listener-clause-wrote
-returns-in-Err-Listener-clause-wrote g c =
-    let K = g.K.Sink in let scene = c.args.scene.now in
-    let first = c.new-reporter.ensures.meaning ∙ ap (λ (t : TableData). so_far c.args.format t (K.taken c.args.sink.now) 0 0) c.in-Ok.ensures in
-    let told = told_part c.args.format scene (K.taken c.args.sink.now) _ _ _ c.in-Err-Listener.ensures.cut_short
-    c.count-count.ensures.valid c.requires.unwritten first in
-    let kept = told.sink ∙ c.new-reporter.ensures.loan in
-    let last : c.in-Err-Listener.sink-in-Err-run-1-own.given.0 ≡ c.run.new.listener.inner.sink.now = search (rules, kept) in
-    subst (λ v. WrotePrefix (IsReport c.args.format scene) (K.taken c.args.sink.now) (K.taken v)) (sym last) told.prefix
-
-pub returns-in-Err-Listener-clause-counts : goal.returns-in-Err-Listener-clause-counts
-returns-in-Err-Listener-clause-counts g c =
-    let K = g.K.Sink in let scene = c.args.scene.now in
-    let first = c.new-reporter.ensures.meaning ∙ ap (λ (t : TableData). so_far c.args.format t (K.taken c.args.sink.now) 0 0) c.in-Ok.ensures in
-    let told = told_part c.args.format scene (K.taken c.args.sink.now) _ _ _ c.in-Err-Listener.ensures.cut_short
-    c.count-count.ensures.valid c.requires.unwritten first in
-    let kept = told.sink ∙ c.new-reporter.ensures.loan in
-    let last : c.in-Err-Listener.sink-in-Err-run-1-own.given.0 ≡ c.run.new.listener.inner.sink.now = search (rules, kept) in
-    subst (λ v. (K.faults c.args.sink.now ≤ K.faults v) × Rose (K.faults c.args.sink.now) (K.faults v)) (sym last)
-    (failed_since _ _ _ (ap K.faults c.new-reporter.ensures.sink) (refused Outcome _ _ _ c.in-Err-Listener.ensures.counts c.in-Err-Listener.field-0-is))
-
-pub returns-in-Err-Listener-clause-board_kept : goal.returns-in-Err-Listener-clause-board_kept
-returns-in-Err-Listener-clause-board_kept g c =
-    let K = g.K.Sink in let scene = c.args.scene.now in
-    let first = c.new-reporter.ensures.meaning ∙ ap (λ (t : TableData). so_far c.args.format t (K.taken c.args.sink.now) 0 0) c.in-Ok.ensures in
-    let told = told_part c.args.format scene (K.taken c.args.sink.now) _ _ _ c.in-Err-Listener.ensures.cut_short
-    c.count-count.ensures.valid c.requires.unwritten first in
-    let kept = told.pen in
-    let last : c.in-Err-Listener.pen-in-Err-run-1-own.given.0 ≡ c.run.new.listener.pen.now = search (rules, kept) in
-    ap (λ (k : Known). k.board) last ∙ told.board
-
-pub returns-in-Err-Listener-clause-published : goal.returns-in-Err-Listener-clause-published
-returns-in-Err-Listener-clause-published g c =
-    let K = g.K.Sink in let scene = c.args.scene.now in
-    let first = c.new-reporter.ensures.meaning ∙ ap (λ (t : TableData). so_far c.args.format t (K.taken c.args.sink.now) 0 0) c.in-Ok.ensures in
-    let told = told_part c.args.format scene (K.taken c.args.sink.now) _ _ _ c.in-Err-Listener.ensures.cut_short
-    c.count-count.ensures.valid c.requires.unwritten first in
-    let kept = told.pen in
-    let last : c.in-Err-Listener.pen-in-Err-run-1-own.given.0 ≡ c.run.new.listener.pen.now = search (rules, kept) in
-    (told.changes, told.outcome, told.run, subst (λ (k : Known). StartsWith (pairs_of told.changes) k.list) (sym last) told.list)
+    let last = given ∙ c.end_report.ensures.pen in
+    let all = ended_published c.in-Ok-run.outcome _ _ _ c.end_report.result (pairs_of told.changes) c.pen-1.given.0.list c.end_report.ensures.text
+    (ap (λ (k : Known). k.list) last ∙ told.list) in
+    (told.changes, c.in-Ok-run.outcome, told.run, all)
 
 pub returns-clause-wrote : goal.returns-clause-wrote
 returns-clause-wrote g c =
     let K = g.K.Sink in let scene = c.args.scene.now in
     let first = c.new-reporter.ensures.meaning ∙ ap (λ (t : TableData). so_far c.args.format t (K.taken c.args.sink.now) 0 0) c.in-Ok.ensures in
-    let told = told_part c.args.format scene (K.taken c.args.sink.now) _ _ _ c.in-Err-NoMemory.ensures.cut_short
+    let told = told_part c.args.format scene (K.taken c.args.sink.now) _ _ _ c.in-Err.ensures.cut_short
     c.count-count.ensures.valid c.requires.unwritten first in
     let kept = told.sink ∙ c.new-reporter.ensures.loan in
-    let last : c.in-Err-NoMemory.sink-in-Err-run-1-own.given.0 ≡ c.run.new.listener.inner.sink.now = search (rules, kept) in
-    subst (λ v. WrotePrefix (IsReport c.args.format scene) (K.taken c.args.sink.now) (K.taken v)) (sym last) told.prefix
+    let last : c.in-Err.sink-in-Err-run-1-own.given.0 ≡ c.run.new.listener.inner.sink.now = search (rules, kept) in
+    subst (λ (s : Status). Wrote (IsReport c.args.format scene) (K.taken c.args.sink.now) (K.taken c.in-Err.sink-in-Err-run-1-own.given.0) s)
+    (sym c.status_of_fault.ensures.status)
+    (subst (λ v. Wrote (IsReport c.args.format scene) (K.taken c.args.sink.now) (K.taken v) (status_of_fault c.in-Err.fault)) (sym last)
+    (broken_wrote _ _ _ c.in-Err.fault told.prefix))
 
 pub returns-clause-counts : goal.returns-clause-counts
 returns-clause-counts g c =
     let K = g.K.Sink in let scene = c.args.scene.now in
     let first = c.new-reporter.ensures.meaning ∙ ap (λ (t : TableData). so_far c.args.format t (K.taken c.args.sink.now) 0 0) c.in-Ok.ensures in
-    let told = told_part c.args.format scene (K.taken c.args.sink.now) _ _ _ c.in-Err-NoMemory.ensures.cut_short
+    let told = told_part c.args.format scene (K.taken c.args.sink.now) _ _ _ c.in-Err.ensures.cut_short
     c.count-count.ensures.valid c.requires.unwritten first in
     let kept = told.sink ∙ c.new-reporter.ensures.loan in
-    let last : c.in-Err-NoMemory.sink-in-Err-run-1-own.given.0 ≡ c.run.new.listener.inner.sink.now = search (rules, kept) in
-    let same = ap K.faults last ∙ unrefused Outcome _ _ _ c.in-Err-NoMemory.ensures.counts c.in-Err-NoMemory.field-0-is
-    ∙ ap K.faults c.new-reporter.ensures.sink in
-    omega (arith, same)
+    let last : c.in-Err.sink-in-Err-run-1-own.given.0 ≡ c.run.new.listener.inner.sink.now = search (rules, kept) in
+    subst (λ (s : Status). CountsWrites (K.faults c.args.sink.now) (K.faults c.in-Err.sink-in-Err-run-1-own.given.0) s) (sym c.status_of_fault.ensures.status)
+    (subst (λ v. CountsWrites (K.faults c.args.sink.now) (K.faults v) (status_of_fault c.in-Err.fault)) (sym last)
+    (broken_counts Outcome _ _ _ c.in-Err.fault c.in-Err.ensures.counts (ap K.faults c.new-reporter.ensures.sink)))
 
 pub returns-clause-board_kept : goal.returns-clause-board_kept
 returns-clause-board_kept g c =
     let K = g.K.Sink in let scene = c.args.scene.now in
     let first = c.new-reporter.ensures.meaning ∙ ap (λ (t : TableData). so_far c.args.format t (K.taken c.args.sink.now) 0 0) c.in-Ok.ensures in
-    let told = told_part c.args.format scene (K.taken c.args.sink.now) _ _ _ c.in-Err-NoMemory.ensures.cut_short
+    let told = told_part c.args.format scene (K.taken c.args.sink.now) _ _ _ c.in-Err.ensures.cut_short
     c.count-count.ensures.valid c.requires.unwritten first in
     let kept = told.pen in
-    let last : c.in-Err-NoMemory.pen-in-Err-run-1-own.given.0 ≡ c.run.new.listener.pen.now = search (rules, kept) in
+    let last : c.in-Err.pen-in-Err-run-1-own.given.0 ≡ c.run.new.listener.pen.now = search (rules, kept) in
     ap (λ (k : Known). k.board) last ∙ told.board
 
 pub returns-clause-published : goal.returns-clause-published
 returns-clause-published g c =
     let K = g.K.Sink in let scene = c.args.scene.now in
     let first = c.new-reporter.ensures.meaning ∙ ap (λ (t : TableData). so_far c.args.format t (K.taken c.args.sink.now) 0 0) c.in-Ok.ensures in
-    let told = told_part c.args.format scene (K.taken c.args.sink.now) _ _ _ c.in-Err-NoMemory.ensures.cut_short
+    let told = told_part c.args.format scene (K.taken c.args.sink.now) _ _ _ c.in-Err.ensures.cut_short
     c.count-count.ensures.valid c.requires.unwritten first in
     let kept = told.pen in
-    let last : c.in-Err-NoMemory.pen-in-Err-run-1-own.given.0 ≡ c.run.new.listener.pen.now = search (rules, kept) in
-    (told.changes, told.outcome, told.run, subst (λ (k : Known). StartsWith (pairs_of told.changes) k.list) (sym last) told.list)
+    let last : c.in-Err.pen-in-Err-run-1-own.given.0 ≡ c.run.new.listener.pen.now = search (rules, kept) in
+    let begun = subst (λ (k : Known). StartsWith (pairs_of told.changes) k.list) (sym last) told.list in (
+      told.changes,
+      told.outcome,
+      told.run,
+      subst (λ (s : Status). PublishesPairs (pairs_of told.changes) s c.in-Err.pen-in-Err-run-1-own.given.0.list) (sym c.status_of_fault.ensures.status)
+          (broken_published c.in-Err.fault _ _ begun),
+    )
