@@ -2,12 +2,13 @@
 
 ghost use Rattle.std.specs.Prelude.{◌≤◌};
 
-use super::helpers::{AMPLE_ROOM, MEETING, MEETING_REPORT, comes_to};
+use super::helpers::{AMPLE_ROOM, MEETING, MEETING_REPORT, comes_to, expect};
 use crate::status::Status;
 use crate::top::top;
 use region_core::OpenGate;
 use report_ports::{MemorySink, MemorySource, Source, Taken};
 use std::alloc::{AllocError, Global};
+use std::process::Abort;
 use std::sync::Wait;
 use std::test::Fail;
 use std::thread::Threads;
@@ -157,16 +158,27 @@ fn says(
 
 #[test]
 fn says_which_line_is_wrong(rt: HostRuntime) -> Result<(), Fail> {
-    for (number, row) in ROWS.iter().enumerate() {
-        for step in 1..6 {
-            for words in [IN_ONE, IN_FOUR] {
-                assert!(rt;
-                    says(&rt, rt.alloc(), words, row, step)?,
-                    "row {number}, {words:?}, in steps of {step}: not {}",
-                    row.1
-                );
-            }
-        }
+    for row in ROWS {
+        expect_said(&rt, rt.alloc(), IN_ONE, row)?;
+        expect_said(&rt, rt.alloc(), IN_FOUR, row)?;
+    }
+    Ok(())
+}
+
+// Stops a test where the audit of a source that gives from one to five bytes at once says something else.
+fn expect_said(
+    rt: &(impl Threads + Wait + Sync + Abort),
+    alloc: Global,
+    words: &[&str],
+    row: &Row,
+) -> Result<(), AllocError> {
+    for step in 1..6 {
+        let is_right = says(rt, alloc, words, row, step)?;
+        assert!(rt;
+            is_right,
+            "{:?}, {words:?}, in steps of {step}: not {}",
+            row.0, row.1
+        );
     }
     Ok(())
 }
@@ -178,31 +190,35 @@ const BYTES: u64 = 125 + 4 + 104;
 #[test]
 fn writes_nothing_where_a_read_fails(rt: HostRuntime) -> Result<(), Fail> {
     let text = joined(rt.alloc(), &[MEETING, "===\n", MEETING_REPORT])?;
-    for call in 0..=BYTES + 1 {
-        let (status, written) = if call <= BYTES {
-            (Status::ReadFault, "")
-        } else {
-            (Status::Done, "audit ok 8\n")
-        };
-        assert!(rt;
-            reads_all_but(&rt, rt.alloc(), text.as_str(), call, status, written)?,
-            "take {call}"
-        );
-    }
+    expect_faults(&rt, rt.alloc(), text.as_str())?;
     Ok(())
 }
 
-fn reads_all_but(
-    rt: &(impl Threads + Wait + Sync),
+fn expect_faults(
+    rt: &(impl Threads + Wait + Sync + Abort),
+    alloc: Global,
+    text: &str,
+) -> Result<(), AllocError> {
+    for call in 0..=BYTES {
+        expect_read(rt, alloc, text, call, Status::ReadFault, "")?;
+    }
+    expect_read(rt, alloc, text, BYTES + 1, Status::Done, "audit ok 8\n")
+}
+
+// Stops a test where the audit of a text, of which this take fails, comes to something else.
+fn expect_read(
+    rt: &(impl Threads + Wait + Sync + Abort),
     alloc: Global,
     text: &str,
     call: u64,
     status: Status,
-    written: &str,
-) -> Result<bool, AllocError> {
+    want: &str,
+) -> Result<(), AllocError> {
     let source = MemorySource::in_steps(alloc, text.as_bytes(), &[call], 1)?;
     let sink = MemorySink::new(alloc, &[], AMPLE_ROOM)?;
-    Ok(comes_to(rt, alloc, IN_FOUR, source, sink, status, written))
+    let is_right = comes_to(rt, alloc, IN_FOUR, source, sink, status, want);
+    assert!(rt; is_right, "take {call}");
+    Ok(())
 }
 
 // A text, and then a line that never ends.
@@ -260,17 +276,33 @@ const ENDLESS: &[Row] = &[
 
 #[test]
 fn comes_to_an_end_where_the_input_has_none(rt: HostRuntime) -> Result<(), Fail> {
-    for (number, &(pieces, want, status)) in ENDLESS.iter().enumerate() {
-        let text = joined(rt.alloc(), pieces)?;
-        let mut source = Endless {
-            text: text.as_bytes(),
-        };
-        let mut sink = MemorySink::new(rt.alloc(), &[], AMPLE_ROOM)?;
-        let found = top(&rt, rt.alloc(), IN_FOUR, &mut source, &mut sink, &OpenGate);
-        assert!(rt;
-            found == status && sink.bytes() == want.as_bytes(),
-            "row {number}: {found:?}"
-        );
+    for row in ENDLESS {
+        expect_end(&rt, rt.alloc(), row)?;
     }
     Ok(())
+}
+
+fn expect_end(
+    rt: &(impl Threads + Wait + Sync + Abort),
+    alloc: Global,
+    &(pieces, want, status): &Row,
+) -> Result<(), AllocError> {
+    let text = joined(alloc, pieces)?;
+    let found = endless_output(rt, alloc, text.as_str())?;
+    expect(rt, text.as_str(), &found, status, want);
+    Ok(())
+}
+
+// What is written where a line without an end follows the text, and the status.
+fn endless_output(
+    rt: &(impl Threads + Wait + Sync),
+    alloc: Global,
+    text: &str,
+) -> Result<(MemorySink, Status), AllocError> {
+    let mut source = Endless {
+        text: text.as_bytes(),
+    };
+    let mut sink = MemorySink::new(alloc, &[], AMPLE_ROOM)?;
+    let status = top(rt, alloc, IN_FOUR, &mut source, &mut sink, &OpenGate);
+    Ok((sink, status))
 }

@@ -6,7 +6,7 @@ use super::helpers::{MEETING, Numbers, RUN, RUN_SUMMARY, answers, generated, out
 use crate::status::Status;
 use crate::top::top;
 use region_core::OpenGate;
-use report_ports::{Given, MemorySource, Sink};
+use report_ports::{Given, MemorySink, MemorySource, Sink};
 use std::alloc::{AllocError, Global};
 use std::str::from_utf8;
 use std::sync::Wait;
@@ -364,35 +364,92 @@ fn is_told_in_parts(
     text: &str,
     at: u64,
 ) -> Result<bool, AllocError> {
+    let (rest, status) = cut_output(rt, alloc, text, at)?;
+    if status == Status::Done {
+        are_its_parts(rt, alloc, text, rest.bytes(), at)
+    } else {
+        is_its_summary(rt, alloc, text, rest.bytes(), status)
+    }
+}
+
+// What is written of the scene that is cut at the tick, and the status.
+fn cut_output(
+    rt: &(impl Threads + Wait + Sync),
+    alloc: Global,
+    text: &str,
+    at: u64,
+) -> Result<(MemorySink, Status), AllocError> {
     let tick = format!(in alloc; "{at}")?;
     let words = ["--mode", "cut", "--at", tick.as_str()];
-    let (rest, status) = output(rt, alloc, &words, text.as_bytes())?;
-    if status != Status::Done {
-        let (whole, end) = output(rt, alloc, RUN_SUMMARY, text.as_bytes())?;
-        return Ok(status == end && rest.bytes() == whole.bytes());
-    }
-    let first = ending_at(alloc, text, at)?;
-    let mut parts = String::new(alloc);
-    push_run(rt, alloc, &mut parts, first.as_bytes(), 0, Lines::Events)?;
-    push_run(rt, alloc, &mut parts, rest.bytes(), at, Lines::All)?;
-    let mut whole = String::new(alloc);
-    push_run(rt, alloc, &mut whole, text.as_bytes(), 0, Lines::All)?;
+    output(rt, alloc, &words, text.as_bytes())
+}
+
+// Whether the run of the scene passes a limit, of which this is the report in the short form.
+fn is_its_summary(
+    rt: &(impl Threads + Wait + Sync),
+    alloc: Global,
+    text: &str,
+    written: &[u8],
+    status: Status,
+) -> Result<bool, AllocError> {
+    let (whole, end) = output(rt, alloc, RUN_SUMMARY, text.as_bytes())?;
+    Ok(status == end && written == whole.bytes())
+}
+
+fn are_its_parts(
+    rt: &(impl Threads + Wait + Sync),
+    alloc: Global,
+    text: &str,
+    rest: &[u8],
+    at: u64,
+) -> Result<bool, AllocError> {
+    let whole = lines_of_run(rt, alloc, text.as_bytes(), Lines::All)?;
+    let parts = lines_of_parts(rt, alloc, text, rest, at)?;
     Ok(!whole.is_empty() && parts.as_str() == whole.as_str())
+}
+
+fn lines_of_parts(
+    rt: &(impl Threads + Wait + Sync),
+    alloc: Global,
+    text: &str,
+    rest: &[u8],
+    at: u64,
+) -> Result<String, AllocError> {
+    let first = ending_at(alloc, text, at)?;
+    let mut parts = lines_of_run(rt, alloc, first.as_bytes(), Lines::Events)?;
+    push_run(rt, alloc, &mut parts, rest, at, Lines::All)?;
+    Ok(parts)
+}
+
+// Lines of the report of a scene's run.
+fn lines_of_run(
+    rt: &(impl Threads + Wait + Sync),
+    alloc: Global,
+    scene: &[u8],
+    lines: Lines,
+) -> Result<String, AllocError> {
+    let mut text = String::new(alloc);
+    push_run(rt, alloc, &mut text, scene, 0, lines)?;
+    Ok(text)
 }
 
 // The text of the scene with another last tick.
 fn ending_at(alloc: Global, text: &str, end: u64) -> Result<String, AllocError> {
     let mut changed = String::new(alloc);
     for line in text.lines() {
-        if line.starts_with("end = ") {
-            let line = format!(in alloc; "end = {end}")?;
-            changed.push_str(line.as_str())?;
-        } else {
-            changed.push_str(line)?;
-        }
-        changed.push_str("\n")?;
+        push_changed(alloc, &mut changed, line, end)?;
     }
     Ok(changed)
+}
+
+fn push_changed(alloc: Global, text: &mut String, line: &str, end: u64) -> Result<(), AllocError> {
+    if line.starts_with("end = ") {
+        let line = format!(in alloc; "end = {end}\n")?;
+        text.push_str(line.as_str())
+    } else {
+        text.push_str(line)?;
+        text.push_str("\n")
+    }
 }
 
 // Which lines of a report are looked at: those of events alone, or also those of the last tick and of disks.

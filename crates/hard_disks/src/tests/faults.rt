@@ -14,20 +14,20 @@ const BYTES: u64 = 125;
 
 #[test]
 fn writes_nothing_where_a_take_fails(rt: HostRuntime) -> Result<(), Fail> {
-    for words in [PLAIN, RUN] {
-        for call in 0..=BYTES {
-            expect_taken(&rt, rt.alloc(), words, call, Status::ReadFault, "")?;
-        }
-        expect_taken(
-            &rt,
-            rt.alloc(),
-            words,
-            BYTES + 1,
-            Status::Done,
-            MEETING_REPORT,
-        )?;
-    }
+    expect_all_taken(&rt, rt.alloc(), PLAIN)?;
+    expect_all_taken(&rt, rt.alloc(), RUN)?;
     Ok(())
+}
+
+fn expect_all_taken(
+    rt: &(impl Threads + Wait + Sync + Abort),
+    alloc: Global,
+    words: &[&str],
+) -> Result<(), AllocError> {
+    for call in 0..=BYTES {
+        expect_taken(rt, alloc, words, call, Status::ReadFault, "")?;
+    }
+    expect_taken(rt, alloc, words, BYTES + 1, Status::Done, MEETING_REPORT)
 }
 
 // Stops a test where the run of the meeting, of which this take fails, comes to something else.
@@ -39,12 +39,22 @@ fn expect_taken(
     status: Status,
     want: &str,
 ) -> Result<(), AllocError> {
+    let found = output_without_take(rt, alloc, words, call)?;
     let case = format!(in alloc; "{words:?}, take {call}")?;
-    let source = MemorySource::in_steps(alloc, MEETING.as_bytes(), &[call], 1)?;
-    let sink = MemorySink::new(alloc, &[], AMPLE_ROOM)?;
-    let found = output_between(rt, alloc, words, source, sink);
     expect(rt, case.as_str(), &found, status, want);
     Ok(())
+}
+
+// What is written of the meeting, of which this take fails, and the status.
+fn output_without_take(
+    rt: &(impl Threads + Wait + Sync),
+    alloc: Global,
+    words: &[&str],
+    call: u64,
+) -> Result<(MemorySink, Status), AllocError> {
+    let source = MemorySource::in_steps(alloc, MEETING.as_bytes(), &[call], 1)?;
+    let sink = MemorySink::new(alloc, &[], AMPLE_ROOM)?;
+    Ok(output_between(rt, alloc, words, source, sink))
 }
 
 // The first lines of a text.
@@ -78,10 +88,9 @@ const GIVES: &[GiveRow] = &[
 
 #[test]
 fn writes_the_lines_before_the_give_that_fails(rt: HostRuntime) -> Result<(), Fail> {
-    for words in [PLAIN, RUN] {
-        for row in GIVES {
-            expect_given(&rt, rt.alloc(), words, row)?;
-        }
+    for row in GIVES {
+        expect_given(&rt, rt.alloc(), PLAIN, row)?;
+        expect_given(&rt, rt.alloc(), RUN, row)?;
     }
     Ok(())
 }
@@ -90,15 +99,39 @@ fn expect_given(
     rt: &(impl Threads + Wait + Sync + Abort),
     alloc: Global,
     words: &[&str],
-    &(failing, room, status, lines): &GiveRow,
+    row: &GiveRow,
 ) -> Result<(), AllocError> {
+    let want = first_lines(alloc, MEETING_REPORT, row.3)?;
+    expect_text(rt, alloc, words, row, want.as_str())
+}
+
+fn expect_text(
+    rt: &(impl Threads + Wait + Sync + Abort),
+    alloc: Global,
+    words: &[&str],
+    &(failing, room, status, _): &GiveRow,
+    want: &str,
+) -> Result<(), AllocError> {
+    let found = output_with(rt, alloc, words, MEETING, &[], failing, room)?;
     let case = format!(in alloc; "{words:?}, gives {failing:?}, room {room}")?;
-    let want = first_lines(alloc, MEETING_REPORT, lines)?;
-    let source = MemorySource::new(alloc, MEETING.as_bytes(), &[])?;
-    let sink = MemorySink::new(alloc, failing, room)?;
-    let found = output_between(rt, alloc, words, source, sink);
-    expect(rt, case.as_str(), &found, status, want.as_str());
+    expect(rt, case.as_str(), &found, status, want);
     Ok(())
+}
+
+// What is written of a text to a sink of so much room, where these calls of the source and of the sink fail, and the
+// status.
+fn output_with(
+    rt: &(impl Threads + Wait + Sync),
+    alloc: Global,
+    words: &[&str],
+    text: &str,
+    takes: &[u64],
+    gives: &[u64],
+    room: usize,
+) -> Result<(MemorySink, Status), AllocError> {
+    let source = MemorySource::new(alloc, text.as_bytes(), takes)?;
+    let sink = MemorySink::new(alloc, gives, room)?;
+    Ok(output_between(rt, alloc, words, source, sink))
 }
 
 // The same scene with a diameter that is out of its range.
@@ -146,10 +179,8 @@ fn expect_untold(
     alloc: Global,
     &(words, text, takes, gives, status): &UntoldRow,
 ) -> Result<(), AllocError> {
+    let found = output_with(rt, alloc, words, text, takes, gives, AMPLE_ROOM)?;
     let case = format!(in alloc; "{words:?}, takes {takes:?}, gives {gives:?}: {text}")?;
-    let source = MemorySource::new(alloc, text.as_bytes(), takes)?;
-    let sink = MemorySink::new(alloc, gives, AMPLE_ROOM)?;
-    let found = output_between(rt, alloc, words, source, sink);
     expect(rt, case.as_str(), &found, status, "");
     Ok(())
 }

@@ -1,12 +1,17 @@
 //! Large inputs for which there is memory.
 
+ghost use Rattle.std.specs.Prelude.{◌≤◌, length};
+
 use super::helpers::{AMPLE_ROOM, COUNT, MEETING, PLAIN, SUMMARY, expect, expect_output, scene};
 use crate::status::Status;
 use crate::top::top;
 use region_core::OpenGate;
 use report_ports::{MemorySink, Source, Taken};
 use std::alloc::{AllocError, Global};
+use std::process::Abort;
+use std::sync::Wait;
 use std::test::Fail;
+use std::thread::Threads;
 
 // The most bytes that a text may have.
 const MOST_BYTES: usize = 67_108_864;
@@ -16,6 +21,18 @@ const MOST_BYTES: usize = 67_108_864;
 struct Commented {
     text: &'static [u8],
     comment: usize,
+}
+
+impl Commented {
+    // Puts bytes of the comment at the front, and says how many.
+    fn put_comment(&mut self, into: &mut [u8]) -> usize
+        ensures { result ≤ length into.new }
+    {
+        let count = self.comment.min(into.len());
+        into.fill(b'#');
+        self.comment -= count;
+        count
+    }
 }
 
 impl Source for Commented {
@@ -35,9 +52,7 @@ impl Source for Commented {
 
     fn take(&mut self, into: &mut [u8]) -> Taken {
         if self.text.is_empty() {
-            let count = self.comment.min(into.len());
-            into.fill(b'#');
-            self.comment -= count;
+            let count = self.put_comment(into);
             return if count == 0 {
                 Taken::End
             } else {
@@ -73,13 +88,15 @@ fn a_text_of_a_byte_too_much_is_too_long(rt: HostRuntime) -> Result<(), Fail> {
 // The rows of 20 times 20 disks at rest.
 fn many_rows(alloc: Global) -> Result<String, AllocError> {
     let mut rows = String::new(alloc);
-    for column in 0u32..20 {
-        for row in 0u32..20 {
-            let (x, y) = (3 + 5 * column, 3 + 5 * row);
-            rows.push_str(format!(in alloc; "[{x}, {y}, 0, 0],")?.as_str())?;
-        }
+    for place in 0u32..400 {
+        push_row(alloc, &mut rows, 3 + 5 * (place / 20), 3 + 5 * (place % 20))?;
     }
     Ok(rows)
+}
+
+fn push_row(alloc: Global, rows: &mut String, x: u32, y: u32) -> Result<(), AllocError> {
+    let row = format!(in alloc; "[{x}, {y}, 0, 0],")?;
+    rows.push_str(row.as_str())
 }
 
 const SQUARE: &str = "width = 101\nheight = 101\ndiameter = 4\nevery = 1\n";
@@ -99,10 +116,23 @@ const OUTPUTS: &[(&[&str], &str)] = &[
 
 #[test]
 fn four_hundred_disks_have_room(rt: HostRuntime) -> Result<(), Fail> {
-    let rows = many_rows(rt.alloc())?;
-    let text = scene(rt.alloc(), SQUARE, 8, 2, rows.as_str())?;
     for &(words, want) in OUTPUTS {
-        expect_output(&rt, rt.alloc(), words, text.as_str(), Status::Done, want)?;
+        expect_of_square(&rt, rt.alloc(), words, want)?;
     }
     Ok(())
+}
+
+fn expect_of_square(
+    rt: &(impl Threads + Wait + Sync + Abort),
+    alloc: Global,
+    words: &[&str],
+    want: &str,
+) -> Result<(), AllocError> {
+    let text = square(alloc)?;
+    expect_output(rt, alloc, words, text.as_str(), Status::Done, want)
+}
+
+fn square(alloc: Global) -> Result<String, AllocError> {
+    let rows = many_rows(alloc)?;
+    scene(alloc, SQUARE, 8, 2, rows.as_str())
 }

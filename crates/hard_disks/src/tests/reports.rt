@@ -318,9 +318,8 @@ const REPORTS: &[OutputRow] = &[
 
 #[test]
 fn writes_each_report(rt: HostRuntime) -> Result<(), Fail> {
-    for words in [PLAIN, RUN] {
-        expect_outputs(&rt, rt.alloc(), words, REPORTS)?;
-    }
+    expect_outputs(&rt, rt.alloc(), PLAIN, REPORTS)?;
+    expect_outputs(&rt, rt.alloc(), RUN, REPORTS)?;
     Ok(())
 }
 
@@ -375,8 +374,7 @@ const SUMMARIES: &[OutputRow] = &[
 
 #[test]
 fn a_summary_lists_nothing(rt: HostRuntime) -> Result<(), Fail> {
-    for words in [SUMMARY, RUN_SUMMARY] {
-        expect_outputs(&rt, rt.alloc(), words, SUMMARIES)?;
-    }
+    expect_outputs(&rt, rt.alloc(), SUMMARY, SUMMARIES)?;
+    expect_outputs(&rt, rt.alloc(), RUN_SUMMARY, SUMMARIES)?;
     Ok(())
 }

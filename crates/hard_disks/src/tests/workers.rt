@@ -60,9 +60,8 @@ const LOADS: &[(&str, &str, &str)] = &[
 #[test]
 fn made_scenes_write_the_same_however_they_are_run(rt: HostRuntime) -> Result<(), Fail> {
     for &(disks, burst, want) in LOADS {
-        for number in ["4", "1"] {
-            expect_made(&rt, rt.alloc(), disks, burst, number, want)?;
-        }
+        expect_made(&rt, rt.alloc(), disks, burst, "4", want)?;
+        expect_made(&rt, rt.alloc(), disks, burst, "1", want)?;
     }
     Ok(())
 }
