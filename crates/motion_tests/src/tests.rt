@@ -5,4 +5,5 @@ mod impulses;
 mod motion;
 mod ports;
 mod predictions;
+mod rows;
 mod stamps;

@@ -1,7 +1,9 @@
 //! `contact` and `stay` on tables worked out by hand.
 
-ghost use Rattle.std.specs.Prelude.{◌≤◌, IsTrue, nat_abs};
+ghost use Rattle.std.specs.Prelude.{IsTrue};
+ghost use Rattle.plane_vectors.specs.Vectors.{IsWithin};
 
+use super::rows::expect_rows;
 use contact_predictor::{contact, stay};
 use plane_vectors::Vector;
 
@@ -59,20 +61,20 @@ const CONTACTS: &[ContactRow] = &[
 
 #[test]
 fn finds_each_contact(rt: HostRuntime) {
-    for &(separation, velocity, diameter, span, want) in CONTACTS {
-        let found = contact_of(separation, velocity, diameter, span);
-        assert_eq!(rt;
-            found,
-            Ok(want),
-            "from {separation:?} by {velocity:?} at {diameter}, up to {span}"
-        );
-    }
+    expect_rows(
+        &rt,
+        CONTACTS,
+        |&(separation, velocity, diameter, span, want): &ContactRow| {
+            (contact_of(separation, velocity, diameter, span), Ok(want))
+        },
+    );
 }
 
-fn is_within(x: i64, most: u64) -> bool
-    ensures { IsTrue result → nat_abs x ≤ most }
+// Whether each component of a vector is within a bound.
+fn is_near(a: Vector, most: u64) -> bool
+    ensures { IsTrue result → IsWithin most a }
 {
-    x.unsigned_abs() <= most
+    a.x.unsigned_abs() <= most && a.y.unsigned_abs() <= most
 }
 
 // An error where the numbers are none that `contact` takes.
@@ -82,32 +84,19 @@ fn contact_of(
     diameter: i64,
     span: u64,
 ) -> Result<Option<u64>, ()> {
-    if !is_within(rx, FAR) {
+    let separation = Vector { x: rx, y: ry };
+    if !is_near(separation, FAR) {
         return Err(());
     }
-    if !is_within(ry, FAR) {
+    let velocity = Vector { x: ux, y: uy };
+    if !is_near(velocity, FAST) {
         return Err(());
     }
-    if !is_within(ux, FAST) {
+    if diameter < 2 || diameter.unsigned_abs() > FAR || span > FAR {
         return Err(());
     }
-    if !is_within(uy, FAST) {
-        return Err(());
-    }
-    if diameter < 2 {
-        return Err(());
-    }
-    if !is_within(diameter, FAR) {
-        return Err(());
-    }
-    if span > FAR {
-        return Err(());
-    }
-    let later = Vector { x: rx, y: ry }.after(Vector { x: ux, y: uy }, span);
-    if !is_within(later.x, FAR) {
-        return Err(());
-    }
-    if !is_within(later.y, FAR) {
+    let later = separation.after(velocity, span);
+    if !is_near(later, FAR) {
         return Err(());
     }
     Ok(contact(rx, ry, ux, uy, diameter, span))
@@ -138,13 +127,9 @@ const STAYS: &[StayRow] = &[
 
 #[test]
 fn finds_how_long_a_coordinate_stays(rt: HostRuntime) {
-    for &(lo, hi, x, v, want) in STAYS {
-        assert_eq!(rt;
-            stay_of(lo, hi, x, v),
-            Ok(want),
-            "from {x} by {v} in {lo} to {hi}"
-        );
-    }
+    expect_rows(&rt, STAYS, |&(lo, hi, x, v, want): &StayRow| {
+        (stay_of(lo, hi, x, v), Ok(want))
+    });
 }
 
 // An error where the numbers are none that `stay` takes.

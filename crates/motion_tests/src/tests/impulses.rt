@@ -1,5 +1,6 @@
 //! Impulses, worked out by hand.
 
+use super::rows::expect_rows;
 use impulse_rounding::impulse;
 
 #[test]
@@ -26,7 +27,5 @@ fn rounds_the_exact_impulse(rt: HostRuntime) {
         (impulse(1073741824, 1073741823, -1, 0), (1, 0)),
         (impulse(1073741824, 1073741823, 0, -1), (1, 1)),
     ];
-    for (case, (got, want)) in cases.iter().enumerate() {
-        assert_eq!(rt; got, want, "case {case}");
-    }
+    expect_rows(&rt, &cases, |&row| row);
 }

@@ -1,5 +1,6 @@
 //! Where disks are, and which places overlap.
 
+use super::rows::expect_rows;
 use fixed_motion::{Disk, Rules, overlap};
 
 const RULES: Rules = Rules {
@@ -26,13 +27,9 @@ const PLACES: &[PlaceRow] = &[
 
 #[test]
 fn a_disk_has_a_place_from_its_base_to_the_side(rt: HostRuntime) {
-    for &(size, tick, want) in PLACES {
-        assert_eq!(rt;
-            place_of(size, tick),
-            Ok(want),
-            "of the size {size} at tick {tick}"
-        );
-    }
+    expect_rows(&rt, PLACES, |&(size, tick, want): &PlaceRow| {
+        (place_of(size, tick), Ok(want))
+    });
 }
 
 // The place of a disk of that size that was at (10, 5) at tick 2; an error where it or the tick is not valid.
@@ -67,7 +64,5 @@ fn places_overlap_below_the_distance(rt: HostRuntime) {
         (overlap(5, middle, (17, 14)), false),
         (overlap(2, middle, (19, 9)), true),
     ];
-    for (case, (got, want)) in cases.iter().enumerate() {
-        assert_eq!(rt; got, want, "case {case}");
-    }
+    expect_rows(&rt, &cases, |&row| row);
 }

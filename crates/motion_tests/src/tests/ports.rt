@@ -1,6 +1,7 @@
 //! Ports over a reader and a writer that fail, call by call: no clause says that a call is tried again, nor that a
 //! writer is flushed.
 
+use super::rows::expect_rows;
 use report_ports::{Given, Sink, Source, StdSink, StdSource, Taken};
 use std::io;
 use std::io::{ErrorKind, Read, Write};
@@ -75,19 +76,18 @@ const READS: &[ReadRow] = &[
 
 #[test]
 fn an_interrupted_read_is_tried_again(rt: HostRuntime) {
-    for &(kind, failing, want) in READS {
-        let reader = FailingReader {
-            kind,
-            failing,
-            left: 2,
-        };
-        assert_eq!(rt; two_reads(reader), want, "{failing} reads fail: {kind:?}");
-    }
+    expect_rows(&rt, READS, |&(kind, failing, want): &ReadRow| {
+        (two_reads(kind, failing), want)
+    });
 }
 
-fn two_reads(reader: FailingReader) -> (Taken, Taken, u64) {
+fn two_reads(kind: ErrorKind, failing: u32) -> (Taken, Taken, u64) {
     let mut room = [0u8; 3];
-    let mut source = StdSource::new(reader);
+    let mut source = StdSource::new(FailingReader {
+        kind,
+        failing,
+        left: 2,
+    });
     let first = source.take(&mut room);
     let second = source.take(&mut room);
     (first, second, source.faults())
@@ -122,20 +122,20 @@ const GIVES: &[GiveRow] = &[
 
 #[test]
 fn a_piece_is_written_and_flushed(rt: HostRuntime) {
-    for &(kind, failing, unflushed, piece, want) in GIVES {
-        let mut writer = FailingWriter {
-            kind,
-            failing,
-            unflushed,
-            flushes: 0,
-        };
-        let (given, faults) = give_to(&mut writer, piece);
-        assert_eq!(rt;
-            (given, faults, writer.flushes),
-            want,
-            "{failing} writes and {unflushed} flushes fail: {kind:?}"
-        );
-    }
+    expect_rows(
+        &rt,
+        GIVES,
+        |&(kind, failing, unflushed, piece, want): &GiveRow| {
+            let mut writer = FailingWriter {
+                kind,
+                failing,
+                unflushed,
+                flushes: 0,
+            };
+            let (given, faults) = give_to(&mut writer, piece);
+            ((given, faults, writer.flushes), want)
+        },
+    );
 }
 
 fn give_to(writer: &mut FailingWriter, piece: &[u8]) -> (Given, u64) {

@@ -1,5 +1,6 @@
 //! When disks hit each other and the sides of the box next, and what comes of it.
 
+use super::rows::expect_rows;
 use event_rules::{
     Change, Limit, apply, event_between, has_small_products, may_hit_by_small, pair_event,
     wall_event,
@@ -80,10 +81,10 @@ const PAIRS: &[PairRow] = &[
 
 #[test]
 fn finds_when_two_disks_meet(rt: HostRuntime) {
-    for (row, &(end, first, second, want)) in PAIRS.iter().enumerate() {
+    expect_rows(&rt, PAIRS, |&(end, first, second, want): &PairRow| {
         let found = meeting(end, &disk_of(first), &disk_of(second));
-        assert_eq!(rt; found, Ok(want), "row {row}");
-    }
+        (found, Ok(want))
+    });
 }
 
 // An error where the rules or the disks are not valid.
@@ -189,21 +190,23 @@ const SMALL_PAIRS: &[SmallRow] = &[
 
 #[test]
 fn tells_the_same_where_products_are_small_and_great(rt: HostRuntime) {
-    for (row, &(sizes, first, second, crosses, want)) in SMALL_PAIRS.iter().enumerate() {
-        let a = disk_of(first);
-        let b = disk_of(second);
-        assert_eq!(rt; may_hit_by_small(&a, &b), crosses, "row {row}");
-        assert_eq!(rt;
-            meeting_within(&rules_of(sizes, 0), &a, &b),
-            Ok((true, want)),
-            "row {row}"
-        );
-        assert_eq!(rt;
-            meeting_within(&rules_of(sizes, 1), &a, &b),
-            Ok((false, want)),
-            "row {row}, in a higher box"
-        );
-    }
+    expect_rows(
+        &rt,
+        SMALL_PAIRS,
+        |&(sizes, first, second, crosses, want): &SmallRow| {
+            let found = small_and_great(sizes, &disk_of(first), &disk_of(second));
+            (found, (crosses, Ok((true, want)), Ok((false, want))))
+        },
+    );
+}
+
+// Whether the disks come nearer on paths that cross, and what is found in a box and in one that is a unit higher.
+fn small_and_great(sizes: Sizes, a: &Disk, b: &Disk) -> (bool, Within, Within) {
+    (
+        may_hit_by_small(a, b),
+        meeting_within(&rules_of(sizes, 0), a, b),
+        meeting_within(&rules_of(sizes, 1), a, b),
+    )
 }
 
 // The rules of a box that is higher by so much.
@@ -218,7 +221,9 @@ fn rules_of((width, height, speed_limit): Sizes, more: i64) -> Rules {
 }
 
 // Whether products are small, and when the disks hit each other; an error where the rules or the disks are not valid.
-fn meeting_within(rules: &Rules, a: &Disk, b: &Disk) -> Result<(bool, Event), ()> {
+type Within = Result<(bool, Event), ()>;
+
+fn meeting_within(rules: &Rules, a: &Disk, b: &Disk) -> Within {
     if rules.check().is_ok() && a.is_valid(rules) && b.is_valid(rules) {
         let found = event_of(event_between(rules, 1, a, 2, b));
         Ok((has_small_products(rules), found))
@@ -261,13 +266,9 @@ const WALLS: &[WallRow] = &[
 
 #[test]
 fn finds_when_a_disk_hits_each_side(rt: HostRuntime) {
-    for (row, &(end, record, side, want)) in WALLS.iter().enumerate() {
-        assert_eq!(rt;
-            hit(end, &disk_of(record), side),
-            Ok(want),
-            "row {row}, side {side}"
-        );
-    }
+    expect_rows(&rt, WALLS, |&(end, record, side, want): &WallRow| {
+        (hit(end, &disk_of(record), side), Ok(want))
+    });
 }
 
 // An error where the rules, the disk or the side are not valid.
@@ -302,14 +303,10 @@ const COLLISIONS: &[CollisionRow] = &[
 
 #[test]
 fn changes_velocities_or_meets_a_limit(rt: HostRuntime) {
-    for &(round_limit, want) in COLLISIONS {
+    expect_rows(&rt, COLLISIONS, |&(round_limit, want): &CollisionRow| {
         let found = collision(round_limit, &disk_of(FAST_AGAIN), &disk_of(PASSING));
-        assert_eq!(rt;
-            found,
-            Some(want.map(change_to)),
-            "with {round_limit} rounds"
-        );
-    }
+        (found, Some(want.map(change_to)))
+    });
 }
 
 fn change_to((first, second): (Record, Record)) -> Change {

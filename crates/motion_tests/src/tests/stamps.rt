@@ -1,23 +1,24 @@
 //! The order of stamps.
 
+use super::rows::expect_rows;
 use event_stamps::{Kind, Stamp, compare, earlier};
 
 // A tick, a round, a kind and two numbers.
 type Parts = (u64, u32, Kind, u32, u32);
 
-// Each stamp is before all that follow it, and a part decides before all parts after it.
-const RISING: &[Parts] = &[
-    (0, 0, Kind::Cross, 0, 0),
-    (0, 0, Kind::Cross, 0, 1),
-    (0, 0, Kind::Cross, 1, 0),
-    (0, 0, Kind::Wall, 0, 1),
-    (0, 0, Kind::Wall, 1, 0),
-    (0, 0, Kind::Pair, 0, 0),
-    (0, 1, Kind::Cross, 0, 0),
-    (1, 0, Kind::Cross, 0, 0),
+// Each stamp is before all that follow it, and a part decides before all parts after it. Beside each its place.
+const RISING: &[(usize, Parts)] = &[
+    (0, (0, 0, Kind::Cross, 0, 0)),
+    (1, (0, 0, Kind::Cross, 0, 1)),
+    (2, (0, 0, Kind::Cross, 1, 0)),
+    (3, (0, 0, Kind::Wall, 0, 1)),
+    (4, (0, 0, Kind::Wall, 1, 0)),
+    (5, (0, 0, Kind::Pair, 0, 0)),
+    (6, (0, 1, Kind::Cross, 0, 0)),
+    (7, (1, 0, Kind::Cross, 0, 0)),
 ];
 
-fn stamp_of(&(tick, round, kind, first, second): &Parts) -> Stamp {
+fn stamp_of((tick, round, kind, first, second): Parts) -> Stamp {
     Stamp {
         tick,
         round,
@@ -29,24 +30,30 @@ fn stamp_of(&(tick, round, kind, first, second): &Parts) -> Stamp {
 
 #[test]
 fn orders_stamps(rt: HostRuntime) {
-    for (i, first) in RISING.iter().enumerate() {
-        for (j, second) in RISING.iter().enumerate() {
-            let (a, b) = (stamp_of(first), stamp_of(second));
-            let least = if i < j { a } else { b };
-            assert_eq!(rt; compare(&a, &b), i.cmp(&j), "stamps {i} and {j}");
-            assert_eq!(rt;
-                earlier(Some(a), Some(b)),
-                Some(least),
-                "stamps {i} and {j}"
-            );
+    expect_rows(&rt, RISING, |&(place, parts): &(usize, Parts)| {
+        (misplaced(place, stamp_of(parts)), None)
+    });
+}
+
+// The place of the first stamp with which the stamp at a place isn't ordered as the two places are.
+fn misplaced(place: usize, a: Stamp) -> Option<usize> {
+    for &(other, parts) in RISING {
+        let b = stamp_of(parts);
+        let least = if place < other { a } else { b };
+        if compare(&a, &b) != place.cmp(&other) || earlier(Some(a), Some(b)) != Some(least) {
+            return Some(other);
         }
     }
+    None
 }
 
 #[test]
 fn a_run_is_between_two_stamps(rt: HostRuntime) {
-    let first = stamp_of(&(0, 0, Kind::Cross, 0, 0));
-    assert_eq!(rt; Stamp::first_of_all(), first, "the first of all");
-    let end = stamp_of(&(1, 0, Kind::Cross, 0, 0));
-    assert_eq!(rt; Stamp::end_of(1), end, "the end of tick 1");
+    let ends = [
+        (Stamp::first_of_all(), (0, 0, Kind::Cross, 0, 0)),
+        (Stamp::end_of(1), (1, 0, Kind::Cross, 0, 0)),
+    ];
+    expect_rows(&rt, &ends, |&(found, parts): &(Stamp, Parts)| {
+        (found, stamp_of(parts))
+    });
 }

@@ -1,36 +1,24 @@
 -- The tests before the call are what it requires.
-use Rattle.std.proofs.Common.{ℕ, ◌≤◌, arith}
-use Rattle.std.specs.Prelude.{ℤ, nat_abs}
-use Rattle.plane_vectors.specs.Vectors.{vector, IsWithin}
+use Rattle.std.proofs.Common.{◌≤◌, subst}
+use Rattle.std.specs.Prelude.{nat_abs}
 use Rattle.motion_tests.proofs.tests.contacts.contact_of.Goals as goal
 
-within : (most x y : ℕ) → x ≤ most → y ≤ most → (a b : ℤ) → nat_abs a ≤ x → nat_abs b ≤ y → IsWithin most (vector a b)
-within most x y p q a b h k = record { x = omega arith; y = omega arith }
-
-pub after-later-requires-clause-own : goal.after-later-requires-clause-own
-after-later-requires-clause-own c =
-    within 2147483648 1073741824 1073741824 (omega arith) (omega arith) _ _
-    (c.is_within.ensures c.if-not-is_within.false) (c.is_within-2.ensures c.if-not-is_within-2.false)
-
-pub after-later-requires-clause-velocity : goal.after-later-requires-clause-velocity
-after-later-requires-clause-velocity c =
-    within 2097152 2097152 2097152 (omega arith) (omega arith) _ _
-    (c.is_within-3.ensures c.if-not-is_within-3.false) (c.is_within-4.ensures c.if-not-is_within-4.false)
-
 pub contact-requires-clause-rx_size : goal.contact-requires-clause-rx_size
-contact-requires-clause-rx_size c = c.is_within.ensures c.if-not-is_within.false
+contact-requires-clause-rx_size c = (c.is_near.ensures c.if-not-is_near.false).x
 
 pub contact-requires-clause-ry_size : goal.contact-requires-clause-ry_size
-contact-requires-clause-ry_size c = c.is_within-2.ensures c.if-not-is_within-2.false
+contact-requires-clause-ry_size c = (c.is_near.ensures c.if-not-is_near.false).y
 
 pub contact-requires-clause-ux_size : goal.contact-requires-clause-ux_size
-contact-requires-clause-ux_size c = c.is_within-3.ensures c.if-not-is_within-3.false
+contact-requires-clause-ux_size c = (c.is_near-2.ensures c.if-not-is_near-2.false).x
 
 pub contact-requires-clause-uy_size : goal.contact-requires-clause-uy_size
-contact-requires-clause-uy_size c = c.is_within-4.ensures c.if-not-is_within-4.false
+contact-requires-clause-uy_size c = (c.is_near-2.ensures c.if-not-is_near-2.false).y
 
-pub contact-requires-clause-diameter_size : goal.contact-requires-clause-diameter_size
-contact-requires-clause-diameter_size c = c.is_within-5.ensures c.if-not-is_within-5.false
+pub contact-requires-clause-rx_later : goal.contact-requires-clause-rx_later
+contact-requires-clause-rx_later c =
+    subst (λ v. nat_abs v.x ≤ 1073741824) c.after-later.ensures (c.is_near-3.ensures c.if-not-is_near-3.false).x
 
-pub contact-requires-clause-span_size : goal.contact-requires-clause-span_size
-contact-requires-clause-span_size c = c.if-span-gt-FAR.false
+pub contact-requires-clause-ry_later : goal.contact-requires-clause-ry_later
+contact-requires-clause-ry_later c =
+    subst (λ v. nat_abs v.y ≤ 1073741824) c.after-later.ensures (c.is_near-3.ensures c.if-not-is_near-3.false).y
