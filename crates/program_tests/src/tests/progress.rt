@@ -1,7 +1,11 @@
 //! What a glass sees, which no clause ties to the moment of its look.
 
 use live_progress::{Board, Progress};
+use std::alloc::{AllocError, Global};
+use std::sync::Wait;
 use std::test::Fail;
+
+const NONE: Progress = Progress { events: 0, tick: 0 };
 
 const FIRST: Progress = Progress { events: 1, tick: 3 };
 
@@ -9,21 +13,26 @@ const SECOND: Progress = Progress { events: 2, tick: 3 };
 
 #[test]
 fn a_glass_sees_what_was_published_last(rt: HostRuntime) -> Result<(), Fail> {
-    let (board, mut pen) = Board::open(rt.alloc())?;
-    let mut glass = board.glass(&rt, &mut pen);
-    let none = board.look(&rt, &mut glass);
+    let seen = seen(&rt, rt.alloc())?;
     assert_eq!(rt;
-        none,
-        Progress { events: 0, tick: 0 },
-        "before any publishing"
+        seen,
+        (NONE, FIRST, SECOND, SECOND),
+        "before any publishing, after the first pair and the second, and of the pen that took the glass back"
     );
-    board.publish(&rt, &mut pen, FIRST);
-    let one = board.look(&rt, &mut glass);
-    assert_eq!(rt; one, FIRST, "after the first pair");
-    board.publish(&rt, &mut pen, SECOND);
-    let two = board.look(&rt, &mut glass);
-    assert_eq!(rt; two, SECOND, "after the second pair");
-    board.retire(&rt, &mut pen, glass);
-    assert_eq!(rt; pen.last(), SECOND, "of the pen that took the glass back");
     Ok(())
+}
+
+fn seen<R: Wait>(
+    rt: &R,
+    alloc: Global,
+) -> Result<(Progress, Progress, Progress, Progress), AllocError> {
+    let (board, mut pen) = Board::open(alloc)?;
+    let mut glass = board.glass(rt, &mut pen);
+    let none = board.look(rt, &mut glass);
+    board.publish(rt, &mut pen, FIRST);
+    let one = board.look(rt, &mut glass);
+    board.publish(rt, &mut pen, SECOND);
+    let two = board.look(rt, &mut glass);
+    board.retire(rt, &mut pen, glass);
+    Ok((none, one, two, pen.last()))
 }
