@@ -5,7 +5,6 @@ use crate::gathered::Gathered;
 use crate::near::{Block, block_around};
 use cell_grid::Grid;
 use std::alloc::{AllocError, Global};
-use std::cmp::min;
 use std::marker::Model;
 
 /// Which disks are listed in which cells of a grid.
@@ -175,7 +174,7 @@ fn lesser(a: Option<u32>, b: Option<u32>) -> Option<u32>
     ensures { result ≡ lesser_of a b }
 {
     match (a, b) {
-        (Some(a), Some(b)) => Some(min(a, b)),
+        (Some(a), Some(b)) => Some(a.min(b)),
         (Some(a), None) => Some(a),
         (None, b) => b,
     }

@@ -5,7 +5,6 @@ ghost use Rattle.cell_grid.specs.Grid.{IsCell, IsAdjacent};
 ghost use Rattle.cell_lists.specs.Nearby.{IsBlock, IsWithin};
 
 use cell_grid::Grid;
-use std::cmp::min;
 
 /// The cells in columns from `left` on, below `right`, and in rows from `low` on, below `high`.
 #[derive(Clone, Copy)]
@@ -30,8 +29,8 @@ pub fn block_around(grid: &Grid, cell: u32) -> Block
     let row = cell / grid.columns();
     Block {
         left: column.saturating_sub(1),
-        right: min(column + 2, grid.columns()),
+        right: (column + 2).min(grid.columns()),
         low: row.saturating_sub(1),
-        high: min(row + 2, grid.rows()),
+        high: (row + 2).min(grid.rows()),
     }
 }
