@@ -1,5 +1,5 @@
 -- Firsts and lasts of a property.
-use Rattle.std.proofs.Common.{◌≡◌, ◌≢◌, ◌⊎◌, ◌^◌, IfSome, ◌↔◌, ℕ, ◌+◌, ◌-◌, ◌<◌, ◌≤◌, min, List, [], ◌∷◌, ◌++◌, arith, inl, inr, sym, subst}
+use Rattle.std.proofs.Common.{◌≡◌, ◌≢◌, ◌⊎◌, ◌^◌, IfSome, ◌↔◌, ℕ, ◌+◌, ◌-◌, ◌<◌, ◌≤◌, min, List, [], ◌∷◌, ◌++◌, append_assoc, arith, inl, inr, sym, subst}
 use Rattle.std.specs.Prelude.{Option, Some, None}
 use Rattle.std.proofs.lemmas.Bool.{cases_lt}
 use Rattle.cell_lists.specs.Firsts.{IsFirstOf, IsLastOf, AreAllFrom, lesser_of}
@@ -91,3 +91,13 @@ all_same P Q from (i ∷ xs) same h = (first_kept P Q from (Some i) (λ j _. sam
 -- the list goes on with all from a number on
 abbrev pub GoesOn : (ℕ → Type 0) → List ℕ → ℕ → Type 0
 GoesOn P xs from = (later : List ℕ) → AreAllFrom P from later → AreAllFrom P 0 (xs ++ later)
+
+-- with no number yet
+pub goes_on_from_none : (P : ℕ → Type 0) → GoesOn P [] 0
+goes_on_from_none P later all = all
+
+-- with one more
+pub goes_on_from_next : (P : ℕ → Type 0) (xs : List ℕ) (from i : ℕ) → IsFirstOf P from (Some i) → GoesOn P xs from →
+    GoesOn P (xs ++ (i ∷ [])) (i + 1)
+goes_on_from_next P xs from i first on later all =
+    subst (AreAllFrom P 0) (sym (append_assoc xs (i ∷ []) later)) (on (i ∷ later) (first, all))
