@@ -311,27 +311,27 @@ chained_take heads nexts cells heads' nexts' b d cell (Some p) chained listed is
 abbrev none_at : ℕ → List (Option ℕ)
 none_at n = replicate n None
 
+count_none : (n : ℕ) → length (none_at n) ≡ n
+count_none n = length-replicate {A = Option ℕ} n None
+
+pub at_none : (n i : ℕ) → at (none_at n) i ≡ None
+at_none n i = elim (cases_lt i n) [
+  | inl lt ↦ get_or-replicate n i None None lt
+  | inr past ↦ get_or_past (none_at n) i None (rw (count_none n) past)
+]
+
 pub chained_none : (count room : ℕ) → 0 < count → room < 2 ^ 32 → IsChained (none_at count) (none_at room) (none_at room)
 chained_none count room some few = record {
-  some = rw (size count) some;
-  few = rw (size room) few;
+  some = rw (count_none count) some;
+  few = rw (count_none room) few;
   len = refl;
-  first = λ b lt. subst (λ (o : Option ℕ). IsFirst (none_at room) (length (none_at count)) b 0 o) (sym (none count b))
+  first = λ b lt. subst (λ (o : Option ℕ). IsFirst (none_at room) (length (none_at count)) b 0 o) (sym (at_none count b))
       (λ j le here. never (length (none_at count)) b j here);
   after = λ i b here. absurd (never (length (none_at count)) b i here);
 }
   where
-    size : (n : ℕ) → length (none_at n) ≡ n
-    size n = length-replicate {A = Option ℕ} n None
-
-    none : (n i : ℕ) → at (none_at n) i ≡ None
-    none n i = elim (cases_lt i n) [
-      | inl lt ↦ get_or-replicate n i None None lt
-      | inr past ↦ get_or_past (none_at n) i None (rw (size n) past)
-    ]
-
     never : (m b i : ℕ) → ¬ InBucket (none_at room) m b i
-    never m b i = in_none (none_at room) m b i (none room i)
+    never m b i = in_none (none_at room) m b i (at_none room i)
 
 -- ---- what the chains are seen as
 pub record IsSeen (heads nexts : List (Option ℕ)) (chains : ChainsData) : Type 0 where

@@ -1,12 +1,13 @@
 -- Nodes that are read and written, as the two lists that they are seen as.
-use Rattle.std.proofs.Common.{◌≡◌, ℕ, zero, suc, ◌<◌, List, ◌∷◌, length, get_or, set, refl, sym, ap, subst, ◌∙◌}
-use Rattle.std.specs.Prelude.{Option, Some, None, replicate}
+use Rattle.std.proofs.Common.{◌≡◌, ℕ, zero, suc, ◌<◌, List, ◌∷◌, length, get_or, set, refl, sym, ap, subst, ◌∙◌, arith}
+use Rattle.std.specs.Prelude.{Option, Some, None, IfSome, replicate}
 use Rattle.std.proofs.lemmas.List.{map-set, length-map, length-set, get_or_default}
 use Rattle.std.proofs.Math.ListN.{get_or-map}
 use Rattle.std.proofs.Math.Seq.{map-set_same}
 use Rattle.cell_lists.specs.declared.chains.Node.{Node}
 use Rattle.cell_lists.specs.Nodes.{nexts_of, cells_of}
-use Rattle.cell_lists.specs.Chain.{ChainsData, chains_of, with_cell, at, IsChained, IsLinked, IsUnlinked}
+use Rattle.cell_lists.specs.Chain.{ChainsData, chains_of, with_cell, at, IsLast, IsChained, IsLinked, IsUnlinked}
+use Rattle.cell_lists.proofs.Chaining.{within}
 
 -- ---- what is read
 pub next_read : (nodes : List Node) (i : ℕ) (node : Node) → node ≡ get_or nodes i node → node.next ≡ get_or (nexts_of nodes) i node.next
@@ -18,6 +19,18 @@ cell_read nodes i node e = ap (λ (n : Node). n.cell) e ∙ sym (get_or-map (λ 
 next_at : (nodes : List Node) (i : ℕ) (node : Node) → i < length nodes → node ≡ get_or nodes i node → node.next ≡ at (nexts_of nodes) i
 next_at nodes i node lt e = next_read nodes i node e
     ∙ get_or_default (nexts_of nodes) i node.next None (subst (λ (n : ℕ). i < n) (sym (length-map nodes (λ n. n.next))) lt)
+
+-- as many cells are seen as there are nodes
+pub count_seen : (count : ℕ) (nodes : List Node) (chains : ChainsData) → chains_of count (cells_of nodes) ≡ chains →
+    length nodes ≡ length chains.cells
+count_seen count nodes chains seen = sym (length-map nodes (λ n. n.cell)) ∙ ap (λ (c : ChainsData). length c.cells) seen
+
+-- the disk that comes before one in a bucket has a node
+pub before_within : (count m b d : ℕ) (nodes : List Node) (chains : ChainsData) (last : Option ℕ) → chains_of count (cells_of nodes) ≡ chains →
+    IsLast chains.cells m b d last → IfSome last (λ p. p < length nodes)
+before_within count m b d nodes chains None seen is = tt
+before_within count m b d nodes chains (Some p) seen is =
+    let lt = within chains.cells m b p is.1 in let same = count_seen count nodes chains seen in omega arith
 
 -- ---- what is written
 pub nexts_set : (nodes : List Node) (i : ℕ) (node : Node) (o : Option ℕ) → nexts_of (set nodes i (record { cell = node.cell; next = o })) ≡ set (nexts_of nodes) i o
@@ -106,3 +119,9 @@ nexts_unlisted (suc n) = ap (λ (xs : List (Option ℕ)). None ∷ xs) (nexts_un
 pub cells_unlisted : (n : ℕ) → cells_of (replicate n unlisted) ≡ replicate n None
 cells_unlisted zero = refl
 cells_unlisted (suc n) = ap (λ (xs : List (Option ℕ)). None ∷ xs) (cells_unlisted n)
+
+-- ---- a node that was asked for, where there may be none
+pub cell_got : (count : ℕ) (nodes : List Node) (chains : ChainsData) (i : ℕ) (node : Node) → chains_of count (cells_of nodes) ≡ chains →
+    node ≡ get_or nodes i unlisted → node.cell ≡ at chains.cells i
+cell_got count nodes chains i node seen is =
+    ap (λ (n : Node). n.cell) is ∙ sym (get_or-map (λ n. n.cell) nodes i unlisted) ∙ ap (λ (c : ChainsData). at c.cells i) seen

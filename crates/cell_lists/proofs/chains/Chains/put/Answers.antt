@@ -1,11 +1,31 @@
 -- The chains stay chains.
-use Rattle.std.proofs.Common.{◌≡◌, ◌%◌, ◌<◌, List, length, set, sym, subst}
+use Rattle.std.proofs.Common.{◌≡◌, ◌%◌, ◌^◌, ◌<◌, List, length, set, sym, subst, arith}
 use Rattle.std.specs.Prelude.{ℕ, Option, Some, None}
+use Rattle.std.proofs.lemmas.List.{length-map}
 use Rattle.cell_lists.specs.Chain.{ChainsData, at, IsLast, IsChained}
 use Rattle.cell_lists.specs.Nodes.{nexts_of, cells_of}
 use Rattle.cell_lists.proofs.Chaining.{chained_put}
-use Rattle.cell_lists.proofs.Nodes.{chained_as, seen_with_cell, linked_count}
+use Rattle.cell_lists.proofs.Nodes.{before_within, chained_as, count_seen, seen_with_cell, linked_count}
 use Rattle.cell_lists.proofs.chains.Chains.put.Goals as goal
+
+pub link-requires-clause-bucket : goal.link-requires-clause-bucket
+link-requires-clause-bucket c =
+    subst (λ (d : ChainsData). c.bucket-bucket.result < d.buckets) (sym c.self.view_is) c.bucket-bucket.ensures.in_range
+
+pub link-requires-clause-disk : goal.link-requires-clause-disk
+link-requires-clause-disk c =
+    let count = count_seen (length c.self.inside.heads.items) c.self.inside.nodes.items c.args.self.now c.self.view_is in
+    let within = c.requires.within in
+    omega arith
+
+pub link-requires-clause-few : goal.link-requires-clause-few
+link-requires-clause-few c =
+    subst (λ (n : ℕ). n < 2 ^ 32) (length-map c.self.inside.nodes.items (λ n. n.cell)) c.self.invariant.few
+
+pub link-requires-clause-before : goal.link-requires-clause-before
+link-requires-clause-before c =
+    before_within (length c.self.inside.heads.items) c.args.self.now.buckets c.bucket-bucket.result c.args.disk c.self.inside.nodes.items
+    c.args.self.now c.last_below-before.result c.self.view_is c.last_below-before.ensures
 
 pub invariant_of-self : goal.invariant_of-self
 invariant_of-self c =

@@ -1,11 +1,27 @@
 -- The chains stay chains.
-use Rattle.std.proofs.Common.{◌≡◌, ◌%◌, ◌<◌, List, length, set, sym, subst}
+use Rattle.std.proofs.Common.{◌≡◌, ◌%◌, ◌<◌, List, length, set, refl, sym, subst, arith}
 use Rattle.std.specs.Prelude.{ℕ, Option, Some, None}
 use Rattle.cell_lists.specs.Chain.{ChainsData, at, IsLast, IsChained}
 use Rattle.cell_lists.specs.Nodes.{nexts_of, cells_of}
-use Rattle.cell_lists.proofs.Chaining.{chained_take}
-use Rattle.cell_lists.proofs.Nodes.{chained_as, seen_with_cell, unlinked_count}
+use Rattle.cell_lists.proofs.Chaining.{chained_take, within}
+use Rattle.cell_lists.proofs.Nodes.{before_within, chained_as, count_seen, seen_with_cell, unlinked_count}
 use Rattle.cell_lists.proofs.chains.Chains.take.Goals as goal
+
+pub unlink-requires-clause-bucket : goal.unlink-requires-clause-bucket
+unlink-requires-clause-bucket c =
+    subst (λ (d : ChainsData). c.bucket-bucket.result < d.buckets) (sym c.self.view_is) c.bucket-bucket.ensures.in_range
+
+pub unlink-requires-clause-disk : goal.unlink-requires-clause-disk
+unlink-requires-clause-disk c =
+    let chains = c.args.self.now in
+    let count = count_seen (length c.self.inside.heads.items) c.self.inside.nodes.items chains c.self.view_is in
+    let few = within chains.cells chains.buckets (c.args.cell % chains.buckets) c.args.disk (c.args.cell, c.requires, refl) in
+    omega arith
+
+pub unlink-requires-clause-before : goal.unlink-requires-clause-before
+unlink-requires-clause-before c =
+    before_within (length c.self.inside.heads.items) c.args.self.now.buckets c.bucket-bucket.result c.args.disk c.self.inside.nodes.items
+    c.args.self.now c.last_below-before.result c.self.view_is c.last_below-before.ensures
 
 pub invariant_of-self : goal.invariant_of-self
 invariant_of-self c =
