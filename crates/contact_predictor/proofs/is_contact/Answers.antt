@@ -40,3 +40,11 @@ returns-then-may_touch c =
       },
       λ contact. not_from_false c.is_approaching.result (is_false c.is_approaching.result (λ yes. contact.last (next.0 yes))),
     )
+
+pub returns-else-may_touch : goal.returns-else-may_touch
+returns-else-may_touch c =
+    let same : sent c.args.distance ≡ c.args.distance = sent_same c.args.distance c.ranges.distance in
+    let told : IsTrue c.may_touch.result ↔ MayTouch c.args.r c.args.u c.args.distance = rw same at c.may_touch.ensures.fact in (
+      λ yes. absurd (let t : c.may_touch.result ≡ true = yes in let no : c.may_touch.result ≡ false = c.if-may_touch.false in cc),
+      λ contact. told.1 (record { approaching = contact.approaching; crossing = contact.crossing }),
+    )

@@ -1,5 +1,5 @@
 -- The disks approach at that tick for the last time.
-use Rattle.std.proofs.Common.{◌≡◌, ◌+◌, true, IsTrue, ◌↔◌}
+use Rattle.std.proofs.Common.{◌≡◌, ◌+◌, true, false, IsTrue, ◌↔◌}
 use Rattle.std.specs.Prelude.{FitsSigned}
 use Rattle.std.proofs.lemmas.Int.{to_z-of_z}
 use Rattle.std.proofs.lemmas.Bool.{not-true}
@@ -19,3 +19,8 @@ returns-then-is_approaching_after c =
     only_contact c.args.r c.args.u c.args.distance c.args.ticks
     (contact_at_last c.args.r c.args.u c.args.distance c.args.ticks c.requires.crossing (now.0 c.if-is_approaching_after.true)
     (λ h. let t : c.is_approaching_after-then-is_approaching_after.result ≡ true = later.1 h in cc))
+
+pub returns-else-is_approaching_after : goal.returns-else-is_approaching_after
+returns-else-is_approaching_after c = λ yes.
+    absurd (let t : c.is_approaching_after.result ≡ true = yes in
+    let no : c.is_approaching_after.result ≡ false = c.if-is_approaching_after.false in cc)

@@ -1,7 +1,7 @@
 -- Each of the three tests is exact, and disks that have a contact later pass all of them now.
 use Rattle.std.proofs.Common.{rules, ◌≡◌, true, IsTrue, ◌↔◌, ap, ◌∙◌, arith}
 use Rattle.std.specs.Prelude.{ℤ, pos, FitsSigned, ◌-ℤ◌, ◌*ℤ◌, ◌≤ℤ◌, ◌<ℤ◌}
-use Rattle.std.proofs.lemmas.Int.{ints, to_z-of_z}
+use Rattle.std.proofs.lemmas.Int.{ints}
 use lib.Signed.{lt_z, le_z}
 use mir.Syntax.{w64, w128}
 use Rattle.plane_vectors.specs.Vectors.{dot}
@@ -21,10 +21,15 @@ pub returns-clause-fact : goal.returns-clause-fact
 returns-clause-fact c =
     let d = c.args.distance in
     let gap_is = c.squared_gap-gap.ensures ∙ ap (gap c.args.r) (sent_same d c.ranges.distance) in
-    let apart = not_negative c.squared_gap-gap.result (gap c.args.r d) (omega (arith, ints, c.squared_gap-gap.type_inv)) gap_is in
-    let nearing = negative c.dot-closing.result (dot c.args.r c.args.u) (omega (arith, ints, c.dot-closing.type_inv)) c.dot-closing.ensures.value in
+    let gap_fits : FitsSigned w64 c.squared_gap-gap.result = omega (arith, ints, c.squared_gap-gap.type_inv) in
+    let closing_fits : FitsSigned w64 c.dot-closing.result = omega (arith, ints, c.dot-closing.type_inv) in
+    let apart = not_negative c.squared_gap-gap.result (gap c.args.r d) gap_fits gap_is in
+    let nearing = negative c.dot-closing.result (dot c.args.r c.args.u) closing_fits c.dot-closing.ensures.value in
+    let speed_is : sent c.dot.result ≡ dot c.args.u c.args.u = sent_same c.dot.result (omega (arith, ints, c.dot.type_inv)) ∙ c.dot.ensures.value in
+    let closing_is : sent c.dot-closing.result ≡ dot c.args.r c.args.u = sent_same c.dot-closing.result closing_fits ∙ c.dot-closing.ensures.value in
+    let gap_sent : sent c.squared_gap-gap.result ≡ gap c.args.r d = sent_same c.squared_gap-gap.result gap_fits ∙ gap_is in
     let value : c.discriminant-crossing.result ≡ (dot c.args.r c.args.u *ℤ dot c.args.r c.args.u) -ℤ (dot c.args.u c.args.u *ℤ gap c.args.r d) =
-    grind (arith, to_z-of_z, c.discriminant-crossing.ensures, c.dot.ensures, c.dot-closing.ensures, c.squared_gap-gap.ensures) in
+    c.discriminant-crossing.ensures ∙ (λ i. (closing_is i *ℤ closing_is i) -ℤ (speed_is i *ℤ gap_sent i)) in
     let fits : FitsSigned w128 c.discriminant-crossing.result = omega (arith, ints, c.discriminant-crossing.type_inv) in
     let crossing = positive_difference c.discriminant-crossing.result (dot c.args.r c.args.u *ℤ dot c.args.r c.args.u) (dot c.args.u c.args.u *ℤ gap c.args.r d) fits value in
     let all = c.are_all_three.ensures in (
