@@ -10,3 +10,5 @@ pub mod Undone
 pub mod Woven
 pub mod AtFloor
 pub mod Traced
+pub mod Collided
+pub mod Adjacent
