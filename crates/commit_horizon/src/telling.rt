@@ -24,7 +24,7 @@ use region_view::Action;
 use std::alloc::Global;
 
 /// What a commit makes of the state on which the regions stand. The rows are not in it: the regions have them.
-#[derive(Clone, Copy, Debug, PartialEq, Eq)]
+#[derive(Clone, Copy)]
 pub struct Final {
     /// The stamp of the last action of its batch; none where the batch is empty.
     pub last: Option<Stamp>,
