@@ -5,6 +5,9 @@ use Rattle.commit_horizon.specs.Bounds.{HoldsUpTo, IsWithin}
 use Rattle.commit_horizon.proofs.Tellings.{merged_from, may_be_raised, final_told, merge_cut, told_and_cut}
 use Rattle.commit_horizon.proofs.telling.commit_telling.Goals as goal
 
+pub merge_telling-requires-clause-kept : goal.merge_telling-requires-clause-kept
+merge_telling-requires-clause-kept g c = c.least_bound-floor.ensures.kept
+
 pub merge_telling-requires-clause-state : goal.merge_telling-requires-clause-state
 merge_telling-requires-clause-state g c =
     let regions = c.args.regions.now in
