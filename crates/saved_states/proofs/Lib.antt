@@ -2,5 +2,4 @@ pub mod Undone
 pub mod Rising
 pub mod Rebuilt
 pub mod Cut
-pub mod Lowered
 pub mod First

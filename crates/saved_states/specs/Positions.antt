@@ -1,5 +1,5 @@
 -- Views by position.
-use Rattle.std.specs.Prelude.{◌≡◌, ℕ, ◌-◌, ◌<◌, List, [], ◌∷◌, ◌++◌, ⊤, map as each, nat_le, if◌then◌else◌}
+use Rattle.std.specs.Prelude.{◌≡◌, ℕ, ◌<◌, List, [], ◌∷◌, ◌++◌, ⊤, nat_le, if◌then◌else◌}
 use Rattle.std.specs.FinMap as map
 use Rattle.region_view.specs.Views.{ViewData}
 use Rattle.region_view.specs.Setting.{RowList, set_rows}
@@ -63,7 +63,3 @@ dropped_before position [] = []
 dropped_before position (pair ∷ []) = pair ∷ []
 dropped_before position (pair ∷ next ∷ pairs) =
     if nat_le next.0 position then dropped_before position (next ∷ pairs) else pair ∷ next ∷ pairs
-
--- the same views at positions that are lower by so many
-abbrev pub lowered : ℕ → SavedData → SavedData
-lowered by pairs = each (λ pair. (pair.0 - by, pair.1)) pairs
