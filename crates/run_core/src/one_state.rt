@@ -106,20 +106,57 @@ impl Standing {
         ensures { IfOk result (λ worked. worked ≡ self) }
     {
         if burst.keeps() {
-            let Standing {
-                earlier,
-                last,
-                floor,
-                regions,
-            } = self;
-            let worked = burst.burst(rt, alloc, regions)?;
-            Ok(Standing::after(earlier, last, floor, worked))
+            self.work_keeping(rt, alloc, burst)
         } else {
-            let (committed, regions) = self.settle(alloc)?;
-            let worked = burst.burst(rt, alloc, regions)?;
-            let adopted = committed.adopt_all(alloc, worked)?;
-            Ok(Standing::on(committed, adopted))
+            self.work_adopting(rt, alloc, burst)
         }
+    }
+
+    // Lets a burst that keeps the regions work on them.
+    fn work_keeping<R: Threads + Wait + Sync, B: Burst>(
+        self,
+        rt: &R,
+        alloc: Global,
+        burst: &mut B,
+    ) -> Result<Standing, AllocError>
+        requires { B.keeping burst.old }
+        ensures { IfOk result (λ worked. worked ≡ self) }
+    {
+        let Standing {
+            earlier,
+            last,
+            floor,
+            regions,
+        } = self;
+        let worked = burst.burst(rt, alloc, regions)?;
+        Ok(Standing::after(earlier, last, floor, worked))
+    }
+
+    // Lets a burst work on the regions, and adopts what it gives back.
+    fn work_adopting<R: Threads + Wait + Sync, B: Burst>(
+        self,
+        rt: &R,
+        alloc: Global,
+        burst: &mut B,
+    ) -> Result<Standing, AllocError>
+        ensures { IfOk result (λ worked. worked ≡ self) }
+    {
+        let (committed, regions) = self.settle(alloc)?;
+        let worked = burst.burst(rt, alloc, regions)?;
+        Standing::adopting(alloc, committed, worked)
+    }
+
+    // The given regions that stand on a committed state, and others opened in place of the rest.
+    fn adopting(
+        alloc: Global,
+        committed: Committed,
+        given: Vec<Region>,
+    ) -> Result<Standing, AllocError>
+        requires { length given.items ≡ committed.grid.regions }
+        ensures { IfOk result (λ standing. standing ≡ committed) }
+    {
+        let adopted = committed.adopt_all(alloc, given)?;
+        Ok(Standing::on(committed, adopted))
     }
 
     // The state, whose rows are put together, and the regions.

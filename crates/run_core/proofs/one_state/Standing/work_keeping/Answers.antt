@@ -1,9 +1,9 @@
-use Rattle.std.proofs.Common.{subst, refl}
+use Rattle.std.proofs.Common.{subst}
 use Rattle.commit_horizon.proofs.Keeping.{run_on_still_stand}
 use Rattle.run_core.specs.Standing.{GoesOnTo}
 use Rattle.run_core.proofs.OneState.{still_goes}
 use Rattle.run_core.proofs.SoFar.{stand_together}
-use Rattle.run_core.proofs.one_state.Standing.work.Goals as goal
+use Rattle.run_core.proofs.one_state.Standing.work_keeping.Goals as goal
 
 pub burst-requires : goal.burst-requires
 burst-requires g c =
@@ -19,19 +19,14 @@ after-requires g c =
       still_goes c.self.inside.earlier c.self.inside.last c.self.inside.floor c.self.inside.regions.items
           c.in_ok-worked.worked.items c.args.self goes (run_on_still_stand c.args.self c.self.inside.regions.items
           c.in_ok-worked.worked.items goes.stand c.in_ok-worked.ensures.count
-          (c.in_ok-worked.ensures.kept (c.if-keeps.ensures refl))),
+          (c.in_ok-worked.ensures.kept c.requires)),
     )
 
-pub burst-requires-else-keeps : goal.burst-requires-else-keeps
-burst-requires-else-keeps g c = record {
-  together = stand_together c.args.self c.in_ok-committed.regions.items c.in_ok-committed.ensures.stand;
-}
-
-pub returns-in_ok-worked : goal.returns-in_ok-worked
-returns-in_ok-worked g c =
+pub returns : goal.returns
+returns g c =
     let goes = subst (GoesOnTo c.self.inside.earlier c.self.inside.last c.self.inside.floor
     c.self.inside.regions.items) c.self.view_is c.self.invariant in
-    c.after.ensures c.args.self (still_goes c.self.inside.earlier c.self.inside.last c.self.inside.floor c.self.inside.regions.items
-    c.in_ok-worked.worked.items c.args.self goes (run_on_still_stand c.args.self c.self.inside.regions.items
-    c.in_ok-worked.worked.items goes.stand c.in_ok-worked.ensures.count
-    (c.in_ok-worked.ensures.kept (c.if-keeps.ensures refl))))
+    c.after.ensures c.args.self (still_goes c.self.inside.earlier c.self.inside.last c.self.inside.floor
+    c.self.inside.regions.items c.in_ok-worked.worked.items c.args.self goes
+    (run_on_still_stand c.args.self c.self.inside.regions.items c.in_ok-worked.worked.items goes.stand
+    c.in_ok-worked.ensures.count (c.in_ok-worked.ensures.kept c.requires)))
