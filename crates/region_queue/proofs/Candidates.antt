@@ -197,6 +197,22 @@ pub names_pair : (s : Stamp) (i j : ℕ) → s.kind ≡ Pair → IsPairOf s i j 
 names_pair s i j kind (inl e) = inl e.0
 names_pair s i j kind (inr e) = inr (kind, e.1)
 
+turned : (s : Stamp) (i j : ℕ) → IsPairOf s i j → IsPairOf s j i
+turned s i j (inl e) = inr e
+turned s i j (inr e) = inl e
+
+-- ---- a disk that isn't there
+pub no_single : (finder : Finder) (view : ViewData) (disk : ℕ) → rows_in view disk ≡ None → IsBestSingle finder view disk None
+no_single finder view disk none s h = none_without_first finder view s (ap (rows_in view) h.1 ∙ none) h.0
+
+pub no_pair : (finder : Finder) (view : ViewData) (disk other : ℕ) (s : Stamp) → rows_in view disk ≡ None → IsFound finder view s →
+    s.kind ≡ Pair → ¬ IsPairOf s disk other
+no_pair finder view disk other s none found kind is =
+    pair_without finder view other disk none s (pair_of finder view other disk s found kind (turned s disk other is))
+
+pub no_pairs : (finder : Finder) (view : ViewData) (disk : ℕ) → rows_in view disk ≡ None → IsBestPair finder view disk None
+no_pairs finder view disk none s h = let with = other_of s disk h.2 in no_pair finder view disk with.0 s none h.0 h.1 with.1
+
 -- ---- walks
 pub with_none : (finder : Finder) (view : ViewData) (disk : ℕ) (With : ℕ → Type 0) → ((i : ℕ) → ¬ With i) →
     IsLeastOf (IsNativeWith finder view disk With) None

@@ -1,5 +1,6 @@
 -- What of a block of cells is in no second block, as four blocks.
-use Rattle.std.proofs.Common.{◌≡◌, ◌⊎◌, ◌↔◌, inl, inr, ℕ, arith, refl, sym, subst, ◌∙◌}
+use Rattle.std.proofs.Common.{◌≡◌, ◌⊎◌, ◌↔◌, inl, inr, ℕ, ◌<◌, ◌≤◌, max, min, arith, refl, sym, subst, ◌∙◌}
+use Rattle.std.proofs.lemmas.Bool.{cases_lt}
 use Rattle.std.specs.Prelude.{Option, Some, None, option_map}
 use Rattle.event_stamps.specs.declared.Stamp.{Stamp}
 use Rattle.event_stamps.specs.Least.{IsLeastOf, earlier_of}
@@ -7,14 +8,117 @@ use Rattle.event_stamps.proofs.Least.{least_same}
 use Rattle.cell_grid.specs.Grid.{GridData, IsCell, IsAdjacent, column_of, row_of}
 use Rattle.cell_lists.specs.declared.near.Block.{Block}
 use Rattle.cell_lists.specs.Listing.{ListsData}
-use Rattle.cell_lists.specs.Nearby.{IsWithin, IsListedWithin}
+use Rattle.cell_lists.specs.Nearby.{IsBlock, IsWithin, IsListedWithin}
 use Rattle.region_view.specs.declared.action.Placed.{Placed}
 use Rattle.region_view.specs.Views.{ViewData, rows_in}
 use Rattle.region_queue.specs.declared.finder.Finder.{Finder}
 use Rattle.region_queue.specs.declared.parts.Parts.{Parts}
 use Rattle.region_queue.specs.Outside.{IsIn, IsPart, AreParts, IsListedOutside, IsListedInParts}
 use Rattle.region_queue.specs.Finding.{IsReady, IsNativeWith, IsPairedBeyond, IsBestBeyond, IsBlockBeside, AreListed, cell_in}
-use Rattle.region_queue.proofs.Candidates.{IsAround, with_more, pair_found, pair_of, listed_beside}
+use Rattle.region_queue.proofs.Candidates.{IsAround, with_more, pair_found, pair_of, no_pair, listed_beside}
+
+-- ---- the parts of a block, by where its sides cut a second one
+-- the place of a side that is cut off where it is beyond a block's
+cut_inside : (k low high n : ℕ) → low ≤ high → n ≡ max low (min k high) → (low ≤ n) × (n ≤ high)
+cut_inside k low high n order is = (omega arith, omega arith)
+
+cut_order : (j k low high m n : ℕ) → j ≤ k → m ≡ max low (min j high) → n ≡ max low (min k high) → m ≤ n
+cut_order j k low high m n order is is2 = omega arith
+
+below_cut : (k low high n i : ℕ) → n ≡ max low (min k high) → low ≤ i → i < n → i < k
+below_cut k low high n i is from below = omega arith
+
+from_cut : (k low high n i : ℕ) → n ≡ max low (min k high) → i < high → n ≤ i → k ≤ i
+from_cut k low high n i is below from = omega arith
+
+same : (n : ℕ) → n ≤ n
+same n = omega arith
+
+apart : (n k : ℕ) → n < k → k ≤ n → ⊥
+apart n k lt le = absurd (omega arith)
+
+abbrev pub parts_at : Block → ℕ → ℕ → ℕ → ℕ → Parts
+parts_at block left right low high = record {
+  left = record { left = block.left; right = left; low = block.low; high = block.high };
+  right = record { left = right; right = block.right; low = block.low; high = block.high };
+  low = record { left = left; right = right; low = block.low; high = low };
+  high = record { left = left; right = right; low = high; high = block.high };
+}
+
+pub parts_cut : (block known : Block) (left right low high : ℕ) → block.left ≤ block.right → block.low ≤ block.high →
+    known.left ≤ known.right → known.low ≤ known.high →
+    left ≡ max block.left (min known.left block.right) → right ≡ max block.left (min known.right block.right) →
+    low ≡ max block.low (min known.low block.high) → high ≡ max block.low (min known.high block.high) →
+    AreParts block known (parts_at block left right low high)
+parts_cut block known left right low high columns rows known_columns known_rows left_is right_is low_is high_is =
+    let at_left = cut_inside known.left block.left block.right left columns left_is in
+    let at_right = cut_inside known.right block.left block.right right columns right_is in
+    let at_low = cut_inside known.low block.low block.high low rows low_is in
+    let at_high = cut_inside known.high block.low block.high high rows high_is in
+    let between = cut_order known.left known.right block.left block.right left right known_columns left_is right_is in
+    record {
+      left = record {
+        columns = at_left.0;
+        rows = rows;
+        left = same block.left;
+        right = at_left.1;
+        low = same block.low;
+        high = same block.high;
+        outside = λ column row of is. apart column known.left
+            (below_cut known.left block.left block.right left column left_is of.0.0 of.0.1) is.0.0;
+      };
+      right = record {
+        columns = at_right.1;
+        rows = rows;
+        left = at_right.0;
+        right = same block.right;
+        low = same block.low;
+        high = same block.high;
+        outside = λ column row of is. apart column known.right is.0.1
+            (from_cut known.right block.left block.right right column right_is of.0.1 of.0.0);
+      };
+      low = record {
+        columns = between;
+        rows = at_low.0;
+        left = at_left.0;
+        right = at_right.1;
+        low = same block.low;
+        high = at_low.1;
+        outside = λ column row of is. apart row known.low
+            (below_cut known.low block.low block.high low row low_is of.1.0 of.1.1) is.1.0;
+      };
+      high = record {
+        columns = between;
+        rows = at_high.1;
+        left = at_left.0;
+        right = at_right.1;
+        low = at_high.0;
+        high = same block.high;
+        outside = λ column row of is. apart row known.high is.1.1
+            (from_cut known.high block.low block.high high row high_is of.1.1 of.1.0);
+      };
+      whole = λ column row of out.
+          each column row of out (cases_lt column left) (cases_lt column right) (cases_lt row low) (cases_lt row high);
+    }
+  where
+    each : (column row : ℕ) → IsIn block column row → ¬ IsIn known column row → (column < left) ⊎ (left ≤ column) →
+        (column < right) ⊎ (right ≤ column) → (row < low) ⊎ (low ≤ row) → (row < high) ⊎ (high ≤ row) →
+        ((IsIn (parts_at block left right low high).left column row ⊎ IsIn (parts_at block left right low high).right column row)
+        ⊎ IsIn (parts_at block left right low high).low column row) ⊎ IsIn (parts_at block left right low high).high column row
+    each column row of out (inl before) side bottom top = inl (inl (inl ((of.0.0, before), of.1)))
+    each column row of out (inr from) (inr past) bottom top = inl (inl (inr ((past, of.0.1), of.1)))
+    each column row of out (inr from) (inl below) (inl under) top = inl (inr ((from, below), (of.1.0, under)))
+    each column row of out (inr from) (inl below) (inr above) (inr over) = inr ((from, below), (over, of.1.1))
+    each column row of out (inr from) (inl below) (inr above) (inl under) = absurd (out (
+      (
+        from_cut known.left block.left block.right left column left_is of.0.1 from,
+        below_cut known.right block.left block.right right column right_is of.0.0 below,
+      ),
+      (
+        from_cut known.low block.low block.high low row low_is of.1.1 above,
+        below_cut known.high block.low block.high high row high_is of.1.0 under,
+      ),
+    ))
 
 -- ---- one part
 in_block : (block known part : Block) (column row : ℕ) → IsPart block known part → IsIn part column row → IsIn block column row
@@ -33,6 +137,14 @@ pub part_beside : (grid : GridData) (cell : ℕ) (block known part : Block) → 
     IsBlockBeside grid cell part
 part_beside grid cell block known part beside is other of x =
     beside other of (in_block block known part (column_of grid other) (row_of grid other) is x)
+
+pub part_in_grid : (grid : GridData) (block known part : Block) → IsBlock grid block → IsPart block known part → IsBlock grid part
+part_in_grid grid block known part is of =
+    let right = of.right in
+    let high = of.high in
+    let most_columns = is.most_columns in
+    let most_rows = is.most_rows in
+    record { columns = of.columns; most_columns = omega arith; rows = of.rows; most_rows = omega arith }
 
 part_outside : (lists : ListsData) (block known part : Block) (i : ℕ) → IsPart block known part → IsListedWithin lists part i →
     IsListedOutside lists block known i
@@ -133,3 +245,7 @@ best_beyond finder view disk old p block known o ready row around around_old lis
           (far.0, listed other ∙ far.1, subst (λ (n : ℕ). IsWithin finder.lists.grid block n) same at.3, λ within. far.2 (is.0 within)),
           pair_of finder view disk other s x.0 x.1 pair,
         )
+
+-- none of a disk that isn't there
+pub none_beyond : (finder : Finder) (view : ViewData) (disk cell : ℕ) → rows_in view disk ≡ None → IsBestBeyond finder view disk cell None
+none_beyond finder view disk cell none s h = no_pair finder view disk h.2.0 s none h.0 h.1 h.2.2

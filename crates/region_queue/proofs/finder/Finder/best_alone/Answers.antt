@@ -8,8 +8,17 @@ use Rattle.region_queue.proofs.Candidates.{alone_owned}
 use Rattle.region_queue.proofs.InRange.{alone_in_range}
 use Rattle.region_queue.proofs.finder.Finder.best_alone.Goals as goal
 
+pub first_alone-requires-clause-checked : goal.first_alone-requires-clause-checked
+first_alone-requires-clause-checked c = c.requires.ready.checked
+
+pub first_alone-requires-clause-grid : goal.first_alone-requires-clause-grid
+first_alone-requires-clause-grid c = c.requires.ready.grid
+
 pub first_alone-requires-clause-valid : goal.first_alone-requires-clause-valid
 first_alone-requires-clause-valid c = c.requires.ready.valid.disk c.args.disk c.args.placed.now c.requires.placed
+
+pub first_alone-requires-clause-cell : goal.first_alone-requires-clause-cell
+first_alone-requires-clause-cell c = c.requires.ready.valid.cell c.args.disk c.args.placed.now c.requires.placed
 
 pub new-requires : goal.new-requires
 new-requires c =
@@ -21,3 +30,8 @@ pub returns-then-own : goal.returns-then-own
 returns-then-own c =
     subst (λ (o : Option Stamp). IsLeastOf (IsAloneAt c.args.self.now c.args.disk c.args.placed.now) o) (sym c.new.ensures)
     (alone_owned c.args.self.now c.args.disk c.args.placed.now c.first_alone.result (c.requires.own.0 c.if-own.true) c.first_alone.ensures)
+
+pub returns-else-own : goal.returns-else-own
+returns-else-own c =
+    subst (λ (o : Option Stamp). IsLeastOf (IsAloneAt c.args.self.now c.args.disk c.args.placed.now) o) (sym c.new-else-own.ensures)
+    (λ s alone. let owned = c.requires.own.1 alone.1 in let other = c.if-own.false in cc)

@@ -3,12 +3,58 @@ use Rattle.std.proofs.Common.{sym, subst}
 use Rattle.std.specs.Prelude.{Option}
 use Rattle.event_stamps.specs.declared.Stamp.{Stamp}
 use Rattle.event_stamps.specs.Least.{IsLeastOf}
+use Rattle.cell_grid.specs.Grid.{GridData}
+use Rattle.cell_lists.specs.Nearby.{IsBlock}
 use Rattle.region_queue.specs.Outside.{IsListedOutside, IsListedInParts}
 use Rattle.region_queue.specs.Finding.{IsNativeWith}
 use Rattle.region_queue.proofs.Among.{best_gathered}
 use Rattle.region_queue.proofs.Candidates.{with_same}
-use Rattle.region_queue.proofs.Outside.{best_of_parts, part_beside, parts_outside, whole}
+use Rattle.region_queue.proofs.Outside.{best_of_parts, part_beside, part_in_grid, parts_outside, whole}
 use Rattle.region_queue.proofs.finder.Finder.best_outside.Goals as goal
+
+pub gather_parts-requires-clause-left : goal.gather_parts-requires-clause-left
+gather_parts-requires-clause-left c =
+    let parts = c.parts_outside-parts in
+    subst (λ (g : GridData). IsBlock g parts.result.left) (sym c.requires.ready.lists)
+    (part_in_grid c.args.self.now.grid c.args.block c.args.known parts.result.left c.requires.block parts.ensures.left)
+
+pub gather_parts-requires-clause-right : goal.gather_parts-requires-clause-right
+gather_parts-requires-clause-right c =
+    let parts = c.parts_outside-parts in
+    subst (λ (g : GridData). IsBlock g parts.result.right) (sym c.requires.ready.lists)
+    (part_in_grid c.args.self.now.grid c.args.block c.args.known parts.result.right c.requires.block parts.ensures.right)
+
+pub gather_parts-requires-clause-low : goal.gather_parts-requires-clause-low
+gather_parts-requires-clause-low c =
+    let parts = c.parts_outside-parts in
+    subst (λ (g : GridData). IsBlock g parts.result.low) (sym c.requires.ready.lists)
+    (part_in_grid c.args.self.now.grid c.args.block c.args.known parts.result.low c.requires.block parts.ensures.low)
+
+pub gather_parts-requires-clause-high : goal.gather_parts-requires-clause-high
+gather_parts-requires-clause-high c =
+    let parts = c.parts_outside-parts in
+    subst (λ (g : GridData). IsBlock g parts.result.high) (sym c.requires.ready.lists)
+    (part_in_grid c.args.self.now.grid c.args.block c.args.known parts.result.high c.requires.block parts.ensures.high)
+
+pub best_by_rows-requires-clause-block : goal.best_by_rows-requires-clause-block
+best_by_rows-requires-clause-block c =
+    let parts = c.parts_outside-parts in
+    part_in_grid c.args.self.now.grid c.args.block c.args.known parts.result.left c.requires.block parts.ensures.left
+
+pub best_by_rows-requires-else-gather_parts-clause-block : goal.best_by_rows-requires-else-gather_parts-clause-block
+best_by_rows-requires-else-gather_parts-clause-block c =
+    let parts = c.parts_outside-parts in
+    part_in_grid c.args.self.now.grid c.args.block c.args.known parts.result.right c.requires.block parts.ensures.right
+
+pub best_by_rows-requires-else-gather_parts-2-clause-block : goal.best_by_rows-requires-else-gather_parts-2-clause-block
+best_by_rows-requires-else-gather_parts-2-clause-block c =
+    let parts = c.parts_outside-parts in
+    part_in_grid c.args.self.now.grid c.args.block c.args.known parts.result.low c.requires.block parts.ensures.low
+
+pub best_by_rows-requires-else-gather_parts-3-clause-block : goal.best_by_rows-requires-else-gather_parts-3-clause-block
+best_by_rows-requires-else-gather_parts-3-clause-block c =
+    let parts = c.parts_outside-parts in
+    part_in_grid c.args.self.now.grid c.args.block c.args.known parts.result.high c.requires.block parts.ensures.high
 
 pub best_by_rows-requires-clause-beside : goal.best_by_rows-requires-clause-beside
 best_by_rows-requires-clause-beside c =

@@ -1,0 +1,8 @@
+-- The block is cut where the sides of the second one are, or at its own where those are beyond.
+use Rattle.region_queue.proofs.Outside.{parts_cut}
+use Rattle.region_queue.proofs.parts.parts_outside.Goals as goal
+
+pub returns : goal.returns
+returns c = parts_cut c.args.block c.args.known c.clamp-left.result c.clamp-right.result c.clamp-low.result c.clamp-high.result
+    c.requires.columns c.requires.rows c.requires.known_columns c.requires.known_rows c.clamp-left.ensures c.clamp-right.ensures
+    c.clamp-low.ensures c.clamp-high.ensures
