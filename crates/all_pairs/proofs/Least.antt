@@ -142,7 +142,8 @@ one_more_disk rules disks i first own h k =
     [ inl below ↦ inl (r.0, below) | inr same ↦ inr (r.0, same) ])
     h k
 
-first_within : (rules : Rules) (disks : List Disk) (t : Stamp) → IsCandidate rules disks t →
+-- the first disk of an event
+pub first_within : (rules : Rules) (disks : List Disk) (t : Stamp) → IsCandidate rules disks t →
     t.first < length disks
 first_within rules disks t h = elim h [
   | inl wall ↦ slice_get_within disks t.first wall.0 wall.1

@@ -1,7 +1,8 @@
-use Rattle.std.proofs.Common.{◌≡◌, ◌++◌, ◌∷◌, [], ◌∙◌, get_or, rules}
+use Rattle.std.proofs.Common.{◌≡◌, ◌++◌, ◌∷◌, [], ◌∙◌, ap, get_or, rules}
 use Rattle.fixed_motion.specs.declared.disk.Disk.{Disk}
 use Rattle.std.proofs.lemmas.Int.{to_z-of_z}
-use Rattle.event_rules.specs.Run.{spot_of}
+use Rattle.std.proofs.lemmas.List.{take_all}
+use Rattle.event_rules.specs.Run.{spot_of, spots_of}
 use Rattle.all_pairs.proofs.Turns.{one_spot}
 use Rattle.all_pairs.proofs.Least.{no_disk, disk_at}
 use Rattle.all_pairs.proofs.simulate.final_state.Goals as goal
@@ -26,3 +27,9 @@ loop-disk-preserved c =
     search (rules, to_z-of_z, c.in_ok-push.ensures.items, c.centre_at-centre.ensures) in
     pushed ∙ one_spot c.args.rules.now.end disks i c.loop-disk.spots.items c.loop-disk-test.true
     c.loop-disk.invariant
+
+pub returns : goal.returns
+returns c =
+    c.new.ensures ∙ (c.loop-disk.invariant
+    ∙ ap (spots_of c.args.rules.now.end)
+    (take_all c.loop-disk.disk-index c.args.disks.now c.loop-disk-test.false))

@@ -11,6 +11,11 @@ use Rattle.all_pairs.proofs.Events.{found_turn}
 use Rattle.all_pairs.proofs.Turns.{one_more, runs_from, work_falls, work_left, none_left}
 use Rattle.all_pairs.proofs.simulate.run.Goals as goal
 
+pub next-upcoming-requires-clause-valid : goal.next-upcoming-requires-clause-valid
+next-upcoming-requires-clause-valid g c =
+    subst (IsValidState c.args.rules.now) (sym (c.deref.ensures.value ∙ c.in_ok-disks.ensures.items))
+    c.requires.valid
+
 pub loop-upcoming-init : goal.loop-upcoming-init
 loop-upcoming-init g c =
     let L = g.L.Listener in
@@ -23,6 +28,10 @@ loop-upcoming-init g c =
       valid = subst (IsValidState rules) (sym copied) c.requires.valid;
       count = refl;
     }
+
+pub run_event-requires-clause-valid : goal.run_event-requires-clause-valid
+run_event-requires-clause-valid g c =
+    subst (IsValidState c.args.rules.now) (sym c.deref-in-Some.ensures.value) c.loop-upcoming.invariant.valid
 
 pub run_event-requires-clause-next : goal.run_event-requires-clause-next
 run_event-requires-clause-next g c =
@@ -147,6 +156,10 @@ loop-upcoming-preserved g c =
       valid = subst (IsValidState rules) (sym {A = List Disk} c.put.ensures) turn.later_valid;
       count = c.in_ok-event.ensures.counts ∙ known.count;
     }
+
+pub final_state-requires-clause-valid : goal.final_state-requires-clause-valid
+final_state-requires-clause-valid g c =
+    subst (IsValidState c.args.rules.now) (sym c.deref-2.ensures.value) c.loop-upcoming.invariant.valid
 
 pub returns-in_err-spots-clause-cut_short : goal.returns-in_err-spots-clause-cut_short
 returns-in_err-spots-clause-cut_short g c =

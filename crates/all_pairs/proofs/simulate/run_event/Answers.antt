@@ -1,9 +1,17 @@
 use Rattle.std.proofs.Common.{subst}
 use Rattle.std.proofs.lemmas.Option.{same_Some, none-some}
 use Rattle.fixed_motion.specs.Motion.{IsValidDisk}
-use Rattle.all_pairs.proofs.Least.{disk_at}
+use Rattle.all_pairs.proofs.Least.{disk_at, first_within}
 use Rattle.all_pairs.proofs.Events.{pair_at, wall_at, pair_comes, wall_comes}
 use Rattle.all_pairs.proofs.simulate.run_event.Goals as goal
+
+pub bounds-disks-stamp : goal.bounds-disks-stamp
+bounds-disks-stamp c = first_within c.args.rules.now c.args.disks.now c.args.stamp.now c.requires.next.0
+
+pub bounds-disks-stamp-in-Pair : goal.bounds-disks-stamp-in-Pair
+bounds-disks-stamp-in-Pair c =
+    (pair_at c.args.rules.now c.args.disks.now c.args.stamp.now c.requires.next.0
+    c.in-Pair.is).second_within
 
 pub apply-requires-clause-first : goal.apply-requires-clause-first
 apply-requires-clause-first c = c.requires.valid.valid c.args.stamp.now.first _
