@@ -4,6 +4,7 @@ ghost use Rattle.std.specs.Prelude.{◌≡◌, [], ◌∷◌, ◌++◌, IfOk};
 ghost use Rattle.live_progress.specs.Lists.{last_of, IsNoLess, StartsWith};
 
 use crate::rule::{Cell, Checks, Copies, Leaves, Looks, Publishes, Token};
+use crate::words::{pair_of, words_of};
 use std::alloc::{AllocError, Global};
 use std::marker::Model;
 use std::sync::Wait;
@@ -88,6 +89,7 @@ impl Board {
     }
 
     /// A glass that has seen what the pen has published.
+    #[tactic(auto, using(crate::proofs::Moves::copies))]
     pub fn glass<R: Wait>(&self, _rt: &R, pen: &mut Pen) -> Glass
         requires { pen.old.board ≡ self.now }
         ensures pen { pen.new ≡ pen.old }
@@ -106,11 +108,12 @@ impl Board {
         ensures list { pen.new.list ≡ pen.old.list ++ to ∷ [] }
     {
         self.cell
-            .swap_as::<Publishes, R>(rt, &mut pen.token, [to.events, to.tick]);
+            .swap_as::<Publishes, R>(rt, &mut pen.token, words_of(to));
         pen.last = to;
     }
 
     /// The pair that the board shows. Neither number is less than in any pair that the glass saw before.
+    #[tactic(auto, using(crate::proofs::Moves::looks))]
     pub fn look<R: Wait>(&self, rt: &R, glass: &mut Glass) -> Progress
         requires { glass.old.board ≡ self.now }
         ensures board { glass.new.board ≡ glass.old.board }
@@ -119,13 +122,11 @@ impl Board {
         ensures rises { IsNoLess (last_of glass.old.list) result }
     {
         let words = self.cell.load_as::<Looks, R>(rt, &mut glass.token);
-        Progress {
-            events: words[0],
-            tick: words[1],
-        }
+        pair_of(words)
     }
 
     /// Takes a glass back: all that it saw was published by the pen, in this order.
+    #[tactic(auto, using(crate::proofs::Moves::leaves, crate::proofs::Moves::takes_in, crate::proofs::Moves::checks))]
     pub fn retire<R: Wait>(&self, rt: &R, pen: &mut Pen, glass: Glass)
         requires pen { pen.old.board ≡ self.now }
         requires glass { glass.board ≡ self.now }
