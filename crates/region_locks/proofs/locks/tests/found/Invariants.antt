@@ -1,0 +1,4 @@
+use Rattle.region_locks.proofs.locks.tests.found.Given as goal
+
+abbrev pub ghosts-found_under_locks : goal.ghosts-found_under_locks
+ghosts-found_under_locks g a = record { given = a.regions.items }
