@@ -1,7 +1,7 @@
 //! A run up to a tick, and what is left of it.
 
 ghost use Rattle.std.specs.Prelude.{◌≤◌, IfOk, IfErr};
-ghost use Rattle.event_rules.specs.Tellings.{RunCutShort, CountsRun};
+ghost use Rattle.event_rules.specs.Tellings.{RunTold, RunCutShort, CountsRun};
 ghost use Rattle.resume.specs.Parts.{before_scene};
 ghost use Rattle.hard_disks.specs.Cut.{CutTold};
 
@@ -45,9 +45,31 @@ pub fn cut_at<E: Engine, R: Threads + Wait + Sync, L: Listener>(
 {
     // A scene that is read is known to be valid.
     let _end = scene.rules.end;
-    let first = before(alloc, scene, at)?;
-    match engine.run(rt, alloc, &first, listener)? {
+    match run_before(rt, alloc, scene, at, engine, listener)? {
         Outcome::Done(state) => Ok(Cut::Rest(rest(alloc, scene, at, &state)?)),
         Outcome::Limit(limit) => Ok(Cut::Limit(limit)),
     }
+}
+
+// Runs the part of a scene before the tick.
+fn run_before<E: Engine, R: Threads + Wait + Sync, L: Listener>(
+    rt: &R,
+    alloc: Global,
+    scene: &Scene,
+    at: u64,
+    engine: &mut E,
+    listener: &mut L,
+) -> Result<Outcome, RunFault>
+    requires at { at ≤ scene.now.rules.end }
+    ensures run { IfOk result (λ outcome.
+        RunTold L.after (before_scene scene.now at) outcome (L.meaning listener.old) (L.meaning listener.new)) }
+    ensures cut_short { IfErr result (λ fault.
+        RunCutShort L.after L.torn (before_scene scene.now at) fault
+        (L.meaning listener.old) (L.meaning listener.new)) }
+    ensures counts { CountsRun (L.faults listener.old) (L.faults listener.new) result }
+{
+    // A scene that is read is known to be valid.
+    let _end = scene.rules.end;
+    let first = before(alloc, scene, at)?;
+    engine.run(rt, alloc, &first, listener)
 }
