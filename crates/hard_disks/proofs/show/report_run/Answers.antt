@@ -1,0 +1,63 @@
+use Rattle.std.proofs.Common.{◌∙◌, ℕ, ap, sym, subst, refl}
+use Rattle.event_rules.specs.declared.outcome.Outcome.{Outcome}
+use Rattle.event_rules.proofs.Fits.{outcomes_fit}
+use Rattle.live_progress.specs.Lists.{Known}
+use Rattle.live_progress.specs.Watching.{pairs_of}
+use Rattle.hard_disks.specs.declared.status.Status.{Status}
+use Rattle.hard_disks.specs.Reports.{IsReport}
+use Rattle.hard_disks.specs.Answers.{Wrote, CountsWrites}
+use Rattle.hard_disks.specs.Publishes.{PublishesPairs}
+use Rattle.hard_disks.proofs.Wrote.{broken_wrote}
+use Rattle.hard_disks.proofs.Published.{ended_published, broken_published}
+use Rattle.hard_disks.proofs.Watched.{told_all, told_part, broken_counts}
+use Rattle.hard_disks.proofs.show.report_run.Goals as goal
+
+pub end_report-requires-clause-outcome : goal.end_report-requires-clause-outcome
+end_report-requires-clause-outcome g c =
+    let run = c.in-Ok.ensures.run in
+    outcomes_fit c.args.scene.now run.0 c.in-Ok.outcome c.requires.valid run.1
+
+pub end_report-requires-clause-scene : goal.end_report-requires-clause-scene
+end_report-requires-clause-scene g c =
+    let inner = c.args.watched.now.inner in
+    let told = told_all inner.format c.args.scene.now c.in-Ok.outcome (g.K.Sink.taken inner.sink.now) _ _ c.in-Ok.ensures.run
+    c.requires.valid c.requires.unwritten c.requires.first in
+    told.table
+
+pub returns-in-Ok : goal.returns-in-Ok
+returns-in-Ok g c =
+    let K = g.K.Sink in let inner = c.args.watched.now.inner in let end = c.end_report.ensures in
+    let told = told_all inner.format c.args.scene.now c.in-Ok.outcome (K.taken inner.sink.now) _ _ c.in-Ok.ensures.run
+    c.requires.valid c.requires.unwritten c.requires.first in
+    let all = ended_published c.in-Ok.outcome _ _ _ c.end_report.result (pairs_of told.changes) c.end_report.new.watched.pen.now.list
+    end.text (ap (λ (k : Known). k.list) end.pen ∙ told.list) in record {
+      pen_loan = end.pen_loan ∙ told.pen;
+      loan = end.loan ∙ told.sink;
+      wrote = told.ended _ _ end.text;
+      of_scene = end.of_scene;
+      counts = subst (λ (n : ℕ). CountsWrites n (K.faults c.end_report.new.watched.inner.sink.now) c.end_report.result) c.in-Ok.ensures.counts end.counts;
+      board_kept = ap (λ (k : Known). k.board) end.pen ∙ told.board;
+      published = (told.changes, c.in-Ok.outcome, told.run, all);
+    }
+
+pub returns-in-Err : goal.returns-in-Err
+returns-in-Err g c =
+    let K = g.K.Sink in let inner = c.args.watched.now.inner in let status = sym c.status_of_fault.ensures.status in
+    let after = c.run.new.listener in
+    let told = told_part inner.format c.args.scene.now (K.taken inner.sink.now) _ _ _ c.in-Err.ensures.cut_short
+    c.requires.valid c.requires.unwritten c.requires.first in record {
+      pen_loan = told.pen;
+      loan = told.sink;
+      wrote = subst (λ (s : Status). Wrote (IsReport inner.format c.args.scene.now) (K.taken inner.sink.now) (K.taken after.inner.sink.now) s)
+          status (broken_wrote _ _ _ c.in-Err.fault told.prefix);
+      of_scene = c.status_of_fault.ensures.of_scene;
+      counts = subst (λ (s : Status). CountsWrites (K.faults inner.sink.now) (K.faults after.inner.sink.now) s)
+          status (broken_counts Outcome _ _ _ c.in-Err.fault c.in-Err.ensures.counts refl);
+      board_kept = told.board;
+      published = (
+        told.changes,
+        told.outcome,
+        told.run,
+        subst (λ (s : Status). PublishesPairs (pairs_of told.changes) s after.pen.now.list) status (broken_published c.in-Err.fault _ _ told.list),
+      );
+    }
