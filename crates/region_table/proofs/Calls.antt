@@ -139,6 +139,12 @@ undone me0 me1 me2 k word region e f free =
     ∙ ap (λ (z : List Hold). (record { opened = me0.0.opened; seen = record { slot = k; word = word } ∷ me0.0.seen; held = z; notes = me0.0.notes; parts = me0.0.parts }, me0.1)) back)
 
 -- ---- a slot that is put back
+-- no more slots are turned than are carried
+pub enough : (me : Me Content View) (order : List ℕ) (p : ℕ) → IsKeptSeat me order → p < length order → p ≤ length me.1
+enough me order p kept lt =
+    let size = length-map order emptied in
+    subst (λ (z : List (ℕ × Content)). p ≤ length z) (sym kept.carried) (omega (arith, lt, size))
+
 -- the slot at this place comes to the front
 pub in_front : (me : Me Content View) (order : List ℕ) (carried : List (ℕ × Content)) (p k : ℕ) → IsKeptSeat me order → p < length order → slice_index order p ≡ k
     → carried ≡ drop p me.1 ++ take p me.1 → carried ≡ (k, None) ∷ (drop (suc p) (map emptied order) ++ take p (map emptied order))

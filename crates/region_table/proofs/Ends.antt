@@ -158,6 +158,16 @@ module _ (id : TableId) (opened : List RegionData) (rules : Rules) (grid : GridD
         noted = home.noted seat v f.1.1;
       }
 
+-- regions that are together are no more than those of any grid
+pub few_together : (opened : List RegionData) → AreTogether opened → (first : RegionData) → slice_get opened 0 ≡ Some first → IsKept first → length opened ≤ 64
+few_together opened t first is kept =
+    let at = t.each 0 first is in
+    let of : IsGridOf first.home.rules first.home.grid = kept.place.grid in
+    let count : length opened ≡ first.home.grid.regions = t.count ∙ ap (λ z. z.regions) (sym (ap (λ h. h.grid) at.home)) in
+    let asked : first.home.grid.regions ≡ min of.0 (columns_of first.home.rules) = ap (λ z. z.regions) of.2 in
+    let most_asked : of.0 ≤ 64 = of.1.1 in
+    omega (arith, count, asked, most_asked)
+
 -- the table of regions that are together
 pub keeps_table : (id : TableId) (opened : List RegionData) (rules : Rules) (grid : GridData) (floor : Stamp) → AreTogether opened
     → id.words ≡ length opened → id.slots ≡ length opened → 0 < length opened

@@ -4,12 +4,26 @@ use mathlib.Core.Logic.{dite}
 use mathlib.Core.Option.{some-injective}
 use native.Mathlib.Decide.{ℕ_discrete}
 use lib.ListN.{get_elem?}
-use Rattle.std.specs.Slots.{slots_items, slots_filled, slots_len, slots_counts}
+use Rattle.std.specs.Slots.{slots_items, slots_filled, slots_len, slots_counts, IsFull}
 use Rattle.local_run.specs.Opening.{RegionData}
 use Rattle.region_table.specs.Rule.{Content, IsHome}
 use Rattle.region_table.specs.Tables.{ComesOf}
 use Rattle.region_table.proofs.Ends.{pushed_get}
 use Rattle.region_table.proofs.closing.gather.Goals as goal
+
+pub word-word-requires : goal.word-word-requires
+word-word-requires c =
+    let full = c.requires.full in
+    let size = c.slot_count-k-end.ensures in
+    let below : c.loop-k.k < slots_len c.args.closed.words = omega (arith, c.loop-k-test.true, size, full.2) in
+    subst (λ words. (c.loop-k.k < slots_len words) × IsFull words) (sym c.loop-k.invariant.1) (below, full.0)
+
+pub take-content-requires : goal.take-content-requires
+take-content-requires c =
+    let i = c.loop-k.invariant in
+    let size = c.slot_count-k-end.ensures in
+    let below : c.loop-k.k < slots_len c.loop-k.closed.slots = omega (arith, c.loop-k-test.true, size, i.2) in
+    (below, i.3 c.loop-k.k (omega arith) below)
 
 pub loop-k-preserved : goal.loop-k-preserved
 loop-k-preserved c =

@@ -2,9 +2,16 @@ use Rattle.std.proofs.Common.{ap, ◌∙◌, sym, subst}
 use Rattle.std.specs.Prelude.{slice_get}
 use Rattle.std.specs.Option.{option_copied}
 use Rattle.region_table.specs.Tables.{IsKeptTable, IsKeptSeat}
-use Rattle.region_table.proofs.Ends.{keeps_table}
+use Rattle.region_table.proofs.Ends.{few_together, keeps_table}
 use Rattle.region_table.proofs.Calls.{keeps_none}
 use Rattle.region_table.proofs.table.RegionTable.open.Goals as goal
+
+pub lay-requires : goal.lay-requires
+lay-requires c =
+    let a = c.first.ensures.value in
+    let b = c.unwrap-first.ensures in
+    let d = c.deref.ensures.value in
+    record { few = few_together c.args.regions.items c.requires.together c.unwrap-first.result.now (ap (λ z. slice_get z 0) (sym d) ∙ (sym a ∙ ap option_copied b)) c.rules-rules.ensures.kept }
 
 pub invariant_of-result : goal.invariant_of-result
 invariant_of-result c =

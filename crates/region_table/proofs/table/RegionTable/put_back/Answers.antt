@@ -9,8 +9,18 @@ use Rattle.region_table.specs.Tables.{SeatData, PutsBack, IsKeptSeat, emptied}
 use Rattle.std.specs.Prelude.{◌==◌}
 use Rattle.std.specs.List.{list_any}
 use Rattle.region_table.proofs.Moves.{put_allowed}
-use Rattle.region_table.proofs.Calls.{in_front, front_of, value_next, put_seat, left_size, keeps_put}
+use Rattle.region_table.proofs.Calls.{enough, in_front, front_of, value_next, put_seat, left_size, keeps_put}
 use Rattle.region_table.proofs.table.RegionTable.put_back.Goals as goal
+
+pub turn-requires : goal.turn-requires
+turn-requires c =
+    let p = c.place_of-place.result in
+    let order = c.seat.inside.order.items in
+    let lt : p < length order = subst (λ z. p < length z) c.as_slice.ensures.value c.place_of-place.ensures.0 in
+    enough c.seat.inside.token.me order p c.seat.invariant lt
+
+pub remove-requires : goal.remove-requires
+remove-requires c = (omega arith, subst (λ z. c.place_of-place.result < length z) c.as_slice.ensures.value c.place_of-place.ensures.0)
 
 pub exchange-requires : goal.exchange-requires
 exchange-requires c =

@@ -1,12 +1,14 @@
 use Rattle.std.proofs.Common.{rules, ◌≡◌, ◌≢◌, ◌<◌, ◌≤◌, ◌%◌, ◌^◌, ◌∷◌, length, false, ℕ, refl, ap, ◌∙◌, sym, subst, arith}
 use Rattle.std.specs.Prelude.{Some, None}
+use Rattle.std.proofs.lemmas.Option.{same_Some}
 use Rattle.atomic_table.specs.Table.{rest}
-use Rattle.region_table.specs.declared.take_out.TakeOut.TheVariants.{Worn}
+use Rattle.local_run.specs.Opening.{RegionData}
+use Rattle.region_table.specs.declared.take_out.TakeOut.TheVariants.{Out, Away, Worn}
 use Rattle.region_table.specs.Bases.{MayLieIn}
-use Rattle.region_table.specs.Rule.{version_of, last_version, is_held}
+use Rattle.region_table.specs.Rule.{version_of, last_version, is_held, IsFound}
 use Rattle.region_table.specs.Tables.{SeatData, TakesOut, IsKeptSeat}
 use Rattle.region_table.proofs.Moves.{take_allowed, undo_allowed}
-use Rattle.region_table.proofs.Calls.{undone, keeps_out, keeps_seeing, has_room, front_of}
+use Rattle.region_table.proofs.Calls.{undone, keeps_out, keeps_seeing, has_room, front_of, value_next}
 use Rattle.region_table.proofs.table.RegionTable.take_out.Goals as goal
 
 pub fetch_or-word-requires : goal.fetch_or-word-requires
@@ -74,6 +76,27 @@ returns-then-word c =
       answers = (last_even c.fetch_or-word.result c.if-word.true, last_word c.fetch_or-word.result c.if-word.true, λ i. record { table = table i; view = (back i).0 });
     }
 
+odd : (word : ℕ) → word % 2 ≡ 1 → word % 2 ≢ 0
+odd word e = omega (arith, e)
+
+pub invariant_of-seat : goal.invariant_of-seat
+invariant_of-seat c =
+    let away = c.fetch_or-word.ensures.2.away (odd c.fetch_or-word.result c.if-word-eq1.true) in
+    keeps_seeing c.seat.inside.token.me c.fetch_or-word.new.seat.me c.seat.inside.order.items c.args.region c.fetch_or-word.result c.seat.invariant away
+
+pub returns-then-word-eq1 : goal.returns-then-word-eq1
+returns-then-word-eq1 c =
+    let t = c.fetch_or-word.ensures.2 in
+    let out = odd c.fetch_or-word.result c.if-word-eq1.true in
+    let table = c.fetch_or-word.ensures.0 in
+    let new : SeatData = record { table = c.fetch_or-word.new.seat.table_id; view = c.fetch_or-word.new.seat.me.0 } in
+    subst (λ s. TakesOut s c.args.region Away new) c.seat.view_is record {
+      word = c.fetch_or-word.result;
+      fits = t.fits;
+      later = t.later;
+      answers = (out, λ i. record { table = table i; view = (t.away out i).0 });
+    }
+
 pub exchange-requires : goal.exchange-requires
 exchange-requires c =
     let out = c.fetch_or-word.ensures.2.home (even c.fetch_or-word.result c.if-word-eq1.false) in
@@ -102,3 +125,24 @@ invariant_of-seat-2 c =
     let now = c.exchange.ensures.3 ∙ (λ i. ((out.1 i).0, (c.args.region, None) ∷ ap (λ m. rest m.1) out.1 i)) in
     subst (IsKeptSeat c.exchange.new.seat.me) (sym c.insert.ensures.items)
     (keeps_out old c.exchange.new.seat.me c.seat.inside.order.items c.args.region c.fetch_or-word.result c.seat.invariant free below (young c.fetch_or-word.result t.fits home c.if-word.false) now)
+
+pub returns : goal.returns
+returns c =
+    let t = c.fetch_or-word.ensures.2 in
+    let home = even c.fetch_or-word.result c.if-word-eq1.false in
+    let out = t.home home in
+    let table = c.exchange.ensures.0 ∙ c.fetch_or-word.ensures.0 in
+    let view = ap (λ m. m.0) c.exchange.ensures.3 ∙ ap (λ m. m.0) out.1 in
+    let found = same_Some out.0 c.in-Some.taken (sym (ap value_next (ap (λ m. m.1) out.1)) ∙ ap value_next c.in-Some.ensures.2) in
+    let new : SeatData = record { table = c.exchange.new.seat.table_id; view = c.exchange.new.seat.me.0 } in
+    subst (λ s. TakesOut s c.args.region (Out c.in-Some.taken) new) c.seat.view_is record {
+      word = c.fetch_or-word.result;
+      fits = t.fits;
+      later = t.later;
+      answers = (
+        home,
+        young c.fetch_or-word.result t.fits home c.if-word.false,
+        λ i. record { table = table i; view = view i },
+        subst (λ (region : RegionData). IsFound c.seat.inside.token.me.0 c.args.region c.fetch_or-word.result region) found out.2,
+      );
+    }
