@@ -3,14 +3,17 @@
 ghost use Rattle.std.specs.Prelude.{IfOk};
 ghost use Rattle.local_run.specs.Bursts.{AreTogether};
 
+use super::scenes::valid_scene;
 use commit_horizon::Committed;
 use event_stamps::{Kind, Stamp};
 use fixed_motion::Scene;
-use region_core::{OpenGate, Region};
+use region_core::{Gate, OpenGate, Region};
 use region_workers::Workers;
 use std::alloc::{AllocError, Global};
 use std::sync::Wait;
+use std::sync::atomic::{AtomicBool, AtomicU32, Ordering};
 use std::test::Fail;
+use std::thread;
 use std::thread::Threads;
 use test_scenes::{FOUR_IN_A_ROW, LONG, scene, scene_of};
 
@@ -104,4 +107,76 @@ fn seen_in<R: Threads + Wait + Sync>(
             .get(number)
             .map(|region| (regions.len(), seen(region))),
     )
+}
+
+// Worker 0 waits in its first turn until worker 1 was here, and notes whether it was. All turns are counted.
+#[derive(Drop)]
+struct Meeting {
+    came: AtomicBool,
+    met: AtomicBool,
+    turns: AtomicU32,
+}
+
+impl Gate for Meeting {
+    fn turn(&self, worker: u32, _turn: u32) {
+        self.turns.fetch_add(1, Ordering::SeqCst);
+        if worker == 1 {
+            self.came.store(true, Ordering::SeqCst);
+            return;
+        }
+        for _ in 0..10_000_000u32 {
+            if self.came.load(Ordering::SeqCst) {
+                self.met.store(true, Ordering::SeqCst);
+                return;
+            }
+            thread::yield_now();
+        }
+    }
+}
+
+// How many regions come back from a burst by two workers, whether these met, and how many turns they began.
+type Met = (usize, bool, u32);
+
+#[test]
+fn two_workers_meet(rt: HostRuntime) -> Result<(), Fail> {
+    let scene = valid_scene(&rt, rt.alloc(), LONG, 8, 20, "")?;
+    assert_eq!(rt;
+        met_in(&rt, rt.alloc(), &scene)?,
+        (4, true, 131_072),
+        "regions, whether the workers met, and turns"
+    );
+    Ok(())
+}
+
+fn met_in<R: Threads + Wait + Sync>(
+    rt: &R,
+    alloc: Global,
+    scene: &Scene,
+) -> Result<Met, AllocError> {
+    let gate = Meeting {
+        came: AtomicBool::new(false),
+        met: AtomicBool::new(false),
+        turns: AtomicU32::new(0),
+    };
+    let count = count_after(rt, alloc, scene, &gate)?;
+    let met = gate.met.load(Ordering::SeqCst);
+    Ok((count, met, gate.turns.load(Ordering::SeqCst)))
+}
+
+// How many regions two workers give back that pass a gate. With no disk there is nothing to do, so these turns would
+// take minutes if they did more than that.
+fn count_after<R: Threads + Wait + Sync>(
+    rt: &R,
+    alloc: Global,
+    scene: &Scene,
+    gate: &Meeting,
+) -> Result<usize, AllocError> {
+    let workers = Workers {
+        workers: 2,
+        turns: 65_536,
+        steps: 4096,
+        gate,
+    };
+    let regions = workers.burst(rt, alloc, opened(alloc, scene)?)?;
+    Ok(regions.len())
 }
