@@ -1,6 +1,7 @@
 //! What the workers of a burst share.
 
-ghost use Rattle.std.specs.Prelude.{◌≡◌, ◌<◌};
+ghost use Rattle.std.specs.Prelude.{◌≡◌, ◌<◌, length, IfOk};
+ghost use Rattle.local_run.specs.RunOn.{AreRunOn};
 
 use crate::course::Course;
 use crate::job::Job;
@@ -8,7 +9,7 @@ use crate::pace::Pace;
 use crate::rendezvous::Rendezvous;
 use crate::turns::Turns;
 use cell_grid::Grid;
-use region_core::Gate;
+use region_core::{Gate, Region};
 use region_locks::{Locks, Origin};
 use std::alloc::{AllocError, Global};
 use std::sync::Wait;
@@ -32,6 +33,20 @@ pub(crate) struct Shared<'g, G: Gate, O: Origin> {
 }
 
 impl<'g, G: Gate, O: Origin> Shared<'g, G, O> {
+    /// Makes the turns of the first worker and those that nobody has begun by then, and takes the regions back.
+    ///
+    /// # Errors
+    /// Out of memory: a region is spent.
+    pub(crate) fn work_to_the_end<R: Wait>(&self, rt: &R) -> Result<Vec<Region>, AllocError>
+        ensures count { IfOk result (λ worked. length worked.items ≡ self.now.locks) }
+        ensures kept { IfOk result (λ worked. AreRunOn O.given worked.items) }
+    {
+        let made = self.work(rt, 0);
+        self.turns.begin_rest(rt);
+        made?;
+        self.locks.take_back(rt, self.alloc)
+    }
+
     /// Makes the turns of a worker.
     ///
     /// # Errors
