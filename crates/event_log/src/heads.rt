@@ -1,8 +1,9 @@
 //! What is kept of each entry in one place: its stamp, and where the rest is.
 
-ghost use Rattle.std.specs.Prelude.{◌≡◌, ◌+◌, ◌<◌, ◌≤◌, ◌^◌, length, take, drop, ◌++◌, map, All, true, false};
+ghost use Rattle.std.specs.Prelude.{◌≡◌, ◌+◌, ◌<◌, ◌≤◌, ◌^◌, length, get_or, take, drop, ◌++◌, map, All, true, false};
 ghost use Rattle.std.specs.List.Sorted.{IsPartitionedBy, IsPartitionPoint};
 ghost use Rattle.region_messages.specs.Trails.{is_before};
+ghost use Rattle.event_log.specs.declared.heads.Head.{Head};
 ghost use Rattle.event_log.specs.Heads.{edge_of, row_place, whole_place, raised, lowered};
 
 use event_stamps::Stamp;
@@ -48,14 +49,36 @@ pub fn edge(heads: &[Head], at: usize, rows: usize, wholes: usize) -> (usize, us
     }
 }
 
-/// How many heads are before a stamp, where all that are come first.
+/// How many heads are before a stamp, where all that are come first: looked for from the end on, since what comes late
+/// mostly belongs near it.
 pub fn count_earlier(heads: &[Head], at: Stamp) -> usize
     requires { IsPartitionedBy (λ h. is_before h.stamp at) heads.now }
     ensures within { result ≤ length heads.now }
     ensures place { IsPartitionPoint (λ h. is_before h.stamp at ≡ true) (λ h. is_before h.stamp at ≡ false)
         heads.now result }
 {
-    heads.partition_point(|head| head.stamp < at)
+    let mut count = heads.len();
+    while count > 0 && !is_earlier(heads, count - 1, at) {
+        count -= 1;
+    }
+    count
+}
+
+// Whether the head at a place is before a stamp.
+#[inline(always)]
+fn is_earlier(heads: &[Head], place: usize, at: Stamp) -> bool
+    requires within { place < length heads.now }
+    ensures { (h : Head) → result ≡ is_before (get_or heads.now place h).stamp at }
+{
+    is_before(&heads[place].stamp, &at)
+}
+
+// Whether a stamp is before another.
+#[inline(always)]
+fn is_before(stamp: &Stamp, at: &Stamp) -> bool
+    ensures { result ≡ is_before stamp.now at.now }
+{
+    stamp < at
 }
 
 /// One entry more is kept whole before those from a place on.

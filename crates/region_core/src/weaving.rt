@@ -3,6 +3,7 @@
 ghost use Rattle.std.specs.Prelude.{◌≡◌, ◌↔◌, ◌<◌, ◌≤◌, ◌∷◌, [], length, take, drop, None, IfSome, IfOk, OnOk, IsTrue, All};
 ghost use Rattle.event_stamps.specs.Order.{Before};
 ghost use Rattle.cell_grid.specs.Grid.{IsRegion};
+ghost use Rattle.region_messages.specs.Trails.{IsAmong};
 ghost use Rattle.region_view.specs.Placing.{IsValidPlacing};
 ghost use Rattle.region_view.specs.Setting.{set_rows, AreValidRows};
 ghost use Rattle.region_view.specs.Views.{rows_in};
@@ -20,7 +21,7 @@ use crate::moves::is_before;
 use crate::{Entry, Home, MAX_ENTRIES};
 use event_log::EventLog;
 use event_stamps::Stamp;
-use region_messages::Trail;
+use region_messages::{News, Trail};
 use region_queue::Queue;
 use region_view::{Message, Rows, View};
 use std::alloc::{AllocError, Global};
@@ -49,17 +50,20 @@ impl Live {
         ensures base { OnOk result (base_in self.new ≡ base_in self.old) }
     {
         for _ in 0..MAX_ENTRIES {
-            let Some(at) = self.inbox.first_news(from, sent, clock) else {
+        let mut known = 0;
+            let Some(news) = self.inbox.first_news(from, sent, clock, known) else {
                 return Ok(None);
             };
-            let Some(message) = sent.at(at) else {
-                return Ok(Some(at));
+            let Some(message) = told_at(sent, &news) else {
+                return Ok(Some(news.at));
             };
-            if !self.weave_or_rewind(alloc, home, floor, from, *message)? {
-                return Ok(Some(at));
+            if !self.weave_or_rewind(alloc, home, floor, from, message)? {
+                return Ok(Some(news.at));
             }
         }
-        Ok(self.inbox.first_news(from, sent, clock))
+            known = news.known;
+        let news = self.inbox.first_news(from, sent, clock, known);
+        Ok(news.map(|news| news.at))
     }
 
     // Takes in a message at its place, or takes back what was done from the first hindrance on. False where it
@@ -199,6 +203,21 @@ impl Live {
 }
 
 // A stamp, or another where it is before that.
+// The message of a region's that is news; none where it is that there is one less.
+#[inline(always)]
+fn told_at(sent: &Trail, news: &News) -> Option<Message>
+    ensures { IfSome result (λ message. IsAmong message sent.now) }
+{
+    let Some(message) = sent.get(news.known) else {
+        return None;
+    };
+    if message.stamp == news.at {
+        Some(*message)
+    } else {
+        None
+    }
+}
+
 fn not_before(at: Option<Stamp>, least: &Stamp) -> Option<Stamp>
     ensures none { (result ≡ None) ↔ (at ≡ None) }
     ensures some { IfSome result (λ stamp. ¬ Before stamp least.now) }

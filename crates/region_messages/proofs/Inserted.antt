@@ -83,7 +83,7 @@ free_by_stamp s n ms o rises parts is other = by_first (slice_get ms n) refl
         (λ same. other (is ∙ ap (option_map (λ m. m.stamp)) here ∙ ap (λ (t : Stamp). Some t) same))
 
 -- ---- the message with a stamp
-slice_among : (n : ℕ) (ms : List Message) (m : Message) → slice_get ms n ≡ Some m → IsAmong m ms
+pub slice_among : (n : ℕ) (ms : List Message) (m : Message) → slice_get ms n ≡ Some m → IsAmong m ms
 slice_among n [] m is = absurd (let no : None ≡ Some m = is in cc)
 slice_among zero (x ∷ ms) m is = inl (let same : Some x ≡ Some m = is in cc)
 slice_among (suc n) (x ∷ ms) m is = inr (slice_among n ms m is)

@@ -29,8 +29,9 @@ impl Model for Trail {
     ghost invariant = { λ a. Rises a.messages.items };
 }
 
-ghost use Rattle.std.specs.Prelude.{◌≡◌, ◌≤◌, ◌++◌, ◌∷◌, [], length, take, drop, slice_get, Some, option_copied, OnOk, OnErr, MatchOption, option_map, IsTrue, ◌↔◌};
-ghost use Rattle.region_messages.specs.Trails.{Rises, IsAmong, IsAfterAll, IsFree, with_message, below, from, AgreesUpTo, IsFirstDisagreement, StartAlike};
+ghost use Rattle.std.specs.Prelude.{◌≡◌, ◌≤◌, ◌<◌, ◌++◌, ◌∷◌, [], length, get_or, take, drop, slice_get, Some, option_copied, OnOk, OnErr, MatchOption, option_map, IsTrue, ◌↔◌};
+ghost use Rattle.region_view.specs.declared.rows.Message.{Message};
+ghost use Rattle.region_messages.specs.Trails.{Rises, is_before, IsAmong, IsAfterAll, IsFree, with_message, below, from, AgreesUpTo, IsFirstDisagreement, StartAlike};
 
 use event_stamps::{Stamp, earlier};
 use std::alloc::{AllocError, Global};
@@ -172,19 +173,33 @@ pub fn first_disagreement(a: &Trail, b: &Trail) -> Option<Stamp>
     earlier(stamp_at(&a.messages, same), stamp_at(&b.messages, same))
 }
 
-/// From which stamp on what is told differs from what was heard, where both are taken to be the
-/// same in what has stood since `told` was marked. None where nothing is new.
+/// Where what is told begins to differ from what was heard.
+#[derive(Clone, Copy)]
+pub struct News {
+    /// The stamp from which on they differ.
+    pub at: Stamp,
+    /// How many messages they have in common before it.
+    pub known: usize,
+}
+
+/// Where what is told begins to differ from what was heard, where both are taken to be the same in what
+/// has stood since `told` was marked, and in their first messages, so many as are `known`. None where
+/// nothing is new.
 ///
 /// `clock` is the stamp of the last entry of the region that tells. A message that was heard and isn't
 /// told any more counts once that region is past it: what was taken back mostly comes back the same, so
 /// until then it is waited for (lazy cancellation: Gafni, Rollback mechanisms for optimistic distributed
 /// simulation systems, 1988). Constant time where nothing is new.
-pub fn first_news(heard: &Trail, told: &Trail, clock: Option<Stamp>) -> Option<Stamp> {
-    let known = told.kept.min(heard.len()).min(told.len());
+pub fn first_news(heard: &Trail, told: &Trail, clock: Option<Stamp>, known: usize) -> Option<News> {
+    let known = told.kept.max(known).min(heard.len()).min(told.len());
     let old = &heard.messages[known..];
     let new = &told.messages[known..];
     let same = count_same(old, new);
-    earlier(passed_by(clock, stamp_at(old, same)), stamp_at(new, same))
+    let at = earlier(passed_by(clock, stamp_at(old, same)), stamp_at(new, same))?;
+    Some(News {
+        at,
+        known: known.saturating_add(same),
+    })
 }
 
 // A stamp, where a clock is after it.
@@ -224,14 +239,27 @@ fn is_stamp(stamp: Option<Stamp>, at: &Stamp) -> bool
     }
 }
 
-// How many messages are before a stamp.
+// How many messages are before a stamp: looked for from the end on, since what is asked for is mostly near it.
 fn count_below(messages: &[Message], at: Stamp) -> usize
     requires { Rises messages.now }
     ensures within { result ≤ length messages.now }
     ensures below { take result messages.now ≡ below at messages.now }
     ensures from { drop result messages.now ≡ from at messages.now }
 {
-    messages.partition_point(|m| m.stamp < at)
+    let mut count = messages.len();
+    while count > 0 && !is_before(messages, count - 1, at) {
+        count -= 1;
+    }
+    count
+}
+
+// Whether the message at a place is before a stamp.
+#[inline(always)]
+fn is_before(messages: &[Message], place: usize, at: Stamp) -> bool
+    requires within { place < length messages.now }
+    ensures { (m : Message) → result ≡ is_before (get_or messages.now place m).stamp at }
+{
+    messages[place].stamp < at
 }
 
 // Whether two messages are the same.

@@ -13,7 +13,7 @@ use crate::inbox::{Inbox, least_head};
 use crate::raising::drop_before;
 use event_log::EventLog;
 use event_stamps::Stamp;
-use region_messages::{Trail, first_disagreement, first_news};
+use region_messages::{News, Trail, first_disagreement, first_news};
 use region_view::Message;
 use std::alloc::{AllocError, Global};
 
@@ -58,10 +58,16 @@ impl Inbox {
     /// From which stamp on it differs, where what stood of `sent` when it was last marked is taken
     /// to be heard, and what is missing is waited for until the other's `clock` is past it; none
     /// where nothing is new.
-    pub(crate) fn first_news(&self, from: u32, sent: &Trail, clock: Option<Stamp>) -> Option<Stamp>
+    pub(crate) fn first_news(
+        &self,
+        from: u32,
+        sent: &Trail,
+        clock: Option<Stamp>,
+        known: usize,
+    ) -> Option<News>
         requires { from < length self.now.heard }
     {
-        first_news(&self.heard[from as usize], sent, clock)
+        first_news(&self.heard[from as usize], sent, clock, known)
     }
 
     /// Whether no message that was heard from a region has this stamp.

@@ -1,18 +1,38 @@
-use Rattle.std.proofs.Common.{rules}
-use Rattle.std.proofs.lemmas.List.Sorted.{IsPartitionPoint-from_clause}
-use Rattle.event_stamps.specs.Ordered.{is_before}
+use Rattle.std.proofs.Common.{◌≡◌, sym, subst, arith}
 use Rattle.event_stamps.proofs.Counted.{IsPlace, partitioned, counted_below, counted_from}
 use Rattle.region_messages.specs.Trails.{message_key}
+use Rattle.region_messages.proofs.Sought.{NoneFrom, none_from_end, none_from_less, found_from_end, found_at_front}
 use Rattle.region_messages.proofs.count_below.Goals as goal
 
-pub returns : goal.returns
-returns c =
-    let ms = c.args.messages.now in
-    let place : IsPlace message_key c.args.at ms c.partition_point.result =
-    IsPartitionPoint-from_clause (λ m. is_before m.stamp c.args.at) ms c.partition_point.result
-    c.partition_point.ensures.partitioned (partitioned message_key c.args.at ms c.requires)
-    (λ a r f called. search rules) in record {
-      within = c.partition_point.ensures.bound;
-      below = counted_below message_key c.args.at ms c.partition_point.result place;
-      from = counted_from message_key c.args.at ms c.partition_point.result place;
+pub loop-count-init : goal.loop-count-init
+loop-count-init c = (omega arith, none_from_end message_key c.args.at c.args.messages.now)
+
+pub loop-count-preserved : goal.loop-count-preserved
+loop-count-preserved c = (
+  omega arith,
+  none_from_less message_key c.args.at c.args.messages.now c.loop-count.count c.loop-count.invariant.1
+      (λ x. let is = c.is_before.ensures x in let not = c.if-not-is_before.true in cc),
+)
+
+pub returns-else-not-is_before : goal.returns-else-not-is_before
+returns-else-not-is_before c =
+    let place : IsPlace message_key c.args.at c.args.messages.now c.loop-count.count =
+    found_from_end message_key c.args.at c.args.messages.now c.loop-count.count (partitioned message_key c.args.at c.args.messages.now c.requires) c.loop-count.invariant.1 c.loop-count-test.true
+    c.loop-count.invariant.0
+    (λ x. let is = c.is_before.ensures x in let not = c.if-not-is_before.false in cc) in record {
+      within = c.loop-count.invariant.0;
+      below = counted_below message_key c.args.at c.args.messages.now c.loop-count.count place;
+      from = counted_from message_key c.args.at c.args.messages.now c.loop-count.count place;
+    }
+
+pub returns-after-loop-count : goal.returns-after-loop-count
+returns-after-loop-count c =
+    let none : c.loop-count.count ≡ 0 = omega arith in
+    let place : IsPlace message_key c.args.at c.args.messages.now c.loop-count.count =
+    subst (IsPlace message_key c.args.at c.args.messages.now) (sym none)
+    (found_at_front message_key c.args.at c.args.messages.now
+    (subst (NoneFrom message_key c.args.at c.args.messages.now) none c.loop-count.invariant.1)) in record {
+      within = c.loop-count.invariant.0;
+      below = counted_below message_key c.args.at c.args.messages.now c.loop-count.count place;
+      from = counted_from message_key c.args.at c.args.messages.now c.loop-count.count place;
     }

@@ -3,4 +3,4 @@ use Rattle.region_core.proofs.live.Live.weave_news.Goals as goal
 
 pub weave_or_rewind-requires-clause-hearable : goal.weave_or_rewind-requires-clause-hearable
 weave_or_rewind-requires-clause-hearable c = hearable_one c.args.home.now c.args.floor c.args.from
-    c.in-Some-at.message.now c.args.sent.now c.requires.hearable c.in-Some-at.ensures.0
+    c.in-Some-told_at.message c.args.sent.now c.requires.hearable c.in-Some-told_at.ensures
