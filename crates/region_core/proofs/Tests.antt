@@ -1,5 +1,6 @@
 -- What the tests of weaving tell.
-use Rattle.std.proofs.Common.{◌≡◌, ◌⊎◌, inl, inr, ℕ, zero, suc, ◌==◌, ◌∙◌, ◌<◌, ◌≤◌, Bool, List, [], ◌∷◌, length, drop, get_or, slice_get, Option, Some, None, sym, ap, subst, refl, arith}
+use Rattle.std.proofs.Common.{◌≡◌, ◌⊎◌, inl, inr, ℕ, zero, suc, ◌==◌, ◌∙◌, ◌<◌, ◌≤◌, Bool, ◌&&◌, true, List, [], ◌∷◌, length, drop, get_or, slice_get, Option, Some, None, sym, ap, subst, refl, arith}
+use Rattle.fixed_motion.specs.declared.disk.Disk.{Disk}
 use Rattle.std.specs.Prelude.{if◌then◌else◌, option_map, IfSome, All}
 use Rattle.std.specs.List.{Contains}
 use Rattle.std.proofs.lemmas.Option.{none-some, same_Some}
@@ -13,11 +14,12 @@ use Rattle.region_view.specs.declared.rows.Message.{Message}
 use Rattle.region_view.specs.Placing.{IsValidPlacing}
 use Rattle.region_view.specs.Setting.{RowList, AreRows, AreValidRows, IsValidPlaced, set_rows, rows_at, numbers_of}
 use Rattle.region_view.specs.Views.{ViewData, rows_in}
-use Rattle.region_view.proofs.Puts.{swap_is_undone, same_is}
+use Rattle.region_view.proofs.SamePlaced.{disk_eq, placed_decides}
+use Rattle.region_view.proofs.Puts.{get_put_here, get_put_other, swap_is_undone, same_is}
 use Rattle.region_messages.specs.Trails.{IsAmong}
 use Rattle.region_messages.proofs.Order.{before_not_before}
 use Rattle.region_view.specs.Acting.{stamp_of}
-use Rattle.region_view.specs.Naming.{IsSameBut, Names}
+use Rattle.region_view.specs.Naming.{IsSameBut, IsMoved, Names}
 use Rattle.region_queue.specs.Queue.{QueueData, IsOf}
 use Rattle.local_run.specs.declared.home.Home.{Home}
 use Rattle.event_log.specs.Logged.{Logged, logged_stamp, entries_in, backs_in, stamps_in}
@@ -27,7 +29,7 @@ use Rattle.local_run.specs.Entries.{native_in}
 use Rattle.local_run.specs.LocalRun.{Trails, trail_of}
 use Rattle.local_run.specs.Weaving.{IsApart}
 use Rattle.local_run.proofs.Touched.{over_others, same_but}
-use Rattle.region_core.specs.Weaving.{IsOwnTouch, TouchAfter, IsStepAside, IsLateAside, IsValidBack, BeginsAfter}
+use Rattle.region_core.specs.Weaving.{disk_of, IsOwnTouch, TouchAfter, IsStepAside, IsLateAside, IsValidBack, BeginsAfter}
 use Rattle.region_core.proofs.Lists.{read_or}
 
 -- ---- at most two rows
@@ -146,6 +148,23 @@ swapped_back view new again rows back set was is =
 pub set_differs : (view new : ViewData) (rows : RowList) → new ≡ set_rows view rows →
     IsSameBut (numbers_of rows) view new
 set_differs view new rows set i not = ap (λ (v : ViewData). rows_in v i) set ∙ same_but view rows i not
+
+-- two records that were compared
+pub same_record : (a b : Disk) → disk_eq a b ≡ true → a ≡ b
+same_record a b e = ap (λ (p : Placed). p.disk) ((placed_decides (record { disk = a; cell = 0 })
+    (record { disk = b; cell = 0 })).0 (ap (λ (v : Bool). v && (0 == 0)) e))
+
+-- a disk whose only row has the record that stood there is moved
+pub moved_by_row : (was : ViewData) (rows before : RowList) (row old : ℕ × Option Placed) → rows ≡ row ∷ [] →
+    before ≡ old ∷ [] → disk_of row.1 ≡ disk_of old.1 → before ≡ rows_at (rows_in was) rows →
+    IsMoved row.0 was (set_rows was rows)
+moved_by_row was rows before row old one other same is =
+    let there : old ∷ [] ≡ (row.0, rows_in was row.0) ∷ [] = sym other ∙ is ∙ ap (rows_at (rows_in was)) one in
+    let first : old ≡ (row.0, rows_in was row.0) = cc in
+    subst (λ (v : RowList). IsMoved row.0 was (set_rows was v)) (sym one) (
+      λ i not. get_put_other was row.0 row.1 i not,
+      ap disk_of (get_put_here was row.0 row.1) ∙ same ∙ ap (λ (r : ℕ × Option Placed). disk_of r.1) first,
+    )
 
 pub back_differs : (view new again : ViewData) (rows : RowList) → new ≡ set_rows view rows → again ≡ view →
     IsSameBut (numbers_of rows) new again

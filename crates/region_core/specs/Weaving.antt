@@ -1,8 +1,9 @@
 -- What the tests of weaving tell, and what weaving makes of a local run.
-use Rattle.std.specs.Prelude.{◌≡◌, ◌⊎◌, ℕ, ◌<◌, List, [], ◌∷◌, Option, None, Some, IfSome, length, drop, All}
+use Rattle.std.specs.Prelude.{◌≡◌, ◌⊎◌, ℕ, ◌<◌, List, [], ◌∷◌, Option, None, Some, IfSome, length, drop, All, option_map}
 use Rattle.event_stamps.specs.declared.Stamp.{Stamp}
 use Rattle.event_stamps.specs.Order.{Before}
 use Rattle.cell_grid.specs.Grid.{Owns}
+use Rattle.fixed_motion.specs.declared.disk.Disk.{Disk}
 use Rattle.region_view.specs.declared.action.Placed.{Placed}
 use Rattle.region_view.specs.declared.rows.Message.{Message}
 use Rattle.region_view.specs.Views.{ViewData, rows_in}
@@ -50,6 +51,10 @@ IsOutOfWay h rows l = IsApart rows l.0 × IsLateAside h rows l
 -- what stands in rows that lead back is valid
 abbrev pub IsValidBack : Home → RowList → Type 0
 IsValidBack h back = (i : ℕ) (p : Placed) → get_over back i None ≡ Some p → IsValidPlaced h.rules h.grid (Some p)
+
+-- the record in a row
+abbrev pub disk_of : Option Placed → Option Disk
+disk_of row = option_map (λ p. p.disk) row
 
 -- the rows were set, and each native candidate comes after a stamp then; or the view is as it was
 abbrev pub IsSetLate : Stamp → ViewData → RowList → QueueData → ViewData → RowList → Option Stamp → Type 0

@@ -1,18 +1,19 @@
 //! Weaving: a message that comes late is taken in at its place, and what was done since stays.
 
-ghost use Rattle.std.specs.Prelude.{◌≡◌, ◌↔◌, ◌<◌, ◌≤◌, ◌∷◌, [], length, take, drop, None, IfSome, IfOk, OnOk, IsTrue, All};
+ghost use Rattle.std.specs.Prelude.{◌≡◌, ◌↔◌, ◌<◌, ◌≤◌, ◌∷◌, [], length, take, drop, None, IfSome, IfOk, OnOk, IsTrue, All, option_copied};
 ghost use Rattle.event_stamps.specs.Order.{Before};
 ghost use Rattle.cell_grid.specs.Grid.{IsRegion};
 ghost use Rattle.region_messages.specs.Trails.{IsAmong};
 ghost use Rattle.region_view.specs.Placing.{IsValidPlacing};
-ghost use Rattle.region_view.specs.Setting.{set_rows, AreValidRows};
-ghost use Rattle.region_view.specs.Views.{rows_in};
+ghost use Rattle.region_view.specs.Naming.{IsMoved};
+ghost use Rattle.region_view.specs.Setting.{set_rows, rows_at, AreValidRows};
+ghost use Rattle.region_view.specs.Views.{ViewData, rows_in};
 ghost use Rattle.region_queue.specs.Queue.{IsOf, StandsFor};
 ghost use Rattle.local_run.specs.Entries.{entries_below, entries_from};
 ghost use Rattle.local_run.specs.LocalRun.{IsInPlace, IsHearable};
 ghost use Rattle.event_log.specs.Logged.{entries_in};
 ghost use Rattle.region_core.specs.Live.{base_in, run_in, IsLive};
-ghost use Rattle.region_core.specs.Weaving.{Weaves, IsSetLate, BeginsAfter, IsTried, IsValidBack, IsLateAside};
+ghost use Rattle.region_core.specs.Weaving.{disk_of, Weaves, IsSetLate, BeginsAfter, IsTried, IsValidBack, IsLateAside};
 
 use crate::appending::touch;
 use crate::aside::first_in_way;
@@ -23,7 +24,7 @@ use event_log::EventLog;
 use event_stamps::Stamp;
 use region_messages::{News, Trail};
 use region_queue::Queue;
-use region_view::{Message, Rows, View};
+use region_view::{Message, Placed, Rows, View};
 use std::alloc::{AllocError, Global};
 
 impl Live {
@@ -49,8 +50,8 @@ impl Live {
         ensures live { OnOk result (IsLive home.now floor self.new) }
         ensures base { OnOk result (base_in self.new ≡ base_in self.old) }
     {
-        for _ in 0..MAX_ENTRIES {
         let mut known = 0;
+        for _ in 0..MAX_ENTRIES {
             let Some(news) = self.inbox.first_news(from, sent, clock, known) else {
                 return Ok(None);
             };
@@ -60,8 +61,8 @@ impl Live {
             if !self.weave_or_rewind(alloc, home, floor, from, message)? {
                 return Ok(Some(news.at));
             }
-        }
             known = news.known;
+        }
         let news = self.inbox.first_news(from, sent, clock, known);
         Ok(news.map(|news| news.at))
     }
@@ -202,7 +203,6 @@ impl Live {
     }
 }
 
-// A stamp, or another where it is before that.
 // The message of a region's that is news; none where it is that there is one less.
 #[inline(always)]
 fn told_at(sent: &Trail, news: &News) -> Option<Message>
@@ -218,6 +218,7 @@ fn told_at(sent: &Trail, news: &News) -> Option<Message>
     }
 }
 
+// A stamp, or another where it is before that.
 fn not_before(at: Option<Stamp>, least: &Stamp) -> Option<Stamp>
     ensures none { (result ≡ None) ↔ (at ≡ None) }
     ensures some { IfSome result (λ stamp. ¬ Before stamp least.now) }
@@ -254,13 +255,73 @@ fn set_late(
 {
     let set = *rows;
     view.swap(rows)?;
-    touch(alloc, queue, view, &set)?;
+    tell_of(alloc, queue, view, &set, rows)?;
     let Some(least) = not_after(queue.least(), last) else {
         return Ok(None);
     };
     view.swap(rows)?;
     touch(alloc, queue, view, &set)?;
     Ok(Some(least))
+}
+
+// Tells the queue of rows that were set in a view, and of what stood there before: a disk that is only in another
+// cell keeps its course.
+#[inline(always)]
+fn tell_of(
+    alloc: Global,
+    queue: &mut Queue,
+    view: &View,
+    rows: &Rows,
+    before: &Rows,
+) -> Result<(), AllocError>
+    requires valid { IsValidPlacing queue.old.rules queue.old.grid (rows_in view.now) }
+    ensures queue { IsOf queue.new queue.old.rules queue.old.grid queue.old.region }
+    ensures stands { OnOk result ((was : ViewData) → StandsFor queue.old was →
+        view.now ≡ set_rows was rows.now → before.now ≡ rows_at (rows_in was) rows.now →
+        StandsFor queue.new view.now) }
+{
+    match moved_disk(rows, before) {
+        Some(disk) => queue.crossed(alloc, view, disk),
+        None => touch(alloc, queue, view, rows),
+    }
+}
+
+// The disk of the only one of some rows, where it differs in the cell alone from what stood there.
+fn moved_disk(rows: &Rows, before: &Rows) -> Option<u32>
+    ensures { IfSome result (λ disk. (was : ViewData) → before.now ≡ rows_at (rows_in was) rows.now →
+        IsMoved disk was (set_rows was rows.now)) }
+{
+    let Some(row) = only_row(rows) else {
+        return None;
+    };
+    let Some(old) = only_row(before) else {
+        return None;
+    };
+    if is_same_disk(&row.1, &old.1) {
+        Some(row.0)
+    } else {
+        None
+    }
+}
+
+// The row, where there is one alone.
+fn only_row(rows: &Rows) -> Option<&(u32, Option<Placed>)>
+    ensures { IfSome (option_copied result) (λ row. rows.now ≡ row ∷ []) }
+{
+    match rows.as_slice() {
+        [row] => Some(row),
+        _ => None,
+    }
+}
+
+// Whether there is a disk in both of two rows, with one record.
+fn is_same_disk(row: &Option<Placed>, old: &Option<Placed>) -> bool
+    ensures { IsTrue result → disk_of row.now ≡ disk_of old.now }
+{
+    match (row, old) {
+        (Some(new), Some(was)) => new.disk == was.disk,
+        _ => false,
+    }
 }
 
 // A stamp, if there is one that isn't after another.
