@@ -5,6 +5,10 @@
 pub trait Gate: Sync {
     /// A worker is about to make a turn of the present burst, both counted from 0 on.
     fn turn(&self, worker: u32, turn: u32);
+
+    /// A worker, which holds no region, may be held up here for a moment: the others do its work. It may come
+    /// here any number of times in a turn.
+    fn pause(&self, _worker: u32) {}
 }
 
 /// A gate that lets all pass.

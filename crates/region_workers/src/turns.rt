@@ -59,6 +59,11 @@ impl<'g, G: Gate> Turns<'g, G> {
         true
     }
 
+    /// Lets the gate hold a worker up, which holds no region.
+    pub(crate) fn pause(&self, worker: u32) {
+        self.gate.pause(worker);
+    }
+
     /// Begins all turns that are left, and waits for those that are at the gate.
     pub(crate) fn begin_rest<R: Wait>(&self, rt: &R) {
         for worker in 0..self.workers {

@@ -109,12 +109,14 @@ fn seen_in<R: Threads + Wait + Sync>(
     )
 }
 
-// Worker 0 waits in its first turn until worker 1 was here, and notes whether it was. All turns are counted.
+// Worker 0 waits in its first turn until worker 1 was here, and notes whether it was. All turns are counted, and it is
+// noted whether a worker came to be held up.
 #[derive(Drop)]
 struct Meeting {
     came: AtomicBool,
     met: AtomicBool,
     turns: AtomicU32,
+    paused: AtomicBool,
 }
 
 impl Gate for Meeting {
@@ -132,18 +134,23 @@ impl Gate for Meeting {
             thread::yield_now();
         }
     }
+
+    fn pause(&self, _worker: u32) {
+        self.paused.store(true, Ordering::SeqCst);
+    }
 }
 
-// How many regions come back from a burst by two workers, whether these met, and how many turns they began.
-type Met = (usize, bool, u32);
+// How many regions come back from a burst by two workers, whether these met, how many turns they began, and whether one
+// could have been held up.
+type Met = (usize, bool, u32, bool);
 
 #[test]
 fn two_workers_meet(rt: HostRuntime) -> Result<(), Fail> {
     let scene = valid_scene(&rt, rt.alloc(), LONG, 8, 20, "")?;
     assert_eq!(rt;
         met_in(&rt, rt.alloc(), &scene)?,
-        (4, true, 131_072),
-        "regions, whether the workers met, and turns"
+        (4, true, 131_072, true),
+        "regions, whether the workers met, turns, and whether one could have been held up"
     );
     Ok(())
 }
@@ -157,10 +164,15 @@ fn met_in<R: Threads + Wait + Sync>(
         came: AtomicBool::new(false),
         met: AtomicBool::new(false),
         turns: AtomicU32::new(0),
+        paused: AtomicBool::new(false),
     };
     let count = count_after(rt, alloc, scene, &gate)?;
-    let met = gate.met.load(Ordering::SeqCst);
-    Ok((count, met, gate.turns.load(Ordering::SeqCst)))
+    Ok((
+        count,
+        gate.met.load(Ordering::SeqCst),
+        gate.turns.load(Ordering::SeqCst),
+        gate.paused.load(Ordering::SeqCst),
+    ))
 }
 
 // How many regions two workers give back that pass a gate. With no disk there is nothing to do, so these turns would
