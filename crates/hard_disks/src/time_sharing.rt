@@ -1,0 +1,122 @@
+//! How workers share the processors with other programs.
+//!
+//! Where more threads want to run than there are processors, the system takes a worker's away every few milliseconds,
+//! and mostly while it works on a region: then the other workers wait until it is back. Between two slices a worker
+//! holds no region, and the others do its work. So it is better to give the processor away there, a little before it
+//! would be taken.
+//!
+//! Nothing is claimed of it: the regions are right whoever runs them, and when.
+
+use region_core::Gate;
+use region_workers::MAX_WORKERS;
+use std::alloc::Global;
+use std::sync::atomic::{AtomicU64, Ordering};
+use std::time::{Clock, Duration};
+
+// A worker that comes so many microseconds after it came last was without a processor, or waited for one that was.
+const LATE: u64 = 1_000;
+
+// For how many microseconds after that a worker takes the processors to be wanted by others.
+const CROWDED: u64 = 100_000;
+
+// How many microseconds a worker keeps a processor then: somewhat less than the system mostly gives at a time.
+const STINT: u64 = 3_000;
+
+// How many microseconds a worker sleeps to give its processor away.
+const AWAY: u64 = 1;
+
+/// A gate at which a worker gives its processor away for a moment, where others seem to want it and it has had it for
+/// some milliseconds.
+#[derive(Drop)]
+pub struct TimeSharing<'r, R> {
+    rt: &'r R,
+    workers: Vec<Stint>,
+}
+
+/// What is known of a worker, in microseconds.
+#[derive(Drop)]
+pub struct Stint {
+    // When it came to the gate last.
+    last: AtomicU64,
+    // Since when it has had a processor.
+    since: AtomicU64,
+    // Until when the processors are taken to be wanted by others.
+    crowded: AtomicU64,
+}
+
+impl<'r, R: Clock> TimeSharing<'r, R> {
+    /// A gate to which nobody has come. Where memory is wanting, some workers never give their processors away.
+    pub fn new(rt: &'r R, alloc: Global) -> TimeSharing<'r, R> {
+        let mut workers = Vec::new(alloc);
+        for _ in 0..MAX_WORKERS {
+            if workers.push(Stint::new()).is_err() {
+                break;
+            }
+        }
+        TimeSharing { rt, workers }
+    }
+
+    // The time since some moment; 0 where the clock can't be read.
+    fn micros(&self) -> u64 {
+        match self.rt.monotonic() {
+            Ok(time) => (time.as_micros() % (1 << 62)) as u64,
+            Err(_) => 0,
+        }
+    }
+}
+
+impl<'r, R: Clock + Sync> Gate for TimeSharing<'r, R> {
+    // Before the first turn of a burst a worker may have waited for the burst; those but the first are threads that
+    // have just been given a processor.
+    fn turn(&self, worker: u32, turn: u32) {
+        if turn > 0 {
+            return;
+        }
+        if let Some(stint) = self.workers.get(worker as usize) {
+            stint.come(self.micros(), worker > 0);
+        }
+    }
+
+    fn pause(&self, worker: u32) {
+        let Some(stint) = self.workers.get(worker as usize) else {
+            return;
+        };
+        if stint.is_over(self.micros()) {
+            self.rt.sleep(Duration::from_micros(AWAY));
+            stint.come(self.micros(), true);
+        }
+    }
+}
+
+impl Stint {
+    /// Nobody was seen.
+    pub fn new() -> Stint {
+        Stint {
+            last: AtomicU64::new(0),
+            since: AtomicU64::new(0),
+            crowded: AtomicU64::new(0),
+        }
+    }
+
+    /// The worker is there at this time, and may have been given a processor just now.
+    pub fn come(&self, now: u64, is_given: bool) {
+        self.last.store(now, Ordering::SeqCst);
+        if is_given {
+            self.since.store(now, Ordering::SeqCst);
+        }
+    }
+
+    /// Whether the worker, which comes at this time, is to give its processor away.
+    pub fn is_over(&self, now: u64) -> bool {
+        let last = self.last.load(Ordering::SeqCst);
+        let is_late = now.saturating_sub(last) > LATE;
+        self.come(now, is_late);
+        if is_late {
+            self.crowded
+                .store(now.saturating_add(CROWDED), Ordering::SeqCst);
+            return false;
+        }
+        now < self.crowded.load(Ordering::SeqCst)
+            && now.saturating_sub(self.since.load(Ordering::SeqCst)) > STINT
+    }
+}
