@@ -72,11 +72,7 @@ limit_told after scene at limit old new h le told =
     let stays = limits_stay scene at told.0 limit h le told.1 in
     (told.0, stays.0, stays.1, told.2)
 
--- what was told of a scene that is equal to another
-pub same_part : {M : Type 0} (after : M → Change → M) (a b : SceneData) (outcome : Outcome) (old new : Option M) →
-    a ≡ b → RunTold after a outcome old new → RunTold after b outcome old new
-same_part after a b outcome old new e told = subst (λ (v : SceneData). RunTold after v outcome old new) e told
-
+-- what was told with an outcome that is equal to another
 pub same_end : {M : Type 0} (after : M → Change → M) (a : SceneData) (o p : Outcome) (old new : Option M) →
     o ≡ p → RunTold after a o old new → RunTold after a p old new
 same_end after a o p old new e told = subst (λ (v : Outcome). RunTold after a v old new) e told
