@@ -1,21 +1,21 @@
 //! Workers: threads that run the regions side by side between two commits.
+//!
+//! How far regions run before they hear each other ([`pace`], [`virtual_time`]) and where a burst stands ([`roll`]) is
+//! public for the tests alone, which stand in a crate of their own.
 #![tactic(auto)]
 
 mod by_call;
 mod call;
 mod course;
 mod job;
-mod pace;
+pub mod pace;
 mod rendezvous;
-mod roll;
+pub mod roll;
 mod shared;
 mod turns;
-mod virtual_time;
+pub mod virtual_time;
 mod workers;
 
 pub use by_call::ByCall;
 pub use call::Call;
 pub use workers::{MAX_WORKERS, Workers};
-
-#[cfg(test)]
-mod tests;

@@ -31,7 +31,7 @@ const UNKNOWN: u64 = u64::MAX;
 
 /// How far the regions of a burst came lately, and how far they run next.
 #[derive(Drop)]
-pub(crate) struct Pace {
+pub struct Pace {
     // How many there are, one at least.
     disks: u64,
     // How many steps a region makes in a slice at most.
@@ -54,7 +54,7 @@ struct Mark {
 
 /// How far a region runs in a slice.
 #[derive(Clone, Copy)]
-pub(crate) struct Slice {
+pub struct Slice {
     /// How many steps at most, at least 1.
     pub steps: u32,
     /// What is due has to be before it, in parts of a tick.
@@ -63,7 +63,7 @@ pub(crate) struct Slice {
 
 impl Pace {
     /// Of these regions.
-    pub(crate) fn new(alloc: Global, regions: &[Region]) -> Result<Pace, AllocError> {
+    pub fn new(alloc: Global, regions: &[Region]) -> Result<Pace, AllocError> {
         let mut disks = 1;
         for region in regions {
             disks = disks.max(region.room() as u64);
@@ -84,7 +84,7 @@ impl Pace {
     }
 
     /// The next slice, where a region has so many steps left, one at least.
-    pub(crate) fn next_slice(&self, left: u32) -> Slice
+    pub fn next_slice(&self, left: u32) -> Slice
         requires { 0 < left }
         ensures some { 0 < result.steps }
         ensures most { result.steps ≤ left }
@@ -105,7 +105,7 @@ impl Pace {
     }
 
     /// A slice to the farthest bound that there was, with half of the steps that are left, one at least.
-    pub(crate) fn settling_slice(&self, left: u32) -> Slice
+    pub fn settling_slice(&self, left: u32) -> Slice
         requires { 0 < left }
         ensures some { 0 < result.steps }
         ensures most { result.steps ≤ left }
@@ -117,12 +117,12 @@ impl Pace {
     }
 
     /// The bound of a slice.
-    pub(crate) fn bound(&self, slice: &Slice) -> Stamp {
+    pub fn bound(&self, slice: &Slice) -> Stamp {
         from_parts(slice.bound, self.disks)
     }
 
     /// Takes in how far a region came in a slice.
-    pub(crate) fn ran(&self, region: u32, progress: &Progress) {
+    pub fn ran(&self, region: u32, progress: &Progress) {
         let Some(mark) = self.marks.get(region as usize) else {
             return;
         };
@@ -137,7 +137,7 @@ impl Pace {
     }
 
     /// Takes in what is due in a region after it heard others.
-    pub(crate) fn heard(&self, region: u32, due: &Stamp) {
+    pub fn heard(&self, region: u32, due: &Stamp) {
         if let Some(mark) = self.marks.get(region as usize) {
             mark.due.store(to_parts(due, self.disks), Ordering::SeqCst);
         }

@@ -21,7 +21,7 @@ const OVER: u32 = u32::MAX;
 
 /// How far the workers of a burst are.
 #[derive(Clone, Copy)]
-pub(crate) struct Roll {
+pub struct Roll {
     /// What they are at, counted from 0 on: a phase is a slice or a hearing.
     pub phase: u32,
     /// Of how many regions it is done.
@@ -36,7 +36,7 @@ pub(crate) struct Roll {
 
 /// What a worker did in a phase.
 #[derive(Clone, Copy)]
-pub(crate) struct Share {
+pub struct Share {
     /// Of how many regions it did the phase's work.
     pub regions: u32,
     /// Whether any of them could go on.
@@ -47,7 +47,7 @@ pub(crate) struct Share {
 
 impl Share {
     /// No region yet.
-    pub(crate) fn none() -> Share {
+    pub fn none() -> Share {
         Share {
             regions: 0,
             moved: false,
@@ -56,7 +56,7 @@ impl Share {
     }
 
     /// One region more.
-    pub(crate) fn add(&mut self, moved: bool, news: bool) {
+    pub fn add(&mut self, moved: bool, news: bool) {
         self.regions = self.regions.saturating_add(1);
         self.moved = self.moved || moved;
         self.news = self.news || news;
@@ -65,7 +65,7 @@ impl Share {
 
 impl Roll {
     /// The roll that a word keeps.
-    pub(crate) fn of(word: u64) -> Roll {
+    pub fn of(word: u64) -> Roll {
         Roll {
             phase: (word % PHASES) as u32,
             done: ((word >> DONE) % COUNTS) as u32,
@@ -76,7 +76,7 @@ impl Roll {
     }
 
     /// The word that keeps the roll.
-    pub(crate) fn word(&self) -> u64 {
+    pub fn word(&self) -> u64 {
         u64::from(self.phase)
             | u64::from(self.done) << DONE
             | u64::from(self.moved) << MOVED
@@ -85,12 +85,12 @@ impl Roll {
     }
 
     /// Whether nothing is to be done any more in this burst.
-    pub(crate) fn is_over(&self) -> bool {
+    pub fn is_over(&self) -> bool {
         self.phase == OVER
     }
 
     /// With a worker's share of the phase's work. One that is over stays so.
-    pub(crate) fn with(self, share: &Share) -> Roll {
+    pub fn with(self, share: &Share) -> Roll {
         if self.is_over() {
             return self;
         }
@@ -104,7 +104,7 @@ impl Roll {
 
     /// The next phase, where this one is done of all regions: a hearing if there are news. Where none could go on
     /// nor has news, the burst is over: nothing would ever change.
-    pub(crate) fn next(self) -> Roll {
+    pub fn next(self) -> Roll {
         if self.is_over() || !self.moved && !self.news {
             return Roll::over();
         }
@@ -118,7 +118,7 @@ impl Roll {
     }
 
     /// The roll of a burst that is over.
-    pub(crate) fn over() -> Roll {
+    pub fn over() -> Roll {
         Roll {
             phase: OVER,
             done: 0,

@@ -11,7 +11,7 @@ const PARTS: u64 = 1 << 17;
 const HALF: u64 = PARTS / 2;
 
 /// The part of a stamp, where there are so many disks.
-pub(crate) fn to_parts(stamp: &Stamp, disks: u64) -> u64 {
+pub fn to_parts(stamp: &Stamp, disks: u64) -> u64 {
     let start = stamp.tick.saturating_mul(PARTS);
     if stamp.round > 0 {
         return start.saturating_add(PARTS - 1);
@@ -25,7 +25,7 @@ pub(crate) fn to_parts(stamp: &Stamp, disks: u64) -> u64 {
 }
 
 /// The first stamp of a part, where there are so many disks: stamps of the parts before it are before it.
-pub(crate) fn from_parts(parts: u64, disks: u64) -> Stamp {
+pub fn from_parts(parts: u64, disks: u64) -> Stamp {
     let part = parts % PARTS;
     let (kind, place) = if part < HALF {
         (Kind::Cross, part)

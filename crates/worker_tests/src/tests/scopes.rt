@@ -1,6 +1,8 @@
+//! A scope whose closure is lent.
+
 ghost use Rattle.std.specs.Prelude.{◌≡◌, ◌+◌, ◌<◌, ◌^◌};
 
-use crate::scope_mut;
+use lent_scope::scope_mut;
 use std::sync::Wait;
 use std::sync::atomic::{AtomicU64, Ordering};
 use std::thread;

@@ -1,40 +1,12 @@
-use crate::pace::{Pace, Slice};
-use crate::roll::{Roll, Share};
-use crate::virtual_time::{from_parts, to_parts};
-use cell_sequence::CellState;
+//! How far regions run, and where a burst stands.
+
+use super::regions::{RULES, empty_scene, opened};
 use event_stamps::{Kind, Stamp};
-use fixed_motion::{Rules, Scene};
-use region_core::Region;
 use region_locks::Progress;
+use region_workers::pace::{Pace, Slice};
+use region_workers::roll::{Roll, Share};
+use region_workers::virtual_time::{from_parts, to_parts};
 use std::alloc::{AllocError, Global};
-
-// A box of five columns of 20 units.
-const RULES: Rules = Rules {
-    width: 100,
-    height: 20,
-    diameter: 4,
-    speed_limit: 8,
-    round_limit: 8,
-    end: 20,
-};
-
-// A scene without disks; none where its rules are refused.
-fn empty_scene(alloc: Global) -> Option<Scene> {
-    match RULES.check() {
-        Ok(()) => Some(Scene::new(RULES, Vec::new(alloc), None)),
-        Err(_) => None,
-    }
-}
-
-// Four regions at the start of a scene.
-fn opened(alloc: Global, scene: &Scene) -> Result<Vec<Region>, AllocError> {
-    let state = CellState::open(alloc, scene, 4)?;
-    let mut regions = Vec::new(alloc);
-    for number in 0..state.grid().regions() {
-        regions.push(Region::open(alloc, &state, number)?)?;
-    }
-    Ok(regions)
-}
 
 // The work on so many regions, whether any could go on, and whether any has news.
 type ShareRow = (u32, bool, bool);

@@ -1,0 +1,36 @@
+//! Regions without disks.
+
+ghost use Rattle.std.specs.Prelude.{◌<◌, ◌^◌, length, IfOk};
+ghost use Rattle.local_run.specs.Bursts.{AreTogether};
+
+use commit_horizon::Committed;
+use fixed_motion::{Rules, Scene};
+use region_core::Region;
+use std::alloc::{AllocError, Global};
+
+/// A box of five columns of 20 units.
+pub const RULES: Rules = Rules {
+    width: 100,
+    height: 20,
+    diameter: 4,
+    speed_limit: 8,
+    round_limit: 8,
+    end: 20,
+};
+
+/// A scene without disks; none where its rules are refused.
+pub fn empty_scene(alloc: Global) -> Option<Scene> {
+    match RULES.check() {
+        Ok(()) => Some(Scene::new(RULES, Vec::new(alloc), None)),
+        Err(_) => None,
+    }
+}
+
+/// Four regions at the start of a scene.
+pub fn opened(alloc: Global, scene: &Scene) -> Result<Vec<Region>, AllocError>
+    ensures few { IfOk result (λ regions. length regions.items < 2 ^ 32) }
+    ensures together { IfOk result (λ regions. AreTogether regions.items) }
+{
+    let committed = Committed::open(alloc, scene, 4)?;
+    committed.open_all(alloc)
+}
