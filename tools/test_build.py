@@ -12,13 +12,13 @@ TOP = os.path.join(os.path.dirname(os.path.abspath(__file__)), "..")
 # Says what the prover says of two crates, and makes a program that tells its words, what it reads and a status.
 PROVER = r"""#!/bin/bash
 [[ -e ../../fails ]] && { echo 'rt: base NOT PROVED'; exit 1; }
-echo 'rt: chose --jobs 2 for base'; echo 'fn base::one: proved'; echo 'rt: chose --jobs 4 for hard_disks'
+echo 'rt: chose --jobs 2 for base'; echo 'fn base::one: proved'; echo 'rt: chose --jobs 4 for hard_disks_program'
 cat >/dev/null
-cat >out/hard_disks <<'P'
+cat >out/hard_disks_program <<'P'
 #!/bin/bash
 printf '<%s>' "$@"; cat; exit 7
 P
-chmod +x out/hard_disks
+chmod +x out/hard_disks_program
 """
 WORDS = ["--mode", "run", "a b", "", "*", "--", "two\nlines", "-é"]
 
@@ -36,8 +36,8 @@ class Script(unittest.TestCase):
         self.addCleanup(room.cleanup)
         self.top = room.name
         shutil.copy(os.path.join(TOP, "hard_disks"), self.top)
-        write(f"{self.top}/crates.txt", "base:\nhard_disks: base\n")
-        write(f"{self.top}/crates/hard_disks/src/main.rt", "fn main() {}\n")
+        write(f"{self.top}/crates.txt", "base:\nhard_disks_program: base\n")
+        write(f"{self.top}/crates/hard_disks_program/src/main.rt", "fn main() {}\n")
         write(f"{self.top}/scenes/pair.toml", "width = 40\n")
         write(f"{self.top}/bin/rt", PROVER)
 
@@ -54,7 +54,7 @@ class Script(unittest.TestCase):
         self.assert_ran(ran)
         said = ran.stderr.decode()
         self.assertIn("minutes on four processors", said)
-        self.assertLess(said.index("proving base"), said.index("proving hard_disks"))
+        self.assertLess(said.index("proving base"), said.index("proving hard_disks_program"))
 
     def test_what_is_built_is_run_without_a_word(self):
         self.run_script()
@@ -64,7 +64,7 @@ class Script(unittest.TestCase):
 
     def test_changed_sources_are_built_anew(self):
         self.run_script()
-        write(f"{self.top}/crates/hard_disks/src/main.rt", "fn main() { }\n")
+        write(f"{self.top}/crates/hard_disks_program/src/main.rt", "fn main() { }\n")
         ran = self.run_script()
         self.assert_ran(ran)
         self.assertIn("its sources have changed", ran.stderr.decode())

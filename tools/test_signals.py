@@ -3,7 +3,7 @@
 
     python3 tools/test_signals.py [PROGRAM]
 
-PROGRAM is the built one, crates/hard_disks/out/hard_disks, where none is named."""
+PROGRAM is the built one, crates/hard_disks_program/out/hard_disks_program, where none is named."""
 import os
 import pty
 import signal
@@ -14,7 +14,7 @@ import time
 import unittest
 
 TOP = os.path.join(os.path.dirname(os.path.abspath(__file__)), "..")
-PROGRAM = os.path.join(TOP, "crates", "hard_disks", "out", "hard_disks")
+PROGRAM = os.path.join(TOP, "crates", "hard_disks_program", "out", "hard_disks_program")
 # Runs for about a second, and writes some megabytes from its beginning on.
 WORDS = ["--mode", "load", "--disks", "10000"]
 # What a pipe holds is less, so a run that wrote so much into a file, or has a reader that read so much and no

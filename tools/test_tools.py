@@ -73,7 +73,7 @@ class Reports(unittest.TestCase):
                         self.assertGreaterEqual((a.x - b.x) ** 2 + (a.y - b.y) ** 2, (a.size + b.size) ** 2 // 4)
 
     def test_drawn_scenes_keep_momentum_and_energy(self):
-        program = os.path.join(SCENES, "..", "crates", "hard_disks", "out", "hard_disks")
+        program = os.path.join(SCENES, "..", "crates", "hard_disks_program", "out", "hard_disks_program")
         if not os.access(program, os.X_OK):
             self.skipTest("the program isn't built, so no drawn scene was run")
         self.assertEqual(written(check_conservation, ["--drawn", "20", program], "").count("changed by"), 20)

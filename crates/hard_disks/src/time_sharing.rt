@@ -33,9 +33,9 @@ pub struct TimeSharing<'r, R> {
     workers: Vec<Stint>,
 }
 
-/// What is known of a worker, in microseconds.
+// What is known of a worker, in microseconds.
 #[derive(Drop)]
-pub struct Stint {
+struct Stint {
     // When it came to the gate last.
     last: AtomicU64,
     // Since when it has had a processor.
@@ -89,8 +89,8 @@ impl<'r, R: Clock + Sync> Gate for TimeSharing<'r, R> {
 }
 
 impl Stint {
-    /// Nobody was seen.
-    pub fn new() -> Stint {
+    // Nobody was seen.
+    fn new() -> Stint {
         Stint {
             last: AtomicU64::new(0),
             since: AtomicU64::new(0),
@@ -98,16 +98,16 @@ impl Stint {
         }
     }
 
-    /// The worker is there at this time, and may have been given a processor just now.
-    pub fn come(&self, now: u64, is_given: bool) {
+    // The worker is there at this time, and may have been given a processor just now.
+    fn come(&self, now: u64, is_given: bool) {
         self.last.store(now, Ordering::SeqCst);
         if is_given {
             self.since.store(now, Ordering::SeqCst);
         }
     }
 
-    /// Whether the worker, which comes at this time, is to give its processor away.
-    pub fn is_over(&self, now: u64) -> bool {
+    // Whether the worker, which comes at this time, is to give its processor away.
+    fn is_over(&self, now: u64) -> bool {
         let last = self.last.load(Ordering::SeqCst);
         let is_late = now.saturating_sub(last) > LATE;
         self.come(now, is_late);

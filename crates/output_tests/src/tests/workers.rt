@@ -4,7 +4,7 @@ use super::helpers::{
     AMPLE_ROOM, FOUR_IN_A_ROW, FOUR_IN_A_ROW_REPORT, LONG, expect, expect_output, output_through,
     scene,
 };
-use crate::status::Status;
+use hard_disks::Status;
 use region_core::Gate;
 use report_ports::{MemorySink, MemorySource};
 use std::alloc::{AllocError, Global};

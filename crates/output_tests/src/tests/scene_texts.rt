@@ -4,7 +4,7 @@ use super::helpers::{
     CHECK, COUNT, FOUR_IN_A_ROW, LONG, MEETING, OutputRow, PAIR, USUAL, expect_outputs, output,
     scene,
 };
-use crate::status::Status;
+use hard_disks::Status;
 use std::alloc::{AllocError, Global};
 use std::process::Abort;
 use std::sync::Wait;

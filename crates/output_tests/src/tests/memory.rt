@@ -3,8 +3,7 @@
 ghost use Rattle.std.specs.Prelude.{◌≤◌, length};
 
 use super::helpers::{AMPLE_ROOM, COUNT, MEETING, PLAIN, SUMMARY, expect, expect_output, scene};
-use crate::status::Status;
-use crate::top::top;
+use hard_disks::{Status, top};
 use region_core::OpenGate;
 use report_ports::{MemorySink, Source, Taken};
 use std::alloc::{AllocError, Global};

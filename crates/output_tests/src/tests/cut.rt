@@ -3,8 +3,7 @@
 ghost use Rattle.std.specs.Prelude.{None};
 
 use super::helpers::{MEETING, Numbers, RUN, RUN_SUMMARY, answers, generated, output, scene_of};
-use crate::status::Status;
-use crate::top::top;
+use hard_disks::{Status, top};
 use region_core::OpenGate;
 use report_ports::{Given, MemorySink, MemorySource, Sink};
 use std::alloc::{AllocError, Global};

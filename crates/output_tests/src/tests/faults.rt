@@ -1,7 +1,7 @@
 //! Calls of the source and the sink that fail.
 
 use super::helpers::{AMPLE_ROOM, MEETING, MEETING_REPORT, PLAIN, RUN, expect, output_between};
-use crate::status::Status;
+use hard_disks::Status;
 use report_ports::{MemorySink, MemorySource};
 use std::alloc::{AllocError, Global};
 use std::process::Abort;

@@ -5,7 +5,7 @@ use super::helpers::{
     MISLED, MISLED_REPORT, OutputRow, PAIR, PLAIN, ROLLED_BACK, ROLLED_BACK_REPORT, RUN,
     RUN_SUMMARY, SUMMARY, USUAL, expect_outputs,
 };
-use crate::status::Status;
+use hard_disks::Status;
 use std::test::Fail;
 
 const NARROW: &str = "width = 4\nheight = 20\ndiameter = 4\n";

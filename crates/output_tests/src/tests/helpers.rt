@@ -1,7 +1,6 @@
 //! Words, scenes and calls that several tests share.
 
-use crate::status::Status;
-use crate::top::top;
+use hard_disks::{Status, top};
 use region_core::{Gate, OpenGate};
 use report_ports::{MemorySink, MemorySource};
 use std::alloc::{AllocError, Global};

@@ -3,8 +3,7 @@
 ghost use Rattle.std.specs.Prelude.{◌≤◌};
 
 use super::helpers::{AMPLE_ROOM, MEETING, MEETING_REPORT, comes_to, expect};
-use crate::status::Status;
-use crate::top::top;
+use hard_disks::{Status, top};
 use region_core::OpenGate;
 use report_ports::{MemorySink, MemorySource, Source, Taken};
 use std::alloc::{AllocError, Global};

@@ -3,8 +3,7 @@
 ghost use Rattle.std.specs.Prelude.{◌≡◌, [], None};
 
 use super::helpers::{AMPLE_ROOM, FOUR_IN_A_ROW, LONG, PLAIN, RUN, scene};
-use crate::status::Status;
-use crate::top::top_watched;
+use hard_disks::{Status, top_watched};
 use live_progress::{Board, Glass, Pen, Progress};
 use region_core::OpenGate;
 use report_ports::{Given, MemorySink, MemorySource, Sink};

@@ -1,7 +1,7 @@
 //! Words and scenes that are refused.
 
 use super::helpers::{MEETING, PLAIN, RUN, SUMMARY, expect_output};
-use crate::status::Status;
+use hard_disks::Status;
 use std::alloc::{AllocError, Global};
 use std::process::Abort;
 use std::sync::Wait;

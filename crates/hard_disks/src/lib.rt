@@ -1,0 +1,24 @@
+//! What `hard_disks` does, a simulator of hard disks of equal mass in a walled box: from the words that the program is
+//! called with and the bytes of a scene to the bytes of the output.
+//!
+//! The program itself, `hard_disks_program`, calls [`top`] or [`top_watched`] over standard input and output, and adds
+//! nothing to what is written.
+#![tactic(auto)]
+
+mod audit;
+mod crew;
+mod cut;
+mod engines;
+mod laws;
+mod refusals;
+mod rest;
+mod show;
+mod status;
+mod time_sharing;
+mod top;
+mod verdicts;
+
+pub use laws::{one_output, output_depends_on_alone};
+pub use status::Status;
+pub use time_sharing::TimeSharing;
+pub use top::{refuse_words, top, top_watched};

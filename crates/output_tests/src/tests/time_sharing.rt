@@ -1,0 +1,120 @@
+//! When a worker gives its processor away, by a clock that stands still but while somebody sleeps.
+
+use hard_disks::TimeSharing;
+use region_core::Gate;
+use std::io;
+use std::sync::atomic::{AtomicU64, Ordering};
+use std::time::{Clock, Duration};
+
+// How many microseconds each sleep takes.
+const SLEEP: u64 = 50;
+
+#[derive(Drop)]
+struct StandingClock {
+    micros: AtomicU64,
+}
+
+impl Clock for StandingClock {
+    fn monotonic(&self) -> io::Result<Duration> {
+        Ok(Duration::from_micros(self.micros.load(Ordering::SeqCst)))
+    }
+
+    fn since_1970(&self) -> io::Result<Duration> {
+        self.monotonic()
+    }
+
+    fn sleep(&self, _duration: Duration) {
+        self.micros.fetch_add(SLEEP, Ordering::SeqCst);
+    }
+}
+
+// What a worker comes to the gate for: a turn, of this number, or a phase.
+#[derive(Clone, Copy, Debug)]
+enum Coming {
+    Turn(u32),
+    Phase,
+}
+
+use Coming::{Phase, Turn};
+
+// The worker, what it comes for, when, in microseconds, and whether it sleeps then.
+const COMINGS: &[(u32, Coming, u64, bool)] = &[
+    (0, Turn(0), 10_000, false),
+    // Nobody else wants its processor.
+    (0, Phase, 10_900, false),
+    (0, Phase, 11_800, false),
+    (0, Phase, 12_700, false),
+    (0, Phase, 13_600, false),
+    // It comes late, so somebody does.
+    (0, Phase, 15_600, false),
+    (0, Phase, 16_500, false),
+    (0, Phase, 17_400, false),
+    (0, Phase, 18_300, false),
+    (0, Phase, 18_600, false),
+    (0, Phase, 18_601, true),
+    // It has been given it again.
+    (0, Phase, 19_600, false),
+    (0, Phase, 20_600, false),
+    (0, Phase, 21_600, false),
+    (0, Phase, 21_651, false),
+    (0, Phase, 21_652, true),
+    // The first worker keeps its processor while the others wait for a burst.
+    (0, Turn(0), 24_000, false),
+    (0, Phase, 24_702, false),
+    (0, Phase, 24_703, true),
+    // Some time after it was late last, nobody is taken to want it any more.
+    (0, Turn(0), 115_000, false),
+    (0, Phase, 115_599, true),
+    (0, Turn(0), 119_000, false),
+    (0, Phase, 119_100, false),
+    // Another worker is a thread that has been given one for the burst.
+    (1, Turn(0), 30_000, false),
+    (1, Phase, 31_001, false),
+    (1, Turn(0), 33_000, false),
+    (1, Phase, 33_900, false),
+    (1, Phase, 34_800, false),
+    (1, Phase, 35_700, false),
+    (1, Phase, 36_000, false),
+    (1, Phase, 36_001, true),
+    // A later turn is no matter: it came late to this phase.
+    (1, Turn(1), 36_900, false),
+    (1, Phase, 37_052, false),
+    (1, Phase, 38_000, false),
+    (1, Phase, 39_000, false),
+    (1, Phase, 39_950, false),
+    (1, Phase, 40_052, false),
+    (1, Phase, 40_053, true),
+    // The last of all workers, and one that there can't be.
+    (63, Phase, 200_000, false),
+    (63, Phase, 200_900, false),
+    (63, Phase, 201_800, false),
+    (63, Phase, 202_700, false),
+    (63, Phase, 203_000, false),
+    (63, Phase, 203_001, true),
+    (64, Phase, 203_002, false),
+];
+
+#[test]
+fn a_processor_is_given_away_in_time(rt: HostRuntime) {
+    let clock = StandingClock {
+        micros: AtomicU64::new(0),
+    };
+    let gate = TimeSharing::new(&clock, rt.alloc());
+    for &(worker, coming, now, want) in COMINGS {
+        assert_eq!(rt;
+            sleeps(&clock, &gate, worker, coming, now),
+            want,
+            "worker {worker}, {coming:?}, at {now}"
+        );
+    }
+}
+
+// Whether the worker sleeps when it comes to the gate at this time.
+fn sleeps(clock: &StandingClock, gate: &impl Gate, worker: u32, coming: Coming, now: u64) -> bool {
+    clock.micros.store(now, Ordering::SeqCst);
+    match coming {
+        Turn(turn) => gate.turn(worker, turn),
+        Phase => gate.pause(worker),
+    }
+    clock.micros.load(Ordering::SeqCst) != now
+}
