@@ -1,11 +1,11 @@
 -- The exact impulse's sizes, and that the two part after the sizes are rounded up.
-use Rattle.std.proofs.Common.{◌≡◌, ◌*◌, ◌^◌, ◌<◌, ◌≤◌, Bool, true, false, refl, arith}
-use Rattle.std.specs.Prelude.{pos, nat_abs, int_lt, if◌then◌else◌, ◌<ℤ◌}
+use Rattle.std.proofs.Common.{◌≡◌, ℕ, ◌*◌, ◌^◌, ◌<◌, ◌≤◌, Bool, true, false, refl, sym, ap, ◌∙◌, arith}
+use Rattle.std.specs.Prelude.{ℤ, pos, nat_abs, int_lt, if◌then◌else◌, ◌<ℤ◌, ◌≤ℤ◌}
 use Rattle.std.proofs.lemmas.Int.{ints}
 use Rattle.plane_vectors.specs.declared.Vector.{Vector}
 use Rattle.plane_vectors.specs.Vectors.{dot, IsWithin}
 use Rattle.plane_vectors.proofs.Sizes.{dot_size}
-use Rattle.impulse_rounding.specs.Impulse.{nearest, ceiling, rounded_impulse, impulse_of, parting}
+use Rattle.impulse_rounding.specs.Impulse.{nearest, ceiling, with_signs, rounded_impulse, impulse_of, parting}
 use Rattle.impulse_rounding.proofs.Signed.{square_size, size_positive, parting_up}
 use Rattle.impulse_rounding.proofs.Sizes.{quotient_bounds, some_square}
 use Rattle.impulse_rounding.proofs.Sizes.{ceiling_above, rounded_up_reach}
@@ -56,3 +56,33 @@ ceiling_recedes r u h =
 pub recedes : (r u : Vector) → dot r u <ℤ pos 0 → pos 0 <ℤ parting r u (impulse_of r u)
 recedes r u h =
     of_either (λ (j : Vector). pos 0 <ℤ parting r u j) r u (λ near. near) (ceiling_recedes r u h)
+
+-- the exact sizes, rounded
+pub sizes_are : (round : ℕ → ℕ → ℕ) (r u : Vector) (x y n : ℕ) (v : Vector) → x ≡ nat_abs (dot r u) * nat_abs r.x → y ≡ nat_abs (dot r u) * nat_abs r.y →
+    n ≡ nat_abs (dot r r) → v ≡ with_signs r (round x n) (round y n) → v ≡ rounded_impulse round r u
+sizes_are round r u x y n v ex ey en ev = rw (ev, ex, ey, en)
+
+-- where the two recede after the nearest impulse, it is taken
+pub takes_nearest : (r u near : Vector) (speed : ℤ) → near ≡ rounded_impulse nearest r u → speed ≡ parting r u near → pos 0 <ℤ speed → near ≡ impulse_of r u
+takes_nearest r u near speed is parts fast = is ∙ by (int_lt (pos 0) (parting r u (rounded_impulse nearest r u))) refl
+  where
+    same : speed ≡ parting r u (rounded_impulse nearest r u)
+    same = parts ∙ ap (parting r u) is
+
+    by : (b : Bool) → int_lt (pos 0) (parting r u (rounded_impulse nearest r u)) ≡ b →
+        rounded_impulse nearest r u ≡ (if b then rounded_impulse nearest r u else rounded_impulse ceiling r u)
+    by true e = refl
+    by false e = let parted = same in absurd (omega (arith, ints))
+
+-- where they don't, that rounded up is
+pub takes_up : (r u near up : Vector) (speed : ℤ) → near ≡ rounded_impulse nearest r u → speed ≡ parting r u near → speed ≤ℤ pos 0 →
+    up ≡ rounded_impulse ceiling r u → up ≡ impulse_of r u
+takes_up r u near up speed is parts slow up_is = up_is ∙ by (int_lt (pos 0) (parting r u (rounded_impulse nearest r u))) refl
+  where
+    same : speed ≡ parting r u (rounded_impulse nearest r u)
+    same = parts ∙ ap (parting r u) is
+
+    by : (b : Bool) → int_lt (pos 0) (parting r u (rounded_impulse nearest r u)) ≡ b →
+        rounded_impulse ceiling r u ≡ (if b then rounded_impulse nearest r u else rounded_impulse ceiling r u)
+    by true e = let parted = same in absurd (omega (arith, ints))
+    by false e = refl

@@ -71,20 +71,44 @@ fn rounded(r: Vector, u: Vector) -> Vector
     ensures size { IsWithin (2 ^ 22) result }
 {
     let exact = exact_sizes(r, u);
-    let near = with_signs(
-        r,
-        divide_to_nearest(exact.x, exact.divisor),
-        divide_to_nearest(exact.y, exact.divisor),
-    );
+    let near = rounded_to_nearest(r, exact);
     if parting_speed(r, u, near) > 0 {
         near
     } else {
-        with_signs(
-            r,
-            divide_up(exact.x, exact.divisor),
-            divide_up(exact.y, exact.divisor),
-        )
+        rounded_up(r, exact)
     }
+}
+
+// The vector of the exact sizes rounded to nearest, with the signs of r.
+fn rounded_to_nearest(r: Vector, exact: ExactSizes) -> Vector
+    requires x_size { exact.x ≤ 2 ^ 22 * exact.divisor }
+    requires y_size { exact.y ≤ 2 ^ 22 * exact.divisor }
+    requires divisor_size { exact.divisor ≤ 2 ^ 61 }
+    requires positive { 0 < exact.divisor }
+    ensures value { result ≡ with_signs r (nearest exact.x exact.divisor) (nearest exact.y exact.divisor) }
+    ensures size { IsWithin (2 ^ 22) result }
+{
+    with_signs(
+        r,
+        divide_to_nearest(exact.x, exact.divisor),
+        divide_to_nearest(exact.y, exact.divisor),
+    )
+}
+
+// The vector of the exact sizes rounded up, with the signs of r.
+fn rounded_up(r: Vector, exact: ExactSizes) -> Vector
+    requires x_size { exact.x ≤ 2 ^ 22 * exact.divisor }
+    requires y_size { exact.y ≤ 2 ^ 22 * exact.divisor }
+    requires divisor_size { exact.divisor ≤ 2 ^ 61 }
+    requires positive { 0 < exact.divisor }
+    ensures value { result ≡ with_signs r (ceiling exact.x exact.divisor) (ceiling exact.y exact.divisor) }
+    ensures size { IsWithin (2 ^ 22) result }
+{
+    with_signs(
+        r,
+        divide_up(exact.x, exact.divisor),
+        divide_up(exact.y, exact.divisor),
+    )
 }
 
 // The sizes of the exact impulse's components, x / divisor and y / divisor.

@@ -28,3 +28,13 @@ pub returns-clause-positive : goal.returns-clause-positive
 returns-clause-positive c =
     let divisor : c.unsigned_abs-4.result ≡ nat_abs (dot c.args.r c.args.r) = search rules in
     rw divisor (square_positive c.args.r c.args.u c.requires.approaching)
+
+-- These follow from the products alone. That is said here, as the search for them is long otherwise.
+pub returns-clause-x : goal.returns-clause-x
+returns-clause-x c = search rules
+
+pub returns-clause-y : goal.returns-clause-y
+returns-clause-y c = search rules
+
+pub returns-clause-divisor : goal.returns-clause-divisor
+returns-clause-divisor c = search rules
