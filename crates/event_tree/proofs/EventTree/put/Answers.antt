@@ -19,3 +19,10 @@ returns c =
     ap (λ items. drop first items) now ∙ c.replay.ensures.leaves ∙ ap (λ items. drop first items) c.deref_mut.ensures.value
     ∙ drop-set-add first nodes.items c.args.disk c.args.key
     ∙ ap (λ keys. set keys c.args.disk c.args.key) c.self.view_is
+
+pub invariant_of-self : goal.invariant_of-self
+invariant_of-self c =
+    let nodes = c.self.inside.nodes in
+    let now = with_items_is (with_item nodes (c.self.inside.first + c.args.disk) c.args.key) c.replay.new.nodes
+    (c.replay.auto.nodes ∙ c.deref_mut.ensures.len) in
+    rw now c.replay.ensures.tree
