@@ -1,5 +1,5 @@
 -- The first of the steps that refuses is that of the definition.
-use Rattle.std.proofs.Common.{◌≡◌, ap, ◌∙◌, rules}
+use Rattle.std.proofs.Common.{rules}
 use Rattle.std.proofs.lemmas.Result.{err_from_is_err_and}
 use Rattle.scene_reader.specs.Seen.{values_seen}
 use Rattle.scene_reader.proofs.Threes.{by_numbers}

@@ -1,5 +1,5 @@
 -- The first of the steps that refuses is that of the definition.
-use Rattle.std.proofs.Common.{◌≡◌, ap, ◌∙◌}
+use Rattle.std.proofs.Common.{ap, ◌∙◌}
 use Rattle.std.proofs.lemmas.Result.{err_from_is_err_and}
 use Rattle.toml.specs.View.{table_view, view}
 use Rattle.toml.specs.Data.{Data, get_member}
