@@ -1,6 +1,7 @@
 -- Rows that are put in a view.
 use Rattle.std.proofs.Common.{◌≡◌, ◌≢◌, ℕ, ◌==◌, [], ◌∷◌, Bool, true, false, sym, ap, ◌∙◌, refl, arith, Option, Some, None}
 use Rattle.std.specs.Prelude.{if◌then◌else◌}
+use Rattle.std.proofs.lemmas.Bool.{eqb-true, eq-eqb, ne_eqb}
 use Rattle.std.specs.Ordering.{nat_cmp, eq_by_cmp}
 use Rattle.std.specs.Cmp.{nat_cmp_total}
 use Rattle.std.specs.FinMap as map
@@ -26,13 +27,13 @@ get_put view i (Some p) j = get-insert nat_cmp_total view i p j
     ∙ ap (λ (b : Bool). if b then Some p else map.get view j) (same_test j i)
 
 pub is_same : (j i : ℕ) → (j == i) ≡ true → j ≡ i
-is_same j i e = grind arith
+is_same j i e = eqb-true j i e
 
 pub same_is : (j i : ℕ) → j ≡ i → (j == i) ≡ true
-same_is j i e = grind arith
+same_is j i e = eq-eqb j i e
 
 pub not_same : (j i : ℕ) → j ≢ i → (j == i) ≡ false
-not_same j i ne = grind arith
+not_same j i ne = ne_eqb j i ne
 
 pub get_put_here : (view : ViewData) (i : ℕ) (row : Option Placed) → map.get (put view i row) i ≡ row
 get_put_here view i row = get_put view i row i

@@ -1,4 +1,5 @@
 use Rattle.std.proofs.Common.{slice_get, get_or, ◌+◌, sym, ◌∙◌, subst}
+use Rattle.std.proofs.lemmas.Bool.{both_ways}
 use Rattle.region_view.proofs.Seen.{IsViewBelow, none_yet, one_seen, one_unseen, all_seen, no_row, row_at}
 use Rattle.region_view.proofs.view.opening.Goals as goal
 use Rattle.region_view.proofs.view.opening.Goals.{then-in_reach+in_ok-replace, else-in_reach}
@@ -29,8 +30,7 @@ loop-i-preserved c =
       | else-in_reach w ↦ subst (IsViewBelow c.args.grid.now c.args.region at (i + 1))
           (sym w.view-is)
           (one_unseen c.args.grid.now c.args.region i at p c.loop-i.view row
-          (λ reach. let in_reach = c.in_reach.ensures.1 reach in let no = w.if-in_reach.false in
-          cc) c.loop-i.invariant)
+          (λ reach. both_ways c.in_reach.result w.if-in_reach.false (c.in_reach.ensures.1 reach)) c.loop-i.invariant)
     ]
 
 pub returns : goal.returns
