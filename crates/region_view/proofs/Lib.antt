@@ -1,5 +1,6 @@
 pub mod After
 mod CompactRows
+mod Crossed
 mod First
 pub mod Homes
 mod InSlots
