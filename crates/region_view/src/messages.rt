@@ -22,13 +22,7 @@ pub fn rows_of(before: &View, action: &Action) -> Rows
 {
     match action {
         Action::Cross { stamp, cell } => match before.get(stamp.first) {
-            Some(row) => Rows::one((
-                stamp.first,
-                Some(Placed {
-                    disk: row.disk,
-                    cell: *cell,
-                }),
-            )),
+            Some(row) => Rows::one((stamp.first, Some(row.in_cell(*cell)))),
             None => Rows::none(),
         },
         Action::Hit(change) => Rows::some_of(
