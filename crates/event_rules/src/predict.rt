@@ -17,7 +17,6 @@ use contact_predictor::{Approach, contact_between, is_contact, may_touch, quick_
 use event_stamps::{Kind, Stamp};
 use fixed_motion::{Disk, Rules};
 use plane_vectors::Vector;
-use std::cmp::{max, min};
 
 // The sides of the box.
 const SIDES: u32 = 4;
@@ -110,10 +109,10 @@ pub fn event_between(rules: &Rules, i: u32, a: &Disk, j: u32, b: &Disk) -> Optio
     let tick = touching_tick(rules, a, b)?;
     Some(Stamp {
         tick,
-        round: max(a.mark_at(tick), b.mark_at(tick)),
+        round: a.mark_at(tick).max(b.mark_at(tick)),
         kind: Kind::Pair,
-        first: min(i, j),
-        second: max(i, j),
+        first: i.min(j),
+        second: i.max(j),
     })
 }
 
@@ -132,7 +131,7 @@ pub fn is_pair_event(rules: &Rules, a: &Disk, b: &Disk, stamp: &Stamp) -> bool
     if stamp.tick >= rules.end {
         return false;
     }
-    let round = max(a.mark_at(stamp.tick), b.mark_at(stamp.tick));
+    let round = a.mark_at(stamp.tick).max(b.mark_at(stamp.tick));
     stamp.round == round && is_contact_tick(rules, a, b, stamp.tick)
 }
 
@@ -336,7 +335,7 @@ fn separated(a: &Disk, b: &Disk) -> Separation
     ensures { (rules : Rules) → IsValidPair rules a.now b.now → IsSeparation a.now b.now result }
 {
     Separation {
-        start: max(a.base, b.base),
+        start: a.base.max(b.base),
         places: places_apart(a, b),
         velocities: wrapping_difference(a.velocity(), b.velocity()),
         distance: distance_between(a, b),
@@ -519,7 +518,7 @@ fn lesser(first: Option<u64>, second: Option<u64>) -> Option<u64>
         None => second,
         Some(m) => match second {
             None => first,
-            Some(n) => Some(min(m, n)),
+            Some(n) => Some(m.min(n)),
         },
     }
 }
@@ -565,7 +564,7 @@ fn last_together(rules: &Rules, a: &Disk, b: &Disk) -> Option<u64>
     if rules.end == 0 {
         return None;
     }
-    let last = min(inside, rules.end - 1);
+    let last = inside.min(rules.end - 1);
     if a.base <= last && b.base <= last {
         Some(last)
     } else {

@@ -1,6 +1,4 @@
 -- The disks meet at the same tick in either order, and the stamp names the lower number first.
-use Rattle.std.proofs.Common.{◌∙◌}
-use Rattle.event_rules.proofs.Together.{ord_max_is, ord_min_is}
 use Rattle.event_rules.proofs.Swapped.{no_event_falling, event_falling}
 use Rattle.event_rules.proofs.predict.event_between.Goals as goal
 
@@ -10,5 +8,5 @@ returns-in_err-tick-clause-falling c = λ lt. rw c.from_residual.ensures
 
 pub returns-clause-falling : goal.returns-clause-falling
 returns-clause-falling c = λ lt. event_falling c.args.rules.now c.args.i c.args.j c.in_ok-tick.tick c.max.result c.min.result c.max-2.result
-    c.args.a.now c.args.b.now lt c.in_ok-tick.ensures (rw (c.mark_at.ensures, c.mark_at-2.ensures) at (c.max.ensures ∙ ord_max_is c.mark_at.result c.mark_at-2.result))
-    (c.min.ensures ∙ ord_min_is c.args.i c.args.j) (c.max-2.ensures ∙ ord_max_is c.args.i c.args.j)
+    c.args.a.now c.args.b.now lt c.in_ok-tick.ensures (rw (c.mark_at.ensures, c.mark_at-2.ensures) at c.max.ensures)
+    c.min.ensures c.max-2.ensures

@@ -6,7 +6,6 @@ use Rattle.event_stamps.specs.declared.Kind.TheVariants.{Pair}
 use Rattle.fixed_motion.specs.declared.disk.Disk.{Disk}
 use Rattle.fixed_motion.specs.Motion.{mark_at}
 use Rattle.event_rules.specs.Events.{pair_stamp}
-use Rattle.event_rules.proofs.Together.{ord_max_is}
 use Rattle.event_rules.proofs.predict.is_pair_event.Goals as goal
 
 stamp_is : (s : Stamp) (a b : Disk) → s.kind ≡ Pair → s.round ≡ max (mark_at a s.tick) (mark_at b s.tick) →
@@ -19,14 +18,14 @@ returns-then-stamp-round c =
     let a = c.args.a.now in
     let b = c.args.b.now in
     let round : s.round ≡ max (mark_at a s.tick) (mark_at b s.tick) =
-    c.if-stamp-round.true ∙ (c.max-round.ensures ∙ ord_max_is c.mark_at.result c.mark_at-2.result) ∙ (λ i. max (c.mark_at.ensures i) (c.mark_at-2.ensures i)) in (
+    c.if-stamp-round.true ∙ c.max-round.ensures ∙ (λ i. max (c.mark_at.ensures i) (c.mark_at-2.ensures i)) in (
       λ yes. (c.is_contact_tick.ensures.0 yes, c.if-stamp-rules.false, stamp_is s a b c.requires.pair round),
       λ h. c.is_contact_tick.ensures.1 h.0,
     )
 
 pub returns-else-stamp-round : goal.returns-else-stamp-round
 returns-else-stamp-round c =
-    let round = (c.max-round.ensures ∙ ord_max_is c.mark_at.result c.mark_at-2.result) ∙ (λ i. max (c.mark_at.ensures i) (c.mark_at-2.ensures i)) in (
+    let round = c.max-round.ensures ∙ (λ i. max (c.mark_at.ensures i) (c.mark_at-2.ensures i)) in (
       λ yes. absurd (c.if-stamp-round.false (eqb-true c.args.stamp.now.round c.max-round.result yes)),
       λ h. absurd (c.if-stamp-round.false (ap (λ (s : Stamp). s.round) h.2 ∙ sym round)),
     )

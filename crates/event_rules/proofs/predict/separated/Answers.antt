@@ -1,6 +1,4 @@
 -- The separation is taken at the later base tick.
-use Rattle.std.proofs.Common.{◌∙◌}
-use Rattle.event_rules.proofs.Together.{ord_max_is}
 use Rattle.event_rules.proofs.Separations.{separated}
 use Rattle.event_rules.proofs.predict.separated.Goals as goal
 
@@ -8,5 +6,5 @@ pub returns : goal.returns
 returns c = λ rules pair.
     separated rules c.args.a.now c.args.b.now c.max.result c.places_apart.result c.velocity.result c.velocity-2.result
     c.wrapping_difference.result c.distance_between.result pair
-    (c.max.ensures ∙ ord_max_is c.args.a.now.base c.args.b.now.base) (c.places_apart.ensures rules pair) c.velocity.ensures c.velocity-2.ensures
+    c.max.ensures (c.places_apart.ensures rules pair) c.velocity.ensures c.velocity-2.ensures
     c.wrapping_difference.ensures (c.distance_between.ensures rules pair)
