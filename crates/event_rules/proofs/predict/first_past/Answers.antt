@@ -1,11 +1,12 @@
 -- The sides are asked in order.
-use Rattle.std.proofs.Common.{◌≡◌, true, arith, below_more}
+use Rattle.std.proofs.Common.{arith, below_more}
+use Rattle.std.proofs.lemmas.Bool.{both_ways}
 use Rattle.event_rules.proofs.Ranges.{side_range}
 use Rattle.event_rules.proofs.predict.first_past.Goals as goal
 
 pub loop-side-preserved : goal.loop-side-preserved
 loop-side-preserved c = below_more _ _ c.loop-side.invariant
-    (λ past. let yes : c.is_past.result ≡ true = c.is_past.ensures.1 past in let no = c.if-is_past.false in cc)
+    (λ past. both_ways c.is_past.result c.if-is_past.false (c.is_past.ensures.1 past))
 
 pub returns : goal.returns
 returns c = λ side past.

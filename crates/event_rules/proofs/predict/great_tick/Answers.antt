@@ -1,9 +1,9 @@
 -- Disks that aren't near are never both inside.
-use Rattle.std.proofs.Common.{◌≡◌, true}
+use Rattle.std.proofs.lemmas.Bool.{both_ways}
 use Rattle.event_rules.proofs.Separations.{never_far}
 use Rattle.event_rules.proofs.predict.great_tick.Goals as goal
 
 pub returns-then-not-fit_in_a_box : goal.returns-then-not-fit_in_a_box
 returns-then-not-fit_in_a_box c =
     λ tick before. never_far c.args.rules.now c.args.a c.args.b c.args.s c.requires.checked c.requires.first_valid c.requires.second_valid c.requires.separation
-    (λ near. let yes : c.fit_in_a_box.result ≡ true = c.fit_in_a_box.ensures.1 near in let no = c.if-not-fit_in_a_box.true in cc) tick
+    (λ near. both_ways c.fit_in_a_box.result c.if-not-fit_in_a_box.true (c.fit_in_a_box.ensures.1 near)) tick

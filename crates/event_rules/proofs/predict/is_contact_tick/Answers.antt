@@ -1,5 +1,6 @@
 -- What a contact tick is, part by part.
-use Rattle.std.proofs.Common.{◌≡◌, true}
+use Rattle.std.proofs.Common.{true}
+use Rattle.std.proofs.lemmas.Bool.{both_ways}
 use Rattle.event_rules.proofs.predict.is_contact_tick.Goals as goal
 
 pub returns-then-have_begun : goal.returns-then-have_begun
@@ -18,5 +19,5 @@ returns-then-have_begun c =
 pub returns-else-have_begun : goal.returns-else-have_begun
 returns-else-have_begun c = (
   λ yes. cc,
-  λ h. let t : c.have_begun.result ≡ true = c.have_begun.ensures.1 (h.first_base, h.second_base) in let no = c.if-have_begun.false in cc,
+  λ h. absurd (both_ways c.have_begun.result c.if-have_begun.false (c.have_begun.ensures.1 (h.first_base, h.second_base))),
 )

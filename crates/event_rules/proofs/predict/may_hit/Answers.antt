@@ -1,5 +1,6 @@
 -- Disks that aren't near are never both inside, and those that are off course never touch.
-use Rattle.std.proofs.Common.{◌≡◌, true}
+use Rattle.std.proofs.Common.{true}
+use Rattle.std.proofs.lemmas.Bool.{both_ways}
 use Rattle.event_rules.proofs.MayHit.{may_hit_from, near_from, course_from}
 use Rattle.event_rules.proofs.Separations.{never_far}
 use Rattle.event_rules.proofs.Swapped.{never_hit, never_hit_turned}
@@ -12,12 +13,12 @@ returns-then-fit_in_a_box-clause-never_turned c =
 pub returns-else-fit_in_a_box-clause-never : goal.returns-else-fit_in_a_box-clause-never
 returns-else-fit_in_a_box-clause-never c = λ far. never_hit c.args.rules.now c.args.a.now c.args.b.now
     (never_far c.args.rules.now c.args.a.now c.args.b.now c.separate-s.result c.requires.checked c.requires.first_valid c.requires.second_valid c.separate-s.ensures
-    (λ near. let yes : c.fit_in_a_box.result ≡ true = c.fit_in_a_box.ensures.1 near in let no = c.if-fit_in_a_box.false in cc))
+    (λ near. both_ways c.fit_in_a_box.result c.if-fit_in_a_box.false (c.fit_in_a_box.ensures.1 near)))
 
 pub returns-else-fit_in_a_box-clause-never_turned : goal.returns-else-fit_in_a_box-clause-never_turned
 returns-else-fit_in_a_box-clause-never_turned c = λ far. never_hit_turned c.args.rules.now c.args.a.now c.args.b.now
     (never_far c.args.rules.now c.args.a.now c.args.b.now c.separate-s.result c.requires.checked c.requires.first_valid c.requires.second_valid c.separate-s.ensures
-    (λ near. let yes : c.fit_in_a_box.result ≡ true = c.fit_in_a_box.ensures.1 near in let no = c.if-fit_in_a_box.false in cc))
+    (λ near. both_ways c.fit_in_a_box.result c.if-fit_in_a_box.false (c.fit_in_a_box.ensures.1 near)))
 
 pub returns-then-fit_in_a_box-clause-exact : goal.returns-then-fit_in_a_box-clause-exact
 returns-then-fit_in_a_box-clause-exact c =
@@ -29,6 +30,6 @@ returns-then-fit_in_a_box-clause-exact c =
 pub returns-else-fit_in_a_box-clause-exact : goal.returns-else-fit_in_a_box-clause-exact
 returns-else-fit_in_a_box-clause-exact c = (
   λ yes. cc,
-  λ may. let yes : c.fit_in_a_box.result ≡ true = c.fit_in_a_box.ensures.1 (near_from c.args.a.now c.args.b.now c.separate-s.result c.separate-s.ensures may) in
-      let no = c.if-fit_in_a_box.false in cc,
+  λ may. absurd (both_ways c.fit_in_a_box.result c.if-fit_in_a_box.false
+      (c.fit_in_a_box.ensures.1 (near_from c.args.a.now c.args.b.now c.separate-s.result c.separate-s.ensures may))),
 )

@@ -1,14 +1,13 @@
 -- Disks that hit each other are in the box at the later base tick, and there all is exact.
-use Rattle.std.proofs.Common.{◌≡◌, true}
+use Rattle.std.proofs.lemmas.Bool.{both_ways}
 use Rattle.event_rules.proofs.SmallProducts.{contact_fits, never_small, never_overlapping}
 use Rattle.event_rules.proofs.predict.small_tick.Goals as goal
 use Rattle.event_rules.proofs.predict.small_tick.Goals.{then-overlap-via-then-overlap, then-overlap-via-else-overlap+then-not-is_course}
 
 pub returns-then-not-fits_the_box : goal.returns-then-not-fits_the_box
 returns-then-not-fits_the_box c = λ tick before contact.
-    let yes : c.fits_the_box.result ≡ true = c.fits_the_box.ensures.1
-    (contact_fits c.args.rules.now c.args.a.now c.args.b.now c.args.s.now tick c.requires.pair c.requires.separation contact) in
-    let no = c.if-not-fits_the_box.true in cc
+    both_ways c.fits_the_box.result c.if-not-fits_the_box.true (c.fits_the_box.ensures.1
+    (contact_fits c.args.rules.now c.args.a.now c.args.b.now c.args.s.now tick c.requires.pair c.requires.separation contact))
 
 pub returns-then-overlap : goal.returns-then-overlap
 returns-then-overlap c = λ tick before contact.
@@ -23,23 +22,20 @@ returns-then-overlap c = λ tick before contact.
           (c.overlap.ensures.0 w.if-overlap.true) tick contact
       | then-overlap-via-else-overlap+then-not-is_course w ↦
           never_small rules a b s q w.is_course.result c.requires.pair c.requires.separation c.approach_at-approach.ensures
-          w.is_course.ensures (let no = w.if-not-is_course.true in cc) tick contact
+          w.is_course.ensures w.if-not-is_course.true tick contact
     ]
 
 pub contact-requires-clause-small : goal.contact-requires-clause-small
 contact-requires-clause-small c =
-    let yes : c.fits_the_box.result ≡ true = (let fits = c.if-not-fits_the_box.false in cc) in
     (c.approach_at-approach.ensures c.args.rules.now c.args.a.now c.args.b.now c.requires.pair c.requires.separation
-    (c.fits_the_box.ensures.0 yes)).small
+    (c.fits_the_box.ensures.0 c.if-not-fits_the_box.false)).small
 
 pub contact-requires-clause-course : goal.contact-requires-clause-course
 contact-requires-clause-course c =
-    let yes : c.is_course.result ≡ true = (let crosses = c.if-not-is_course.false in cc) in
-    (c.is_course.ensures (contact-requires-clause-small c)).0 yes
+    (c.is_course.ensures (contact-requires-clause-small c)).0 c.if-not-is_course.false
 
 pub tick_inside-requires-clause-found : goal.tick_inside-requires-clause-found
 tick_inside-requires-clause-found c =
-    let yes : c.fits_the_box.result ≡ true = (let fits = c.if-not-fits_the_box.false in cc) in
     let at = c.approach_at-approach.ensures c.args.rules.now c.args.a.now c.args.b.now c.requires.pair c.requires.separation
-    (c.fits_the_box.ensures.0 yes) in
+    (c.fits_the_box.ensures.0 c.if-not-fits_the_box.false) in
     c.in-Some.ensures.found c.args.s.now.places c.args.s.now.velocities c.args.s.now.distance at.of

@@ -1,5 +1,6 @@
 -- The paths meet then alone.
-use Rattle.std.proofs.Common.{◌≡◌, true, arith, sym, subst}
+use Rattle.std.proofs.Common.{arith, sym, subst}
+use Rattle.std.proofs.lemmas.Bool.{both_ways}
 use Rattle.plane_vectors.specs.declared.Vector.{Vector}
 use Rattle.fixed_motion.specs.Motion.{IsInside}
 use Rattle.event_rules.proofs.Separations.{touch_from, no_touch}
@@ -18,12 +19,10 @@ returns-else-tick-rules c =
     no_touch c.args.rules.now c.args.a.now c.args.b.now c.args.s.now c.args.ticks c.requires.separation c.requires.found
     (λ before inside. elim c.else-tick-rules.branch [
       | else-tick-rules-via-then-tick-rules+then-is_inside+else-is_inside-2 w ↦
-          let yes : w.is_inside-then-is_inside.result ≡ true =
-          w.is_inside-then-is_inside.ensures.fact.1 (subst (λ (p : Vector). IsInside c.args.rules.now c.args.b.now p) (sym w.centre_at-then-is_inside.ensures) inside.1) in
-          let no = w.if-is_inside-2.false in cc
+          absurd (both_ways w.is_inside-then-is_inside.result w.if-is_inside-2.false
+          (w.is_inside-then-is_inside.ensures.fact.1 (subst (λ (p : Vector). IsInside c.args.rules.now c.args.b.now p) (sym w.centre_at-then-is_inside.ensures) inside.1)))
       | else-tick-rules-via-then-tick-rules+else-is_inside w ↦
-          let yes : w.is_inside.result ≡ true =
-          w.is_inside.ensures.fact.1 (subst (λ (p : Vector). IsInside c.args.rules.now c.args.a.now p) (sym w.centre_at.ensures) inside.0) in
-          let no = w.if-is_inside.false in cc
+          absurd (both_ways w.is_inside.result w.if-is_inside.false
+          (w.is_inside.ensures.fact.1 (subst (λ (p : Vector). IsInside c.args.rules.now c.args.a.now p) (sym w.centre_at.ensures) inside.0)))
       | else-tick-rules-via-else-tick-rules w ↦ absurd (omega (arith, w.if-tick-rules.false))
     ])

@@ -1,5 +1,6 @@
 -- The places are those at the tick.
-use Rattle.std.proofs.Common.{◌≡◌, true, sym, subst}
+use Rattle.std.proofs.Common.{true, sym, subst}
+use Rattle.std.proofs.lemmas.Bool.{both_ways}
 use Rattle.plane_vectors.specs.declared.Vector.{Vector}
 use Rattle.fixed_motion.specs.Motion.{IsInside}
 use Rattle.event_rules.proofs.predict.touch_inside.Goals as goal
@@ -29,8 +30,8 @@ returns-then-are_inside c =
 pub returns-else-are_inside : goal.returns-else-are_inside
 returns-else-are_inside c = (
   λ yes. cc,
-  λ h. let t : c.are_inside.result ≡ true = c.are_inside.ensures.1 (
+  λ h. absurd (both_ways c.are_inside.result c.if-are_inside.false (c.are_inside.ensures.1 (
     subst (λ (v : Vector). IsInside c.args.rules.now c.args.a.now v) (sym c.centre_at-p.ensures) h.0.0,
     subst (λ (v : Vector). IsInside c.args.rules.now c.args.b.now v) (sym c.centre_at-q.ensures) h.0.1,
-  ) in let no = c.if-are_inside.false in cc,
+  ))),
 )
