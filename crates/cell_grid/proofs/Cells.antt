@@ -1,7 +1,6 @@
 -- Grids of checked rules, the cells of places, and which disks meet.
 use Rattle.std.proofs.Common.{◌≡◌, ◌⊎◌, inl, inr, ℕ, ◌+◌, ◌-◌, ◌*◌, ◌/◌, ◌<◌, ◌≤◌, min, sym, subst, ◌∙◌, arith}
 use Rattle.std.specs.Prelude.{ℤ, pos, nat_abs, ◌-ℤ◌, ◌≤ℤ◌}
-use Rattle.std.specs.Ordering.{nat_cmp, ord_min}
 use Rattle.std.proofs.lemmas.Int.{ints}
 use Rattle.std.proofs.Math.Nat.{mul-le-mul, mul-le-mul_left, le-div_iff_mul-le}
 use Rattle.std.proofs.lemmas.Nat.{div-mul-add, mod-mul-add}
@@ -106,13 +105,12 @@ grid_with columns rows side_x side_y regions =
 pub grid_made : (rules : Rules) (asked width height least columns rows regions : ℕ) → width ≡ nat_abs rules.width →
     height ≡ nat_abs rules.height →
     least ≡ least_side rules → columns ≡ cells_along width least → rows ≡ cells_along height least →
-    regions ≡ ord_min nat_cmp asked columns →
+    regions ≡ min asked columns →
     grid_with columns rows (width / columns) (height / rows) regions ≡ grid_of rules asked
 grid_made rules asked width height least columns rows regions ew eh el ec er en =
     let across : columns ≡ columns_of rules = ec ∙ (λ i. cells_along (ew i) (el i)) in
     let upwards : rows ≡ rows_of rules = er ∙ (λ i. cells_along (eh i) (el i)) in
-    let strips : regions ≡ min asked columns = grind (arith, en) in
-    (λ i. grid_with columns rows (width / columns) (height / rows) (strips i))
+    (λ i. grid_with columns rows (width / columns) (height / rows) (en i))
     ∙ (λ i. grid_with (across i) (upwards i) (ew i / across i) (eh i / upwards i) (min asked (across i)))
 
 -- ---- numbers of cells
@@ -144,7 +142,7 @@ places_have_cells grid p sizes =
     numbered (along grid.side_y grid.rows p.y) (along grid.side_x grid.columns p.x) grid.rows grid.columns y x
 
 -- the code's number of a column is one
-pub least_below : (m count n : ℕ) → 1 ≤ count → n ≡ ord_min nat_cmp m (count - 1) → n < count
+pub least_below : (m count n : ℕ) → 1 ≤ count → n ≡ min m (count - 1) → n < count
 least_below m count n some e = grind arith
 
 -- ---- places in cells that aren't adjacent are far apart

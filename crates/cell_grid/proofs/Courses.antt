@@ -1,7 +1,7 @@
 -- How long a coordinate is within its bounds.
-use Rattle.std.proofs.Common.{◌≡◌, ◌↔◌, ◌⊎◌, inl, inr, ℕ, suc, ◌+◌, ◌*◌, ◌/◌, ◌^◌, ◌<◌, ◌≤◌, ap, arith}
-use Rattle.std.specs.Prelude.{Some, ℤ, pos, negsuc, nat_abs, ◌+ℤ◌, ◌-ℤ◌, ◌≤ℤ◌, ◌<ℤ◌}
-use Rattle.std.specs.Ordering.{int_cmp, ord_min, ord_max}
+use Rattle.std.proofs.Common.{◌≡◌, ◌↔◌, ◌⊎◌, inl, inr, ℕ, suc, ◌+◌, ◌*◌, ◌/◌, ◌^◌, ◌<◌, ◌≤◌, ap, arith, sym, subst}
+use Rattle.std.specs.Prelude.{Some, None, ℤ, pos, negsuc, nat_abs, ◌+ℤ◌, ◌-ℤ◌, ◌≤ℤ◌, ◌<ℤ◌}
+use Rattle.std.specs.Int.{int_max, int_min}
 use Rattle.std.proofs.lemmas.Int.{ints, by_lt_z}
 use Rattle.plane_vectors.proofs.Sizes.{sent, sent_same}
 use Rattle.std.proofs.lemmas.Bool.{cases_lt}
@@ -83,16 +83,16 @@ record IsLesser (m n k : ℤ) : Type 0 where
   pub below : (p : ℤ) → (p ≤ℤ k) ↔ ((p ≤ℤ m) × (p ≤ℤ n))
   pub size : nat_abs k ≤ 2 ^ 30
 
-lesser_sent : (m n k : ℤ) → nat_abs m ≤ 2 ^ 30 → nat_abs n ≤ 2 ^ 30 → k ≡ ord_min int_cmp (sent m) (sent n) →
+lesser_sent : (m n k : ℤ) → nat_abs m ≤ 2 ^ 30 → nat_abs n ≤ 2 ^ 30 → k ≡ int_min (sent m) (sent n) →
     IsLesser m n (sent k)
 lesser_sent m n k hm hn e =
-    let is : k ≡ ord_min int_cmp m n = rw (small_sent m hm, small_sent n hn) at e in
+    let is : k ≡ int_min m n = rw (small_sent m hm, small_sent n hn) at e in
     elim (either m n k is) [
       | inl h ↦ rw (h.0, small_sent m hm) (first m n h.1 hm)
       | inr h ↦ rw (h.0, small_sent n hn) (second m n h.1 hn)
     ]
   where
-    either : (m n k : ℤ) → k ≡ ord_min int_cmp m n → ((k ≡ m) × (m ≤ℤ n)) ⊎ ((k ≡ n) × (n ≤ℤ m))
+    either : (m n k : ℤ) → k ≡ int_min m n → ((k ≡ m) × (m ≤ℤ n)) ⊎ ((k ≡ n) × (n ≤ℤ m))
     either m n k e = grind (arith, ints)
 
     first : (m n : ℤ) → m ≤ℤ n → nat_abs m ≤ 2 ^ 30 → IsLesser m n m
@@ -106,16 +106,16 @@ record IsGreater (m n k : ℤ) : Type 0 where
   pub above : (p : ℤ) → (k ≤ℤ p) ↔ ((m ≤ℤ p) × (n ≤ℤ p))
   pub size : nat_abs k ≤ 2 ^ 30
 
-greater_sent : (m n k : ℤ) → nat_abs m ≤ 2 ^ 30 → nat_abs n ≤ 2 ^ 30 → k ≡ ord_max int_cmp (sent m) (sent n) →
+greater_sent : (m n k : ℤ) → nat_abs m ≤ 2 ^ 30 → nat_abs n ≤ 2 ^ 30 → k ≡ int_max (sent m) (sent n) →
     IsGreater m n (sent k)
 greater_sent m n k hm hn e =
-    let is : k ≡ ord_max int_cmp m n = rw (small_sent m hm, small_sent n hn) at e in
+    let is : k ≡ int_max m n = rw (small_sent m hm, small_sent n hn) at e in
     elim (either m n k is) [
       | inl h ↦ rw (h.0, small_sent m hm) (first m n h.1 hm)
       | inr h ↦ rw (h.0, small_sent n hn) (second m n h.1 hn)
     ]
   where
-    either : (m n k : ℤ) → k ≡ ord_max int_cmp m n → ((k ≡ m) × (n ≤ℤ m)) ⊎ ((k ≡ n) × (m ≤ℤ n))
+    either : (m n k : ℤ) → k ≡ int_max m n → ((k ≡ m) × (n ≤ℤ m)) ⊎ ((k ≡ n) × (m ≤ℤ n))
     either m n k e = grind (arith, ints)
 
     first : (m n : ℤ) → n ≤ℤ m → nat_abs m ≤ 2 ^ 30 → IsGreater m n m
@@ -130,8 +130,8 @@ pub record AreShared (a b c : Bounds) : Type 0 where
   pub small : AreSmall c
 
 pub shared : (a b : Bounds) (least greatest : ℤ) → AreSmall a → AreSmall b →
-    least ≡ ord_max int_cmp (sent a.least) (sent b.least) →
-    greatest ≡ ord_min int_cmp (sent a.greatest) (sent b.greatest) → AreShared a b (bounds (sent least) (sent greatest))
+    least ≡ int_max (sent a.least) (sent b.least) →
+    greatest ≡ int_min (sent a.greatest) (sent b.greatest) → AreShared a b (bounds (sent least) (sent greatest))
 shared a b least greatest ha hb low high =
     let lo = greater_sent a.least b.least least ha.least hb.least low in
     let hi = lesser_sent a.greatest b.greatest greatest ha.greatest hb.greatest high in
@@ -147,6 +147,42 @@ shared a b least greatest ha hb low high =
 pub record IsAhead (b : Bounds) (c : Course) (ahead : ℤ) : Type 0 where
   pub rising : pos 0 <ℤ c.velocity → ahead ≡ b.greatest -ℤ c.start
   pub falling : c.velocity <ℤ pos 0 → ahead ≡ c.start -ℤ b.least
+
+-- one that stands still is always within, or never
+pub ends_never : (b : Bounds) (c : Course) → c.velocity ≡ pos 0 → EndsAt (IsWithinAfter b c) None
+ends_never b c still = record {
+  never = λ n from within. absurd from;
+  until = λ m n le not here. again m n here;
+  always = λ none m n here. again m n here;
+}
+  where
+    stays : (x v : ℤ) (n : ℕ) → v ≡ pos 0 → coordinate_after x v n ≡ x
+    stays x v n e = rw e (omega (arith, ints))
+
+    again : (m n : ℕ) → IsWithinAfter b c m → IsWithinAfter b c n
+    again m n here =
+        subst (IsWithin b) (sym (stays c.start c.velocity n still)) (subst (IsWithin b) (stays c.start c.velocity m still) here)
+
+-- where it is past that already, it is never within
+pub ends_at_once : (b : Bounds) (c : Course) (ahead : ℤ) → IsAhead b c ahead → ¬ (c.velocity ≡ pos 0) → ahead <ℤ pos 0 →
+    EndsAt (IsWithinAfter b c) (Some 0)
+ends_at_once b c ahead is moves past = record {
+  never = λ n from within.
+      by_lt_z (pos 0) c.velocity
+      (λ up.
+      let e = is.rising up in
+      let high = rises c.start c.velocity 0 n (omega (arith, ints)) (omega arith) in
+      let below = within.1 in
+      absurd (omega (arith, ints)))
+      (λ le.
+      let down : c.velocity <ℤ pos 0 = by_lt_z c.velocity (pos 0) (λ lt. lt) (λ ge. absurd (moves (omega (arith, ints)))) in
+      let e = is.falling down in
+      let low = falls c.start c.velocity 0 n le (omega arith) in
+      let above = within.0 in
+      absurd (omega (arith, ints)));
+  until = λ m n le not here. absurd (not (omega arith));
+  always = λ none. cc;
+}
 
 -- where it isn't past that, it ends after as many ticks as it takes to go there, and one more
 pub ends_ahead : (b : Bounds) (c : Course) (ahead : ℤ) → IsAhead b c ahead → ¬ (c.velocity ≡ pos 0) → pos 0 ≤ℤ ahead →

@@ -1,9 +1,8 @@
 -- Which regions are linked.
-use Rattle.std.proofs.Common.{◌≡◌, inl, inr, ℕ, zero, suc, ◌+◌, ◌-◌, ◌*◌, ◌/◌, ◌%◌, ◌<◌, ◌≤◌, sym, ◌∙◌, subst, arith, ◌↔◌}
+use Rattle.std.proofs.Common.{◌≡◌, inl, inr, ℕ, zero, suc, ◌+◌, ◌-◌, ◌*◌, ◌/◌, ◌%◌, ◌<◌, ◌≤◌, max, min, sym, ◌∙◌, subst, arith, ◌↔◌}
 use Rattle.std.proofs.lemmas.Bool.{cases_lt}
 use Rattle.std.proofs.Math.Nat.{mul-le-mul, le-div_iff_mul-le}
 use Rattle.std.specs.Prelude.{IsTrue, nat_le}
-use Rattle.std.specs.Ordering.{nat_cmp, ord_min, ord_max}
 use Rattle.cell_grid.specs.Grid.{GridData, HasSizes, IsRegion, AreLinked, strip_start}
 use Rattle.cell_grid.specs.Laws.{LinksAreMutual}
 use Rattle.cell_grid.proofs.Strips.{start, starts_rise}
@@ -86,7 +85,7 @@ linked_in_order grid j k sizes order within = (
 -- the code's test of two different regions
 pub linked_tested : (grid : GridData) (a b lower higher end start : ℕ) → HasSizes grid → IsRegion grid a →
     IsRegion grid b → ¬ (a ≡ b) →
-    higher ≡ ord_max nat_cmp a b → lower ≡ ord_min nat_cmp a b → start ≡ strip_start grid higher →
+    higher ≡ max a b → lower ≡ min a b → start ≡ strip_start grid higher →
     end ≡ strip_start grid (lower + 1) →
     IsTrue (nat_le start (end + 1)) ↔ AreLinked grid a b
 linked_tested grid a b lower higher end start sizes first second differ eh el es ee =
@@ -104,14 +103,14 @@ linked_tested grid a b lower higher end start sizes first second differ eh el es
     tested : (m n : ℕ) → IsTrue (nat_le m n) ↔ (m ≤ n)
     tested m n = grind arith
 
-    greater : (m n : ℕ) → m < n → ord_max nat_cmp m n ≡ n
+    greater : (m n : ℕ) → m < n → max m n ≡ n
     greater m n lt = grind arith
 
-    lesser : (m n : ℕ) → m < n → ord_min nat_cmp m n ≡ m
+    lesser : (m n : ℕ) → m < n → min m n ≡ m
     lesser m n lt = grind arith
 
-    greater_first : (m n : ℕ) → n < m → ord_max nat_cmp m n ≡ m
+    greater_first : (m n : ℕ) → n < m → max m n ≡ m
     greater_first m n lt = grind arith
 
-    lesser_second : (m n : ℕ) → n < m → ord_min nat_cmp m n ≡ n
+    lesser_second : (m n : ℕ) → n < m → min m n ≡ n
     lesser_second m n lt = grind arith

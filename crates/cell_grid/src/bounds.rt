@@ -6,7 +6,6 @@ ghost use Rattle.fixed_motion.specs.Motion.{IsValidDisk, radius_of};
 ghost use Rattle.cell_grid.specs.Leaving.{IsFrom, EndsAt, IsWithin, IsWithinAfter, AreSmall, IsSlowCourse, AreOfColumn};
 
 use fixed_motion::{Disk, MAX_SIDE, Rules};
-use std::cmp::{max, min};
 
 // A side of the box, cut into so many cells of one side, in units of length; the last may be longer.
 #[derive(Clone, Copy)]
@@ -92,8 +91,8 @@ impl Bounds {
         ensures small { AreSmall result }
     {
         Bounds {
-            least: max(self.least, other.least),
-            greatest: min(self.greatest, other.greatest),
+            least: self.least.max(other.least),
+            greatest: self.greatest.min(other.greatest),
         }
     }
 
@@ -149,7 +148,7 @@ pub(crate) fn lesser(first: Option<u64>, second: Option<u64>) -> Option<u64>
         None => second,
         Some(m) => match second {
             None => first,
-            Some(n) => Some(min(m, n)),
+            Some(n) => Some(m.min(n)),
         },
     }
 }

@@ -68,7 +68,6 @@ ghost use Rattle.cell_grid.specs.Grid.{grid_of, cells_along, IsAsked, IsGridOf, 
 
 use crate::bounds::Cut;
 use fixed_motion::Rules;
-use std::cmp::{max, min};
 
 impl Grid {
     /// The grid of checked rules, with so many regions, 1 to [`MAX_REGIONS`], or as many as there are
@@ -89,7 +88,7 @@ impl Grid {
             rows,
             side_x: width / columns,
             side_y: height / rows,
-            regions: min(regions, columns),
+            regions: regions.min(columns),
         }
     }
 
@@ -123,8 +122,8 @@ impl Grid {
         ensures value { result ≡ cell_at self.now (vector x y) }
         ensures cell { IsCell self.now result }
     {
-        let column = min(x as u32 / self.side_x, self.columns - 1);
-        let row = min(y as u32 / self.side_y, self.rows - 1);
+        let column = (x as u32 / self.side_x).min(self.columns - 1);
+        let row = (y as u32 / self.side_y).min(self.rows - 1);
         row * self.columns + column
     }
 
@@ -217,7 +216,7 @@ impl Grid {
         requires second { IsRegion self.now b }
         ensures { IsTrue result ↔ AreLinked self.now a b }
     {
-        a != b && self.strip_start(max(a, b)) <= self.strip_start(min(a, b) + 1) + 1
+        a != b && self.strip_start(a.max(b)) <= self.strip_start(a.min(b) + 1) + 1
     }
 
     // The first column of a region; of one past the last, one past the last column.
@@ -235,7 +234,7 @@ fn cells_along(length: u32, least: u32) -> u32
     requires { 1 ≤ least }
     ensures { result ≡ cells_along length least }
 {
-    max(1, min(MAX_CELLS_ALONG, length / least))
+    (length / least).clamp(1, MAX_CELLS_ALONG)
 }
 
 fn is_beside(a: u32, b: u32) -> bool

@@ -1,5 +1,6 @@
 -- A crossing is due where the disk is inside the box when it leaves the cell, and that is before the end.
-use Rattle.std.proofs.Common.{◌≡◌, true, false, arith, sym, subst}
+use Rattle.std.proofs.Common.{arith, sym, subst}
+use Rattle.std.proofs.lemmas.Bool.{both_ways}
 use Rattle.plane_vectors.specs.declared.Vector.{Vector}
 use Rattle.fixed_motion.specs.Motion.{IsInside}
 use Rattle.event_stamps.specs.declared.Kind.TheVariants.{Cross}
@@ -30,9 +31,7 @@ returns-else-tick-rules c =
     no_crossing c.args.rules.now c.args.self.now c.args.disk c.args.a.now c.args.cell c.in_ok-tick.tick c.in_ok-tick.ensures
     (λ before inside. elim c.else-tick-rules.branch [
       | else-tick-rules-via-then-tick-rules+else-is_inside w ↦
-          let yes : w.is_inside.result ≡ true =
-          w.is_inside.ensures.fact.1 (subst (λ (p : Vector). IsInside c.args.rules.now c.args.a.now p) (sym w.centre_at.ensures) inside) in
-          let no : w.is_inside.result ≡ false = w.if-is_inside.false in
-          cc
+          absurd (both_ways w.is_inside.result w.if-is_inside.false
+          (w.is_inside.ensures.fact.1 (subst (λ (p : Vector). IsInside c.args.rules.now c.args.a.now p) (sym w.centre_at.ensures) inside)))
       | else-tick-rules-via-else-tick-rules w ↦ absurd (omega (arith, w.if-tick-rules.false))
     ])

@@ -1,6 +1,7 @@
 -- A disk that is ever in the cell is in it at the last tick before it is past an end of it.
 use Rattle.std.proofs.Common.{◌≡◌, ◌-◌, ◌∙◌, ap, true, false, ℕ}
 use Rattle.std.specs.Prelude.{Some, None}
+use Rattle.std.proofs.lemmas.Bool.{both_ways}
 use Rattle.cell_grid.specs.Leaving.{IsInRoomAfter, EndsAt}
 use Rattle.cell_grid.proofs.Ends.{slow_disk, last_of, leaves_at_base, never_leaves, leaves_at_end}
 use Rattle.cell_grid.proofs.grid.Grid.leaving_tick.Goals as goal
@@ -22,9 +23,7 @@ returns-then-not-holds_after c =
     leaves_at_base c.args.rules.now c.args.self.now a c.args.cell room o c.room-room.ensures.places
     c.ticks_until_past-ticks.ensures.ends
     (λ (here : IsInRoomAfter room a (last_of o)).
-    let yes : c.holds_after.result ≡ true = c.holds_after.ensures.1 (rw last here) in
-    let no : c.holds_after.result ≡ false = c.if-not-holds_after.true in
-    cc)
+    both_ways c.holds_after.result c.if-not-holds_after.true (c.holds_after.ensures.1 (rw last here)))
 
 pub returns-in_err-ticks : goal.returns-in_err-ticks
 returns-in_err-ticks c =
