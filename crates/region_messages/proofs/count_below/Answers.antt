@@ -1,4 +1,4 @@
-use Rattle.std.proofs.Common.{◌≡◌, sym, subst, arith}
+use Rattle.std.proofs.Common.{◌≡◌, ◌∙◌, sym, subst, arith}
 use Rattle.event_stamps.proofs.Counted.{IsPlace, partitioned, counted_below, counted_from}
 use Rattle.region_messages.specs.Trails.{message_key}
 use Rattle.region_messages.proofs.Sought.{NoneFrom, none_from_end, none_from_less, found_from_end, found_at_front}
@@ -11,7 +11,7 @@ pub loop-count-preserved : goal.loop-count-preserved
 loop-count-preserved c = (
   omega arith,
   none_from_less message_key c.args.at c.args.messages.now c.loop-count.count c.loop-count.invariant.1
-      (λ x. let is = c.is_before.ensures x in let not = c.if-not-is_before.true in cc),
+      (λ x. sym (c.is_before.ensures x) ∙ c.if-not-is_before.true),
 )
 
 pub returns-else-not-is_before : goal.returns-else-not-is_before
@@ -19,7 +19,7 @@ returns-else-not-is_before c =
     let place : IsPlace message_key c.args.at c.args.messages.now c.loop-count.count =
     found_from_end message_key c.args.at c.args.messages.now c.loop-count.count (partitioned message_key c.args.at c.args.messages.now c.requires) c.loop-count.invariant.1 c.loop-count-test.true
     c.loop-count.invariant.0
-    (λ x. let is = c.is_before.ensures x in let not = c.if-not-is_before.false in cc) in record {
+    (λ x. sym (c.is_before.ensures x) ∙ c.if-not-is_before.false) in record {
       within = c.loop-count.invariant.0;
       below = counted_below message_key c.args.at c.args.messages.now c.loop-count.count place;
       from = counted_from message_key c.args.at c.args.messages.now c.loop-count.count place;

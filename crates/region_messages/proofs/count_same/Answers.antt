@@ -1,4 +1,5 @@
 use Rattle.std.proofs.Common.{◌≡◌, ◌⊎◌, ℕ, ◌+◌, ◌≤◌, min, length, sym, ap, ◌∙◌, arith}
+use Rattle.std.proofs.lemmas.Bool.{both_ways}
 use Rattle.std.proofs.lemmas.List.{length_push}
 use Rattle.std.proofs.lemmas.Slice.Zip.{zip_turn, zip_end}
 use Rattle.region_messages.proofs.Starts.{one_more_alike, next_apart, one_ends}
@@ -15,7 +16,7 @@ returns-then-not-is_same c =
     next_apart c.loop-m.same (length c.loop-m.yielded) c.args.a.now c.args.b.now c.in-Some.m.now
     c.in-Some.n.now c.loop-m.invariant.2 turn.0 turn.1 (turn.2 c.in-Some.m.now)
     (turn.3 c.in-Some.n.now)
-    (λ e. let same = c.is_same.ensures.1 e in let other = c.if-not-is_same.true in cc)
+    (λ e. both_ways c.is_same.result c.if-not-is_same.true (c.is_same.ensures.1 e))
     c.loop-m.invariant.3
 
 pub loop-m-preserved : goal.loop-m-preserved

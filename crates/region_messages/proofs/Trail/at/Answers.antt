@@ -1,5 +1,6 @@
-use Rattle.std.proofs.Common.{◌≡◌, ℕ, Bool, true, false, List, drop, Option, ◌∙◌, sym, ap, subst}
+use Rattle.std.proofs.Common.{◌≡◌, ℕ, List, drop, Option, ◌∙◌, sym, ap, subst}
 use Rattle.std.specs.Prelude.{slice_get, option_map}
+use Rattle.std.proofs.lemmas.Bool.{both_ways}
 use Rattle.event_stamps.specs.declared.Stamp.{Stamp}
 use Rattle.region_view.specs.declared.rows.Message.{Message}
 use Rattle.region_messages.specs.Trails.{Rises, from}
@@ -9,9 +10,6 @@ use Rattle.region_messages.proofs.Trail.at.Goals as goal
 -- the stamp of the message at a place
 abbrev stamp_in : ℕ → List Message → Option Stamp
 stamp_in n ms = option_map (λ m. m.stamp) (slice_get ms n)
-
-not_both : (b : Bool) → b ≡ false → b ≡ true → ⊥
-not_both b out is = let no : false ≡ true = sym out ∙ is in cc
 
 pub returns-then-is_stamp : goal.returns-then-is_stamp
 returns-then-is_stamp c = found_at c.args.stamp c.count_below-place.result c.args.self.now _ c.get.ensures.value
@@ -24,4 +22,4 @@ returns-else-is_stamp c = free_by_stamp c.args.stamp c.count_below-place.result 
     (subst (λ (v : List Message). drop c.count_below-place.result v ≡ from c.args.stamp v)
     (c.deref.ensures.value ∙ c.self.view_is) c.count_below-place.ensures.from)
     (c.stamp_at.ensures ∙ ap (stamp_in c.count_below-place.result) (c.deref-2.ensures.value ∙ c.self.view_is))
-    (λ same. not_both c.is_stamp.result c.if-is_stamp.false (c.is_stamp.ensures.1 same))
+    (λ same. both_ways c.is_stamp.result c.if-is_stamp.false (c.is_stamp.ensures.1 same))
