@@ -1,5 +1,6 @@
 -- An event has one disk or two.
-use Rattle.std.proofs.Common.{◌≡◌, true, false, [], ◌∷◌, sym, ◌∙◌}
+use Rattle.std.proofs.Common.{[], ◌∷◌}
+use Rattle.std.proofs.lemmas.Bool.{both_ways}
 use Rattle.region_view.specs.Naming.{Names}
 use Rattle.region_queue.specs.Finding.{AreRelisted, AreRelistedOf}
 use Rattle.region_queue.proofs.Again.{on_ok}
@@ -22,5 +23,5 @@ returns-else-is_of_pair-clause-listed c =
     let old = c.args.lists.now.cells in
     let new = c.list_again-else-is_of_pair.new.lists.cells in
     on_ok c.list_again-else-is_of_pair.result (AreRelisted view (s.first ∷ []) old new) (AreRelistedOf view (Names s) old new)
-    (relisted_one view s old new (λ pair. let never : true ≡ false = sym (c.is_of_pair.ensures.1 pair) ∙ c.if-is_of_pair.false in cc))
+    (relisted_one view s old new (λ pair. both_ways c.is_of_pair.result c.if-is_of_pair.false (c.is_of_pair.ensures.1 pair)))
     c.list_again-else-is_of_pair.ensures.listed

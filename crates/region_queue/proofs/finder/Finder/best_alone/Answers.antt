@@ -1,6 +1,7 @@
 -- The region owns the cell of the disk.
 use Rattle.std.proofs.Common.{sym, subst}
 use Rattle.std.specs.Prelude.{Option}
+use Rattle.std.proofs.lemmas.Bool.{both_ways}
 use Rattle.event_stamps.specs.declared.Stamp.{Stamp}
 use Rattle.event_stamps.specs.Least.{IsLeastOf}
 use Rattle.region_queue.specs.Finding.{IsAloneAt}
@@ -34,4 +35,4 @@ returns-then-own c =
 pub returns-else-own : goal.returns-else-own
 returns-else-own c =
     subst (λ (o : Option Stamp). IsLeastOf (IsAloneAt c.args.self.now c.args.disk c.args.placed.now) o) (sym c.new-else-own.ensures)
-    (λ s alone. let owned = c.requires.own.1 alone.1 in let other = c.if-own.false in cc)
+    (λ s alone. both_ways c.args.own c.if-own.false (c.requires.own.1 alone.1))

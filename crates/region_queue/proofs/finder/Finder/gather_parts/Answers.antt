@@ -1,5 +1,6 @@
 -- Each part adds its disks.
-use Rattle.std.proofs.Common.{◌≡◌, true, false, sym, subst, ◌∙◌}
+use Rattle.std.proofs.Common.{sym, subst, ◌∙◌}
+use Rattle.std.proofs.lemmas.Bool.{false≢true}
 use Rattle.cell_lists.specs.Nearby.{AreGathered}
 use Rattle.region_queue.proofs.Among.{gathered_parts}
 use Rattle.region_queue.proofs.finder.Finder.gather_parts.Goals as goal
@@ -10,9 +11,9 @@ returns-then-gather_part-3 c = λ yes.
     let lists = c.args.self.now.lists in
     let parts = c.args.parts in
     elim c.if-gather_part-2.branch [
-      | else-gather_part-2 w ↦ absurd (let no : false ≡ true = sym w.if-gather_part-2.false ∙ sym w.value-is ∙ c.if-gather_part-3.true in cc)
+      | else-gather_part-2 w ↦ absurd (false≢true (sym w.if-gather_part-2.false ∙ sym w.value-is ∙ c.if-gather_part-3.true))
       | then-gather_part-2 w ↦ elim c.if-gather_part.branch [
-        | else-gather_part v ↦ absurd (let no : false ≡ true = sym v.if-gather_part.false ∙ sym v.value-is ∙ w.if-gather_part-2.true in cc)
+        | else-gather_part v ↦ absurd (false≢true (sym v.if-gather_part.false ∙ sym v.value-is ∙ w.if-gather_part-2.true))
         | then-gather_part v ↦ gathered_parts lists parts c.args.near.now c.gather_part.new.near c.if-gather_part.near c.if-gather_part-2.near
             c.gather_part-then-gather_part-3.new.near (c.gather_part.ensures v.if-gather_part.true)
             (subst (AreGathered lists parts.right c.gather_part.new.near) (sym v.near-is)

@@ -1,5 +1,6 @@
 -- Part by part.
-use Rattle.std.proofs.Common.{◌≡◌, true, arith}
+use Rattle.std.proofs.Common.{arith}
+use Rattle.std.proofs.lemmas.Bool.{both_ways}
 use Rattle.region_queue.proofs.finder.Finder.is_event_of.Goals as goal
 
 pub returns-then-stamp : goal.returns-then-stamp
@@ -8,7 +9,7 @@ returns-then-stamp c = (λ yes. cc, λ h. let lt = h.0 in let le = c.if-stamp.tr
 pub returns-then-not-owns : goal.returns-then-not-owns
 returns-then-not-owns c = (
   λ yes. cc,
-  λ h. let yes : c.owns.result ≡ true = c.owns.ensures.1 h.1 in let no = c.if-not-owns.true in cc,
+  λ h. absurd (both_ways c.owns.result c.if-not-owns.true (c.owns.ensures.1 h.1)),
 )
 
 pub returns-then-adjacent : goal.returns-then-adjacent
@@ -20,5 +21,5 @@ returns-then-adjacent c = (
 pub returns-else-adjacent : goal.returns-else-adjacent
 returns-else-adjacent c = (
   λ yes. cc,
-  λ h. let yes : c.adjacent.result ≡ true = c.adjacent.ensures.1 h.2.0 in let no = c.if-adjacent.false in cc,
+  λ h. absurd (both_ways c.adjacent.result c.if-adjacent.false (c.adjacent.ensures.1 h.2.0)),
 )
