@@ -8,7 +8,7 @@ use Rattle.event_stamps.proofs.StampOrder.{before_decides, before_trans, not_bef
 use Rattle.region_view.specs.declared.rows.Message.{Message}
 use Rattle.region_messages.specs.Trails.{is_before}
 use Rattle.local_run.specs.LocalRun.{Trails, trail_of}
-use Rattle.region_core.specs.Inbox.{InboxData, next_from, taken_from, nearer_of, IsFirstOf, IsLeastHead}
+use Rattle.region_core.specs.Inbox.{InboxData, next_from, taken_from, nearer_of, HasStamp, IsFirstOf, IsLeastHead, IsSharedHead}
 use Rattle.region_messages.proofs.Order.{is_before_true, is_before_false}
 
 -- ---- the least of them
@@ -94,7 +94,7 @@ none_past inbox q le =
     ap (λ (ms : List Message). slice_get ms (taken_from inbox q)) (no_trail_past inbox.heard q le)
     ∙ none_in_nothing (taken_from inbox q)
 
-below_or_past : (q n : ℕ) → (q < n) ⊎ (n ≤ q)
+pub below_or_past : (q n : ℕ) → (q < n) ⊎ (n ≤ q)
 below_or_past q n = grind arith
 
 pub least_of_all : (inbox : InboxData) (n : ℕ) (least : Option (ℕ × Stamp)) → length inbox.heard ≡ n →
@@ -119,3 +119,16 @@ IsSharedBelow inbox n from s = (q : ℕ) × (m : Message) × (q < n) × (q ≢ f
 
 pub not_shared_below : (inbox : InboxData) (from : ℕ) (s : Stamp) → ¬ IsSharedBelow inbox 0 from s
 not_shared_below inbox from s (q, m, lt, other, next, is) = omega arith
+
+-- nor is it shared at all, where there are no regions from that number on
+pub none_shared : (inbox : InboxData) (n from : ℕ) (s : Stamp) → length inbox.heard ≤ n →
+    ¬ IsSharedBelow inbox n from s → ¬ IsSharedHead inbox from s
+none_shared inbox n from s all none (q, m, other, next, is) = elim (below_or_past q n) [
+  | inl lt ↦ none (q, m, lt, other, next, is)
+  | inr past ↦ none-some m (sym (none_past inbox q (omega arith)) ∙ next)
+]
+
+-- the message that has a stamp
+pub with_stamp : (o : Option Message) (s : Stamp) → HasStamp o s → (m : Message) × (o ≡ Some m) × (m.stamp ≡ s)
+with_stamp None s never = absurd never
+with_stamp (Some m) s is = (m, refl, is)

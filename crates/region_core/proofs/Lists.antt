@@ -39,6 +39,11 @@ item_changed f xs all k d was now same here lt is =
     ap (λ v. slice_set v k now) same
     ∙ ap (slice_set all k) (is ∙ ap f (here ∙ ap (λ v. get_or v k was) same ∙ read_or all k was d lt))
 
+-- is read
+pub item_read : {A : Type 0} (xs all : List A) (k : ℕ) (d was : A) → xs ≡ all → was ≡ get_or xs k was →
+    k < length all → was ≡ get_or all k d
+item_read xs all k d was same here lt = here ∙ ap (λ v. get_or v k was) same ∙ read_or all k was d lt
+
 -- stays
 pub item_kept : {A : Type 0} (xs : List A) (k : ℕ) (was now : A) → was ≡ get_or xs k was → now ≡ was →
     slice_set xs k now ≡ xs

@@ -1,7 +1,7 @@
 -- A log whose last entry is taken back, with its view and its queue.
-use Rattle.std.proofs.Common.{◌≡◌, inl, ℕ, zero, suc, ◌-◌, List, [], ◌∷◌, ◌++◌, length, take, slice_get, Some, sym, ap, ◌∙◌, subst, refl, arith}
+use Rattle.std.proofs.Common.{◌≡◌, inl, ℕ, zero, suc, ◌-◌, List, [], ◌∷◌, ◌++◌, length, take, slice_get, None, Some, sym, ap, ◌∙◌, subst, refl, arith}
 use Rattle.std.specs.Prelude.{unwrap_or}
-use Rattle.std.proofs.lemmas.Option.{none-some, same_Some}
+use Rattle.std.proofs.lemmas.Option.{none-some, same_Some, slice_get-get_or}
 use Rattle.event_stamps.specs.declared.Stamp.{Stamp}
 use Rattle.event_stamps.specs.Least.{IsLeast}
 use Rattle.region_view.specs.declared.action.Action.{Action}
@@ -25,7 +25,7 @@ use Rattle.region_core.specs.declared.live.Live.{Live}
 use Rattle.region_core.specs.Live.{base_in, run_in, start_in, HasTrace, IsAlong}
 use Rattle.local_run.proofs.Logs.{moves_split, after_join}
 use Rattle.local_run.proofs.Right.{right_before}
-use Rattle.region_core.proofs.Traced.{now_is, base_is, has_trace, entries_joined}
+use Rattle.region_core.proofs.Traced.{now_is, base_is, has_trace, as_many, entries_joined}
 use Rattle.local_run.proofs.Touched.{same_but}
 use Rattle.local_run.proofs.Untouched.{action_leaves}
 use Rattle.local_run.proofs.Valid.{valid_after}
@@ -108,6 +108,23 @@ last_apart : (log : List Logged) (e : Entry) → Some e ≡ slice_get (entries_i
     (l : Logged) × (l.0 ≡ e) × (last_back log ≡ l.1) × (log ≡ take (length log - 1) log ++ l ∷ [])
 last_apart [] e is = absurd (none-some e (sym is))
 last_apart (l ∷ log) e is = apart_at (l ∷ log) (length (l ∷ log) - 1) e (omega arith) is
+
+-- there is none
+none_last : (log : List Logged) → None ≡ slice_get (entries_in log) (length log - 1) → log ≡ []
+none_last [] is = refl
+none_last (l ∷ log) is =
+    let many = as_many (l ∷ log) in
+    absurd (none-some _ (is ∙ slice_get-get_or (entries_in (l ∷ log)) (length (l ∷ log) - 1) l.0 (omega arith)))
+
+-- then nothing is taken back
+pub nothing_taken : (live : Live) (view : ViewData) (log : List Logged) →
+    log ≡ take (length live.log - 1) live.log → view ≡ set_rows live.view (last_back live.log) →
+    None ≡ slice_get (entries_in live.log) (length live.log - 1) → record live { view = view; log = log } ≡ live
+nothing_taken live view log left set last =
+    let none = none_last live.log last in
+    let same_log : log ≡ live.log = left ∙ ap (λ (xs : List Logged). take (length xs - 1) xs) none ∙ sym none in
+    let same_view : view ≡ live.view = set ∙ ap (λ (xs : List Logged). set_rows live.view (last_back xs)) none in
+    λ i. record live { view = same_view i; log = same_log i }
 
 -- what a body is with the last entry taken back
 pub record IsTakenBack (live : Live) (view : ViewData) (log : List Logged) (e : Entry) : Type 0 where

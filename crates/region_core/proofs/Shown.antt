@@ -1,6 +1,8 @@
 -- What a region shows of what it sends and heard.
-use Rattle.std.proofs.Common.{◌≡◌, ◌⊎◌, inr, ℕ, List, Option, Some, None, MatchOption, ap, subst}
-use Rattle.std.specs.Prelude.{option_map}
+use Rattle.std.proofs.Common.{◌≡◌, ◌⊎◌, inr, ℕ, Bool, true, false, List, Option, Some, None, MatchOption, ap, sym, ◌∙◌, subst, refl}
+use Rattle.std.specs.Prelude.{◌↔◌, IsTrue, is_some, not, option_map}
+use Rattle.std.proofs.lemmas.Bool.{false≢true}
+use Rattle.std.proofs.lemmas.Option.{none-some}
 use Rattle.event_stamps.specs.declared.Stamp.{Stamp}
 use Rattle.region_view.specs.declared.rows.Message.{Message}
 use Rattle.local_run.specs.declared.home.Home.{Home}
@@ -38,3 +40,15 @@ heard_shown now None home floor o live region from is here h =
 heard_shown now (Some t) home floor o live region from is here h =
     subst (λ (r : RegionData). IsHeard r from (now t)) is
     (run_in floor live, ap (option_map (run_in floor)) here, h.0, h.1)
+
+-- whether it is spent
+pub spent_shown : (result : Bool) (home : Home) (floor : Stamp) (o : Option Live) (region : RegionData) →
+    seen_as home floor o ≡ region → is_some o ≡ not result → IsTrue result ↔ (region.run ≡ None)
+spent_shown true home floor None region is none =
+    (λ _. subst (λ (r : RegionData). r.run ≡ None) is refl, λ _. refl)
+spent_shown false home floor None region is none = absurd (false≢true none)
+spent_shown true home floor (Some live) region is none = absurd (false≢true (sym none))
+spent_shown false home floor (Some live) region is none = (
+  λ never. absurd (false≢true never),
+  λ gone. absurd (none-some (run_in floor live) (sym (ap (λ (r : RegionData). r.run) is ∙ gone))),
+)

@@ -1,5 +1,6 @@
-use Rattle.std.proofs.Common.{arith}
+use Rattle.std.proofs.Common.{arith, sym}
 use Rattle.region_core.proofs.Passed.{passed_more, passed_all, all_apart, all_aside}
+use Rattle.std.proofs.lemmas.Option.{none-some}
 use Rattle.region_core.proofs.aside.first_in_way.Goals as goal
 
 pub overflow_add-next : goal.overflow_add-next
@@ -24,3 +25,6 @@ returns-clause-aside c = λ none.
     all_aside c.args.home.now c.args.rows.now c.args.log.now c.args.kept
     (passed_all c.args.home.now c.args.rows.now c.args.log.now c.args.kept c.loop-i.next
     c.loop-i.invariant c.in_default.ensures.far)
+
+pub returns-then-is_hindrance-clause-aside : goal.returns-then-is_hindrance-clause-aside
+returns-then-is_hindrance-clause-aside c = λ none. absurd (none-some _ (sym none))

@@ -1,10 +1,11 @@
-use Rattle.std.proofs.Common.{◌≡◌, ◌≤◌, ℕ, List, length, get_or, ap, ◌∙◌, arith}
+use Rattle.std.proofs.Common.{◌≡◌, ◌≤◌, ℕ, List, length, get_or, ap, ◌∙◌, arith, refl}
 use Rattle.std.proofs.lemmas.List.{take_all, with_items_is}
 use Rattle.event_log.specs.Logged.{entries_in}
 use Rattle.local_run.specs.Taken.{taken_of}
-use Rattle.region_core.specs.Inbox.{InboxData, taken_from}
+use Rattle.region_core.specs.Inbox.{InboxData, taken_from, inbox_of}
 use Rattle.region_core.proofs.Back.{taken_in_parts}
 use Rattle.region_core.proofs.Traced.{as_many}
+use Rattle.region_core.proofs.Heads.{least_found}
 use Rattle.region_core.proofs.inbox.Inbox.give_back.Goals as goal
 
 pub count_down-requires-clause-taken : goal.count_down-requires-clause-taken
@@ -32,3 +33,12 @@ returns-clause-taken c = λ q.
     let new = ap (λ (v : List ℕ). get_or v q 0) (with_items_is c.self.inside.taken c.count_down.new.counts
     (c.count_down.auto.counts ∙ c.deref_mut.ensures.len)) in
     omega arith
+
+pub invariant_of-self : goal.invariant_of-self
+invariant_of-self c =
+    let taken = with_items_is c.self.inside.taken c.count_down.new.counts
+    (c.count_down.auto.counts ∙ c.deref_mut.ensures.len) in
+    least_found c.self.inside.regions c.least_head-self-inside.result
+    (inbox_of c.self.inside.heard.items c.self.inside.taken.items) _ _ _ c.self.invariant.sizes refl
+    (ap length taken ∙ c.count_down.auto.counts ∙ ap length c.deref_mut.ensures.value) c.deref.ensures.value
+    c.deref-2.ensures.value c.least_head-self-inside.ensures

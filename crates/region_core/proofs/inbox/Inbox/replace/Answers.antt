@@ -1,9 +1,11 @@
-use Rattle.std.proofs.Common.{[], List, ap}
+use Rattle.std.proofs.Common.{[], List, ap, refl}
 use Rattle.region_view.specs.declared.rows.Message.{Message}
-use Rattle.region_core.specs.Inbox.{InboxData}
+use Rattle.region_core.specs.Inbox.{InboxData, inbox_of}
 use Rattle.region_core.specs.Replaced.{mixed}
 use Rattle.region_core.proofs.Lists.{item_changed}
 use Rattle.region_core.proofs.News.{on_ok}
+use Rattle.std.proofs.lemmas.List.{length-set}
+use Rattle.region_core.proofs.Heads.{least_found}
 use Rattle.region_core.proofs.inbox.Inbox.replace.Goals as goal
 
 pub returns-clause-heard : goal.returns-clause-heard
@@ -12,3 +14,10 @@ returns-clause-heard c = on_ok c.replace_from-replaced.result _ _
     c.args.self.now.heard c.args.from [] c.index_mut.result.now c.replace_from-replaced.new.self
     (ap (λ (v : InboxData). v.heard) c.self.view_is) c.index_mut.ensures.value c.requires is)
     c.replace_from-replaced.ensures.replaced
+
+pub invariant_of-self : goal.invariant_of-self
+invariant_of-self c =
+    least_found c.self.inside.regions c.least_head-self-inside.result
+    (inbox_of c.self.inside.heard.items c.self.inside.taken.items) _ _ _ c.self.invariant.sizes
+    (length-set c.self.inside.heard.items c.args.from c.replace_from-replaced.new.self) refl c.deref.ensures.value
+    c.deref-2.ensures.value c.least_head-self-inside.ensures

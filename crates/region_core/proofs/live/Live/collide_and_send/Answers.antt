@@ -1,4 +1,4 @@
-use Rattle.std.proofs.Common.{◌++◌, ◌∷◌, [], ap, ◌∙◌, sym, subst}
+use Rattle.std.proofs.Common.{◌++◌, ◌∷◌, [], ap, ◌∙◌, sym, subst, arith}
 use Rattle.std.specs.Prelude.{length}
 use Rattle.event_rules.specs.declared.change.Change.{Change}
 use Rattle.region_view.specs.declared.action.Action.TheVariants.{Hit}
@@ -9,7 +9,7 @@ use Rattle.local_run.specs.declared.entry.Entry.TheVariants.{Native}
 use Rattle.local_run.specs.LocalRun.{trail_of}
 use Rattle.event_log.specs.Running.{acted}
 use Rattle.region_core.specs.Inbox.{InboxData}
-use Rattle.region_core.proofs.Traced.{stands_newest}
+use Rattle.region_core.proofs.Traced.{stands_newest, as_many}
 use Rattle.region_core.proofs.Appended.{cells_are, acted_is_live, further_run, native_action, native_valid, after_what_was_sent}
 use Rattle.region_core.proofs.live.Live.collide_and_send.Goals as goal
 
@@ -68,3 +68,9 @@ returns-clause-run c =
     (c.in_ok-collide.ensures.log
     ∙ ap (λ (x : Change). live.log ++ acted live.view (Hit x) ∷ []) (sym c.requires.change))
     (c.in_ok-collide.ensures.view ∙ ap (λ (x : Change). after_action live.view (Hit x)) (sym c.requires.change))
+
+pub collide-requires-clause-room : goal.collide-requires-clause-room
+collide-requires-clause-room c =
+    let few = c.requires.fits.0.0 in
+    let many = as_many c.args.self.now.log in
+    omega arith

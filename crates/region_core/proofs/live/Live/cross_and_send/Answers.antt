@@ -1,10 +1,10 @@
-use Rattle.std.proofs.Common.{ap, ◌∙◌}
+use Rattle.std.proofs.Common.{ap, ◌∙◌, arith}
 use Rattle.std.specs.Prelude.{length}
 use Rattle.region_view.specs.declared.action.Action.TheVariants.{Cross}
 use Rattle.local_run.specs.declared.entry.Entry.TheVariants.{Native}
 use Rattle.local_run.specs.LocalRun.{trail_of}
 use Rattle.region_core.specs.Inbox.{InboxData}
-use Rattle.region_core.proofs.Traced.{stands_newest}
+use Rattle.region_core.proofs.Traced.{stands_newest, as_many}
 use Rattle.region_core.proofs.Appended.{cells_are, acted_is_live, further_run, native_action, native_valid, after_what_was_sent}
 use Rattle.region_core.proofs.live.Live.cross_and_send.Goals as goal
 
@@ -48,3 +48,9 @@ pub returns-clause-run : goal.returns-clause-run
 returns-clause-run c = further_run c.args.floor c.args.self.now c.cross.new.self (Native (Cross c.args.stamp.now c.args.cell))
     c.requires.live.traced (ap (λ (x : InboxData). x.heard) c.cross.ensures.inbox) c.in_ok-cross.ensures.log
     c.in_ok-cross.ensures.view
+
+pub cross-requires-clause-room : goal.cross-requires-clause-room
+cross-requires-clause-room c =
+    let few = c.requires.fits.0.0 in
+    let many = as_many c.args.self.now.log in
+    omega arith

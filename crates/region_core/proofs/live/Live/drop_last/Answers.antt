@@ -1,12 +1,12 @@
-use Rattle.std.proofs.Common.{◌∙◌, sym, subst}
+use Rattle.std.proofs.Common.{◌∙◌, sym, subst, ap}
 use Rattle.region_view.specs.Placing.{IsValidPlacing}
 use Rattle.region_view.specs.Views.{ViewData, rows_in}
 use Rattle.event_log.specs.Logged.{entries_in}
 use Rattle.event_log.proofs.Traced.{undone_is}
 use Rattle.local_run.specs.LocalRun.{after_log}
-use Rattle.region_core.specs.Live.{base_in, start_in}
+use Rattle.region_core.specs.Live.{base_in, start_in, GoesAlong}
 use Rattle.region_core.proofs.News.{on_ok}
-use Rattle.region_core.proofs.Shorter.{shorter_is, taken_back, along_before}
+use Rattle.region_core.proofs.Shorter.{shorter_is, taken_back, along_before, nothing_taken}
 use Rattle.region_core.proofs.live.Live.drop_last.Goals as goal
 
 pub take_back-requires-2-clause-valid : goal.take_back-requires-2-clause-valid
@@ -65,3 +65,15 @@ returns-clause-log c = on_ok c.take_back-2.result _ _ (λ stands. c.in_ok-entry.
 
 pub take_back-requires-2-clause-of : goal.take_back-requires-2-clause-of
 take_back-requires-2-clause-of c = c.requires.along.1.queue
+
+pub returns-in_default-clause-base : goal.returns-in_default-clause-base
+returns-in_default-clause-base c =
+    ap base_in (nothing_taken c.args.self.now c.take_back.new.view c.take_back.new.self c.in_ok-entry.ensures.log
+    c.in_ok-entry.ensures.view (sym c.in_default.is ∙ c.in_ok-entry.ensures.entry))
+
+pub returns-in_default-clause-along : goal.returns-in_default-clause-along
+returns-in_default-clause-along c =
+    subst (GoesAlong c.args.home.now)
+    (sym (nothing_taken c.args.self.now c.take_back.new.view c.take_back.new.self c.in_ok-entry.ensures.log
+    c.in_ok-entry.ensures.view (sym c.in_default.is ∙ c.in_ok-entry.ensures.entry)))
+    c.requires.along

@@ -1,4 +1,5 @@
-use Rattle.std.proofs.Common.{arith}
+use Rattle.std.proofs.Common.{arith, sym}
+use Rattle.std.proofs.lemmas.Option.{none-some}
 use Rattle.region_core.proofs.live.Live.hindrance.Goals as goal
 
 pub returns-clause-tried : goal.returns-clause-tried
@@ -8,3 +9,21 @@ returns-clause-tried c = λ none. record {
   free = c.is_free.ensures.0 c.if-not-is_free.false;
   apart = c.first_in_way.ensures.apart none;
 }
+
+pub returns-then-len-ge-MAX_ENTRIES-clause-aside : goal.returns-then-len-ge-MAX_ENTRIES-clause-aside
+returns-then-len-ge-MAX_ENTRIES-clause-aside c = λ none. absurd (none-some _ (sym none))
+
+pub returns-then-len-ge-MAX_ENTRIES-clause-tried : goal.returns-then-len-ge-MAX_ENTRIES-clause-tried
+returns-then-len-ge-MAX_ENTRIES-clause-tried c = λ none. absurd (none-some _ (sym none))
+
+pub returns-then-not-is_free-clause-aside : goal.returns-then-not-is_free-clause-aside
+returns-then-not-is_free-clause-aside c = λ none. absurd (none-some _ (sym none))
+
+pub returns-then-not-is_free-clause-tried : goal.returns-then-not-is_free-clause-tried
+returns-then-not-is_free-clause-tried c = λ none. absurd (none-some _ (sym none))
+
+pub returns-then-not-begins_after-clause-aside : goal.returns-then-not-begins_after-clause-aside
+returns-then-not-begins_after-clause-aside c = λ none. absurd (none-some _ (sym none))
+
+pub returns-then-not-begins_after-clause-tried : goal.returns-then-not-begins_after-clause-tried
+returns-then-not-begins_after-clause-tried c = λ none. absurd (none-some _ (sym none))

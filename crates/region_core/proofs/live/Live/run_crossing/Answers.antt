@@ -78,3 +78,6 @@ returns-in-None-clause-steps c =
     halted_is home (run_in c.args.floor live) due (Rounds due) c.requires.turn
     (crossing_comes home c.args.floor live due c.unwrap-row.result (Err (Rounds due)) c.requires.live c.requires.kind
     here c.in-None.ensures.crossed)
+
+pub are_far-is_untold-requires-clause-border : goal.are_far-is_untold-requires-clause-border
+are_far-is_untold-requires-clause-border c = c.requires.border

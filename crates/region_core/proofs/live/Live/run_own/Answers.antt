@@ -5,6 +5,8 @@ use Rattle.region_core.specs.Live.{run_in}
 use Rattle.region_core.proofs.NextMove.{turn_by}
 use Rattle.region_core.proofs.RunningOn.{clear_turn}
 use Rattle.region_core.proofs.Traced.{last_stamp_is, as_many}
+use Rattle.event_rules.specs.declared.change.Limit.{Limit}
+use Rattle.region_core.specs.RunsOn.{RunsOrFails}
 use Rattle.region_core.proofs.live.Live.run_own.Goals as goal
 
 pub run_event-requires-clause-turn : goal.run_event-requires-clause-turn
@@ -19,3 +21,21 @@ run_event-requires-clause-turn c =
     ((turn_by r due).0
     (subst (λ (o : Option Stamp). ComesAfter c.args.floor o due) last
     (c.is_in_turn.ensures.0 c.if-not-is_in_turn.false)))
+
+pub returns-in-None-clause-ran : goal.returns-in-None-clause-ran
+returns-in-None-clause-ran c =
+    let due = c.in-Some.due in (
+      c.is_before.ensures.0 c.if-not-is_before.false,
+      subst (λ (limit : Option Limit).
+          RunsOrFails c.args.home.now c.args.floor due c.args.self.now c.run_event.new.self limit)
+          c.in-None.is c.in_ok-run_event.ensures.steps,
+    )
+
+pub returns-in-Some-2-clause-ran : goal.returns-in-Some-2-clause-ran
+returns-in-Some-2-clause-ran c =
+    (subst (λ (limit : Option Limit).
+    RunsOrFails c.args.home.now c.args.floor c.in-Some.due c.args.self.now c.run_event.new.self limit)
+    c.in-Some-2.is c.in_ok-run_event.ensures.steps).1
+
+pub run_event-requires-clause-border : goal.run_event-requires-clause-border
+run_event-requires-clause-border c = c.requires.border

@@ -1,4 +1,4 @@
-use Rattle.std.proofs.Common.{◌∙◌, sym, ap, subst, Ok, Err}
+use Rattle.std.proofs.Common.{◌∙◌, sym, ap, subst, Ok, Err, ◌≡◌, Option, refl}
 use Rattle.std.proofs.lemmas.Option.{same_Some}
 use Rattle.std.specs.FinMap as map
 use Rattle.fixed_motion.specs.Motion.{IsValidDisk}
@@ -7,6 +7,8 @@ use Rattle.region_view.specs.declared.action.Action.TheVariants.{Hit}
 use Rattle.region_view.specs.Views.{rows_in}
 use Rattle.region_core.specs.Live.{run_in}
 use Rattle.region_core.proofs.RunningEvents.{valid_row, valid_is_small, pair_event, hit_comes, pair_is_untold, change_of_both, moved_has, moved_to, change_is, second_valid, turn_fits, turn_ran, halted_is}
+use Rattle.std.specs.Prelude.{IfSome}
+use Rattle.region_view.specs.declared.action.Placed.{Placed}
 use Rattle.region_core.proofs.live.Live.run_pair.Goals as goal
 
 pub apply-requires-clause-first : goal.apply-requires-clause-first
@@ -139,3 +141,21 @@ returns-in-Err-clause-steps c =
     halted_is home (run_in c.args.floor live) due limit c.requires.turn
     (hit_comes home c.args.floor live due c.unwrap-first.result c.unwrap-second.result (Err limit) c.requires.live
     c.requires.kind here there c.in-Err.ensures.exact)
+
+pub are_far-is_untold-requires-clause-border : goal.are_far-is_untold-requires-clause-border
+are_far-is_untold-requires-clause-border c = c.requires.border
+
+pub rows_of_hit-other-requires-clause-there : goal.rows_of_hit-other-requires-clause-there
+rows_of_hit-other-requires-clause-there c =
+    subst (λ (o : Option Placed). IfSome o (λ p. p.cell ≡ c.unwrap-second.result.cell))
+    (sym c.unwrap-second.ensures ∙ c.get-2.ensures) refl
+
+pub unwrap-partner-requires : goal.unwrap-partner-requires
+unwrap-partner-requires c =
+    (change_of_both c.args.home.now.rules c.args.due.now c.unwrap-first.result.disk c.unwrap-second.result.disk
+    c.in-Ok.change c.in-Ok.ensures.exact).second
+
+pub rows_of_hit-one-requires-clause-there : goal.rows_of_hit-one-requires-clause-there
+rows_of_hit-one-requires-clause-there c =
+    subst (λ (o : Option Placed). IfSome o (λ p. p.cell ≡ c.unwrap-first.result.cell))
+    (sym c.unwrap-first.ensures ∙ c.get.ensures) refl

@@ -41,3 +41,6 @@ returns-in_ok-take_in-in-TakeIn-clause-steps c =
         (c.in-TakeIn.from, c.in-TakeIn.message, refl, fits.2, c.in_ok-take_in-in-TakeIn.ensures.run),
       ),
     )
+
+pub run_event-requires-clause-border : goal.run_event-requires-clause-border
+run_event-requires-clause-border c = c.requires.border

@@ -4,6 +4,7 @@ use Rattle.region_core.specs.Live.{run_in}
 use Rattle.region_core.proofs.Kept.{still_sound, spent_sound, body_is}
 use Rattle.region_core.proofs.Shown.{seen_as}
 use Rattle.region_core.proofs.Pairs.{heard_region, heard_hearable, no_apart, region_of}
+use Rattle.local_run.specs.Opening.{spent}
 use Rattle.region_core.proofs.region.Region.hear.Goals as goal
 
 pub hear-requires : goal.hear-requires
@@ -53,3 +54,7 @@ returns-in-Ok-clause-hears c =
 
 pub returns-in-Err-clause-apart : goal.returns-in-Err-clause-apart
 returns-in-Err-clause-apart c = (λ is. absurd (cc), λ apart. absurd (c.in-Some.ensures.0 apart))
+
+pub returns-in-Err-clause-spent : goal.returns-in-Err-clause-spent
+returns-in-Err-clause-spent c =
+    ap (seen_as c.self.inside.home c.self.inside.floor) c.let_go.ensures ∙ ap spent c.self.view_is

@@ -5,6 +5,7 @@ use Rattle.event_stamps.specs.Order.{IsInRange}
 use Rattle.region_core.specs.declared.live.Live.{Live}
 use Rattle.region_core.specs.Live.{run_in, IsLive}
 use Rattle.region_core.proofs.Ranges.{told_in_range}
+use Rattle.region_core.proofs.Kept.{kept_is}
 use Rattle.region_core.proofs.region.Region.native_stamp.Goals as goal
 
 pub returns-in-Some-clause-range : goal.returns-in-Some-clause-range
@@ -15,3 +16,9 @@ returns-in-Some-clause-range c =
     let alive = subst (λ (o : Option Live). IfSome o (IsLive home floor)) c.in-Some.is c.self.invariant.alive in
     subst (λ (o : Option Stamp). IfSome o IsInRange) (sym c.native_stamp.ensures)
     (told_in_range home (run_in floor live) c.args.i c.self.invariant.place alive.right)
+
+pub returns-in-Some-clause-kept : goal.returns-in-Some-clause-kept
+returns-in-Some-clause-kept c = kept_is _ _ _ _ c.self.view_is c.self.invariant
+
+pub returns-in-None-clause-kept : goal.returns-in-None-clause-kept
+returns-in-None-clause-kept c = kept_is _ _ _ _ c.self.view_is c.self.invariant

@@ -5,6 +5,7 @@ use Rattle.local_run.specs.Opening.{RegionData}
 use Rattle.region_core.specs.Live.{run_in}
 use Rattle.local_run.specs.Steps.{StepsOn}
 use Rattle.region_core.proofs.Bounded.{of_some}
+use Rattle.region_core.proofs.Kept.{spent_sound, body_is}
 use Rattle.region_core.proofs.region.Region.step.Goals as goal
 
 pub returns-in-Ok-Some-clause-step : goal.returns-in-Ok-Some-clause-step
@@ -21,3 +22,12 @@ returns-in-Ok-Some-clause-step c =
           StepsOn home (option_map (run_in floor) o) c.in-Ok-Some.step (Some left))
           (sym c.in-Some.is) (left, (of_some _ _ _ _ c.in-Ok-Some.field-0-is c.in-Ok-Some.ensures.steps).1, refl));
     }
+
+pub step-requires-clause-live : goal.step-requires-clause-live
+step-requires-clause-live c =
+    body_is c.self.inside.home c.self.inside.floor c.self.inside.live c.in-Some.live c.self.invariant c.in-Some.is
+
+pub invariant_of-self-in-Err : goal.invariant_of-self-in-Err
+invariant_of-self-in-Err c =
+    spent_sound c.self.inside.home c.self.inside.floor c.self.inside.live c.let_go.new.live c.self.invariant
+    c.let_go.ensures

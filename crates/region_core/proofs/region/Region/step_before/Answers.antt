@@ -6,6 +6,7 @@ use Rattle.local_run.specs.Steps.{Steps}
 use Rattle.region_core.specs.declared.live.Live.{Live}
 use Rattle.region_core.specs.Live.{run_in, region_in}
 use Rattle.region_core.proofs.Bounded.{bounded_step}
+use Rattle.region_core.proofs.Kept.{spent_sound, body_is}
 use Rattle.region_core.proofs.region.Region.step_before.Goals as goal
 
 pub returns-in-Ok-clause-step : goal.returns-in-Ok-clause-step
@@ -20,3 +21,12 @@ returns-in-Ok-clause-step c =
     (subst (λ (o : Option Live). Made (record { home = home; floor = floor; run = option_map (run_in floor) o }))
     (sym c.in-Some.is)
     (bounded_step home floor bound c.in-Some.live c.step.new.self c.in-Ok.last c.in-Ok.ensures.steps))
+
+pub step-requires-clause-live : goal.step-requires-clause-live
+step-requires-clause-live c =
+    body_is c.self.inside.home c.self.inside.floor c.self.inside.live c.in-Some.live c.self.invariant c.in-Some.is
+
+pub invariant_of-self-in-Err : goal.invariant_of-self-in-Err
+invariant_of-self-in-Err c =
+    spent_sound c.self.inside.home c.self.inside.floor c.self.inside.live c.let_go.new.live c.self.invariant
+    c.let_go.ensures

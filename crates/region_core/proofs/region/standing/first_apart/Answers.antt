@@ -42,3 +42,8 @@ pub returns : goal.returns
 returns c = unseen_past c.args.grid.now c.args.number c.args.placed.now (base_in c.args.live.now)
     c.in_ok-disk.disk c.in_ok-disk.field-0-1 (λ i lt. c.loop-i.invariant i (omega arith))
     c.in_ok-disk.ensures.0 c.in_ok-disk.ensures.1 c.in_ok-disk.ensures.2
+
+pub seen_of-requires-clause-cell : goal.seen_of-requires-clause-cell
+seen_of-requires-clause-cell c =
+    c.requires.cells c.loop-i.i (get_or c.args.placed.now c.loop-i.i no_row)
+    (row_at c.args.placed.now c.loop-i.i c.loop-i-test.true)

@@ -1,0 +1,10 @@
+use Rattle.std.proofs.Common.{Option, subst}
+use Rattle.std.specs.Prelude.{◌↔◌, IsTrue}
+use Rattle.region_view.specs.declared.action.Placed.{Placed}
+use Rattle.region_core.specs.Border.{IsFarRow}
+use Rattle.region_core.proofs.border.Border.is_far_at.Goals as goal
+
+pub returns-in-Some : goal.returns-in-Some
+returns-in-Some c =
+    subst (λ (o : Option Placed). IsTrue c.is_far.result ↔ IsFarRow c.args.home.now o) c.in-Some.ensures
+    c.is_far.ensures

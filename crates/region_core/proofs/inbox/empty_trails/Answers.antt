@@ -1,0 +1,7 @@
+use Rattle.std.proofs.Common.{◌++◌, ◌∷◌, [], ◌∙◌}
+use Rattle.std.proofs.lemmas.List.{replicate_more}
+use Rattle.region_core.proofs.inbox.empty_trails.Goals as goal
+
+pub loop-preserved : goal.loop-preserved
+loop-preserved c =
+    c.in_ok-push.ensures.items ∙ (λ i. c.loop.invariant i ++ c.new.ensures i ∷ []) ∙ replicate_more c.loop.counter []
