@@ -1,6 +1,7 @@
 -- Two regions, of which the one hears the other or is apart from it.
 use Rattle.std.proofs.Common.{◌≡◌, ◌≢◌, ◌⊎◌, inl, inr, ℕ, Bool, true, false, ◌==◌, ◌&&◌, List, Option, Some, None, MatchOption, Decides, sym, ap, subst, ◌∙◌, refl}
 use Rattle.std.specs.Prelude.{◌↔◌, IsTrue, option_map, IfSome}
+use Rattle.std.proofs.lemmas.Bool.{false≢true}
 use Rattle.std.specs.Ordering.{int_eq}
 use Rattle.std.specs.Option.{is_some}
 use Rattle.std.proofs.lemmas.Bool.Decides.{Decides-and, Decides-like, Decides-eqb, Decides-int_eq}
@@ -138,6 +139,25 @@ are_alike x y f g o p a b r t u here there r_is r_true t_is t_true u_is =
       ),
       λ alike. u_is ∙ (stamp_decides f g).1 alike.2,
     ))
+
+-- where the rules or the grids were found to differ, they aren't
+pub unlike_rules : (x y : Home) (f g : Stamp) (o p : Option Live) (a b : RegionData) (r t : Bool) →
+    seen_as x f o ≡ a → seen_as y g p ≡ b → r ≡ rules_eq x.rules y.rules → r ≡ false → t ≡ false →
+    IsTrue t ↔ AreAlike a b
+unlike_rules x y f g o p a b r t here there is differ not = (
+  λ h. absurd (false≢true (sym not ∙ h)),
+  λ alike. absurd (false≢true (sym differ ∙ is ∙ (rules_decide x.rules y.rules).1
+      (ap (λ (v : RegionData). v.home.rules) here ∙ alike.0 ∙ ap (λ (v : RegionData). v.home.rules) (sym there)))),
+)
+
+pub unlike_grids : (x y : Home) (f g : Stamp) (o p : Option Live) (a b : RegionData) (r t : Bool) →
+    seen_as x f o ≡ a → seen_as y g p ≡ b → r ≡ grid_eq x.grid y.grid → r ≡ false → t ≡ false →
+    IsTrue t ↔ AreAlike a b
+unlike_grids x y f g o p a b r t here there is differ not = (
+  λ h. absurd (false≢true (sym not ∙ h)),
+  λ alike. absurd (false≢true (sym differ ∙ is ∙ (grid_decides x.grid y.grid).1
+      (ap (λ (v : RegionData). v.home.grid) here ∙ alike.1 ∙ ap (λ (v : RegionData). v.home.grid) (sym there)))),
+)
 
 -- ---- what the one sends to the other
 not_sent : (a b : RegionData) → IsRegion a.home.grid a.home.number → AreAlike a b →

@@ -1,4 +1,6 @@
-use Rattle.std.proofs.Common.{◌≡◌, Some, sym, ap, ◌∙◌}
+use Rattle.std.proofs.Common.{Some, sym, ap, ◌∙◌}
+use Rattle.std.proofs.lemmas.Option.{none-some, same_Some}
+use Rattle.std.specs.Result.{result_ok}
 use Rattle.local_run.specs.declared.answers.Hearing.TheVariants.{Apart}
 use Rattle.region_core.specs.Live.{run_in}
 use Rattle.region_core.proofs.Kept.{still_sound, spent_sound, body_is}
@@ -39,7 +41,7 @@ returns-in-Ok-clause-apart c = (
   λ is. absurd (no_apart c.from.inside.home.number c.in-Some.sent.now
       (run_in c.self.inside.floor c.in-Some-live.live) (run_in c.self.inside.floor c.hear.new.self)
       c.in-Ok.answer (c.in-Ok.ensures.hears c.self.inside.floor)
-      (let same : c.in-Ok.answer ≡ Apart = cc in same)),
+      (same_Some c.in-Ok.answer Apart (ap result_ok is))),
   λ apart. absurd (c.in-Some.ensures.0 apart),
 )
 
@@ -53,7 +55,10 @@ returns-in-Ok-clause-hears c =
     (c.in-Ok.ensures.hears c.self.inside.floor)
 
 pub returns-in-Err-clause-apart : goal.returns-in-Err-clause-apart
-returns-in-Err-clause-apart c = (λ is. absurd (cc), λ apart. absurd (c.in-Some.ensures.0 apart))
+returns-in-Err-clause-apart c = (
+  λ is. absurd (none-some Apart (ap result_ok is)),
+  λ apart. absurd (c.in-Some.ensures.0 apart),
+)
 
 pub returns-in-Err-clause-spent : goal.returns-in-Err-clause-spent
 returns-in-Err-clause-spent c =
