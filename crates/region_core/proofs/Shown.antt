@@ -1,14 +1,15 @@
 -- What a region shows of what it sends and heard.
-use Rattle.std.proofs.Common.{◌≡◌, ◌⊎◌, inr, ℕ, Bool, true, false, List, Option, Some, None, MatchOption, ap, sym, ◌∙◌, subst, refl}
-use Rattle.std.specs.Prelude.{◌↔◌, IsTrue, is_some, not, option_map}
+use Rattle.std.proofs.Common.{◌≡◌, ◌⊎◌, inr, ℕ, ◌<◌, Bool, true, false, List, [], length, Option, Some, None, MatchOption, ap, sym, ◌∙◌, subst, refl}
+use Rattle.std.specs.Prelude.{◌↔◌, IsTrue, is_some, not, option_map, option_copied, slice_get}
 use Rattle.std.proofs.lemmas.Bool.{false≢true}
-use Rattle.std.proofs.lemmas.Option.{none-some}
+use Rattle.std.proofs.lemmas.Option.{none-some, same_Some, slice_get-get_or}
+use Rattle.std.specs.Borrow.{Bor}
 use Rattle.event_stamps.specs.declared.Stamp.{Stamp}
 use Rattle.region_view.specs.declared.rows.Message.{Message}
 use Rattle.local_run.specs.declared.home.Home.{Home}
 use Rattle.event_log.specs.Logged.{entries_in}
 use Rattle.region_core.specs.declared.live.Live.{Live}
-use Rattle.local_run.specs.LocalRun.{trail_of, sent_to}
+use Rattle.local_run.specs.LocalRun.{Trails, trail_of, sent_to}
 use Rattle.local_run.specs.Opening.{RegionData}
 use Rattle.region_core.specs.Live.{base_in, run_in}
 use Rattle.local_run.specs.Keeping.{SendsTo, HearsOf, IsSent, IsHeard}
@@ -52,3 +53,10 @@ spent_shown false home floor (Some live) region is none = (
   λ never. absurd (false≢true never),
   λ gone. absurd (none-some (run_in floor live) (sym (ap (λ (r : RegionData). r.run) is ∙ gone))),
 )
+
+-- the trail of a region that there is
+pub trail_found : (o : Option (Bor (List Message))) (ts : Trails) (q : ℕ) (P Q : Type 0) →
+    option_copied o ≡ slice_get ts q → q < length ts → Q → MatchOption o P (λ t. Q × (t.now ≡ trail_of ts q))
+trail_found None ts q P Q is within given = absurd (none-some _ (is ∙ slice_get-get_or ts q [] within))
+trail_found (Some t) ts q P Q is within given =
+    (given, same_Some t.now (trail_of ts q) (is ∙ slice_get-get_or ts q [] within))

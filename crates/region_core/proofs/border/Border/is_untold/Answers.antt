@@ -27,3 +27,30 @@ returns-in-None c = λ far.
     let at = rows_in c.args.before.now in
     subst (λ (x : Action). IsUntold home at x) (sym c.in-Hit.is)
     (side_untold home at c.in-Hit.change c.in-None.is (c.is_far_at-in-None.ensures.0 far))
+
+pub is_far_at-requires-clause-border : goal.is_far_at-requires-clause-border
+is_far_at-requires-clause-border c = c.requires.border
+
+pub is_far_at-requires-then-is_far_at-clause-border : goal.is_far_at-requires-then-is_far_at-clause-border
+is_far_at-requires-then-is_far_at-clause-border c = c.requires.border
+
+pub is_far_at-requires-in-None-clause-border : goal.is_far_at-requires-in-None-clause-border
+is_far_at-requires-in-None-clause-border c = c.requires.border
+
+pub is_far-requires-clause-border : goal.is_far-requires-clause-border
+is_far-requires-clause-border c = c.requires.border
+
+pub is_far_at-requires-in-Some-clause-border : goal.is_far_at-requires-in-Some-clause-border
+is_far_at-requires-in-Some-clause-border c = c.requires.border
+
+pub is_far_at-requires-then-is_far_at-clause-cells : goal.is_far_at-requires-then-is_far_at-clause-cells
+is_far_at-requires-then-is_far_at-clause-cells c = c.requires.cells
+
+pub is_far_at-requires-clause-cells : goal.is_far_at-requires-clause-cells
+is_far_at-requires-clause-cells c = c.requires.cells
+
+pub is_far_at-requires-in-None-clause-cells : goal.is_far_at-requires-in-None-clause-cells
+is_far_at-requires-in-None-clause-cells c = c.requires.cells
+
+pub is_far_at-requires-in-Some-clause-cells : goal.is_far_at-requires-in-Some-clause-cells
+is_far_at-requires-in-Some-clause-cells c = c.requires.cells

@@ -3,6 +3,8 @@ use Rattle.region_view.specs.Naming.{IsSameBut}
 use Rattle.event_log.specs.Running.{collision}
 use Rattle.local_run.proofs.Aside.{here_first, later_still}
 use Rattle.region_core.proofs.Told.{hit_leaves}
+use Rattle.region_view.specs.Placing.{IsValidPlacing}
+use Rattle.region_view.specs.Views.{ViewData, rows_in}
 use Rattle.region_core.proofs.live.Live.collide.Goals as goal
 
 pub returns-clause-stands : goal.returns-clause-stands
@@ -15,3 +17,11 @@ returns-clause-stands c =
     (subst (IsSameBut ids view) (sym c.in_ok-collide.ensures.view)
     (hit_leaves view change ids (here_first stamp.first (stamp.second ∷ []))
     (later_still stamp.first (stamp.second ∷ []) stamp.second (here_first stamp.second []))))
+
+pub touched-requires : goal.touched-requires
+touched-requires c =
+    let queue = c.args.self.now.queue in
+    record {
+      valid = subst (λ (view : ViewData). IsValidPlacing queue.rules queue.grid (rows_in view))
+          (sym c.in_ok-collide.ensures.view) c.requires.valid;
+    }

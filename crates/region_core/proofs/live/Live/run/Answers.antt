@@ -58,3 +58,6 @@ pub returns-clause-run : goal.returns-clause-run
 returns-clause-run c = further_run c.args.floor c.args.self.now c.act.new.self (Native c.args.action)
     c.requires.live.traced (ap (λ (x : InboxData). x.heard) c.act.ensures.inbox) c.in_ok-act.ensures.log
     c.in_ok-act.ensures.view
+
+pub is_untold-is_untold-requires-clause-border : goal.is_untold-is_untold-requires-clause-border
+is_untold-is_untold-requires-clause-border c = c.requires.border

@@ -47,3 +47,6 @@ returns-in-Err-clause-steps c =
     halted_is home (run_in c.args.floor live) c.args.due.now c.in-Err.limit c.requires.turn
     (subst (λ (v : ViewData). ComesTo home v c.args.due.now (Err c.in-Err.limit))
     (sym (now_is live c.requires.live.traced)) c.in-Err.ensures)
+
+pub run-requires-clause-border : goal.run-requires-clause-border
+run-requires-clause-border c = c.requires.border

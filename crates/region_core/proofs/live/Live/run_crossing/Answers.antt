@@ -81,3 +81,6 @@ returns-in-None-clause-steps c =
 
 pub are_far-is_untold-requires-clause-border : goal.are_far-is_untold-requires-clause-border
 are_far-is_untold-requires-clause-border c = c.requires.border
+
+pub run_any-requires-clause-border : goal.run_any-requires-clause-border
+run_any-requires-clause-border c = c.requires.border

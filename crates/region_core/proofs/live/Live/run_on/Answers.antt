@@ -32,3 +32,6 @@ loop-left-preserved c =
         (c.loop-left.answer, region_in home floor old, before.2, step.0, step.1, tt),
       );
     }
+
+pub run_own-requires-clause-border : goal.run_own-requires-clause-border
+run_own-requires-clause-border c = c.requires.border

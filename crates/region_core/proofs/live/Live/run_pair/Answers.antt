@@ -159,3 +159,9 @@ pub rows_of_hit-one-requires-clause-there : goal.rows_of_hit-one-requires-clause
 rows_of_hit-one-requires-clause-there c =
     subst (λ (o : Option Placed). IfSome o (λ p. p.cell ≡ c.unwrap-first.result.cell))
     (sym c.unwrap-first.ensures ∙ c.get.ensures) refl
+
+pub run_any-requires-in_default-narrow-clause-border : goal.run_any-requires-in_default-narrow-clause-border
+run_any-requires-in_default-narrow-clause-border c = c.requires.border
+
+pub run_any-requires-clause-border : goal.run_any-requires-clause-border
+run_any-requires-clause-border c = c.requires.border

@@ -32,3 +32,6 @@ invariant_of-self-in-Err c = spent_sound c.self.inside.home c.self.inside.floor 
 pub returns-in-Err-clause-spent : goal.returns-in-Err-clause-spent
 returns-in-Err-clause-spent c =
     ap (seen_as c.self.inside.home c.self.inside.floor) c.let_go.ensures ∙ ap spent c.self.view_is
+
+pub run_on-requires-clause-border : goal.run_on-requires-clause-border
+run_on-requires-clause-border c = c.self.invariant.far

@@ -10,6 +10,7 @@ use Rattle.cell_sequence.proofs.Orderly.{cell_states_are_orderly}
 use Rattle.region_core.specs.Live.{base_in, run_in, IsLive}
 use Rattle.region_core.proofs.Pairs.{rules_decide, grid_decides}
 use Rattle.region_core.proofs.Stands.{run_seen, not_spent, differ, agree, stands, differs_in_row}
+use Rattle.region_core.proofs.Kept.{kept_is}
 use Rattle.region_core.proofs.region.Region.stands_on.Goals as goal
 
 pub returns-then-ne-clause-value : goal.returns-then-ne-clause-value
@@ -99,3 +100,6 @@ pub first_apart-requires-clause-few : goal.first_apart-requires-clause-few
 first_apart-requires-clause-few c =
     (subst (λ (o : Option Live). IfSome o (IsLive c.self.inside.home c.self.inside.floor)) c.in-Some.is
     c.self.invariant.alive).right.base.number
+
+pub returns-in_default-clause-kept : goal.returns-in_default-clause-kept
+returns-in_default-clause-kept c = kept_is _ _ _ _ c.self.view_is c.self.invariant

@@ -1,11 +1,12 @@
-use Rattle.std.proofs.Common.{Option, Some, ap, refl, sym, subst}
+use Rattle.std.proofs.Common.{Option, Some, ap, refl, sym, subst, ◌∙◌}
 use Rattle.std.specs.Prelude.{option_map}
 use Rattle.region_core.specs.declared.live.Live.{Live}
-use Rattle.local_run.specs.Opening.{RegionData}
+use Rattle.local_run.specs.Opening.{RegionData, spent}
 use Rattle.region_core.specs.Live.{run_in}
 use Rattle.local_run.specs.Steps.{StepsOn}
 use Rattle.region_core.proofs.Bounded.{of_some}
 use Rattle.region_core.proofs.Kept.{spent_sound, body_is}
+use Rattle.region_core.proofs.Shown.{seen_as}
 use Rattle.region_core.proofs.region.Region.step.Goals as goal
 
 pub returns-in-Ok-Some-clause-step : goal.returns-in-Ok-Some-clause-step
@@ -31,3 +32,10 @@ pub invariant_of-self-in-Err : goal.invariant_of-self-in-Err
 invariant_of-self-in-Err c =
     spent_sound c.self.inside.home c.self.inside.floor c.self.inside.live c.let_go.new.live c.self.invariant
     c.let_go.ensures
+
+pub step-requires-clause-border : goal.step-requires-clause-border
+step-requires-clause-border c = c.self.invariant.far
+
+pub returns-in-Err-clause-spent : goal.returns-in-Err-clause-spent
+returns-in-Err-clause-spent c =
+    ap (seen_as c.self.inside.home c.self.inside.floor) c.let_go.ensures ∙ ap spent c.self.view_is

@@ -1,12 +1,13 @@
-use Rattle.std.proofs.Common.{◌≡◌, Option, sym, subst}
+use Rattle.std.proofs.Common.{◌≡◌, Option, sym, subst, ap, ◌∙◌}
 use Rattle.std.specs.Prelude.{option_map, MatchOption}
-use Rattle.local_run.specs.Opening.{RegionData}
+use Rattle.local_run.specs.Opening.{RegionData, spent}
 use Rattle.local_run.specs.Running.{IsDueBefore, IsDueLater}
 use Rattle.local_run.specs.Steps.{Steps}
 use Rattle.region_core.specs.declared.live.Live.{Live}
 use Rattle.region_core.specs.Live.{run_in, region_in}
 use Rattle.region_core.proofs.Bounded.{bounded_step}
 use Rattle.region_core.proofs.Kept.{spent_sound, body_is}
+use Rattle.region_core.proofs.Shown.{seen_as}
 use Rattle.region_core.proofs.region.Region.step_before.Goals as goal
 
 pub returns-in-Ok-clause-step : goal.returns-in-Ok-clause-step
@@ -30,3 +31,10 @@ pub invariant_of-self-in-Err : goal.invariant_of-self-in-Err
 invariant_of-self-in-Err c =
     spent_sound c.self.inside.home c.self.inside.floor c.self.inside.live c.let_go.new.live c.self.invariant
     c.let_go.ensures
+
+pub step-requires-clause-border : goal.step-requires-clause-border
+step-requires-clause-border c = c.self.invariant.far
+
+pub returns-in-Err-clause-spent : goal.returns-in-Err-clause-spent
+returns-in-Err-clause-spent c =
+    ap (seen_as c.self.inside.home c.self.inside.floor) c.let_go.ensures ∙ ap spent c.self.view_is

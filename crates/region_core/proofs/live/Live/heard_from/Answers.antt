@@ -1,0 +1,10 @@
+use Rattle.std.proofs.Common.{◌<◌, length, arith}
+use Rattle.region_core.proofs.Shown.{trail_found}
+use Rattle.region_core.proofs.live.Live.heard_from.Goals as goal
+
+pub returns-then-hears_of : goal.returns-then-hears_of
+returns-then-hears_of c =
+    let hears = c.hears_of.ensures.0 c.if-hears_of.true in
+    let near : c.args.from < c.args.home.now.grid.regions = hears.0 in
+    let within : c.args.from < length c.args.self.now.inbox.heard = omega (arith, c.requires.inbox.regions) in
+    trail_found c.heard.result c.args.self.now.inbox.heard c.args.from _ _ c.heard.ensures within hears
