@@ -38,3 +38,10 @@ returns-clause-last c =
     let last : c.len-last.result - 1 ≡ length c.args.self.now - 1 = omega arith in
     both_are c.args.self.now (c.len-last.result - 1) c.entry.result c.back.result c.entry.ensures c.back.ensures
     ∙ ap (slice_get c.args.self.now) last
+
+pub truncate-requires : goal.truncate-requires
+truncate-requires c =
+    let a = c.self.inside in
+    let count = count_is a.rows.items a.wholes.items a.heads.items c.args.self.now c.self.view_is in
+    let all : c.len-last.result ≡ length a.heads.items = search rules in
+    record { place = omega arith }

@@ -1,11 +1,11 @@
-use Rattle.std.proofs.Common.{◌≡◌, ◌<◌, ◌≤◌, ◌++◌, ℕ, List, length, take, drop, map, ap, ◌∙◌, rules, arith}
+use Rattle.std.proofs.Common.{◌≡◌, ◌<◌, ◌≤◌, ◌++◌, ℕ, List, length, take, drop, map, ap, ◌∙◌, rules, arith, sym, subst}
 use Rattle.std.specs.List.{insert}
 use Rattle.std.proofs.lemmas.List.{with_items_is}
 use Rattle.local_run.specs.declared.entry.TheConstants.{MAX_ENTRIES}
 use Rattle.event_log.specs.declared.heads.Head.{Head}
 use Rattle.event_log.specs.declared.heads.Form.TheVariants.{Whole}
 use Rattle.event_log.specs.Logged.{Logged}
-use Rattle.event_log.specs.Heads.{edge_of, row_place, whole_place, whole_size, raised, log_of}
+use Rattle.event_log.specs.Heads.{edge_of, row_place, whole_place, whole_size, raised, log_of, AreLaid}
 use Rattle.event_log.proofs.Cuts.{edge_within}
 use Rattle.event_log.proofs.Laid.{inserted_log, inserted_laid, length_raised, with_whole}
 use Rattle.event_log.proofs.Read.{row_edge_fits, whole_edge_fits, place_fits, count_is}
@@ -105,3 +105,27 @@ returns-clause-inserted c =
     (λ i. log_of a.rows.items (wholes i) (heads i))
     ∙ inserted_log a.rows.items a.wholes.items a.heads.items c.args.at x c.stamp.result c.self.invariant place
     ∙ ap (λ (l : List Logged). insert l c.args.at x) c.self.view_is
+
+pub insert-requires-2 : goal.insert-requires-2
+insert-requires-2 c =
+    let a = c.self.inside in
+    let count = count_is a.rows.items a.wholes.items a.heads.items c.args.self.now c.self.view_is in
+    let kept = ap length c.in_ok-reserve.ensures.items in
+    let held = c.reserve.new.self.ok.0 in
+    let at = c.requires.place in
+    omega arith
+
+pub raise_from-requires-clause-place : goal.raise_from-requires-clause-place
+raise_from-requires-clause-place c =
+    let a = c.self.inside in
+    let count = count_is a.rows.items a.wholes.items a.heads.items c.args.self.now c.self.view_is in
+    let heads = ap length (c.deref_mut.ensures.value ∙ c.in_ok-reserve.ensures.items) in
+    let at = c.requires.place in
+    omega arith
+
+pub invariant_of-self-in_err-insert : goal.invariant_of-self-in_err-insert
+invariant_of-self-in_err-insert c =
+    let rows = c.self.inside.rows.items in
+    subst (λ (wholes : List Logged). AreLaid rows wholes c.reserve.new.self.items)
+    (sym c.in_err-insert.ensures.items)
+    (subst (AreLaid rows c.self.inside.wholes.items) (sym c.in_ok-reserve.ensures.items) c.self.invariant)
