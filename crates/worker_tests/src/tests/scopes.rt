@@ -46,12 +46,19 @@ fn add_in_scope<R: Threads + Wait + Sync>(
     )
 }
 
-#[test]
-fn a_closure_leaves_what_it_wrote_and_its_thread_has_ended(rt: HostRuntime) {
+// What the number was and is, and how often the thread counted.
+fn found_after_scope<R: Threads + Wait + Sync>(rt: &R) -> (u64, u64, u64) {
     let counted = AtomicU64::new(0);
     let mut total = 5;
-    let before = add_in_scope(&rt, &mut total, 2, &counted);
-    assert_eq!(rt; before, 5);
-    assert_eq!(rt; total, 7);
-    assert_eq!(rt; counted.load(Ordering::SeqCst), 1);
+    let before = add_in_scope(rt, &mut total, 2, &counted);
+    (before, total, counted.load(Ordering::SeqCst))
+}
+
+#[test]
+fn a_closure_leaves_what_it_wrote_and_its_thread_has_ended(rt: HostRuntime) {
+    assert_eq!(rt;
+        found_after_scope(&rt),
+        (5, 7, 1),
+        "what the number was and is, and how often the thread counted"
+    );
 }
