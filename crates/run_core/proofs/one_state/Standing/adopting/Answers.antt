@@ -1,0 +1,5 @@
+use Rattle.std.proofs.Common.{rules}
+use Rattle.run_core.proofs.one_state.Standing.adopting.Goals as goal
+
+pub on-requires : goal.on-requires
+on-requires c = search rules
