@@ -6,6 +6,7 @@
 #![tactic(auto)]
 
 mod audit;
+mod calls;
 mod crew;
 mod cut;
 mod engines;
@@ -15,10 +16,9 @@ mod rest;
 mod show;
 mod status;
 mod time_sharing;
-mod top;
 mod verdicts;
 
+pub use calls::{refuse_words, top, top_watched};
 pub use laws::{one_output, output_depends_on_alone};
 pub use status::Status;
 pub use time_sharing::TimeSharing;
-pub use top::{refuse_words, top, top_watched};
