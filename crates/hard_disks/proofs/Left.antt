@@ -32,8 +32,9 @@ use Rattle.hard_disks.specs.Output.{IsSceneText, IsCutText, scene_text_of}
 use Rattle.hard_disks.specs.Reports.{IsReport, status_of}
 use Rattle.hard_disks.specs.Answers.{Wrote, WrotePrefix}
 use Rattle.hard_disks.specs.Cut.{CutTold}
+use Rattle.hard_disks.specs.Shows.{WritesText}
 use Rattle.hard_disks.proofs.OneOutput.{one_left}
-use Rattle.hard_disks.proofs.Reported.{told_on, begun_lent, serves_scene, wrote_report, wrote_part_of_end}
+use Rattle.hard_disks.proofs.Reported.{told_on, begun_lent, serves_scene, wrote_end}
 use Rattle.hard_disks.proofs.Wrote.{kept, wrote_nothing, as_wrote}
 
 -- ---- bytes that stay
@@ -209,10 +210,9 @@ pub record CutLimit (format : Format) (at : ℕ) (scene : SceneData) (limit : Li
   pub sink : n.0 ≡ m.0
   pub outcome : IsOutcomeOf scene (Passes limit)
   pub table : IsSceneOf n.1.table scene
-  pub whole : (after : Option (List ℕ)) → Appends n.1.taken after (end_text n.1 scene (Passes limit)) →
-      Wrote (IsCutText format at scene) taken after (status_of (Passes limit))
-  pub part : (after : Option (List ℕ)) → AppendsPrefix n.1.taken after (end_text n.1 scene (Passes limit)) →
-      WrotePrefix (IsCutText format at scene) taken after
+  pub ended : (after : Option (List ℕ)) (status : Status) →
+      WritesText (end_text n.1 scene (Passes limit)) (status_of (Passes limit)) n.1.taken after status →
+      Wrote (IsCutText format at scene) taken after status
 
 pub cut_limit : (format : Format) (at : ℕ) (scene : SceneData) (limit : Limit) (taken : Option (List ℕ)) (m n : LentReport) (cut : Cut) →
     cut ≡ PassesLimit limit → CutTold told_on_loan scene at cut (Some m) (Some n) → at ≤ scene.rules.end → IsValidScene scene →
@@ -224,10 +224,7 @@ cut_limit format at scene limit taken m n cut e h le valid first =
       sink = ap (λ (v : LentReport). v.0) (told_on m.0 m.1 (nothing_yet Summary scene taken) changes n first told.3);
       outcome = outcomes_fit scene changes (Passes limit) valid run;
       table = serves_scene m.0 Summary scene taken changes m.1 n first told.3;
-      whole = (λ after ends.
-          as_wrote (IsReport Summary scene) (IsCutText format at scene) left taken after (status_of (Passes limit))
-          (wrote_report m.0 Summary scene taken after changes (Passes limit) m.1 n valid run first told.3 ends));
-      part = (λ after ends.
-          let begun = wrote_part_of_end m.0 Summary scene taken after changes (Passes limit) m.1 n valid run first told.3 ends in
-          (begun.0, begun.1, left begun.0 begun.1 begun.2, begun.3));
+      ended = (λ after status text.
+          as_wrote (IsReport Summary scene) (IsCutText format at scene) left taken after status
+          (wrote_end m.0 Summary scene taken after changes (Passes limit) m.1 n status valid run first told.3 text));
     }

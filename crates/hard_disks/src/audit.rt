@@ -2,6 +2,9 @@
 
 ghost use Rattle.std.specs.Prelude.{◌≡◌, is_some, IfOk};
 ghost use Rattle.report_audit.specs.Compared.{HasShortLines};
+ghost use Rattle.hard_disks.specs.Answers.{Wrote};
+ghost use Rattle.hard_disks.specs.Reports.{IsReport};
+ghost use Rattle.hard_disks.specs.Shows.{IsOfScene};
 ghost use Rattle.hard_disks.specs.Audits.{IsAudit, Empties, CountsAudit, KeepsReport, ReadsReport, IsAuditFaultOf};
 ghost use Rattle.hard_disks.specs.declared.audit.AuditFault.TheVariants.{NoMemory};
 
@@ -12,7 +15,7 @@ use collision_report::Format;
 use fixed_motion::Scene;
 use live_progress::Board;
 use report_audit::{Kept, Parted, Unread, Verdict, compare};
-use report_ports::Source;
+use report_ports::{Sink, Source};
 use scene_reader::{SceneFault, read_scene};
 use std::alloc::{AllocError, AllocFailed, Global};
 use std::sync::Wait;
@@ -107,22 +110,31 @@ fn keep_report<R: Threads + Wait + Sync, E: Engine>(
 {
     // The clause of this call says that the scene is valid, so the lines of its report are short.
     let _count = scene.count();
-    // Nobody looks at this board: an audit publishes nothing.
-    let (board, mut pen) = Board::open(alloc)?;
     let mut kept = Kept::new(alloc);
-    match write_report(
-        rt,
-        alloc,
-        engine,
-        Format::Lines,
-        scene,
-        &mut kept,
-        &board,
-        &mut pen,
-    ) {
+    match write_unwatched(rt, alloc, engine, scene, &mut kept) {
         Status::Done => Ok(kept),
         Status::SpeedLimit => Ok(kept),
         Status::RoundLimit => Ok(kept),
         _ => Err(AllocError),
     }
+}
+
+// Writes the report of the scene's run, of which nothing is published: nobody looks at its board.
+fn write_unwatched<R: Threads + Wait + Sync, E: Engine, K: Sink>(
+    rt: &R,
+    alloc: Global,
+    engine: &mut E,
+    scene: &Scene,
+    sink: &mut K,
+) -> Status
+    ensures wrote { Wrote (IsReport Format.Lines scene.now) (K.taken sink.old) (K.taken sink.new) result }
+    ensures of_scene { IsOfScene result }
+{
+    // The clause of this call says that the scene is valid, so it has a run.
+    let _count = scene.count();
+    let Ok((board, mut pen)) = Board::open(alloc) else {
+        return Status::NoMemory;
+    };
+    let (lines, pen) = (Format::Lines, &mut pen);
+    write_report(rt, alloc, engine, lines, scene, sink, &board, pen)
 }

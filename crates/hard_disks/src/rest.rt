@@ -1,6 +1,8 @@
 //! What mode `cut` writes: what is left of a scene after a tick, as a scene of its own.
 
-ghost use Rattle.std.specs.Prelude.{◌≤◌};
+ghost use Rattle.std.specs.Prelude.{◌≡◌, ◌≤◌};
+ghost use Rattle.fixed_motion.specs.Scene.{IsValidScene};
+ghost use Rattle.collision_report.specs.Meaning.{table_of};
 ghost use Rattle.cell_grid.specs.Grid.{IsAsked};
 ghost use Rattle.local_run.specs.Bursts.{AreTogether};
 ghost use Rattle.command_words.specs.Ranges.{AreInRange};
@@ -12,7 +14,7 @@ use crate::crew::Crew;
 use crate::cut::{Cut, cut_at};
 use crate::engines::{Engine, Regions};
 use crate::refusals::late_cut_line;
-use crate::show::{format_of, status_of, status_of_fault, write_scene, write_text};
+use crate::show::{end_report, format_of, status_of_fault, write_scene, write_text};
 use crate::status::Status;
 use collision_report::{Format, Reporter, StateTable};
 use command_words::Settings;
@@ -118,8 +120,7 @@ pub fn write_cut<R: Threads + Wait + Sync, E: Engine, K: Sink>(
     }
 }
 
-// The same up to a tick of the scene. Where the run passes a limit before it, its report is written, in
-// the short form, which has the end alone.
+// The same up to a tick of the scene.
 fn write_rest<R: Threads + Wait + Sync, E: Engine, K: Sink>(
     rt: &R,
     alloc: Global,
@@ -139,16 +140,32 @@ fn write_rest<R: Threads + Wait + Sync, E: Engine, K: Sink>(
     let Ok(mut table) = StateTable::new(alloc, scene) else {
         return Status::NoMemory;
     };
-    let mut reporter = Reporter::new(&mut table, sink, Format::Summary);
+    write_left(rt, alloc, engine, format, at, scene, &mut table, sink)
+}
+
+// The same with the table of a run that begins. Where the run passes a limit before the tick, its report is
+// written, in the short form, which has the end alone.
+fn write_left<R: Threads + Wait + Sync, E: Engine, K: Sink>(
+    rt: &R,
+    alloc: Global,
+    engine: &mut E,
+    format: Format,
+    at: u64,
+    scene: &Scene,
+    table: &mut StateTable,
+    sink: &mut K,
+) -> Status
+    requires at { at ≤ scene.now.rules.end }
+    requires valid { IsValidScene scene.now }
+    requires table { table.old ≡ table_of scene.now }
+    ensures wrote { Wrote (IsCutText format at scene.now) (K.taken sink.old) (K.taken sink.new) result }
+    ensures of_scene { IsOfScene result }
+    ensures counts { CountsWrites (K.faults sink.old) (K.faults sink.new) result }
+{
+    let mut reporter = Reporter::new(table, sink, Format::Summary);
     match cut_at(rt, alloc, scene, at, engine, &mut reporter) {
         Ok(Cut::Rest(rest)) => write_scene(alloc, "rest", format, &rest, sink),
-        Ok(Cut::Limit(limit)) => {
-            let outcome = Outcome::Limit(limit);
-            match reporter.finish(scene, &outcome) {
-                Ok(()) => status_of(&outcome),
-                Err(_) => Status::WriteFault,
-            }
-        }
+        Ok(Cut::Limit(limit)) => end_report(&mut reporter, scene, &Outcome::Limit(limit)),
         Err(fault) => status_of_fault(fault),
     }
 }

@@ -10,5 +10,5 @@ returns-in-Ok-clause-text g c = inl (c.status_of.ensures, c.in-Ok.ensures.whole)
 
 pub returns-in-Ok-clause-counts : goal.returns-in-Ok-clause-counts
 returns-in-Ok-clause-counts g c = let K = g.K.Sink in
-    subst (λ (s : Status). CountsWrites (K.faults c.args.watched.now.inner.sink.now) (K.faults c.end.new.self.sink.now) s) (sym c.status_of.ensures)
+    subst (λ (s : Status). CountsWrites (K.faults c.args.reporter.now.sink.now) (K.faults c.end.new.self.sink.now) s) (sym c.status_of.ensures)
     (own_counts _ _ _ (own c.args.outcome.now) c.in-Ok.ensures.counts)

@@ -12,13 +12,13 @@ use Rattle.hard_disks.proofs.Published.{ended_published, broken_published}
 use Rattle.hard_disks.proofs.Watched.{told_all, told_part, broken_counts}
 use Rattle.hard_disks.proofs.show.report_run.Goals as goal
 
-pub end_report-requires-clause-outcome : goal.end_report-requires-clause-outcome
-end_report-requires-clause-outcome g c =
+pub end_watched-requires-clause-outcome : goal.end_watched-requires-clause-outcome
+end_watched-requires-clause-outcome g c =
     let run = c.in-Ok.ensures.run in
     outcomes_fit c.args.scene.now run.0 c.in-Ok.outcome c.requires.valid run.1
 
-pub end_report-requires-clause-scene : goal.end_report-requires-clause-scene
-end_report-requires-clause-scene g c =
+pub end_watched-requires-clause-scene : goal.end_watched-requires-clause-scene
+end_watched-requires-clause-scene g c =
     let inner = c.args.watched.now.inner in
     let told = told_all inner.format c.args.scene.now c.in-Ok.outcome (g.K.Sink.taken inner.sink.now) _ _ c.in-Ok.ensures.run
     c.requires.valid c.requires.unwritten c.requires.first in
@@ -26,16 +26,16 @@ end_report-requires-clause-scene g c =
 
 pub returns-in-Ok : goal.returns-in-Ok
 returns-in-Ok g c =
-    let K = g.K.Sink in let inner = c.args.watched.now.inner in let end = c.end_report.ensures in
+    let K = g.K.Sink in let inner = c.args.watched.now.inner in let end = c.end_watched.ensures in
     let told = told_all inner.format c.args.scene.now c.in-Ok.outcome (K.taken inner.sink.now) _ _ c.in-Ok.ensures.run
     c.requires.valid c.requires.unwritten c.requires.first in
-    let all = ended_published c.in-Ok.outcome _ _ _ c.end_report.result (pairs_of told.changes) c.end_report.new.watched.pen.now.list
+    let all = ended_published c.in-Ok.outcome _ _ _ c.end_watched.result (pairs_of told.changes) c.end_watched.new.watched.pen.now.list
     end.text (ap (λ (k : Known). k.list) end.pen ∙ told.list) in record {
       pen_loan = end.pen_loan ∙ told.pen;
       loan = end.loan ∙ told.sink;
       wrote = told.ended _ _ end.text;
       of_scene = end.of_scene;
-      counts = subst (λ (n : ℕ). CountsWrites n (K.faults c.end_report.new.watched.inner.sink.now) c.end_report.result) c.in-Ok.ensures.counts end.counts;
+      counts = subst (λ (n : ℕ). CountsWrites n (K.faults c.end_watched.new.watched.inner.sink.now) c.end_watched.result) c.in-Ok.ensures.counts end.counts;
       board_kept = ap (λ (k : Known). k.board) end.pen ∙ told.board;
       published = (told.changes, c.in-Ok.outcome, told.run, all);
     }

@@ -1,0 +1,99 @@
+use Rattle.std.proofs.Common.{◌≡◌, ◌∙◌, ℕ, codes, ap, sym, subst, rules}
+use Rattle.collision_report.specs.declared.format.Format.TheVariants.{Summary}
+use Rattle.collision_report.specs.Meaning.{TableData, so_far}
+use Rattle.hard_disks.specs.declared.status.Status.{Status}
+use Rattle.hard_disks.specs.declared.cut.Cut.{Cut}
+use Rattle.hard_disks.specs.Output.{IsSceneText, IsCutText}
+use Rattle.hard_disks.specs.Answers.{Wrote, CountsWrites}
+use Rattle.hard_disks.specs.Shows.{status_of_fault}
+use Rattle.hard_disks.proofs.Wrote.{broken_wrote}
+use Rattle.hard_disks.proofs.Watched.{broken_counts}
+use Rattle.hard_disks.proofs.Left.{cut_part, cut_rest, cut_limit}
+use Rattle.hard_disks.proofs.rest.write_left.Goals as goal
+
+pub returns-in-Ok-Rest-clause-wrote : goal.returns-in-Ok-Rest-clause-wrote
+returns-in-Ok-Rest-clause-wrote g c =
+    let K = g.K.Sink in let scene = c.args.scene.now in
+    let first = c.new-reporter.ensures.meaning ∙ ap (λ (t : TableData). so_far Summary t (K.taken c.args.sink.now) 0 0) c.requires.table in
+    let told = cut_rest c.args.format c.args.at scene c.in-Ok-Rest.rest (K.taken c.args.sink.now) _ _ c.in-Ok-Rest.field-0
+    c.in-Ok-Rest.field-0-is c.in-Ok-Rest.ensures.cut c.requires.at first in
+    let loan = told.sink ∙ c.new-reporter.ensures.loan in
+    let last : c.in-Ok-Rest.sink-1-own.given.0 ≡ c.cut_at.new.listener.sink.now = search (rules, loan) in
+    told.wrote _ _ (subst (λ v. Wrote (IsSceneText (codes "rest") c.args.format c.in-Ok-Rest.rest) (K.taken v) (K.taken c.write_scene.new.sink) c.write_scene.result)
+    last c.write_scene.ensures.wrote)
+
+pub returns-in-Ok-Rest-clause-counts : goal.returns-in-Ok-Rest-clause-counts
+returns-in-Ok-Rest-clause-counts g c =
+    let K = g.K.Sink in let scene = c.args.scene.now in
+    let first = c.new-reporter.ensures.meaning ∙ ap (λ (t : TableData). so_far Summary t (K.taken c.args.sink.now) 0 0) c.requires.table in
+    let told = cut_rest c.args.format c.args.at scene c.in-Ok-Rest.rest (K.taken c.args.sink.now) _ _ c.in-Ok-Rest.field-0
+    c.in-Ok-Rest.field-0-is c.in-Ok-Rest.ensures.cut c.requires.at first in
+    let loan = told.sink ∙ c.new-reporter.ensures.loan in
+    let last : c.in-Ok-Rest.sink-1-own.given.0 ≡ c.cut_at.new.listener.sink.now = search (rules, loan) in
+    let same = ap K.faults last ∙ c.in-Ok-Rest.ensures.counts ∙ ap K.faults c.new-reporter.ensures.sink in
+    subst (λ (n : ℕ). CountsWrites n (K.faults c.write_scene.new.sink) c.write_scene.result) same c.write_scene.ensures.counts
+
+pub end_report-requires-clause-outcome : goal.end_report-requires-clause-outcome
+end_report-requires-clause-outcome g c =
+    let K = g.K.Sink in let scene = c.args.scene.now in
+    let first = c.new-reporter.ensures.meaning ∙ ap (λ (t : TableData). so_far Summary t (K.taken c.args.sink.now) 0 0) c.requires.table in
+    let told = cut_limit c.args.format c.args.at scene c.in-Ok-Limit.limit (K.taken c.args.sink.now) _ _ c.in-Ok-Limit.field-0
+    c.in-Ok-Limit.field-0-is c.in-Ok-Limit.ensures.cut c.requires.at c.requires.valid first in
+    told.outcome
+
+pub end_report-requires-clause-scene : goal.end_report-requires-clause-scene
+end_report-requires-clause-scene g c =
+    let K = g.K.Sink in let scene = c.args.scene.now in
+    let first = c.new-reporter.ensures.meaning ∙ ap (λ (t : TableData). so_far Summary t (K.taken c.args.sink.now) 0 0) c.requires.table in
+    let told = cut_limit c.args.format c.args.at scene c.in-Ok-Limit.limit (K.taken c.args.sink.now) _ _ c.in-Ok-Limit.field-0
+    c.in-Ok-Limit.field-0-is c.in-Ok-Limit.ensures.cut c.requires.at c.requires.valid first in
+    told.table
+
+pub returns-in-Ok-Limit-clause-wrote : goal.returns-in-Ok-Limit-clause-wrote
+returns-in-Ok-Limit-clause-wrote g c =
+    let K = g.K.Sink in let scene = c.args.scene.now in
+    let first = c.new-reporter.ensures.meaning ∙ ap (λ (t : TableData). so_far Summary t (K.taken c.args.sink.now) 0 0) c.requires.table in
+    let told = cut_limit c.args.format c.args.at scene c.in-Ok-Limit.limit (K.taken c.args.sink.now) _ _ c.in-Ok-Limit.field-0
+    c.in-Ok-Limit.field-0-is c.in-Ok-Limit.ensures.cut c.requires.at c.requires.valid first in
+    let loan = c.end_report.ensures.loan ∙ told.sink ∙ c.new-reporter.ensures.loan in
+    let last : c.sink-in-Ok-Limit-1.given.0 ≡ c.end_report.new.reporter.sink.now = search (rules, loan) in
+    subst (λ v. Wrote (IsCutText c.args.format c.args.at scene) (K.taken c.args.sink.now) (K.taken v) c.end_report.result) (sym last)
+    (told.ended _ _ c.end_report.ensures.text)
+
+pub returns-in-Ok-Limit-clause-counts : goal.returns-in-Ok-Limit-clause-counts
+returns-in-Ok-Limit-clause-counts g c =
+    let K = g.K.Sink in let scene = c.args.scene.now in
+    let first = c.new-reporter.ensures.meaning ∙ ap (λ (t : TableData). so_far Summary t (K.taken c.args.sink.now) 0 0) c.requires.table in
+    let told = cut_limit c.args.format c.args.at scene c.in-Ok-Limit.limit (K.taken c.args.sink.now) _ _ c.in-Ok-Limit.field-0
+    c.in-Ok-Limit.field-0-is c.in-Ok-Limit.ensures.cut c.requires.at c.requires.valid first in
+    let loan = c.end_report.ensures.loan ∙ told.sink ∙ c.new-reporter.ensures.loan in
+    let last : c.sink-in-Ok-Limit-1.given.0 ≡ c.end_report.new.reporter.sink.now = search (rules, loan) in
+    let same = c.in-Ok-Limit.ensures.counts ∙ ap K.faults c.new-reporter.ensures.sink in
+    subst (λ v. CountsWrites (K.faults c.args.sink.now) (K.faults v) c.end_report.result) (sym last)
+    (subst (λ (n : ℕ). CountsWrites n (K.faults c.end_report.new.reporter.sink.now) c.end_report.result) same c.end_report.ensures.counts)
+
+pub returns-in-Err-clause-wrote : goal.returns-in-Err-clause-wrote
+returns-in-Err-clause-wrote g c =
+    let K = g.K.Sink in let scene = c.args.scene.now in
+    let first = c.new-reporter.ensures.meaning ∙ ap (λ (t : TableData). so_far Summary t (K.taken c.args.sink.now) 0 0) c.requires.table in
+    let told = cut_part c.args.format c.args.at scene (K.taken c.args.sink.now) _ _ c.in-Err.fault
+    c.in-Err.ensures.cut_short c.requires.at c.requires.valid first in
+    let loan = told.sink ∙ c.new-reporter.ensures.loan in
+    let last : c.in-Err.sink-in-Err-1-own.given.0 ≡ c.cut_at.new.listener.sink.now = search (rules, loan) in
+    subst (λ (s : Status). Wrote (IsCutText c.args.format c.args.at scene) (K.taken c.args.sink.now) (K.taken c.in-Err.sink-in-Err-1-own.given.0) s)
+    (sym c.status_of_fault.ensures.status)
+    (subst (λ v. Wrote (IsCutText c.args.format c.args.at scene) (K.taken c.args.sink.now) (K.taken v) (status_of_fault c.in-Err.fault)) (sym last)
+    (broken_wrote _ _ _ c.in-Err.fault told.prefix))
+
+pub returns-in-Err-clause-counts : goal.returns-in-Err-clause-counts
+returns-in-Err-clause-counts g c =
+    let K = g.K.Sink in let scene = c.args.scene.now in
+    let first = c.new-reporter.ensures.meaning ∙ ap (λ (t : TableData). so_far Summary t (K.taken c.args.sink.now) 0 0) c.requires.table in
+    let told = cut_part c.args.format c.args.at scene (K.taken c.args.sink.now) _ _ c.in-Err.fault
+    c.in-Err.ensures.cut_short c.requires.at c.requires.valid first in
+    let loan = told.sink ∙ c.new-reporter.ensures.loan in
+    let last : c.in-Err.sink-in-Err-1-own.given.0 ≡ c.cut_at.new.listener.sink.now = search (rules, loan) in
+    subst (λ (s : Status). CountsWrites (K.faults c.args.sink.now) (K.faults c.in-Err.sink-in-Err-1-own.given.0) s)
+    (sym c.status_of_fault.ensures.status)
+    (subst (λ v. CountsWrites (K.faults c.args.sink.now) (K.faults v) (status_of_fault c.in-Err.fault)) (sym last)
+    (broken_counts Cut _ _ _ c.in-Err.fault c.in-Err.ensures.counts (ap K.faults c.new-reporter.ensures.sink)))
