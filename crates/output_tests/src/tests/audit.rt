@@ -149,10 +149,17 @@ fn says(
     requires { 1 ≤ step }
 {
     let &(pieces, want, status) = row;
-    let text = joined(alloc, pieces)?;
-    let source = MemorySource::in_steps(alloc, text.as_bytes(), &[], step)?;
+    let source = source_of(alloc, pieces, step)?;
     let sink = MemorySink::new(alloc, &[], AMPLE_ROOM)?;
     Ok(comes_to(rt, alloc, words, source, sink, status, want))
+}
+
+// A source that gives this number of bytes of the pieces at once.
+fn source_of(alloc: Global, pieces: &[&str], step: usize) -> Result<MemorySource, AllocError>
+    requires { 1 ≤ step }
+{
+    let text = joined(alloc, pieces)?;
+    MemorySource::in_steps(alloc, text.as_bytes(), &[], step)
 }
 
 #[test]
@@ -287,7 +294,7 @@ fn expect_end(
     &(pieces, want, status): &Row,
 ) -> Result<(), AllocError> {
     let text = joined(alloc, pieces)?;
-    let found = endless_output(rt, alloc, text.as_str())?;
+    let found = endless_output(rt, alloc, text.as_bytes())?;
     expect(rt, text.as_str(), &found, status, want);
     Ok(())
 }
@@ -296,11 +303,9 @@ fn expect_end(
 fn endless_output(
     rt: &(impl Threads + Wait + Sync),
     alloc: Global,
-    text: &str,
+    text: &[u8],
 ) -> Result<(MemorySink, Status), AllocError> {
-    let mut source = Endless {
-        text: text.as_bytes(),
-    };
+    let mut source = Endless { text };
     let mut sink = MemorySink::new(alloc, &[], AMPLE_ROOM)?;
     let status = top(rt, alloc, IN_FOUR, &mut source, &mut sink, &OpenGate);
     Ok((sink, status))

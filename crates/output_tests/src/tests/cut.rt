@@ -2,12 +2,14 @@
 
 ghost use Rattle.std.specs.Prelude.{None};
 
-use super::helpers::{MEETING, Numbers, RUN, RUN_SUMMARY, answers, generated, output, scene_of};
+use super::helpers::{
+    MEETING, Numbers, RUN, RUN_SUMMARY, answers, generated, output, scene_of, written,
+};
 use hard_disks::{Status, top};
 use region_core::OpenGate;
 use report_ports::{Given, MemorySink, MemorySource, Sink};
 use std::alloc::{AllocError, Global};
-use std::str::from_utf8;
+use std::process::Abort;
 use std::sync::Wait;
 use std::test::Fail;
 use std::thread::Threads;
@@ -236,15 +238,20 @@ const CUTS: &[CutRow] = &[
 #[test]
 fn cuts_at_the_tick(rt: HostRuntime) -> Result<(), Fail> {
     for row in CUTS {
-        for regions in ["1", "4"] {
-            assert!(rt;
-                writes_the_row(&rt, rt.alloc(), row, regions)?,
-                "{} at {}, {regions} regions",
-                row.0,
-                row.1
-            );
-        }
+        expect_cut(&rt, rt.alloc(), row, "1")?;
+        expect_cut(&rt, rt.alloc(), row, "4")?;
     }
+    Ok(())
+}
+
+fn expect_cut(
+    rt: &(impl Threads + Wait + Sync + Abort),
+    alloc: Global,
+    row: &CutRow,
+    regions: &'static str,
+) -> Result<(), AllocError> {
+    let is_right = writes_the_row(rt, alloc, row, regions)?;
+    assert!(rt; is_right, "{} at {}, {regions} regions", row.0, row.1);
     Ok(())
 }
 
@@ -326,34 +333,47 @@ fn writes_so_much(
 const SCENES: u32 = 10;
 
 // Each a part of four of the last tick.
-const PARTS: [u64; 3] = [1, 2, 4];
+const PARTS: &[u64] = &[1, 2, 4];
 
 #[test]
 fn parts_make_the_run(rt: HostRuntime) -> Result<(), Fail> {
     let mut numbers = Numbers { state: 3 };
     for _ in 0..SCENES {
         let (text, end) = next_scene(rt.alloc(), &mut numbers)?;
-        for part in PARTS {
-            let at = end.wrapping_mul(part) / 4;
-            assert!(rt;
-                is_told_in_parts(&rt, rt.alloc(), text.as_str(), at)?,
-                "cut at {at}:\n{text}"
-            );
-        }
+        expect_parts(&rt, rt.alloc(), text.as_str(), end)?;
+    }
+    Ok(())
+}
+
+fn expect_parts(
+    rt: &(impl Threads + Wait + Sync + Abort),
+    alloc: Global,
+    text: &str,
+    end: u64,
+) -> Result<(), AllocError> {
+    for &part in PARTS {
+        let at = end.wrapping_mul(part) / 4;
+        let is_right = is_told_in_parts(rt, alloc, text, at)?;
+        assert!(rt; is_right, "cut at {at}:\n{text}");
     }
     Ok(())
 }
 
 // The next text that isn't refused, of at most a hundred, and the last tick of its scene.
 fn next_scene(alloc: Global, numbers: &mut Numbers) -> Result<(String, u64), AllocError> {
-    let mut text = generated(alloc, numbers)?;
     for _ in 0..100 {
-        if let Some(scene) = scene_of(alloc, text.as_str())? {
-            return Ok((text, scene.rules.end));
+        let text = generated(alloc, numbers)?;
+        if let Some(end) = last_tick(alloc, text.as_str())? {
+            return Ok((text, end));
         }
-        text = generated(alloc, numbers)?;
     }
-    Ok((text, 0))
+    Ok((String::new(alloc), 0))
+}
+
+// The last tick of the scene that a text says, unless it is refused.
+fn last_tick(alloc: Global, text: &str) -> Result<Option<u64>, AllocError> {
+    let scene = scene_of(alloc, text)?;
+    Ok(scene.map(|scene| scene.rules.end))
 }
 
 // Whether the lines of the run up to the tick and those of the rest's run, so many ticks later, are those of the run.
@@ -414,10 +434,20 @@ fn lines_of_parts(
     rest: &[u8],
     at: u64,
 ) -> Result<String, AllocError> {
-    let first = ending_at(alloc, text, at)?;
-    let mut parts = lines_of_run(rt, alloc, first.as_bytes(), Lines::Events)?;
+    let mut parts = lines_before(rt, alloc, text, at)?;
     push_run(rt, alloc, &mut parts, rest, at, Lines::All)?;
     Ok(parts)
+}
+
+// The lines of events of the scene's run up to the tick.
+fn lines_before(
+    rt: &(impl Threads + Wait + Sync),
+    alloc: Global,
+    text: &str,
+    at: u64,
+) -> Result<String, AllocError> {
+    let first = ending_at(alloc, text, at)?;
+    lines_of_run(rt, alloc, first.as_bytes(), Lines::Events)
 }
 
 // Lines of the report of a scene's run.
@@ -467,11 +497,19 @@ fn push_run(
     by: u64,
     lines: Lines,
 ) -> Result<(), AllocError> {
-    let (report, _status) = output(rt, alloc, RUN, scene)?;
-    if let Ok(report) = from_utf8(report.bytes()) {
-        for line in report.lines() {
-            push_line(alloc, text, line, by, lines)?;
-        }
+    let found = output(rt, alloc, RUN, scene)?;
+    push_lines(alloc, text, written(&found), by, lines)
+}
+
+fn push_lines(
+    alloc: Global,
+    text: &mut String,
+    report: &str,
+    by: u64,
+    lines: Lines,
+) -> Result<(), AllocError> {
+    for line in report.lines() {
+        push_line(alloc, text, line, by, lines)?;
     }
     Ok(())
 }
@@ -500,15 +538,21 @@ fn push_later(alloc: Global, text: &mut String, line: &str, by: u64) -> Result<(
     for word in line.split(' ') {
         match word.parse::<u64>() {
             Ok(number) => {
-                let later = format!(in alloc; " {}", number.wrapping_add(by))?;
-                text.push_str(later.as_str())?;
+                push_number(alloc, text, number.wrapping_add(by))?;
                 by = 0;
             }
-            Err(_) => {
-                text.push_str(" ")?;
-                text.push_str(word)?;
-            }
+            Err(_) => push_word(text, word)?,
         }
     }
     text.push_str("\n")
+}
+
+fn push_number(alloc: Global, text: &mut String, number: u64) -> Result<(), AllocError> {
+    let word = format!(in alloc; " {number}")?;
+    text.push_str(word.as_str())
+}
+
+fn push_word(text: &mut String, word: &str) -> Result<(), AllocError> {
+    text.push_str(" ")?;
+    text.push_str(word)
 }

@@ -52,6 +52,12 @@ pub const CRADLE: &str = "[10, 10, 2, 0], [15, 10, 0, 0], [20, 10, 0, 0]";
 /// More bytes than each report of a test has.
 pub const AMPLE_ROOM: usize = 65_536;
 
+/// What gives the scene of four disks in a row.
+pub fn row_source(alloc: Global) -> Result<MemorySource, AllocError> {
+    let text = scene(alloc, LONG, 8, 40, FOUR_IN_A_ROW)?;
+    MemorySource::new(alloc, text.as_bytes(), &[])
+}
+
 /// What the top call writes to memory, where no call fails, and its status.
 pub fn output(
     rt: &(impl Threads + Wait + Sync),
@@ -115,6 +121,11 @@ pub fn answers(
     Ok(found == status && sink.bytes() == want.as_bytes())
 }
 
+/// What a call wrote.
+pub fn written(found: &(MemorySink, Status)) -> &str {
+    str::from_utf8(found.0.bytes()).unwrap_or("no text")
+}
+
 /// Stops a test where a call ended with another status than this, or wrote another text.
 pub fn expect(
     rt: &impl Abort,
@@ -123,9 +134,7 @@ pub fn expect(
     status: Status,
     want: &str,
 ) {
-    let written = str::from_utf8(found.0.bytes()).unwrap_or("no text");
-    assert_eq!(rt; found.1, status, "{case}, which wrote {written}");
-    assert_eq!(rt; written, want, "{case}");
+    assert_eq!(rt; (found.1, written(found)), (status, want), "{case}");
 }
 
 /// The same of the top call with a text in memory, where no call fails.

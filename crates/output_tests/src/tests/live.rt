@@ -2,7 +2,7 @@
 
 ghost use Rattle.std.specs.Prelude.{◌≡◌, [], None};
 
-use super::helpers::{AMPLE_ROOM, FOUR_IN_A_ROW, LONG, PLAIN, RUN, scene};
+use super::helpers::{AMPLE_ROOM, PLAIN, RUN, row_source};
 use hard_disks::{Status, top_watched};
 use live_progress::{Board, Glass, Pen, Progress};
 use region_core::OpenGate;
@@ -94,11 +94,6 @@ fn seen_of<R: Threads + Wait + Sync>(
     let source = row_source(alloc)?;
     let (board, mut pen) = Board::open(alloc)?;
     Ok(seen_on(rt, alloc, words, source, &board, &mut pen))
-}
-
-fn row_source(alloc: Global) -> Result<MemorySource, AllocError> {
-    let text = scene(alloc, LONG, 8, 40, FOUR_IN_A_ROW)?;
-    MemorySource::new(alloc, text.as_bytes(), &[])
 }
 
 fn seen_on<R: Threads + Wait + Sync>(

@@ -67,21 +67,24 @@ impl Source for Commented {
 
 #[test]
 fn a_text_of_a_byte_too_much_is_too_long(rt: HostRuntime) -> Result<(), Fail> {
+    let found = commented_output(&rt, rt.alloc())?;
+    let want = "refused 1 too long\n";
+    expect(&rt, "a long comment", &found, Status::SceneRefused, want);
+    Ok(())
+}
+
+// What is written of a text with a byte too much, and the status.
+fn commented_output(
+    rt: &(impl Threads + Wait + Sync),
+    alloc: Global,
+) -> Result<(MemorySink, Status), AllocError> {
     let mut source = Commented {
         text: MEETING.as_bytes(),
         comment: (MOST_BYTES + 1).saturating_sub(MEETING.len()),
     };
-    let mut sink = MemorySink::new(rt.alloc(), &[], AMPLE_ROOM)?;
-    let status = top(&rt, rt.alloc(), PLAIN, &mut source, &mut sink, &OpenGate);
-    let want = "refused 1 too long\n";
-    expect(
-        &rt,
-        "a long comment",
-        &(sink, status),
-        Status::SceneRefused,
-        want,
-    );
-    Ok(())
+    let mut sink = MemorySink::new(alloc, &[], AMPLE_ROOM)?;
+    let status = top(rt, alloc, PLAIN, &mut source, &mut sink, &OpenGate);
+    Ok((sink, status))
 }
 
 // The rows of 20 times 20 disks at rest.

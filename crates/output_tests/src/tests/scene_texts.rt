@@ -1,10 +1,11 @@
 //! Scenes that are written as they were read.
 
 use super::helpers::{
-    CHECK, COUNT, FOUR_IN_A_ROW, LONG, MEETING, OutputRow, PAIR, USUAL, expect_outputs, output,
-    scene,
+    CHECK, COUNT, FOUR_IN_A_ROW, LONG, MEETING, OutputRow, PAIR, USUAL, expect_output,
+    expect_outputs, output, scene, written,
 };
 use hard_disks::Status;
+use report_ports::MemorySink;
 use std::alloc::{AllocError, Global};
 use std::process::Abort;
 use std::sync::Wait;
@@ -86,12 +87,19 @@ fn reads_a_canonical_text_back_as_the_same_scene(rt: HostRuntime) -> Result<(), 
 fn expect_read_back(
     rt: &(impl Threads + Wait + Sync + Abort),
     alloc: Global,
-    &(sizes, end, disks): &SceneRow,
+    row: &SceneRow,
 ) -> Result<(), AllocError> {
+    let first = canonical(rt, alloc, row)?;
+    let text = written(&first);
+    expect_output(rt, alloc, CHECK, text, Status::Done, text)
+}
+
+// What is written of a scene, and the status.
+fn canonical(
+    rt: &(impl Threads + Wait + Sync),
+    alloc: Global,
+    &(sizes, end, disks): &SceneRow,
+) -> Result<(MemorySink, Status), AllocError> {
     let text = scene(alloc, sizes, 8, end, disks)?;
-    let (first, _) = output(rt, alloc, CHECK, text.as_bytes())?;
-    let (second, status) = output(rt, alloc, CHECK, first.bytes())?;
-    assert_eq!(rt; status, Status::Done, "{text}");
-    assert_eq!(rt; second.bytes(), first.bytes(), "{text}");
-    Ok(())
+    output(rt, alloc, CHECK, text.as_bytes())
 }

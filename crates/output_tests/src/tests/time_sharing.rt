@@ -2,6 +2,7 @@
 
 use hard_disks::TimeSharing;
 use region_core::Gate;
+use std::alloc::Global;
 use std::io;
 use std::sync::atomic::{AtomicU64, Ordering};
 use std::time::{Clock, Duration};
@@ -29,7 +30,7 @@ impl Clock for StandingClock {
 }
 
 // What a worker comes to the gate for: a turn, of this number, or a phase.
-#[derive(Clone, Copy, Debug)]
+#[derive(Clone, Copy, Debug, PartialEq, Eq)]
 enum Coming {
     Turn(u32),
     Phase,
@@ -38,7 +39,9 @@ enum Coming {
 use Coming::{Phase, Turn};
 
 // The worker, what it comes for, when, in microseconds, and whether it sleeps then.
-const COMINGS: &[(u32, Coming, u64, bool)] = &[
+type ComingRow = (u32, Coming, u64, bool);
+
+const COMINGS: &[ComingRow] = &[
     (0, Turn(0), 10_000, false),
     // Nobody else wants its processor.
     (0, Phase, 10_900, false),
@@ -96,17 +99,25 @@ const COMINGS: &[(u32, Coming, u64, bool)] = &[
 
 #[test]
 fn a_processor_is_given_away_in_time(rt: HostRuntime) {
+    assert_eq!(rt; first_wrong(rt.alloc()), None);
+}
+
+// The first row at which a worker sleeps that shouldn't, or the other way round.
+fn first_wrong(alloc: Global) -> Option<ComingRow> {
     let clock = StandingClock {
         micros: AtomicU64::new(0),
     };
-    let gate = TimeSharing::new(&clock, rt.alloc());
-    for &(worker, coming, now, want) in COMINGS {
-        assert_eq!(rt;
-            sleeps(&clock, &gate, worker, coming, now),
-            want,
-            "worker {worker}, {coming:?}, at {now}"
-        );
+    let gate = TimeSharing::new(&clock, alloc);
+    wrong_at(&clock, &gate)
+}
+
+fn wrong_at(clock: &StandingClock, gate: &impl Gate) -> Option<ComingRow> {
+    for &(worker, coming, now, is_asleep) in COMINGS {
+        if sleeps(clock, gate, worker, coming, now) != is_asleep {
+            return Some((worker, coming, now, is_asleep));
+        }
     }
+    None
 }
 
 // Whether the worker sleeps when it comes to the gate at this time.

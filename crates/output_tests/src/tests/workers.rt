@@ -2,11 +2,11 @@
 
 use super::helpers::{
     AMPLE_ROOM, FOUR_IN_A_ROW, FOUR_IN_A_ROW_REPORT, LONG, expect, expect_output, output_through,
-    scene,
+    row_source, scene,
 };
 use hard_disks::Status;
 use region_core::Gate;
-use report_ports::{MemorySink, MemorySource};
+use report_ports::MemorySink;
 use std::alloc::{AllocError, Global};
 use std::process::Abort;
 use std::sync::Wait;
@@ -25,12 +25,20 @@ const BURST_KINDS: &[&str] = &["locks", "table"];
 #[test]
 fn any_numbers_of_regions_and_workers_write_the_report(rt: HostRuntime) -> Result<(), Fail> {
     let text = scene(rt.alloc(), LONG, 8, 40, FOUR_IN_A_ROW)?;
+    expect_report_with_any(&rt, rt.alloc(), text.as_str())?;
+    Ok(())
+}
+
+fn expect_report_with_any(
+    rt: &(impl Threads + Wait + Sync + Abort),
+    alloc: Global,
+    text: &str,
+) -> Result<(), AllocError> {
     for regions in REGIONS {
         for workers in WORKERS {
             for burst in BURST_KINDS {
                 let words = ["--regions", regions, "--workers", workers, "--burst", burst];
-                let want = FOUR_IN_A_ROW_REPORT;
-                expect_output(&rt, rt.alloc(), &words, text.as_str(), Status::Done, want)?;
+                expect_output(rt, alloc, &words, text, Status::Done, FOUR_IN_A_ROW_REPORT)?;
             }
         }
     }
@@ -99,18 +107,22 @@ fn expect_report_through<G: Gate>(
     gate: &G,
 ) -> Result<(), AllocError> {
     let case = format!(in alloc; "{words:?}")?;
-    let text = scene(alloc, LONG, 8, 40, FOUR_IN_A_ROW)?;
-    let source = MemorySource::new(alloc, text.as_bytes(), &[])?;
-    let sink = MemorySink::new(alloc, &[], AMPLE_ROOM)?;
-    let found = output_through(rt, alloc, words, source, sink, gate);
-    expect(
-        rt,
-        case.as_str(),
-        &found,
-        Status::Done,
-        FOUR_IN_A_ROW_REPORT,
-    );
+    let found = output_of_row(rt, alloc, words, gate)?;
+    let want = FOUR_IN_A_ROW_REPORT;
+    expect(rt, case.as_str(), &found, Status::Done, want);
     Ok(())
+}
+
+// What is written of the four disks with these words and through this gate, and the status.
+fn output_of_row<G: Gate>(
+    rt: &(impl Threads + Wait + Sync),
+    alloc: Global,
+    words: &[&str],
+    gate: &G,
+) -> Result<(MemorySink, Status), AllocError> {
+    let source = row_source(alloc)?;
+    let sink = MemorySink::new(alloc, &[], AMPLE_ROOM)?;
+    Ok(output_through(rt, alloc, words, source, sink, gate))
 }
 
 // Worker 0 waits before its first turn until worker 1 has come to one of its own, and notes whether it has.
