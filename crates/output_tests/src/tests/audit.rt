@@ -164,29 +164,36 @@ fn source_of(alloc: Global, pieces: &[&str], step: usize) -> Result<MemorySource
 
 #[test]
 fn says_which_line_is_wrong(rt: HostRuntime) -> Result<(), Fail> {
+    expect_all_said(&rt, rt.alloc(), IN_ONE)?;
+    expect_all_said(&rt, rt.alloc(), IN_FOUR)?;
+    Ok(())
+}
+
+fn expect_all_said(
+    rt: &(impl Threads + Wait + Sync + Abort),
+    alloc: Global,
+    words: &[&str],
+) -> Result<(), AllocError> {
     for row in ROWS {
-        expect_said(&rt, rt.alloc(), IN_ONE, row)?;
-        expect_said(&rt, rt.alloc(), IN_FOUR, row)?;
+        let wrong = wrong_step(rt, alloc, words, row)?;
+        assert_eq!(rt; wrong, None, "the steps of {words:?} with {row:?}");
     }
     Ok(())
 }
 
-// Stops a test where the audit of a source that gives from one to five bytes at once says something else.
-fn expect_said(
-    rt: &(impl Threads + Wait + Sync + Abort),
+// How many bytes at once, from one to five, a source gives of which the audit says something else.
+fn wrong_step(
+    rt: &(impl Threads + Wait + Sync),
     alloc: Global,
     words: &[&str],
     row: &Row,
-) -> Result<(), AllocError> {
+) -> Result<Option<usize>, AllocError> {
     for step in 1..6 {
-        let is_right = says(rt, alloc, words, row, step)?;
-        assert!(rt;
-            is_right,
-            "{:?}, {words:?}, in steps of {step}: not {}",
-            row.0, row.1
-        );
+        if !says(rt, alloc, words, row, step)? {
+            return Ok(Some(step));
+        }
     }
-    Ok(())
+    Ok(None)
 }
 
 // The number of bytes of the input that is right, which a source in steps of one byte gives call by call. One
@@ -220,11 +227,22 @@ fn expect_read(
     status: Status,
     want: &str,
 ) -> Result<(), AllocError> {
-    let source = MemorySource::in_steps(alloc, text.as_bytes(), &[call], 1)?;
-    let sink = MemorySink::new(alloc, &[], AMPLE_ROOM)?;
-    let is_right = comes_to(rt, alloc, IN_FOUR, source, sink, status, want);
+    let is_right = reads(rt, alloc, text, call, status, want)?;
     assert!(rt; is_right, "take {call}");
     Ok(())
+}
+
+fn reads(
+    rt: &(impl Threads + Wait + Sync),
+    alloc: Global,
+    text: &str,
+    call: u64,
+    status: Status,
+    want: &str,
+) -> Result<bool, AllocError> {
+    let source = MemorySource::in_steps(alloc, text.as_bytes(), &[call], 1)?;
+    let sink = MemorySink::new(alloc, &[], AMPLE_ROOM)?;
+    Ok(comes_to(rt, alloc, IN_FOUR, source, sink, status, want))
 }
 
 // A text, and then a line that never ends.
@@ -295,7 +313,7 @@ fn expect_end(
 ) -> Result<(), AllocError> {
     let text = joined(alloc, pieces)?;
     let found = endless_output(rt, alloc, text.as_bytes())?;
-    expect(rt, text.as_str(), &found, status, want);
+    expect(rt, &pieces, &found, status, want);
     Ok(())
 }
 

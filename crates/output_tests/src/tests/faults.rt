@@ -1,6 +1,8 @@
 //! Calls of the source and the sink that fail.
 
-use super::helpers::{AMPLE_ROOM, MEETING, MEETING_REPORT, PLAIN, RUN, expect, output_between};
+use super::helpers::{
+    AMPLE_ROOM, BOTH_ENGINES, MEETING, MEETING_REPORT, PLAIN, RUN, expect, output_between,
+};
 use hard_disks::Status;
 use report_ports::{MemorySink, MemorySource};
 use std::alloc::{AllocError, Global};
@@ -14,8 +16,9 @@ const BYTES: u64 = 125;
 
 #[test]
 fn writes_nothing_where_a_take_fails(rt: HostRuntime) -> Result<(), Fail> {
-    expect_all_taken(&rt, rt.alloc(), PLAIN)?;
-    expect_all_taken(&rt, rt.alloc(), RUN)?;
+    for words in BOTH_ENGINES {
+        expect_all_taken(&rt, rt.alloc(), words)?;
+    }
     Ok(())
 }
 
@@ -40,8 +43,7 @@ fn expect_taken(
     want: &str,
 ) -> Result<(), AllocError> {
     let found = output_without_take(rt, alloc, words, call)?;
-    let case = format!(in alloc; "{words:?}, take {call}")?;
-    expect(rt, case.as_str(), &found, status, want);
+    expect(rt, &(words, "take", call), &found, status, want);
     Ok(())
 }
 
@@ -88,9 +90,19 @@ const GIVES: &[GiveRow] = &[
 
 #[test]
 fn writes_the_lines_before_the_give_that_fails(rt: HostRuntime) -> Result<(), Fail> {
+    for words in BOTH_ENGINES {
+        expect_all_given(&rt, rt.alloc(), words)?;
+    }
+    Ok(())
+}
+
+fn expect_all_given(
+    rt: &(impl Threads + Wait + Sync + Abort),
+    alloc: Global,
+    words: &[&str],
+) -> Result<(), AllocError> {
     for row in GIVES {
-        expect_given(&rt, rt.alloc(), PLAIN, row)?;
-        expect_given(&rt, rt.alloc(), RUN, row)?;
+        expect_given(rt, alloc, words, row)?;
     }
     Ok(())
 }
@@ -113,8 +125,8 @@ fn expect_text(
     want: &str,
 ) -> Result<(), AllocError> {
     let found = output_with(rt, alloc, words, MEETING, &[], failing, room)?;
-    let case = format!(in alloc; "{words:?}, gives {failing:?}, room {room}")?;
-    expect(rt, case.as_str(), &found, status, want);
+    let case = (words, "gives", failing, "room", room);
+    expect(rt, &case, &found, status, want);
     Ok(())
 }
 
@@ -180,7 +192,7 @@ fn expect_untold(
     &(words, text, takes, gives, status): &UntoldRow,
 ) -> Result<(), AllocError> {
     let found = output_with(rt, alloc, words, text, takes, gives, AMPLE_ROOM)?;
-    let case = format!(in alloc; "{words:?}, takes {takes:?}, gives {gives:?}: {text}")?;
-    expect(rt, case.as_str(), &found, status, "");
+    let case = (words, "takes", takes, "gives", gives, text);
+    expect(rt, &case, &found, status, "");
     Ok(())
 }

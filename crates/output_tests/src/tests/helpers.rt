@@ -4,6 +4,7 @@ use hard_disks::{Status, top};
 use region_core::{Gate, OpenGate};
 use report_ports::{MemorySink, MemorySource};
 use std::alloc::{AllocError, Global};
+use std::fmt::Debug;
 use std::process::Abort;
 use std::sync::Wait;
 use std::thread::Threads;
@@ -17,6 +18,9 @@ pub const RUN: &[&str] = &["--mode", "run"];
 pub const RUN_SUMMARY: &[&str] = &["--mode", "run", "--format", "summary"];
 
 pub const PLAIN: &[&str] = &["--mode", "plain"];
+
+/// Words with which a scene is run by each engine.
+pub const BOTH_ENGINES: &[&[&str]] = &[PLAIN, RUN];
 
 pub const SUMMARY: &[&str] = &["--mode", "plain", "--format", "summary"];
 
@@ -129,12 +133,12 @@ pub fn written(found: &(MemorySink, Status)) -> &str {
 /// Stops a test where a call ended with another status than this, or wrote another text.
 pub fn expect(
     rt: &impl Abort,
-    case: &str,
+    case: &impl Debug,
     found: &(MemorySink, Status),
     status: Status,
     want: &str,
 ) {
-    assert_eq!(rt; (found.1, written(found)), (status, want), "{case}");
+    assert_eq!(rt; (found.1, written(found)), (status, want), "{case:?}");
 }
 
 /// The same of the top call with a text in memory, where no call fails.
@@ -146,9 +150,8 @@ pub fn expect_output(
     status: Status,
     want: &str,
 ) -> Result<(), AllocError> {
-    let case = format!(in alloc; "{words:?}: {text}")?;
     let found = output(rt, alloc, words, text.as_bytes())?;
-    expect(rt, case.as_str(), &found, status, want);
+    expect(rt, &(words, text), &found, status, want);
     Ok(())
 }
 

@@ -2,7 +2,7 @@
 
 ghost use Rattle.std.specs.Prelude.{◌≡◌, [], None};
 
-use super::helpers::{AMPLE_ROOM, PLAIN, RUN, row_source};
+use super::helpers::{AMPLE_ROOM, BOTH_ENGINES, row_source};
 use hard_disks::{Status, top_watched};
 use live_progress::{Board, Glass, Pen, Progress};
 use region_core::OpenGate;
@@ -66,8 +66,9 @@ impl<R: Wait> Sink for Looking<'_, R> {
 
 #[test]
 fn each_event_is_shown_before_its_line(rt: HostRuntime) -> Result<(), Fail> {
-    expect_shown(&rt, rt.alloc(), PLAIN)?;
-    expect_shown(&rt, rt.alloc(), RUN)?;
+    for words in BOTH_ENGINES {
+        expect_shown(&rt, rt.alloc(), words)?;
+    }
     Ok(())
 }
 

@@ -69,7 +69,7 @@ impl Source for Commented {
 fn a_text_of_a_byte_too_much_is_too_long(rt: HostRuntime) -> Result<(), Fail> {
     let found = commented_output(&rt, rt.alloc())?;
     let want = "refused 1 too long\n";
-    expect(&rt, "a long comment", &found, Status::SceneRefused, want);
+    expect(&rt, &"a long comment", &found, Status::SceneRefused, want);
     Ok(())
 }
 

@@ -1,6 +1,6 @@
 //! Words and scenes that are refused.
 
-use super::helpers::{MEETING, PLAIN, RUN, SUMMARY, expect_output};
+use super::helpers::{BOTH_ENGINES, MEETING, PLAIN, SUMMARY, expect_output};
 use hard_disks::Status;
 use std::alloc::{AllocError, Global};
 use std::process::Abort;
@@ -188,8 +188,9 @@ fn expect_refusals(
 
 #[test]
 fn refuses_each_broken_scene(rt: HostRuntime) -> Result<(), Fail> {
-    expect_refusals(&rt, rt.alloc(), PLAIN, REFUSALS)?;
-    expect_refusals(&rt, rt.alloc(), RUN, REFUSALS)?;
+    for words in BOTH_ENGINES {
+        expect_refusals(&rt, rt.alloc(), words, REFUSALS)?;
+    }
     Ok(())
 }
 

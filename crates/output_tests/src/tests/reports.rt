@@ -1,8 +1,8 @@
 //! Runs with their reports.
 
 use super::helpers::{
-    BOUNCING, BOUNCING_SUMMARY, CRADLE, FOUR_IN_A_ROW, FOUR_IN_A_ROW_REPORT, LONG, MEETING_REPORT,
-    MISLED, MISLED_REPORT, OutputRow, PAIR, PLAIN, ROLLED_BACK, ROLLED_BACK_REPORT, RUN,
+    BOTH_ENGINES, BOUNCING, BOUNCING_SUMMARY, CRADLE, FOUR_IN_A_ROW, FOUR_IN_A_ROW_REPORT, LONG,
+    MEETING_REPORT, MISLED, MISLED_REPORT, OutputRow, PAIR, ROLLED_BACK, ROLLED_BACK_REPORT,
     RUN_SUMMARY, SUMMARY, USUAL, expect_outputs,
 };
 use hard_disks::Status;
@@ -318,8 +318,9 @@ const REPORTS: &[OutputRow] = &[
 
 #[test]
 fn writes_each_report(rt: HostRuntime) -> Result<(), Fail> {
-    expect_outputs(&rt, rt.alloc(), PLAIN, REPORTS)?;
-    expect_outputs(&rt, rt.alloc(), RUN, REPORTS)?;
+    for words in BOTH_ENGINES {
+        expect_outputs(&rt, rt.alloc(), words, REPORTS)?;
+    }
     Ok(())
 }
 

@@ -106,10 +106,8 @@ fn expect_report_through<G: Gate>(
     words: &[&str],
     gate: &G,
 ) -> Result<(), AllocError> {
-    let case = format!(in alloc; "{words:?}")?;
     let found = output_of_row(rt, alloc, words, gate)?;
-    let want = FOUR_IN_A_ROW_REPORT;
-    expect(rt, case.as_str(), &found, Status::Done, want);
+    expect(rt, &words, &found, Status::Done, FOUR_IN_A_ROW_REPORT);
     Ok(())
 }
 
