@@ -11,6 +11,8 @@ mod crew;
 mod cut;
 mod engines;
 mod laws;
+mod process;
+mod progress_line;
 mod refusals;
 mod rest;
 mod show;
@@ -20,5 +22,6 @@ mod verdicts;
 
 pub use calls::{refuse_words, top, top_watched};
 pub use laws::{one_output, output_depends_on_alone};
+pub use process::{Terminals, run_process};
 pub use status::Status;
 pub use time_sharing::TimeSharing;
