@@ -1,15 +1,43 @@
 -- A row of small numbers is what stands in its compact form.
-use Rattle.std.proofs.Common.{◌≡◌, ◌≢◌, ℕ, ◌+◌, ◌*◌, ◌/◌, ◌%◌, ◌^◌, ◌<◌, ◌==◌, Bool, true, false, not, ◌&&◌, Decides, arith, refl, ap, ◌∙◌, ℤ, to_z, of_z, w32, w64}
-use Rattle.std.specs.Prelude.{if◌then◌else◌, Some, None}
-use Rattle.std.proofs.lemmas.Bool.{eqb-true, eqb-false}
+use Rattle.std.proofs.Common.{◌≡◌, ◌≢◌, ℕ, ◌+◌, ◌*◌, ◌/◌, ◌%◌, ◌^◌, ◌<◌, ◌==◌, Bool, true, false, not, ◌&&◌, Decides, arith, refl, sym, ap, subst, ◌∙◌, ℤ, pos, to_z, of_z, w32, w64}
+use Rattle.std.specs.Prelude.{if◌then◌else◌, Option, Some, None, ◌≤ℤ◌}
+use lib.Dec.{T}
+use lib.Signed.{le_z}
+use mir.Val.{SFits}
+use Rattle.std.proofs.lemmas.Bool.{eqb-true, eqb-false, eq-eqb}
 use Rattle.std.proofs.lemmas.Option.{none-some, same_Some}
-use Rattle.std.proofs.lemmas.Int.{ints}
+use Rattle.std.proofs.lemmas.Int.{ints, to_z-of_z}
 use Rattle.std.proofs.lemmas.Nat.{div-mul-add, mod-mul-add}
 use Rattle.std.proofs.lemmas.Bool.Decides.{nat_tests, Decides-and, Decides-not, Decides-like, Decides-eqb}
 use Rattle.fixed_motion.specs.declared.disk.Disk.{Disk}
 use Rattle.region_view.specs.declared.action.Placed.{Placed}
 use Rattle.region_view.specs.declared.compact.Compact.TheInside.{Inside}
-use Rattle.region_view.specs.Compact.{IsNarrow, IsSmall, no_time, row_of, unpacked, packed, IsPacked}
+use Rattle.region_view.specs.Compact.{IsNarrow, IsSmall, no_time, row_of, unpacked, packed, recelled_row, IsPacked}
+
+-- ---- a number that is compared with the least and the greatest one of 32 bits
+tested : (b : Bool) → T b → b ≡ true
+tested true t = refl
+tested false t = absurd t
+
+Decides-le_z : (a b : ℤ) → Decides (le_z a b) (a ≤ℤ b)
+Decides-le_z a b = (λ e. record { le = subst T (sym e) tt }, λ h. tested (le_z a b) h.le)
+
+-- a number of 64 bits, as it is sent, against another one
+pub Decides-sent_below : (n most : ℤ) → SFits w64 n → Decides (le_z (to_z w64 (of_z w64 n)) most) (n ≤ℤ most)
+Decides-sent_below n most fits = subst (λ (k : ℤ). Decides (le_z k most) (n ≤ℤ most)) (sym (to_z-of_z w64 n fits)) (Decides-le_z n most)
+
+pub Decides-sent_above : (n least : ℤ) → SFits w64 n → Decides (le_z least (to_z w64 (of_z w64 n))) (least ≤ℤ n)
+Decides-sent_above n least fits = subst (λ (k : ℤ). Decides (le_z least k) (least ≤ℤ n)) (sym (to_z-of_z w64 n fits)) (Decides-le_z least n)
+
+pub narrow_sent : (b : Bool) (n : ℤ) → SFits w64 n → Decides b (IsNarrow (to_z w64 (of_z w64 n))) → Decides b (IsNarrow n)
+narrow_sent b n fits = subst (λ (k : ℤ). Decides b (IsNarrow k)) (to_z-of_z w64 n fits)
+
+fits_wide : (n : ℤ) → SFits w32 n → SFits w64 n
+fits_wide n narrow = record { sfits = omega (arith, narrow.sfits) }
+
+-- a number of 32 bits that is widened is itself
+pub widened : (n : ℤ) → SFits w32 n → to_z w64 (of_z w64 (to_z w32 (of_z w32 n))) ≡ n
+widened n narrow = ap (λ (k : ℤ). to_z w64 (of_z w64 k)) (to_z-of_z w32 n narrow) ∙ to_z-of_z w64 n (fits_wide n narrow)
 
 -- a number that is narrowed is itself
 pub narrowed : (n : ℤ) → IsNarrow n → to_z w32 (of_z w32 (to_z w64 (of_z w64 n))) ≡ n
@@ -43,7 +71,16 @@ pub is_packed : (p : Placed) → IsSmall p → IsPacked (packed (Some p))
 is_packed p small = record { exact = ap packed (row_again p small) }
 
 -- ---- a row that was compared with another
-is_row_of : (a : Inside) (p : Placed) → unpacked a ≡ Some p → (a.time ≢ no_time) × (row_of a ≡ p)
+-- a number of 32 bits that is widened against one of 64 bits
+pub Decides-widened : (n m : ℤ) → SFits w32 n → SFits w64 m →
+    Decides (of_z w64 (to_z w32 (of_z w32 n)) == of_z w64 m) (n ≡ m)
+Decides-widened n m narrow fits =
+    subst (λ (k : ℤ). Decides (of_z w64 k == of_z w64 m) (n ≡ m)) (sym (to_z-of_z w32 n narrow)) (
+      λ same. sym (to_z-of_z w64 n (fits_wide n narrow)) ∙ ap (to_z w64) (eqb-true (of_z w64 n) (of_z w64 m) same) ∙ to_z-of_z w64 m fits,
+      λ e. eq-eqb (of_z w64 n) (of_z w64 m) (ap (of_z w64) e),
+    )
+
+pub is_row_of : (a : Inside) (p : Placed) → unpacked a ≡ Some p → (a.time ≢ no_time) × (row_of a ≡ p)
 is_row_of a p e = by_test (a.time == no_time) refl e
   where
     by_test : (b : Bool) → (a.time == no_time) ≡ b → (if b then None else Some (row_of a)) ≡ Some p →
@@ -57,6 +94,13 @@ there a other = by_test (a.time == no_time) refl
     by_test : (b : Bool) → (a.time == no_time) ≡ b → (if b then None else Some (row_of a)) ≡ Some (row_of a)
     by_test true is = absurd (other (eqb-true a.time no_time is))
     by_test false is = refl
+
+pub recelled : (a b : Inside) (o : Option Placed) (cell : ℕ) → unpacked a ≡ o → a.time ≢ no_time →
+    b ≡ record { time = a.time; x = a.x; y = a.y; vx = a.vx; vy = a.vy; size = a.size; cell = cell } →
+    unpacked b ≡ recelled_row cell o
+recelled a b o cell view other is =
+    let moved : Inside = record { time = a.time; x = a.x; y = a.y; vx = a.vx; vy = a.vy; size = a.size; cell = cell } in
+    ap unpacked is ∙ there moved other ∙ ap (recelled_row cell) (sym (there a other) ∙ view)
 
 -- the numbers of a row and of a disk, as they are compared
 abbrev pub SameTime : Inside → Disk → Type 0

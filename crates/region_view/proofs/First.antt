@@ -1,5 +1,6 @@
 -- The first events of placed disks.
 use Rattle.std.proofs.Common.{inl, inr, ℕ, ◌≤◌, ap, arith, subst, sym, Option}
+use Rattle.std.specs.Prelude.{Some, None, MatchOption}
 use Rattle.fixed_motion.specs.declared.rules.Rules.{Rules}
 use Rattle.fixed_motion.specs.declared.disk.Disk.{Disk}
 use Rattle.fixed_motion.specs.Motion.{IsValidDisk}
@@ -8,13 +9,13 @@ use Rattle.event_stamps.specs.Order.{Before}
 use Rattle.event_stamps.specs.Least.{HasNone, IsLeast, IsOnly, IsLeastOf}
 use Rattle.event_stamps.proofs.Least.{least_same}
 use Rattle.event_stamps.proofs.StampOrder.{not_before_itself}
-use Rattle.event_rules.specs.Events.{IsWallEvent, IsWallBelow, wall_stamp}
+use Rattle.event_rules.specs.Events.{IsPairEvent, IsWallEvent, IsWallBelow, wall_stamp}
 use Rattle.event_rules.proofs.Ranges.{side_range}
 use Rattle.event_rules.proofs.Walls.{wall_not_before}
-use Rattle.cell_grid.specs.Grid.{GridData}
+use Rattle.cell_grid.specs.Grid.{GridData, IsAdjacent}
 use Rattle.cell_grid.specs.Crossing.{IsCrossEvent, cross_stamp}
 use Rattle.region_view.specs.declared.action.Placed.{Placed}
-use Rattle.region_view.specs.Events.{IsAlone}
+use Rattle.region_view.specs.Events.{IsAlone, IsNear}
 
 -- in one tick a disk leaves its cell before it hits a side
 crossing_before_wall : (i : ℕ) (a : Disk) (side tick wall : ℕ) → tick ≤ wall → ¬ Before (wall_stamp i a side wall) (cross_stamp i a tick)
@@ -46,3 +47,11 @@ wall_is_first rules grid i p wall none least =
       | inr w ↦ (t.second, side_range rules p.disk t.second _ w.0.past, w)
     ])
     least
+
+-- what two disks do with each other, where their cells are adjacent
+pub near_if_adjacent : (rules : Rules) (grid : GridData) (i : ℕ) (p : Placed) (j : ℕ) (q : Placed) (found : Option Stamp) →
+    IsAdjacent grid p.cell q.cell →
+    MatchOption found (HasNone (IsPairEvent rules i p.disk j q.disk)) (IsOnly (IsPairEvent rules i p.disk j q.disk)) →
+    MatchOption found (HasNone (IsNear rules grid i p j q)) (IsOnly (IsNear rules grid i p j q))
+near_if_adjacent rules grid i p j q None adjacent none = λ s near. none s near.1
+near_if_adjacent rules grid i p j q (Some s) adjacent only = ((adjacent, only.0), λ t near. only.1 t near.1)

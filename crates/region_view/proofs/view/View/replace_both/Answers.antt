@@ -38,3 +38,8 @@ returns-clause-rows c =
     ∙ ap (λ (slots : SlotsData). at slots j) c.replace-before.ensures.slots
     ∙ set_other c.make_room-2.new.self i j c.args.first.1 apart ∙ stood j in
     c.two.ensures ∙ (λ k. (i, before k) ∷ (j, after k) ∷ [])
+
+pub replace-before-requires : goal.replace-before-requires
+replace-before-requires c = record {
+  room = c.make_room-2.ensures.kept c.args.first.0 c.args.first.1 (rw c.as_ref.ensures.value at c.in_ok-make_room.ensures.room);
+}
