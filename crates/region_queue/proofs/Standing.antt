@@ -1,5 +1,5 @@
 -- The queue stands for a view again after changes.
-use Rattle.std.proofs.Common.{◌≡◌, ◌⊎◌, inl, inr, ℕ, List, [], ◌∷◌, refl, sym, ap, ◌∙◌}
+use Rattle.std.proofs.Common.{◌≡◌, ◌⊎◌, inl, inr, ℕ, List, [], ◌∷◌, refl, sym, ap, subst, ◌∙◌}
 use Rattle.std.specs.Prelude.{Option, Some, None, option_map, ⊤, Result, Ok, Err, OnOk}
 use Rattle.std.specs.List.{Contains}
 use Rattle.std.specs.Ordering.{nat_cmp}
@@ -8,16 +8,17 @@ use Rattle.fixed_motion.specs.declared.rules.Rules.{Rules}
 use Rattle.event_stamps.specs.declared.Stamp.{Stamp}
 use Rattle.event_stamps.specs.Least.{IsLeast, IsLeastOf}
 use Rattle.event_tree.specs.Keys.{Key, IsLeastKey}
-use Rattle.cell_grid.specs.Grid.{GridData}
+use Rattle.cell_grid.specs.Grid.{GridData, IsCell}
+use Rattle.cell_grid.specs.declared.grid.Strip.{Strip}
 use Rattle.region_view.specs.declared.action.Placed.{Placed}
-use Rattle.region_view.specs.Placing.{IsNative}
+use Rattle.region_view.specs.Placing.{IsNative, IsValidPlacing}
 use Rattle.region_view.specs.Views.{ViewData, rows_in}
 use Rattle.region_queue.specs.declared.finder.Finder.{Finder}
 use Rattle.region_queue.specs.declared.keys.Keys.{Keys}
 use Rattle.region_view.specs.Naming.{Names, IsSameBut, IsSameButBy, IsMoved}
 use Rattle.region_view.proofs.Naming.{native_stays, natives_stay}
-use Rattle.region_queue.specs.Finding.{Cells, cell_in, AreListed, AreRelisted, AreRelistedOf, AreRetaken, AreGiven, IsFound}
-use Rattle.region_queue.specs.Queue.{QueueData, queue_of, StandsFor}
+use Rattle.region_queue.specs.Finding.{Cells, cell_in, AreListed, AreRelisted, AreRelistedOf, AreRetaken, AreGiven, IsFound, IsReady}
+use Rattle.region_queue.specs.Queue.{QueueData, queue_of, StandsFor, IsSound}
 use Rattle.region_queue.specs.Covering.{Covers, IsSettled}
 use Rattle.region_queue.proofs.Covered.{covers_again}
 use Rattle.region_queue.proofs.Back.{covers_back}
@@ -119,3 +120,25 @@ pub stands_least : (queue : QueueData) (view : ViewData) (key : Key) → StandsF
 unfolding StandsFor
 stands_least queue view key stands least =
     settled_least (IsNative queue.rules queue.grid queue.region (rows_in view)) queue.keys queue.bounds key stands.1.0 stands.1.1 least
+
+-- ---- what the lists are of stays the same
+pub sound_again : (rules : Rules) (grid : GridData) (region : ℕ) (strip : Strip) (old new : GridData) → new ≡ old →
+    IsSound rules grid region strip old → IsSound rules grid region strip new
+sound_again rules grid region strip old new same = subst (IsSound rules grid region strip) (sym same)
+
+pub ready_again : (finder : Finder) (view : ViewData) (old : GridData) → finder.lists.grid ≡ old →
+    IsSound finder.rules finder.grid finder.region finder.strip old → IsValidPlacing finder.rules finder.grid (rows_in view) →
+    IsReady finder view
+ready_again finder view old same sound valid = record {
+  checked = sound.checked;
+  grid = sound.grid;
+  region = sound.region;
+  strip = sound.strip;
+  lists = same ∙ sound.lists;
+  valid = valid;
+}
+
+-- the cells of a valid view are those of the grid that the lists are of
+pub cells_listed : (rules : Rules) (grid listed : GridData) (view : ViewData) → listed ≡ grid → IsValidPlacing rules grid (rows_in view) →
+    (i : ℕ) (p : Placed) → rows_in view i ≡ Some p → IsCell listed p.cell
+cells_listed rules grid listed view same valid i p row = subst (λ (g : GridData). IsCell g p.cell) (sym same) (valid.cell i p row)

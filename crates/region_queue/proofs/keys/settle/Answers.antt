@@ -1,11 +1,11 @@
 -- The least key rises, up to one that is a candidate.
-use Rattle.std.proofs.Common.{◌≡◌, sym, subst}
+use Rattle.std.proofs.Common.{◌≡◌, sym, subst, ◌∙◌}
 use Rattle.std.specs.Prelude.{Some}
 use Rattle.event_tree.specs.Keys.{Key, IsLeastKey}
 use Rattle.region_view.proofs.Naming.{is_pair_or_not}
 use Rattle.region_queue.specs.Finding.{IsFound, IsHolder}
 use Rattle.region_queue.proofs.Covered.{covers_still}
-use Rattle.region_queue.proofs.Settled.{rises, fresh_settled, below_falls}
+use Rattle.region_queue.proofs.Settled.{rises, none_left, fresh_settled, below_falls}
 use Rattle.region_queue.proofs.keys.settle.Goals as goal
 
 pub loop-stamp-smaller : goal.loop-stamp-smaller
@@ -38,3 +38,15 @@ returns-then-is_fresh-clause-settled c = λ listed covers.
     let was = c.loop-stamp.invariant listed covers in
     fresh_settled C c.loop-stamp.keys.tree c.loop-stamp.keys.bounds stamp was.0 (subst (λ (k : Key). IsLeastKey c.loop-stamp.keys.tree k) key was.1)
     (c.is_fresh.ensures.fresh c.if-is_fresh.true) (is_pair_or_not stamp.kind)
+
+pub returns-in_default-clause-settled : goal.returns-in_default-clause-settled
+returns-in_default-clause-settled c = λ listed covers.
+    none_left (IsFound c.args.finder.now c.args.view.now) c.loop-stamp.keys.tree
+    (subst (λ (key : Key). IsLeastKey c.loop-stamp.keys.tree key) (sym c.key.ensures.value ∙ c.in_default.is)
+    (c.loop-stamp.invariant listed covers).1)
+
+pub returns-in_default-clause-covers : goal.returns-in_default-clause-covers
+returns-in_default-clause-covers c = λ listed covers. (c.loop-stamp.invariant listed covers).0
+
+pub returns-then-is_fresh-clause-covers : goal.returns-then-is_fresh-clause-covers
+returns-then-is_fresh-clause-covers c = λ listed covers. (c.loop-stamp.invariant listed covers).0

@@ -35,3 +35,9 @@ pub returns-clause-pair : goal.returns-clause-pair
 returns-clause-pair c = λ listed.
     best_pairs c.args.self.now c.args.view.now c.args.disk c.in-Some.placed c.block_around-block.result c.best_within.result
     c.requires (sym c.in-Some.ensures) c.block_around-block.ensures.around listed (c.best_within.ensures listed)
+
+pub best_within-requires-clause-own : goal.best_within-requires-clause-own
+best_within-requires-clause-own c = c.owns-own.ensures
+
+pub best_alone-requires-clause-own : goal.best_alone-requires-clause-own
+best_alone-requires-clause-own c = c.owns-own.ensures

@@ -39,3 +39,6 @@ returns c = λ listed within.
     least_of_all finder c.args.view.now c.args.disk c.args.near.now c.keep_candidates.new.near c.loop-other.best are
     (subst Least c.as_slice-others.ensures
     (subst Least (take_whole others c.loop-other.other-index (omega arith)) (c.loop-other.invariant listed left)))
+
+pub key_beside-requires-clause-own : goal.key_beside-requires-clause-own
+key_beside-requires-clause-own c = c.requires.own

@@ -34,3 +34,9 @@ returns-clause-pair c = λ listed.
     best_beyond c.args.self.now c.args.view.now c.args.disk c.args.old c.in-Some.placed c.block_around-block.result
     c.block_around-known.result c.best_outside.result c.requires.ready (sym c.in-Some.ensures) c.block_around-block.ensures.around
     c.block_around-known.ensures.around listed (c.best_outside.ensures listed)
+
+pub best_outside-requires-clause-own : goal.best_outside-requires-clause-own
+best_outside-requires-clause-own c = c.owns-own.ensures
+
+pub best_alone-requires-clause-own : goal.best_alone-requires-clause-own
+best_alone-requires-clause-own c = c.owns-own.ensures

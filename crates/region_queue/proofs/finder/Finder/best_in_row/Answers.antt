@@ -51,3 +51,6 @@ returns c = λ listed.
     (let most = c.loop-column.auto.column-end c.requires.block.columns in omega arith) in
     subst (λ (n : ℕ). IsLeastOf (IsNativeWith finder c.args.view.now c.args.disk
     (IsListedWithin finder.lists (columns_to c.args.block c.args.row n))) c.loop-column.best) whole (c.loop-column.invariant listed)
+
+pub best_in_cell-requires-clause-own : goal.best_in_cell-requires-clause-own
+best_in_cell-requires-clause-own c = c.requires.own

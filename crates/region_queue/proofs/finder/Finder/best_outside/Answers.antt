@@ -99,3 +99,21 @@ returns-else-gather_parts c = λ listed.
     subst (λ (o : Option Stamp). IsLeastOf (IsNativeWith finder c.args.view.now c.args.disk
     (IsListedOutside finder.lists c.args.block c.args.known)) o)
     (sym (rw c.earlier.ensures at (rw c.earlier-else-gather_parts.ensures at c.earlier-else-gather_parts-2.ensures))) all
+
+pub best_among-requires-clause-beside : goal.best_among-requires-clause-beside
+best_among-requires-clause-beside c = c.requires.beside
+
+pub best_among-requires-clause-own : goal.best_among-requires-clause-own
+best_among-requires-clause-own c = c.requires.own
+
+pub best_by_rows-requires-clause-own : goal.best_by_rows-requires-clause-own
+best_by_rows-requires-clause-own c = c.requires.own
+
+pub best_by_rows-requires-else-gather_parts-clause-own : goal.best_by_rows-requires-else-gather_parts-clause-own
+best_by_rows-requires-else-gather_parts-clause-own c = c.requires.own
+
+pub best_by_rows-requires-else-gather_parts-2-clause-own : goal.best_by_rows-requires-else-gather_parts-2-clause-own
+best_by_rows-requires-else-gather_parts-2-clause-own c = c.requires.own
+
+pub best_by_rows-requires-else-gather_parts-3-clause-own : goal.best_by_rows-requires-else-gather_parts-3-clause-own
+best_by_rows-requires-else-gather_parts-3-clause-own c = c.requires.own

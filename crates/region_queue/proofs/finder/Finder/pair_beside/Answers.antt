@@ -45,3 +45,7 @@ returns-clause-least c = λ nearby.
       | inr high ↦ pair_as_higher finder view c.args.disk c.args.other c.args.placed.now near c.if-whole.home c.event_between.result
           high.0 here there high.1 beside (c.event_between.ensures.falling high.0)
     ]
+
+pub owns-home-requires-clause-cell : goal.owns-home-requires-clause-cell
+owns-home-requires-clause-cell c =
+    c.requires.ready.valid.cell c.args.other c.in_ok-near.near (sym c.in_ok-near.ensures)

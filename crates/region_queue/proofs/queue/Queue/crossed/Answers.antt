@@ -8,7 +8,7 @@ use Rattle.region_queue.specs.Covering.{Covers}
 use Rattle.region_queue.specs.Queue.{QueueData, queue_of, StandsFor}
 use Rattle.region_view.specs.Naming.{IsMoved}
 use Rattle.region_queue.proofs.Again.{on_ok}
-use Rattle.region_queue.proofs.Standing.{stands_settled, stands_moved}
+use Rattle.region_queue.proofs.Standing.{cells_listed, ready_again, sound_again, stands_settled, stands_moved}
 use Rattle.region_queue.proofs.queue.Queue.crossed.Goals as goal
 
 pub returns-clause-stands : goal.returns-clause-stands
@@ -39,3 +39,47 @@ returns-clause-stands c =
     c.cell_of-cell.ensures.value c.in_ok-take_crossed.ensures moved stands in
     once is.0 is.1)
     (stands_settled c.settle.result finder view mid new c.settle.ensures.covers c.settle.ensures.settled))
+
+pub settle-requires : goal.settle-requires
+settle-requires c =
+    let finder : Finder = record {
+      rules = c.self.inside.finder.rules;
+      grid = c.self.inside.finder.grid;
+      region = c.self.inside.finder.region;
+      strip = c.self.inside.finder.strip;
+      lists = c.list_again.new.lists;
+    } in
+    ready_again finder c.args.view.now c.self.inside.finder.lists.grid c.list_again.ensures.grid c.self.invariant
+    (rw (← c.self.view_is) at c.requires.valid)
+
+pub take_crossed-requires-clause-ready : goal.take_crossed-requires-clause-ready
+take_crossed-requires-clause-ready c =
+    let finder : Finder = record {
+      rules = c.self.inside.finder.rules;
+      grid = c.self.inside.finder.grid;
+      region = c.self.inside.finder.region;
+      strip = c.self.inside.finder.strip;
+      lists = c.list_again.new.lists;
+    } in
+    ready_again finder c.args.view.now c.self.inside.finder.lists.grid c.list_again.ensures.grid c.self.invariant
+    (rw (← c.self.view_is) at c.requires.valid)
+
+pub invariant_of-self-2 : goal.invariant_of-self-2
+invariant_of-self-2 c =
+    sound_again c.self.inside.finder.rules c.self.inside.finder.grid c.self.inside.finder.region c.self.inside.finder.strip
+    c.self.inside.finder.lists.grid c.list_again.new.lists.grid c.list_again.ensures.grid c.self.invariant
+
+pub invariant_of-self-in_err-take_crossed : goal.invariant_of-self-in_err-take_crossed
+invariant_of-self-in_err-take_crossed c =
+    sound_again c.self.inside.finder.rules c.self.inside.finder.grid c.self.inside.finder.region c.self.inside.finder.strip
+    c.self.inside.finder.lists.grid c.list_again.new.lists.grid c.list_again.ensures.grid c.self.invariant
+
+pub list_again-requires : goal.list_again-requires
+list_again-requires c =
+    cells_listed c.self.inside.finder.rules c.self.inside.finder.grid c.self.inside.finder.lists.grid c.args.view.now
+    c.self.invariant.lists (rw (← c.self.view_is) at c.requires.valid)
+
+pub invariant_of-self : goal.invariant_of-self
+invariant_of-self c =
+    sound_again c.self.inside.finder.rules c.self.inside.finder.grid c.self.inside.finder.region c.self.inside.finder.strip
+    c.self.inside.finder.lists.grid c.list_again.new.lists.grid c.list_again.ensures.grid c.self.invariant

@@ -20,3 +20,12 @@ returns c =
           (subst (λ (keys : List Key). StandsFor (queue_of rules grid c.args.region map.empty [] keys) map.empty) (sym c.new-2.ensures.bounds)
           (empty_stands rules grid c.args.region))),
     )
+
+pub invariant_of-result : goal.invariant_of-result
+invariant_of-result c = record {
+  checked = c.requires.checked;
+  grid = c.requires.grid;
+  region = c.requires.region;
+  strip = c.strip.ensures.strip;
+  lists = ap (λ (l : ListsData). l.grid) c.in_ok-new.ensures;
+}

@@ -11,7 +11,7 @@ use Rattle.region_queue.specs.declared.finder.Finder.{Finder}
 use Rattle.region_queue.specs.Queue.{QueueData, queue_of, StandsFor}
 use Rattle.region_view.specs.Naming.{IsSameButBy}
 use Rattle.region_queue.proofs.InRange.{native_in_range}
-use Rattle.region_queue.proofs.Standing.{stands_settled, stands_back}
+use Rattle.region_queue.proofs.Standing.{ready_again, sound_again, stands_settled, stands_back}
 use Rattle.region_queue.proofs.Again.{on_ok}
 use Rattle.region_queue.specs.Finding.{AreListed, IsFound}
 use Rattle.region_queue.specs.Covering.{Covers}
@@ -54,3 +54,30 @@ returns-clause-stands c =
     let is = stands_back finder s later view was old mid c.in_ok-list_event.ensures.listed least c.in_ok-give_key.ensures same stands in
     once is.0 is.1)
     (stands_settled c.settle.result finder view mid new c.settle.ensures.covers c.settle.ensures.settled))
+
+pub settle-requires : goal.settle-requires
+settle-requires c =
+    let finder : Finder = record {
+      rules = c.self.inside.finder.rules;
+      grid = c.self.inside.finder.grid;
+      region = c.self.inside.finder.region;
+      strip = c.self.inside.finder.strip;
+      lists = c.list_event.new.lists;
+    } in
+    ready_again finder c.args.view.now c.self.inside.finder.lists.grid c.list_event.ensures.grid c.self.invariant
+    (rw (← c.self.view_is) at c.requires.valid)
+
+pub invariant_of-self-2 : goal.invariant_of-self-2
+invariant_of-self-2 c =
+    sound_again c.self.inside.finder.rules c.self.inside.finder.grid c.self.inside.finder.region c.self.inside.finder.strip
+    c.self.inside.finder.lists.grid c.list_event.new.lists.grid c.list_event.ensures.grid c.self.invariant
+
+pub invariant_of-self-in_err-give_key : goal.invariant_of-self-in_err-give_key
+invariant_of-self-in_err-give_key c =
+    sound_again c.self.inside.finder.rules c.self.inside.finder.grid c.self.inside.finder.region c.self.inside.finder.strip
+    c.self.inside.finder.lists.grid c.list_event.new.lists.grid c.list_event.ensures.grid c.self.invariant
+
+pub invariant_of-self : goal.invariant_of-self
+invariant_of-self c =
+    sound_again c.self.inside.finder.rules c.self.inside.finder.grid c.self.inside.finder.region c.self.inside.finder.strip
+    c.self.inside.finder.lists.grid c.list_event.new.lists.grid c.list_event.ensures.grid c.self.invariant
