@@ -1,6 +1,8 @@
 -- The least disks of the cells, and then all that are after one of these.
 use Rattle.std.proofs.Common.{List, take, drop, sym, subst}
 use Rattle.std.specs.Prelude.{ℕ}
+use native.Mathlib.Nat.{lt_of_lt_of_le}
+use Rattle.std.proofs.lemmas.Bool.{false≢true}
 use Rattle.cell_lists.specs.Nearby.{IsWithin}
 use Rattle.cell_lists.specs.Gathering.{AreListed, AreFollowed, AreGatheredIn}
 use Rattle.cell_lists.proofs.Walks.{starts_behind, gathered_in, all_taken}
@@ -25,3 +27,27 @@ returns c = λ yes.
     (subst (λ (n : ℕ). AreFollowed cells n heads new)
     (sym (all_taken c.gathered.inside.count c.gathered.inside.disks c.gathered.invariant c.gathered.told))
     c.in-Some-gather_nexts.ensures.followed))
+
+pub returns-in_default : goal.returns-in_default
+returns-in_default c = λ yes. absurd (false≢true yes)
+
+pub returns-in_default-gather_nexts : goal.returns-in_default-gather_nexts
+returns-in_default-gather_nexts c = λ yes. absurd (false≢true yes)
+
+pub returns-then-not-has_buckets : goal.returns-then-not-has_buckets
+returns-then-not-has_buckets c = λ yes. absurd (false≢true yes)
+
+pub gather_nexts-requires-clause-own : goal.gather_nexts-requires-clause-own
+gather_nexts-requires-clause-own c =
+    let enough = rw (c.rows.ensures.value, c.columns.ensures.value) at (c.has_buckets.ensures.0 c.if-not-has_buckets.false) in
+    λ disk cell is. lt_of_lt_of_le (c.requires.cells disk cell is) enough
+
+pub gather_heads-requires-clause-own : goal.gather_heads-requires-clause-own
+gather_heads-requires-clause-own c =
+    let enough = rw (c.rows.ensures.value, c.columns.ensures.value) at (c.has_buckets.ensures.0 c.if-not-has_buckets.false) in
+    λ disk cell is. lt_of_lt_of_le (c.requires.cells disk cell is) enough
+
+pub gather_heads-requires-clause-buckets : goal.gather_heads-requires-clause-buckets
+gather_heads-requires-clause-buckets c =
+    let enough = rw (c.rows.ensures.value, c.columns.ensures.value) at (c.has_buckets.ensures.0 c.if-not-has_buckets.false) in
+    enough

@@ -31,3 +31,6 @@ returns-clause-added c =
     let last : c.loop-row.row ≡ c.args.block.high = (let order = c.requires.block.rows in omega arith) in
     subst (λ (row : ℕ). StartsAdded c.args.self.now.cells (IsWithin c.args.grid.now (rows_to c.args.block row)) (take c.args.so_far c.args.disks.now)
     (take c.loop-row.count c.loop-row.disks)) last c.loop-row.invariant.added
+
+pub gather_heads_of-requires-clause-own : goal.gather_heads_of-requires-clause-own
+gather_heads_of-requires-clause-own c = c.requires.own

@@ -23,3 +23,6 @@ returns-clause-added c =
     let last : c.loop-cell.cell ≡ c.args.end = (let order = c.requires.order in omega arith) in
     subst (λ (m : ℕ). StartsAdded c.args.self.now.cells (λ n. (c.args.first ≤ n) × (n < m)) (take c.args.so_far c.args.disks.now)
     (take c.loop-cell.count c.loop-cell.disks)) last c.loop-cell.invariant.added
+
+pub head_of-requires-clause-own : goal.head_of-requires-clause-own
+head_of-requires-clause-own c = c.requires.own

@@ -51,3 +51,6 @@ returns-clause-followed c =
     (subst (λ (n : ℕ). c.args.first ≤ n) (sym (all_taken c.args.so_far c.args.disks.now c.requires.room c.told-disks)) c.requires.first)
     c.loop-i.invariant.walked
     (subst (λ (n : ℕ). n ≤ c.loop-i.i) (sym (all_taken c.loop-i.count c.loop-i.disks c.loop-i.invariant.room c.loop-i.invariant.long)) c.loop-i-test.false)
+
+pub next_of-requires-clause-own : goal.next_of-requires-clause-own
+next_of-requires-clause-own c = c.requires.own

@@ -52,3 +52,10 @@ returns c =
     c.index_mut.result.now c.of.result (Some c.args.cell) c.self.view_is
     (linked_count c.self.inside.heads.items (nexts_of c.self.inside.nodes.items) c.link.new.heads.items (nexts_of c.link.new.nodes.items)
     c.bucket-bucket.result c.args.disk c.last_below-before.result c.link.ensures.linked) c.link.ensures.cells c.of.ensures
+
+pub index_mut-requires : goal.index_mut-requires
+index_mut-requires c =
+    let within = subst (λ (d : ChainsData). c.args.disk < length d.cells) (sym c.self.view_is) c.requires.within in
+    subst (λ (n : ℕ). c.args.disk < n) (sym c.link.new.nodes.ok.0)
+    (subst (λ (n : ℕ). c.args.disk < n) (length-map c.link.new.nodes.items _)
+    (subst (λ (cells : List (Option ℕ)). c.args.disk < length cells) (sym c.link.ensures.cells) within))
