@@ -6,7 +6,7 @@ use Rattle.std.proofs.Math.Nat.{mul-le-mul}
 use lib.Signed.{lt_z}
 use mir.Syntax.{w64}
 use Rattle.plane_vectors.specs.declared.Vector.{Vector}
-use Rattle.plane_vectors.specs.Vectors.{difference, dot}
+use Rattle.plane_vectors.specs.Vectors.{difference, dot, IsWithin}
 use Rattle.plane_vectors.proofs.Sizes.{sent, sent_same, size_of_product, dot_size}
 use Rattle.plane_vectors.proofs.Products.{square_not_negative}
 use Rattle.fixed_motion.specs.declared.rules.Rules.{Rules}
@@ -280,3 +280,10 @@ exact_small rules a b s q tells pair sep approach test near =
     let told = test at.small in
     let same = courses_cross a b s q sep at.of in
     (λ h. same.0 (told.0 h), λ h. told.1 (same.1 h))
+
+-- no side of the box is longer
+pub within_box : (rules : Rules) (r : Vector) → IsChecked rules → FitsTheBox rules r → IsWithin (2 ^ 30) r
+within_box rules r checked fits =
+    let width = checked.width in
+    let height = checked.height in
+    record { x = omega (arith, ints, fits.x); y = omega (arith, ints, fits.y) }

@@ -1,6 +1,6 @@
 -- The stamp has the round of the contact tick.
-use Rattle.std.proofs.Common.{◌≡◌, ap, max, ◌∙◌, sym}
-use Rattle.std.proofs.lemmas.Bool.{eqb-true}
+use Rattle.std.proofs.Common.{◌≡◌, ℕ, ◌<◌, ◌≤◌, ap, max, ◌∙◌, sym, arith}
+use Rattle.std.proofs.lemmas.Bool.{false≢true, eqb-true}
 use Rattle.event_stamps.specs.declared.Stamp.{Stamp}
 use Rattle.event_stamps.specs.declared.Kind.TheVariants.{Pair}
 use Rattle.fixed_motion.specs.declared.disk.Disk.{Disk}
@@ -29,3 +29,10 @@ returns-else-stamp-round c =
       λ yes. absurd (c.if-stamp-round.false (eqb-true c.args.stamp.now.round c.max-round.result yes)),
       λ h. absurd (c.if-stamp-round.false (ap (λ (s : Stamp). s.round) h.2 ∙ sym round)),
     )
+
+ended : (tick end : ℕ) → end ≤ tick → ¬ (tick < end)
+ended tick end past before = omega arith
+
+pub returns-then-stamp-rules : goal.returns-then-stamp-rules
+returns-then-stamp-rules c =
+    (λ yes. absurd (false≢true yes), λ event. absurd (ended c.args.stamp.now.tick c.args.rules.now.end c.if-stamp-rules.true event.1))

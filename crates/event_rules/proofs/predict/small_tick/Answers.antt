@@ -1,6 +1,6 @@
 -- Disks that hit each other are in the box at the later base tick, and there all is exact.
 use Rattle.std.proofs.lemmas.Bool.{both_ways}
-use Rattle.event_rules.proofs.SmallProducts.{contact_fits, never_small, never_overlapping}
+use Rattle.event_rules.proofs.SmallProducts.{within_box, contact_fits, never_small, never_overlapping}
 use Rattle.event_rules.proofs.predict.small_tick.Goals as goal
 use Rattle.event_rules.proofs.predict.small_tick.Goals.{then-overlap-via-then-overlap, then-overlap-via-else-overlap+then-not-is_course}
 
@@ -39,3 +39,7 @@ tick_inside-requires-clause-found c =
     let at = c.approach_at-approach.ensures c.args.rules.now c.args.a.now c.args.b.now c.requires.pair c.requires.separation
     (c.fits_the_box.ensures.0 c.if-not-fits_the_box.false) in
     c.in-Some.ensures.found c.args.s.now.places c.args.s.now.velocities c.args.s.now.distance at.of
+
+pub searched_tick-requires-clause-near : goal.searched_tick-requires-clause-near
+searched_tick-requires-clause-near c =
+    within_box c.args.rules.now c.args.s.now.places c.requires.pair.checked (c.fits_the_box.ensures.0 c.if-not-fits_the_box.false)

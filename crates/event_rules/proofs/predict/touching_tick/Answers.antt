@@ -1,0 +1,9 @@
+use Rattle.event_rules.proofs.predict.touching_tick.Goals as goal
+
+pub small_tick-requires-clause-pair : goal.small_tick-requires-clause-pair
+small_tick-requires-clause-pair c = record {
+  checked = c.requires.checked;
+  products = c.has_small_products.ensures.0 c.if-has_small_products.true;
+  first_valid = c.requires.first_valid;
+  second_valid = c.requires.second_valid;
+}
