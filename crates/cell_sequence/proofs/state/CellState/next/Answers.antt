@@ -6,6 +6,7 @@ use Rattle.cell_sequence.specs.Run.{IsStateCandidate}
 use Rattle.cell_sequence.specs.State.{CellStateData, IsCandidateOf}
 use Rattle.cell_sequence.proofs.Followed.{few_rows}
 use Rattle.cell_sequence.proofs.Orderly.{cell_states_are_orderly}
+use Rattle.cell_sequence.specs.State.{IsCellState}
 use Rattle.cell_sequence.proofs.state.CellState.next.Goals as goal
 
 pub next-requires-clause-valid : goal.next-requires-clause-valid
@@ -25,3 +26,6 @@ returns-clause-found c =
     (subst (λ (placed : List Placed). IsLeastOf
     (IsStateCandidate c.self.inside.rules c.self.inside.grid placed) c.next.result)
     c.deref.ensures.value c.next.ensures)
+
+pub returns-clause-kept : goal.returns-clause-kept
+returns-clause-kept c = subst IsCellState c.self.view_is c.self.invariant

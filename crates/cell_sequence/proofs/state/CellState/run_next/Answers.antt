@@ -35,3 +35,6 @@ returns c =
       subst (λ (t : Stamp). ComesTo state t (Ok x)) own c.in_ok-action.ensures,
       c.follow.ensures,
     )
+
+pub upcoming-requires : goal.upcoming-requires
+upcoming-requires c = rw c.unwrap-stamp.ensures at c.next.ensures.found

@@ -1,4 +1,4 @@
-use Rattle.std.proofs.Common.{sym, subst}
+use Rattle.std.proofs.Common.{ℕ, ◌<◌, sym, subst}
 use Rattle.std.proofs.lemmas.Option.{none-some, same_Some}
 use Rattle.fixed_motion.specs.Motion.{IsValidDisk}
 use Rattle.cell_sequence.specs.State.{CellStateData, IsNextOf, ComesTo}
@@ -84,3 +84,15 @@ returns-in_default c =
     (row_read c.self.inside.placed.items s.first c.index-row.result.now
     (first_there (the_view c.self.inside) s next) c.index-row.ensures)
     c.act-in_default.ensures)
+
+pub index-other-requires : goal.index-other-requires
+index-other-requires c =
+    let next = subst (λ (state : CellStateData). IsNextOf state c.args.stamp.now) (sym c.self.view_is) c.requires in
+    subst (λ (n : ℕ). c.args.stamp.now.second < n) (sym c.self.inside.placed.ok.0)
+    (second_there (the_view c.self.inside) c.args.stamp.now next c.in-Pair.is)
+
+pub index-row-requires : goal.index-row-requires
+index-row-requires c =
+    let next = subst (λ (state : CellStateData). IsNextOf state c.args.stamp.now) (sym c.self.view_is) c.requires in
+    subst (λ (n : ℕ). c.args.stamp.now.first < n) (sym c.self.inside.placed.ok.0)
+    (first_there (the_view c.self.inside) c.args.stamp.now next)
