@@ -10,6 +10,6 @@ returns-then-is_beside c = rw (← c.self.view_is) (
 
 pub returns-else-is_beside : goal.returns-else-is_beside
 returns-else-is_beside c = rw (← c.self.view_is) (
-  λ yes. cc,
+  λ yes. absurd (both_ways c.is_beside.result c.if-is_beside.false yes),
   λ h. absurd (both_ways c.is_beside.result c.if-is_beside.false (c.is_beside.ensures.1 h.0)),
 )

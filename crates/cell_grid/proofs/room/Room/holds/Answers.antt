@@ -1,6 +1,7 @@
 use Rattle.std.proofs.Common.{◌≡◌, w64, FitsSigned, rules}
 use Rattle.plane_vectors.proofs.Sizes.{sent, sent_same}
 use Rattle.cell_grid.specs.Leaving.{IsWithin}
+use Rattle.std.proofs.lemmas.Bool.{both_ways}
 use Rattle.cell_grid.proofs.room.Room.holds.Goals as goal
 
 pub returns-then-holds : goal.returns-then-holds
@@ -14,3 +15,9 @@ returns-then-holds c =
     let across : IsWithin room.across place.x = rw x at (c.holds.ensures.0 c.if-holds.true) in
     let upwards = c.holds-then-holds.ensures in
     (λ h. (across, rw y at (upwards.0 h)), λ h. upwards.1 (rw y h.1))
+
+pub returns-else-holds : goal.returns-else-holds
+returns-else-holds c =
+    let fits_x : FitsSigned w64 c.args.place.x = search rules in
+    let x : sent c.args.place.x ≡ c.args.place.x = sent_same c.args.place.x fits_x in
+    (λ yes. absurd (both_ways c.holds.result c.if-holds.false yes), λ h. c.holds.ensures.1 (rw x h.0))
