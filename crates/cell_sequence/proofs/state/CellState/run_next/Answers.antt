@@ -1,4 +1,5 @@
-use Rattle.std.proofs.Common.{Ok, subst}
+use Rattle.std.proofs.Common.{Ok, refl, subst}
+use Rattle.std.proofs.lemmas.Result.{err_from_is_err_and}
 use Rattle.event_stamps.specs.declared.Stamp.{Stamp}
 use Rattle.cell_sequence.specs.State.{IsNextOf, ComesTo}
 use Rattle.cell_sequence.proofs.Followed.{some_found, own_stamp}
@@ -38,3 +39,11 @@ returns c =
 
 pub upcoming-requires : goal.upcoming-requires
 upcoming-requires c = rw c.unwrap-stamp.ensures at c.next.ensures.found
+
+pub returns-in_err-action : goal.returns-in_err-action
+returns-in_err-action c =
+    let state = c.args.self.now in
+    let s = c.unwrap-stamp.result in
+    let next : IsNextOf state s = rw c.unwrap-stamp.ensures at c.next.ensures.found in
+    let p = err_from_is_err_and c.from_residual.result c.from_residual.ensures.1 in
+    rw (p.1, p.2) (s, next, c.in_err-action.ensures, refl)
