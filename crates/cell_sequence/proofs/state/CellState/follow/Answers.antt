@@ -1,6 +1,6 @@
-use Rattle.std.proofs.Common.{Some, Ok, sym, subst}
+use Rattle.std.proofs.Common.{Some, Ok, sym, ap, subst, ◌∙◌}
 use Rattle.region_view.specs.Acting.{stamp_of}
-use Rattle.cell_sequence.specs.State.{CellStateData, IsCellState, IsNextOf, ComesTo}
+use Rattle.cell_sequence.specs.State.{CellStateData, IsCellState, IsNextOf, ComesTo, followed}
 use Rattle.cell_sequence.proofs.Followed.{followed_is, has_rows}
 use Rattle.cell_sequence.specs.contracts.state.CellState.{the_view}
 use Rattle.cell_sequence.proofs.state.CellState.follow.Goals as goal
@@ -31,3 +31,16 @@ invariant_of-self c =
     (sym c.self.view_is) c.requires.next)
     (subst (λ (state : CellStateData). ComesTo state (stamp_of x) (Ok x))
     (sym c.self.view_is) c.requires.comes))
+
+pub returns : goal.returns
+returns c =
+    let x = c.args.action.now in
+    (λ i. record {
+      rules = c.self.inside.rules;
+      grid = c.self.inside.grid;
+      opening = c.self.inside.opening.items;
+      last = Some (c.stamp-stamp.ensures i);
+      placed = c.put.ensures i;
+      floor = c.stamp-stamp.ensures i;
+    })
+    ∙ ap (λ (state : CellStateData). followed state x) c.self.view_is
