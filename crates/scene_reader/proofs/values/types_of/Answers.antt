@@ -1,5 +1,5 @@
 -- The first of the steps that refuses is that of the definition.
-use Rattle.std.proofs.Common.{rules}
+use Rattle.std.proofs.Common.{rules, sym, ◌∙◌}
 use Rattle.std.proofs.lemmas.Result.{err_from_is_err_and}
 use Rattle.scene_reader.specs.Seen.{values_seen}
 use Rattle.scene_reader.proofs.Threes.{by_numbers}
@@ -17,4 +17,6 @@ pub returns-in_default : goal.returns-in_default
 returns-in_default c = rw (by_numbers (values_seen c.args.values.now), c.in_ok-numbers.ensures) (search rules)
 
 pub returns : goal.returns
-returns c = rw (by_numbers (values_seen c.args.values.now), c.in_ok-numbers.ensures) (search rules)
+returns c =
+    let every = sym c.every_at.ensures ∙ c.in_ok-every.was in
+    rw (by_numbers (values_seen c.args.values.now), c.in_ok-numbers.ensures, every, sym c.in-Some.ensures, c.as_slice.ensures.value)
