@@ -1,13 +1,69 @@
 //! The options that the words may name.
 
-ghost use Rattle.std.specs.Prelude.{◌≡◌, IfOk, codes, false, fold};
+ghost use Rattle.std.specs.Prelude.{◌≡◌, ◌++◌, IfOk, codes, false, fold, map};
 ghost use Rattle.clap.specs.Words.{app_of, rule_of, with_rule};
 ghost use Rattle.command_words.specs.Options.{IsCommand, bare_command, burst_names, choice_option, format_names, mode_names};
-ghost use Rattle.command_words.specs.Options.{named_option, number_option, run_options, scene_options, texts_of};
+ghost use Rattle.command_words.specs.Options.{named_option, run_options, scene_options, texts_of};
+ghost use Rattle.command_words.specs.Listed.{rule_said};
 
 use clap::builder::ValueParser;
 use clap::{Arg, Command};
 use std::alloc::{AllocError, Global};
+
+/// An option whose value is a whole number.
+struct NumberOption {
+    name: &'static str,
+    least: u64,
+    most: u64,
+    // The value where the words don't name it.
+    default: &'static str,
+}
+
+// How a run is divided, what scene is made, and where a run is cut.
+static NUMBERS: [NumberOption; 7] = [
+    NumberOption {
+        name: "regions",
+        least: 1,
+        most: 64,
+        default: "4",
+    },
+    NumberOption {
+        name: "workers",
+        least: 1,
+        most: 64,
+        default: "2",
+    },
+    NumberOption {
+        name: "turns",
+        least: 1,
+        most: 65_536,
+        default: "16",
+    },
+    NumberOption {
+        name: "steps",
+        least: 1,
+        most: 4_096,
+        default: "64",
+    },
+    NumberOption {
+        name: "number",
+        least: 0,
+        most: u64::MAX,
+        default: "1",
+    },
+    NumberOption {
+        name: "disks",
+        least: 0,
+        most: 65_536,
+        default: "100",
+    },
+    NumberOption {
+        name: "at",
+        least: 0,
+        most: 1_099_511_627_776,
+        default: "0",
+    },
+];
 
 static MODES: [&str; 6] = ["run", "plain", "check", "load", "cut", "audit"];
 
@@ -33,6 +89,12 @@ fn burst_names<'a>() -> &'a [&'a str]
     BURSTS.as_slice()
 }
 
+fn number_options<'a>() -> &'a [NumberOption]
+    ensures { map rule_said result.now ≡ run_options ++ scene_options }
+{
+    NUMBERS.as_slice()
+}
+
 /// An option with the value that stands where the words don't name it.
 fn named_option<'a>(alloc: Global, name: &'static str, default: &'static str) -> Arg<'a>
     ensures rule { rule_of result ≡ named_option name.entry.now default.entry.now }
@@ -54,18 +116,14 @@ fn choice_option<'a>(
     named_option(alloc, name, default).value_parser(ValueParser::Names(names))
 }
 
-/// An option whose value is a whole number from `least` to `most`.
-fn number_option<'a>(
-    alloc: Global,
-    name: &'static str,
-    least: u64,
-    most: u64,
-    default: &'static str,
-) -> Arg<'a>
-    ensures rule { rule_of result ≡ number_option name.entry.now least most default.entry.now }
+fn number_option<'a>(alloc: Global, option: &NumberOption) -> Arg<'a>
+    ensures rule { rule_of result ≡ rule_said option.now }
     ensures own { result.global ≡ false }
 {
-    named_option(alloc, name, default).value_parser(ValueParser::Unsigned(least, most))
+    named_option(alloc, option.name, option.default).value_parser(ValueParser::Unsigned(
+        option.least,
+        option.most,
+    ))
 }
 
 /// The command before its options: neither `--help` nor `--version`, and no word before them.
@@ -92,19 +150,19 @@ fn with_choice<'a>(
     command.arg(choice_option(alloc, name, names, default))
 }
 
-/// Adds an option whose value is a whole number from `least` to `most`.
-fn with_number<'a>(
+/// Adds options whose values are whole numbers.
+fn with_numbers<'a>(
     alloc: Global,
-    command: Command<'a>,
-    name: &'static str,
-    least: u64,
-    most: u64,
-    default: &'static str,
+    mut command: Command<'a>,
+    options: &[NumberOption],
 ) -> Result<Command<'a>, AllocError>
     ensures { IfOk result (λ made. app_of made
-        ≡ with_rule (app_of command.entry) (number_option name.entry.now least most default.entry.now)) }
+        ≡ fold with_rule (app_of command.entry) (map rule_said options.now)) }
 {
-    command.arg(number_option(alloc, name, least, most, default))
+    for option in options {
+        command = command.arg(number_option(alloc, option))?;
+    }
+    Ok(command)
 }
 
 /// Adds the options of what is done and in which form it is written.
@@ -122,31 +180,11 @@ fn with_task_options<'a>(
     with_choice(alloc, command, "format", formats, "lines")
 }
 
-/// Adds the options of how a run is divided.
-fn with_run_options<'a>(alloc: Global, command: Command<'a>) -> Result<Command<'a>, AllocError>
-    ensures { IfOk result (λ made. app_of made ≡ fold with_rule (app_of command.entry) run_options) }
-{
-    let command = with_number(alloc, command, "regions", 1, 64, "4")?;
-    let command = with_number(alloc, command, "workers", 1, 64, "2")?;
-    let command = with_number(alloc, command, "turns", 1, 65_536, "16")?;
-    with_number(alloc, command, "steps", 1, 4_096, "64")
-}
-
-/// Adds the options of what scene is made and where a run is cut.
-fn with_scene_options<'a>(alloc: Global, command: Command<'a>) -> Result<Command<'a>, AllocError>
-    ensures { IfOk result (λ made. app_of made ≡ fold with_rule (app_of command.entry) scene_options) }
-{
-    let command = with_number(alloc, command, "number", 0, u64::MAX, "1")?;
-    let command = with_number(alloc, command, "disks", 0, 65_536, "100")?;
-    with_number(alloc, command, "at", 0, 1_099_511_627_776, "0")
-}
-
 /// The command of the options.
 pub(crate) fn command<'a>(alloc: Global) -> Result<Command<'a>, AllocError>
     ensures { IfOk result (λ made. IsCommand (app_of made)) }
 {
     let command = with_task_options(alloc, bare_command(alloc), mode_names(), format_names())?;
-    let command = with_run_options(alloc, command)?;
-    let command = with_scene_options(alloc, command)?;
+    let command = with_numbers(alloc, command, number_options())?;
     with_choice(alloc, command, "burst", burst_names(), "locks")
 }
