@@ -64,8 +64,13 @@ fn region_of(
       run = None;
     } }
 {
-    match content {
-        Some(region) if word % 2 == 0 => region,
-        _ => Region::spent(number, rules, grid, floor),
+    let Some(region) = content else {
+        return Region::spent(number, rules, grid, floor);
+    };
+    let is_home = word % 2 == 0;
+    if is_home {
+        region
+    } else {
+        Region::spent(number, rules, grid, floor)
     }
 }

@@ -1,4 +1,4 @@
-use Rattle.std.proofs.Common.{◌≡◌, sym, ap, ◌∙◌, arith}
+use Rattle.std.proofs.Common.{◌≡◌, sym, ap, ◌∙◌, arith, rules}
 use Rattle.std.specs.Prelude.{slice_get}
 use Rattle.std.proofs.lemmas.Option.{slice_get_within}
 use mathlib.Core.Logic.{dite}
@@ -23,3 +23,6 @@ returns c = λ no k region at.
     let within = slice_get_within c.args.regions.now k region at in
     let past = c.loop-region-test.false in
     c.loop-region.invariant k region (omega (arith, within, past)) at
+
+pub returns-then-is_spent : goal.returns-then-is_spent
+returns-then-is_spent c = search rules
