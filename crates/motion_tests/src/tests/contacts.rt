@@ -3,7 +3,7 @@
 ghost use Rattle.std.specs.Prelude.{IsTrue};
 ghost use Rattle.plane_vectors.specs.Vectors.{IsWithin};
 
-use super::rows::expect_rows;
+use super::rows::expect;
 use contact_predictor::{contact, stay};
 use plane_vectors::Vector;
 
@@ -61,13 +61,10 @@ const CONTACTS: &[ContactRow] = &[
 
 #[test]
 fn finds_each_contact(rt: HostRuntime) {
-    expect_rows(
-        &rt,
-        CONTACTS,
-        |&(separation, velocity, diameter, span, want): &ContactRow| {
-            (contact_of(separation, velocity, diameter, span), Ok(want))
-        },
-    );
+    for (row, &(separation, velocity, diameter, span, want)) in CONTACTS.iter().enumerate() {
+        let found = contact_of(separation, velocity, diameter, span);
+        expect(&rt, row, found, Ok(want));
+    }
 }
 
 // Whether each component of a vector is within a bound.
@@ -127,9 +124,9 @@ const STAYS: &[StayRow] = &[
 
 #[test]
 fn finds_how_long_a_coordinate_stays(rt: HostRuntime) {
-    expect_rows(&rt, STAYS, |&(lo, hi, x, v, want): &StayRow| {
-        (stay_of(lo, hi, x, v), Ok(want))
-    });
+    for (row, &(lo, hi, x, v, want)) in STAYS.iter().enumerate() {
+        expect(&rt, row, stay_of(lo, hi, x, v), Ok(want));
+    }
 }
 
 // An error where the numbers are none that `stay` takes.

@@ -1,6 +1,6 @@
 //! Impulses, worked out by hand.
 
-use super::rows::expect_rows;
+use super::rows::expect;
 use impulse_rounding::impulse;
 
 #[test]
@@ -27,5 +27,7 @@ fn rounds_the_exact_impulse(rt: HostRuntime) {
         (impulse(1073741824, 1073741823, -1, 0), (1, 0)),
         (impulse(1073741824, 1073741823, 0, -1), (1, 1)),
     ];
-    expect_rows(&rt, &cases, |&row| row);
+    for (row, &(found, want)) in cases.iter().enumerate() {
+        expect(&rt, row, found, want);
+    }
 }

@@ -1,6 +1,6 @@
 //! Where disks are, and which places overlap.
 
-use super::rows::expect_rows;
+use super::rows::expect;
 use fixed_motion::{Disk, Rules, overlap};
 
 const RULES: Rules = Rules {
@@ -27,9 +27,9 @@ const PLACES: &[PlaceRow] = &[
 
 #[test]
 fn a_disk_has_a_place_from_its_base_to_the_side(rt: HostRuntime) {
-    expect_rows(&rt, PLACES, |&(size, tick, want): &PlaceRow| {
-        (place_of(size, tick), Ok(want))
-    });
+    for (row, &(size, tick, want)) in PLACES.iter().enumerate() {
+        expect(&rt, row, place_of(size, tick), Ok(want));
+    }
 }
 
 // The place of a disk of that size that was at (10, 5) at tick 2; an error where it or the tick is not valid.
@@ -64,5 +64,7 @@ fn places_overlap_below_the_distance(rt: HostRuntime) {
         (overlap(5, middle, (17, 14)), false),
         (overlap(2, middle, (19, 9)), true),
     ];
-    expect_rows(&rt, &cases, |&row| row);
+    for (row, &(found, want)) in cases.iter().enumerate() {
+        expect(&rt, row, found, want);
+    }
 }

@@ -1,7 +1,7 @@
 //! Ports over a reader and a writer that fail, call by call: no clause says that a call is tried again, nor that a
 //! writer is flushed.
 
-use super::rows::expect_rows;
+use super::rows::expect;
 use report_ports::{Given, Sink, Source, StdSink, StdSource, Taken};
 use std::io;
 use std::io::{ErrorKind, Read, Write};
@@ -76,9 +76,9 @@ const READS: &[ReadRow] = &[
 
 #[test]
 fn an_interrupted_read_is_tried_again(rt: HostRuntime) {
-    expect_rows(&rt, READS, |&(kind, failing, want): &ReadRow| {
-        (two_reads(kind, failing), want)
-    });
+    for (row, &(kind, failing, want)) in READS.iter().enumerate() {
+        expect(&rt, row, two_reads(kind, failing), want);
+    }
 }
 
 fn two_reads(kind: ErrorKind, failing: u32) -> (Taken, Taken, u64) {
@@ -122,20 +122,21 @@ const GIVES: &[GiveRow] = &[
 
 #[test]
 fn a_piece_is_written_and_flushed(rt: HostRuntime) {
-    expect_rows(
-        &rt,
-        GIVES,
-        |&(kind, failing, unflushed, piece, want): &GiveRow| {
-            let mut writer = FailingWriter {
-                kind,
-                failing,
-                unflushed,
-                flushes: 0,
-            };
-            let (given, faults) = give_to(&mut writer, piece);
-            ((given, faults, writer.flushes), want)
-        },
-    );
+    for (row, &(kind, failing, unflushed, piece, want)) in GIVES.iter().enumerate() {
+        let writer = FailingWriter {
+            kind,
+            failing,
+            unflushed,
+            flushes: 0,
+        };
+        expect(&rt, row, given_to(writer, piece), want);
+    }
+}
+
+// What comes of a piece, the faults that are counted, and how often the writer was flushed.
+fn given_to(mut writer: FailingWriter, piece: &[u8]) -> (Given, u64, u32) {
+    let (given, faults) = give_to(&mut writer, piece);
+    (given, faults, writer.flushes)
 }
 
 fn give_to(writer: &mut FailingWriter, piece: &[u8]) -> (Given, u64) {

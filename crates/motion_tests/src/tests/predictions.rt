@@ -1,6 +1,10 @@
 //! When disks hit each other and the sides of the box next, and what comes of it.
 
-use super::rows::expect_rows;
+ghost use Rattle.std.specs.Prelude.{IsTrue};
+ghost use Rattle.fixed_motion.specs.Rules.{IsChecked};
+ghost use Rattle.fixed_motion.specs.Motion.{IsValidDisk};
+
+use super::rows::expect;
 use event_rules::{
     Change, Limit, apply, event_between, has_small_products, may_hit_by_small, pair_event,
     wall_event,
@@ -81,20 +85,29 @@ const PAIRS: &[PairRow] = &[
 
 #[test]
 fn finds_when_two_disks_meet(rt: HostRuntime) {
-    expect_rows(&rt, PAIRS, |&(end, first, second, want): &PairRow| {
+    for (row, &(end, first, second, want)) in PAIRS.iter().enumerate() {
         let found = meeting(end, &disk_of(first), &disk_of(second));
-        (found, Ok(want))
-    });
+        expect(&rt, row, found, Ok(want));
+    }
 }
 
 // An error where the rules or the disks are not valid.
 fn meeting(end: u64, a: &Disk, b: &Disk) -> Result<Event, ()> {
     let rules = Rules { end, ..RULES };
-    if rules.check().is_ok() && a.is_valid(&rules) && b.is_valid(&rules) {
+    if are_valid(&rules, a, b) {
         Ok(event_of(pair_event(&rules, 1, a, 2, b)))
     } else {
         Err(())
     }
+}
+
+// Whether the rules are valid, and two disks by them.
+fn are_valid(rules: &Rules, a: &Disk, b: &Disk) -> bool
+    ensures checked { IsTrue result → IsChecked rules.now }
+    ensures first { IsTrue result → IsValidDisk rules.now a.now }
+    ensures second { IsTrue result → IsValidDisk rules.now b.now }
+{
+    rules.check().is_ok() && a.is_valid(rules) && b.is_valid(rules)
 }
 
 // A width, the greatest height at which the products of this box are small, and the greatest speed.
@@ -190,14 +203,15 @@ const SMALL_PAIRS: &[SmallRow] = &[
 
 #[test]
 fn tells_the_same_where_products_are_small_and_great(rt: HostRuntime) {
-    expect_rows(
-        &rt,
-        SMALL_PAIRS,
-        |&(sizes, first, second, crosses, want): &SmallRow| {
-            let found = small_and_great(sizes, &disk_of(first), &disk_of(second));
-            (found, (crosses, Ok((true, want)), Ok((false, want))))
-        },
-    );
+    for (row, &(sizes, first, second, crosses, want)) in SMALL_PAIRS.iter().enumerate() {
+        let found = small_and_great(sizes, &disk_of(first), &disk_of(second));
+        expect(
+            &rt,
+            row,
+            found,
+            (crosses, Ok((true, want)), Ok((false, want))),
+        );
+    }
 }
 
 // Whether the disks come nearer on paths that cross, and what is found in a box and in one that is a unit higher.
@@ -224,7 +238,7 @@ fn rules_of((width, height, speed_limit): Sizes, more: i64) -> Rules {
 type Within = Result<(bool, Event), ()>;
 
 fn meeting_within(rules: &Rules, a: &Disk, b: &Disk) -> Within {
-    if rules.check().is_ok() && a.is_valid(rules) && b.is_valid(rules) {
+    if are_valid(rules, a, b) {
         let found = event_of(event_between(rules, 1, a, 2, b));
         Ok((has_small_products(rules), found))
     } else {
@@ -266,9 +280,9 @@ const WALLS: &[WallRow] = &[
 
 #[test]
 fn finds_when_a_disk_hits_each_side(rt: HostRuntime) {
-    expect_rows(&rt, WALLS, |&(end, record, side, want): &WallRow| {
-        (hit(end, &disk_of(record), side), Ok(want))
-    });
+    for (row, &(end, record, side, want)) in WALLS.iter().enumerate() {
+        expect(&rt, row, hit(end, &disk_of(record), side), Ok(want));
+    }
 }
 
 // An error where the rules, the disk or the side are not valid.
@@ -303,18 +317,19 @@ const COLLISIONS: &[CollisionRow] = &[
 
 #[test]
 fn changes_velocities_or_meets_a_limit(rt: HostRuntime) {
-    expect_rows(&rt, COLLISIONS, |&(round_limit, want): &CollisionRow| {
+    for (row, &(round_limit, want)) in COLLISIONS.iter().enumerate() {
         let found = collision(round_limit, &disk_of(FAST_AGAIN), &disk_of(PASSING));
-        (found, Some(want.map(change_to)))
-    });
+        expect(&rt, row, found, Some(changed(want)));
+    }
 }
 
-fn change_to((first, second): (Record, Record)) -> Change {
-    Change {
+fn changed(records: Result<(Record, Record), Limit>) -> Result<Change, Limit> {
+    let (first, second) = records?;
+    Ok(Change {
         stamp: LATE,
         first: disk_of(first),
         second: Some(disk_of(second)),
-    }
+    })
 }
 
 // What the disks 0 and 1 come to; none where the rules or the disks are not valid, or don't meet.
@@ -323,7 +338,7 @@ fn collision(round_limit: u32, a: &Disk, b: &Disk) -> Option<Result<Change, Limi
         round_limit,
         ..RULES
     };
-    if rules.check().is_ok() && a.is_valid(&rules) && b.is_valid(&rules) {
+    if are_valid(&rules, a, b) {
         let stamp = pair_event(&rules, 0, a, 1, b)?;
         Some(apply(&rules, &stamp, a, Some(b)))
     } else {

@@ -1,19 +1,14 @@
-//! Tables of rows, each of which says what is to be found.
+//! Rows of tables, each of which says what is to be found.
 
 use std::fmt::Debug;
 use std::process::Abort;
 
-/// Looks at each row of a table: what is found has to be what is wanted. The function tells both of a row, in this
-/// order.
-pub(super) fn expect_rows<R, V: PartialEq + Debug + Copy, F: Fn(&R) -> (V, V)>(
+/// What is found in a row has to be what is wanted.
+pub(super) fn expect<V: PartialEq + Debug + Copy>(
     rt: &impl Abort,
-    rows: &[R],
-    look: F,
-)
-    requires { F.IsAlwaysCallable look }
-{
-    for (at, row) in rows.iter().enumerate() {
-        let (found, wanted) = look(row);
-        assert_eq!(rt; found, wanted, "row {at}");
-    }
+    row: usize,
+    found: V,
+    wanted: V,
+) {
+    assert_eq!(rt; found, wanted, "row {row}");
 }

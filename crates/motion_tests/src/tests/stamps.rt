@@ -1,6 +1,6 @@
 //! The order of stamps.
 
-use super::rows::expect_rows;
+use super::rows::expect;
 use event_stamps::{Kind, Stamp, compare, earlier};
 
 // A tick, a round, a kind and two numbers.
@@ -30,9 +30,9 @@ fn stamp_of((tick, round, kind, first, second): Parts) -> Stamp {
 
 #[test]
 fn orders_stamps(rt: HostRuntime) {
-    expect_rows(&rt, RISING, |&(place, parts): &(usize, Parts)| {
-        (misplaced(place, stamp_of(parts)), None)
-    });
+    for &(place, parts) in RISING {
+        expect(&rt, place, misplaced(place, stamp_of(parts)), None);
+    }
 }
 
 // The place of the first stamp with which the stamp at a place isn't ordered as the two places are.
@@ -53,7 +53,7 @@ fn a_run_is_between_two_stamps(rt: HostRuntime) {
         (Stamp::first_of_all(), (0, 0, Kind::Cross, 0, 0)),
         (Stamp::end_of(1), (1, 0, Kind::Cross, 0, 0)),
     ];
-    expect_rows(&rt, &ends, |&(found, parts): &(Stamp, Parts)| {
-        (found, stamp_of(parts))
-    });
+    for (row, &(found, parts)) in ends.iter().enumerate() {
+        expect(&rt, row, found, stamp_of(parts));
+    }
 }
