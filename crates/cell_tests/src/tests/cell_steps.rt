@@ -1,11 +1,12 @@
 //! The first steps of cell runs.
 
+use super::helpers::{expect, opened};
 use cell_sequence::CellState;
 use event_stamps::{Kind, Stamp};
 use region_view::Action;
 use std::alloc::{AllocError, Global};
 use std::test::Fail;
-use test_scenes::{SLOW_CROSSING, scene_of};
+use test_scenes::SLOW_CROSSING;
 
 // A box of 4 columns; the cells of the disks are adjacent only from the tick of their contact on.
 const COMING_NEAR: &str = "width = 32\n\
@@ -41,22 +42,28 @@ const STEPS: &[(&str, &[Step])] = &[
 #[test]
 fn runs_one_event_after_the_other(rt: HostRuntime) -> Result<(), Fail> {
     for &(text, steps) in STEPS {
-        let opened = opened(rt.alloc(), text)?;
-        assert!(rt; opened.is_some(), "refused: {text}");
-        if let Some(mut state) = opened {
-            for &want in steps {
-                assert_eq!(rt; step(&mut state), Some(want), "{text}");
-            }
+        for (number, &want) in steps.iter().enumerate() {
+            let found = step_of(rt.alloc(), text, number)?;
+            expect(&rt, (text, number), found, Some(want));
         }
     }
     Ok(())
 }
 
-fn opened(alloc: Global, text: &str) -> Result<Option<CellState>, AllocError> {
-    match scene_of(alloc, text)? {
-        Some(scene) => Ok(Some(CellState::open(alloc, &scene, 1)?)),
+// The step of this number, from 0 on; none where the scene is refused.
+fn step_of(alloc: Global, text: &str, number: usize) -> Result<Option<Step>, AllocError> {
+    match opened(alloc, text, 1)? {
+        Some(mut state) => Ok(step_after(&mut state, number)),
         None => Ok(None),
     }
+}
+
+// The step after so many others.
+fn step_after(state: &mut CellState, others: usize) -> Option<Step> {
+    for _ in 0..others {
+        step(state)?;
+    }
+    step(state)
 }
 
 // The next event, which is run; none where there is none, and where it fails a limit.

@@ -6,6 +6,7 @@ ghost use Rattle.cell_grid.specs.Grid.{IsCell};
 ghost use Rattle.std.specs.FinMap as map;
 ghost use Rattle.cell_lists.specs.Listing.{lists_of, with_disk};
 
+use super::helpers::expect;
 use cell_grid::Grid;
 use cell_lists::{Gathered, Lists, block_around};
 use event_stamps::Stamp;
@@ -49,22 +50,25 @@ fn disk_of((x, y, vx, vy, base, mark): Record) -> Disk {
     }
 }
 
-// The stamp at which the disk 7 leaves a cell; an error where the rules, the disk or the cell are not valid.
-fn crossing_of(rules: &Rules, a: &Disk, cell: u32) -> Result<Option<Stamp>, ()> {
+// A tick and a round, where there is an event.
+type Event = Option<(u64, u32)>;
+
+// When the disk 7 leaves a cell; an error where the rules, the disk or the cell are not valid.
+fn crossing_of(rules: &Rules, a: &Disk, cell: u32) -> Result<Event, ()> {
     match rules.check() {
         Ok(()) => {
             let grid = Grid::new(rules, 4);
             if !a.is_valid(rules) || cell >= grid.rows() * grid.columns() {
                 return Err(());
             }
-            Ok(grid.crossing(rules, 7, a, cell))
+            Ok(event_of(grid.crossing(rules, 7, a, cell)))
         }
         Err(_) => Err(()),
     }
 }
 
 // Rules, a record, a cell, and the tick and round of the crossing.
-type CrossingRow = (Rules, Record, u32, Option<(u64, u32)>);
+type CrossingRow = (Rules, Record, u32, Event);
 
 const CROSSINGS: &[CrossingRow] = &[
     // x = 100 is in the next column, and the disk is there at tick 4
@@ -111,11 +115,11 @@ const CROSSINGS: &[CrossingRow] = &[
 fn disks_leave_their_cells(rt: HostRuntime) {
     for (row, &(rules, record, cell, want)) in CROSSINGS.iter().enumerate() {
         let found = crossing_of(&rules, &disk_of(record), cell);
-        assert_eq!(rt; found.map(event_of), Ok(want), "row {row}");
+        expect(&rt, row, found, Ok(want));
     }
 }
 
-fn event_of(found: Option<Stamp>) -> Option<(u64, u32)> {
+fn event_of(found: Option<Stamp>) -> Event {
     let stamp = found?;
     Some((stamp.tick, stamp.round))
 }
@@ -136,19 +140,15 @@ fn finds_what_trying_each_tick_finds(rt: HostRuntime) {
         for cell in 0..9 {
             if let Ok(found) = crossing_of(&rules, &disk, cell) {
                 let want = crossing_by_trying(&rules, &disk, cell);
-                assert_eq!(rt; found.map(tick_of), want, "disk {number}, cell {cell}");
+                expect(&rt, (number, cell), found, want);
                 crossings = crossings.wrapping_add(u32::from(found.is_some()));
             }
         }
     }
-    assert!(rt; crossings >= LEAST_CROSSINGS, "only {crossings} crossings");
+    expect(&rt, crossings, crossings >= LEAST_CROSSINGS, true);
 }
 
-fn tick_of(stamp: Stamp) -> u64 {
-    stamp.tick
-}
-
-// A box and a disk, which may not be in it.
+// A box and a disk of mark 0, which may not be in it.
 fn generated(numbers: &mut Numbers) -> (Rules, Disk) {
     let rules = Rules {
         width: numbers.next(8, 70),
@@ -163,7 +163,7 @@ fn generated(numbers: &mut Numbers) -> (Rules, Disk) {
 }
 
 // The numbers are small, so nothing wraps, and nothing has to be proved of it.
-fn crossing_by_trying(rules: &Rules, disk: &Disk, cell: u32) -> Option<u64> {
+fn crossing_by_trying(rules: &Rules, disk: &Disk, cell: u32) -> Event {
     let mut left = 0;
     for ticks in 0..TICKS {
         if cell_after(rules, disk, ticks) == Some(i64::from(cell)) {
@@ -172,7 +172,7 @@ fn crossing_by_trying(rules: &Rules, disk: &Disk, cell: u32) -> Option<u64> {
     }
     let tick = disk.base.wrapping_add(left);
     if tick < rules.end && cell_after(rules, disk, left).is_some() && left < TICKS {
-        Some(tick)
+        Some((tick, 0))
     } else {
         None
     }
@@ -262,11 +262,7 @@ fn strips_own_and_reach_cells(rt: HostRuntime) {
     for &(cell, owner, reached) in STRIPS {
         for region in 0..4 {
             let want = (owner, reached.contains(&region));
-            assert_eq!(rt;
-                strip_of(cell, region),
-                Ok(want),
-                "cell {cell}, region {region}"
-            );
+            expect(&rt, (cell, region), strip_of(cell, region), Ok(want));
         }
     }
 }
@@ -289,11 +285,7 @@ fn strip_of(cell: u32, region: u32) -> Result<(u32, bool), ()> {
 #[test]
 fn links_regions_that_reach_a_cell_in_common(rt: HostRuntime) {
     for &(asked, a, b, want) in LINKS {
-        assert_eq!(rt;
-            link_of(asked, a, b),
-            Ok(want),
-            "regions {a} and {b} by {asked}"
-        );
+        expect(&rt, (asked, a, b), link_of(asked, a, b), Ok(want));
     }
 }
 
@@ -333,7 +325,7 @@ fn a_disk_is_listed_and_gathered_and_taken_off(rt: HostRuntime) -> Result<(), Fa
     let found = found_of_one(rt.alloc())?;
     let one = (1, Some(ONE));
     let want: Listed = (Some(ONE), None, one, one, true, None);
-    assert_eq!(rt; found, want, "what lists of the disk {ONE} say");
+    expect(&rt, ONE, found, want);
     Ok(())
 }
 
@@ -391,9 +383,5 @@ fn a_block_ends_at_the_sides(rt: HostRuntime) {
     let grid = Grid::new(&rules, 1);
     let block = block_around(&grid, grid.cell_of(15, 5));
     let found = (block.left, block.right, block.low, block.high);
-    assert_eq!(rt;
-        found,
-        (0, 3, 0, 2),
-        "around the cell in column 1 and row 0"
-    );
+    expect(&rt, "column 1, row 0", found, (0, 3, 0, 2));
 }

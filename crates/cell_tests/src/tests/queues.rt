@@ -7,16 +7,14 @@ ghost use Rattle.region_view.specs.Placing.{IsValidPlacing};
 ghost use Rattle.region_view.specs.Views.{rows_in};
 ghost use Rattle.region_queue.specs.Queue.{IsOf};
 
-use super::helpers::view_of;
+use super::helpers::{expect, opened, view_of};
 use super::walks::least_by_walk;
 use cell_sequence::CellState;
 use event_stamps::{Kind, Stamp};
-use fixed_motion::Scene;
 use region_queue::Queue;
 use region_view::View;
 use std::alloc::{AllocError, Global};
 use std::test::Fail;
-use test_scenes::scene_of;
 
 // A box of 6 columns and 3 rows, and disks that are far apart and slow.
 const CROWD: &str = "width = 124\n\
@@ -41,13 +39,13 @@ const LEAST_FOUND: u32 = 200;
 // What a queue that was kept finds, what one opened anew finds, and what a walk finds.
 type Found = (Option<Stamp>, Option<Stamp>, Option<Stamp>);
 
-// How often a queue took in a change, how often it then found an event, and what was last found where the two
-// differed.
-#[derive(Clone, Copy, Drop)]
+// How often a queue took in a change, how often it then found an event, and the region and what was last found where
+// the three differed.
+#[derive(Drop)]
 struct Tally {
     calls: u32,
     found: u32,
-    wrong: Option<Found>,
+    wrong: Option<(u32, Found)>,
 }
 
 impl Tally {
@@ -59,11 +57,11 @@ impl Tally {
         }
     }
 
-    fn add(&mut self, (kept, anew, walked): Found) {
+    fn add(&mut self, region: u32, (kept, anew, walked): Found) {
         self.calls = self.calls.wrapping_add(1);
         self.found = self.found.wrapping_add(u32::from(kept.is_some()));
         if kept != anew || kept != walked {
-            self.wrong = Some((kept, anew, walked));
+            self.wrong = Some((region, (kept, anew, walked)));
         }
     }
 }
@@ -132,12 +130,12 @@ fn least_anew(
     requires region { IsRegion state.now.grid region }
     requires valid { IsValidPlacing state.now.rules state.now.grid (rows_in view.now) }
 {
-    let queue = opened(alloc, state, view, region)?;
+    let queue = queue_of(alloc, state, view, region)?;
     Ok(queue.least())
 }
 
 // The queue of a region in what it sees of a state.
-fn opened(alloc: Global, state: &CellState, view: &View, region: u32) -> Result<Queue, AllocError>
+fn queue_of(alloc: Global, state: &CellState, view: &View, region: u32) -> Result<Queue, AllocError>
     requires region { IsRegion state.now.grid region }
     requires valid { IsValidPlacing state.now.rules state.now.grid (rows_in view.now) }
     ensures { IfOk result (λ queue. IsOf queue state.now.rules state.now.grid region) }
@@ -146,13 +144,17 @@ fn opened(alloc: Global, state: &CellState, view: &View, region: u32) -> Result<
 }
 
 // Compares the queue of a region after each action of the cell run.
-fn follow(alloc: Global, scene: &Scene, region: u32) -> Result<Tally, AllocError> {
-    let mut state = CellState::open(alloc, scene, REGIONS)?;
+fn follow(
+    alloc: Global,
+    state: &mut CellState,
+    region: u32,
+    tally: &mut Tally,
+) -> Result<(), AllocError> {
     if region >= state.grid().regions() {
-        return Ok(Tally::none());
+        return Ok(());
     }
-    let mut queue = at_the_start(alloc, &state, region)?;
-    follow_on(alloc, &mut state, &mut queue, region)
+    let mut queue = at_the_start(alloc, state, region)?;
+    follow_on(alloc, state, &mut queue, region, tally)
 }
 
 fn at_the_start(alloc: Global, state: &CellState, region: u32) -> Result<Queue, AllocError>
@@ -160,7 +162,7 @@ fn at_the_start(alloc: Global, state: &CellState, region: u32) -> Result<Queue, 
     ensures { IfOk result (λ queue. IsOf queue state.now.rules state.now.grid region) }
 {
     let view = view_of(alloc, state, region)?;
-    opened(alloc, state, &view, region)
+    queue_of(alloc, state, &view, region)
 }
 
 fn follow_on(
@@ -168,42 +170,36 @@ fn follow_on(
     state: &mut CellState,
     queue: &mut Queue,
     region: u32,
-) -> Result<Tally, AllocError>
+    tally: &mut Tally,
+) -> Result<(), AllocError>
     requires region { IsRegion state.old.grid region }
     requires queue { IsOf queue.old state.old.rules state.old.grid region }
 {
-    let mut tally = Tally::none();
     for _ in 0..MOST_ACTIONS {
         let Some(event) = run_next(state) else {
             break;
         };
-        tally.add(compare(alloc, state, queue, region, &event)?);
+        tally.add(region, compare(alloc, state, queue, region, &event)?);
     }
-    Ok(tally)
+    Ok(())
 }
 
 #[test]
 fn queues_that_are_kept_find_what_queues_opened_anew_find(rt: HostRuntime) -> Result<(), Fail> {
-    let (mut calls, mut found): (u32, u32) = (0, 0);
+    let mut tally = Tally::none();
     for region in 0..REGIONS {
-        let tally = followed(rt.alloc(), region)?;
-        assert_eq!(rt;
-            tally.wrong,
-            None,
-            "region {region}: what was found, kept, anew and by a walk"
-        );
-        calls = calls.wrapping_add(tally.calls);
-        found = found.wrapping_add(tally.found);
+        add_region(rt.alloc(), region, &mut tally)?;
     }
-    assert!(rt; calls >= LEAST_CALLS, "only {calls} calls");
-    assert!(rt; found >= LEAST_FOUND, "only {found} events");
+    let (calls, found) = (tally.calls, tally.found);
+    let is_enough = calls >= LEAST_CALLS && found >= LEAST_FOUND;
+    expect(&rt, (calls, found), (tally.wrong, is_enough), (None, true));
     Ok(())
 }
 
-// No calls where the scene is refused.
-fn followed(alloc: Global, region: u32) -> Result<Tally, AllocError> {
-    match scene_of(alloc, CROWD)? {
-        Some(scene) => follow(alloc, &scene, region),
-        None => Ok(Tally::none()),
+// Nothing is added where the scene is refused.
+fn add_region(alloc: Global, region: u32, tally: &mut Tally) -> Result<(), AllocError> {
+    match opened(alloc, CROWD, REGIONS)? {
+        Some(mut state) => follow(alloc, &mut state, region, tally),
+        None => Ok(()),
     }
 }

@@ -5,16 +5,16 @@ ghost use Rattle.cell_grid.specs.Grid.{IsRegion};
 ghost use Rattle.region_view.specs.Setting.{IsInOrder};
 ghost use Rattle.region_view.specs.Messages.{RecordsCell};
 
-use super::helpers::view_of;
+use super::helpers::{expect, opened, view_of};
 use cell_grid::Grid;
 use cell_sequence::CellState;
 use event_rules::Change;
 use event_stamps::{Kind, Stamp};
 use fixed_motion::Disk;
-use region_view::{Action, Message, View, message_for};
+use region_view::{Action, Message, Placed, View, message_for};
 use std::alloc::{AllocError, Global};
 use std::test::Fail;
-use test_scenes::{SLOW_CROSSING, scene_of};
+use test_scenes::SLOW_CROSSING;
 
 const REGIONS: u32 = 4;
 
@@ -95,34 +95,27 @@ const ACTIONS: &[ActionRow] = &[
     (UP, 1, 3, None, (None, None)),
 ];
 
-fn opened(alloc: Global) -> Result<Option<CellState>, AllocError> {
-    match scene_of(alloc, SLOW_CROSSING)? {
-        Some(scene) => Ok(Some(CellState::open(alloc, &scene, REGIONS)?)),
-        None => Ok(None),
-    }
-}
-
 fn seen_in(view: &View) -> Seen {
-    (cell_in(view, 0), cell_in(view, 1))
+    (cell_of(view.get(0)), cell_of(view.get(1)))
 }
 
-fn cell_in(view: &View, disk: u32) -> Option<u32> {
-    let row = view.get(disk)?;
-    Some(row.cell)
+fn cell_of(row: Option<Placed>) -> Option<u32> {
+    let placed = row?;
+    Some(placed.cell)
 }
 
 #[test]
 fn regions_see_what_is_in_their_reach(rt: HostRuntime) -> Result<(), Fail> {
     for (region, &want) in AT_THE_START.iter().enumerate() {
         let found = seen_at_the_start(rt.alloc(), region as u32)?;
-        assert_eq!(rt; found, Some(want), "region {region}");
+        expect(&rt, region, found, Some(want));
     }
     Ok(())
 }
 
 // None where the scene is refused, or the grid has no such region.
 fn seen_at_the_start(alloc: Global, region: u32) -> Result<Option<Seen>, AllocError> {
-    match opened(alloc)? {
+    match opened(alloc, SLOW_CROSSING, REGIONS)? {
         Some(state) => seen_by(alloc, &state, region),
         None => Ok(None),
     }
@@ -140,7 +133,7 @@ fn seen_by(alloc: Global, state: &CellState, region: u32) -> Result<Option<Seen>
 fn regions_are_told_what_they_see(rt: HostRuntime) -> Result<(), Fail> {
     for (row, (action, home, region, told, seen)) in ACTIONS.iter().enumerate() {
         let found = heard(rt.alloc(), action, *home, *region)?;
-        assert_eq!(rt; found, Some((*told, *seen)), "row {row}");
+        expect(&rt, row, found, Some((*told, *seen)));
     }
     Ok(())
 }
@@ -153,7 +146,7 @@ fn heard(
     home: u32,
     region: u32,
 ) -> Result<Option<(Told, Seen)>, AllocError> {
-    match opened(alloc)? {
+    match opened(alloc, SLOW_CROSSING, REGIONS)? {
         Some(state) => heard_in(alloc, &state, action, home, region),
         None => Ok(None),
     }
@@ -170,10 +163,24 @@ fn heard_in(
     if home >= grid.regions() || region >= grid.regions() || !is_fit(action, grid) {
         return Ok(None);
     }
-    let before = view_of(alloc, state, home)?;
-    let message = message_for(&before, action, grid, region);
+    let message = sent(alloc, state, action, home, region)?;
     let seen = seen_after(alloc, state, region, message.as_ref())?;
     Ok(Some((told_by(message.as_ref()), seen)))
+}
+
+fn sent(
+    alloc: Global,
+    state: &CellState,
+    action: &Action,
+    home: u32,
+    region: u32,
+) -> Result<Option<Message>, AllocError>
+    requires home { IsRegion state.now.grid home }
+    requires region { IsRegion state.now.grid region }
+    requires action { IsInOrder action.now × RecordsCell state.now.grid action.now }
+{
+    let before = view_of(alloc, state, home)?;
+    Ok(message_for(&before, action, state.grid(), region))
 }
 
 fn seen_after(
@@ -185,10 +192,15 @@ fn seen_after(
     requires { IsRegion state.now.grid region }
 {
     let mut view = view_of(alloc, state, region)?;
-    if let Some(rows) = message {
-        view.take_in(rows)?;
-    }
+    take_in(&mut view, message)?;
     Ok(seen_in(&view))
+}
+
+fn take_in(view: &mut View, message: Option<&Message>) -> Result<(), AllocError> {
+    match message {
+        Some(rows) => view.take_in(rows),
+        None => Ok(()),
+    }
 }
 
 // Whether the new cell of a crossing is one of the grid, and two disks that collide are in order.
@@ -205,9 +217,5 @@ fn told_by(message: Option<&Message>) -> Told {
     let told = message?;
     let rows = told.rows.as_slice();
     let (disk, row) = rows.first()?;
-    let cell = match row {
-        Some(placed) => Some(placed.cell),
-        None => None,
-    };
-    Some((told.stamp, rows.len(), *disk, cell))
+    Some((told.stamp, rows.len(), *disk, cell_of(*row)))
 }
