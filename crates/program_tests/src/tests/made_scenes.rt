@@ -1,5 +1,7 @@
 //! Made scenes, whose components another program worked out.
 
+ghost use Rattle.std.specs.Prelude.{◌≤◌};
+
 use fixed_motion::MAX_DISKS;
 use scene_maker::{make, scene_text};
 use std::alloc::{AllocError, Global};
@@ -36,10 +38,21 @@ fn is_made(alloc: Global, &(number, count, side, rows): &MadeRow) -> Result<bool
     if count as usize > MAX_DISKS {
         return Ok(false);
     }
-    let want = format!(in alloc;
+    let text = text_of(alloc, side, rows)?;
+    is_text_of(alloc, text.as_str(), number, count)
+}
+
+fn text_of(alloc: Global, side: u32, rows: &str) -> Result<String, AllocError> {
+    format!(in alloc;
         "width = {side}\nheight = {side}\ndiameter = 1024\nspeed_limit = 512\nround_limit = 64\nend = 1000\ndisks = [\n{rows}]\n"
-    )?;
+    )
+}
+
+// Whether a text is that of a made scene.
+fn is_text_of(alloc: Global, text: &str, number: u64, count: u32) -> Result<bool, AllocError>
+    requires { count ≤ 65536 }
+{
     let scene = make(alloc, number, count)?;
     let made = scene_text(alloc, &scene)?;
-    Ok(made.as_bytes() == want.as_bytes())
+    Ok(made.as_bytes() == text.as_bytes())
 }

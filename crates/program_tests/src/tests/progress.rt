@@ -14,10 +14,9 @@ const SECOND: Progress = Progress { events: 2, tick: 3 };
 #[test]
 fn a_glass_sees_what_was_published_last(rt: HostRuntime) -> Result<(), Fail> {
     let seen = seen(&rt, rt.alloc())?;
-    assert_eq!(rt;
-        seen,
-        (NONE, FIRST, SECOND, SECOND),
-        "before any publishing, after the first pair and the second, and of the pen that took the glass back"
+    assert!(rt;
+        seen == (NONE, FIRST, SECOND, SECOND),
+        "{seen:?}, before any publishing, after the first pair and the second, and of the pen that took the glass back"
     );
     Ok(())
 }
