@@ -3,7 +3,7 @@
 ghost use Rattle.std.specs.Prelude.{◌<◌};
 ghost use Rattle.cell_grid.specs.Grid.{IsAsked};
 
-use super::opened::act;
+use super::opened::{act, expect};
 use cell_grid::MAX_REGIONS;
 use cell_sequence::CellState;
 use commit_horizon::{Batch, Committed};
@@ -28,11 +28,13 @@ const LEAST_COMMITTED: usize = 20;
 
 // How many actions the commits of a scene made final that the cell run does next as well; and, if there is one, the
 // first that it doesn't, with what it does in its place.
-#[derive(Clone, Copy, Debug)]
+#[derive(Drop)]
 struct Commits {
     same: usize,
-    other: Option<(Action, Option<Action>)>,
+    other: Option<Other>,
 }
+
+type Other = (Action, Option<Action>);
 
 impl Commits {
     // Goes on by a batch, unless something else was found before.
@@ -59,8 +61,12 @@ fn next_of(sequence: &mut CellState) -> Option<Action> {
     sequence.run_next().ok()
 }
 
+// What the commits of a scene come to: their actions that the cell run does as well, no more of them than are wanted,
+// and the first that it doesn't.
+type Seen = (usize, Option<Other>);
+
 // The commits of the scene that is drawn from a number on; none where it is refused.
-fn commits_of(alloc: Global, seed: u64, asked: u32) -> Result<Option<Commits>, AllocError> {
+fn commits_of(alloc: Global, seed: u64, asked: u32) -> Result<Option<Seen>, AllocError> {
     let mut numbers = Numbers { state: seed };
     let text = wide(alloc, &mut numbers)?;
     match scene_of(alloc, text.as_str())? {
@@ -76,23 +82,30 @@ fn commits_in(
     scene: &Scene,
     asked: u32,
     numbers: &mut Numbers,
-) -> Result<Commits, AllocError>
+) -> Result<Seen, AllocError>
     requires { IsAsked asked }
 {
     let mut sequence = CellState::open(alloc, scene, asked)?;
     let mut committed = Committed::open(alloc, scene, asked)?;
-    let mut regions = committed.open_all(alloc)?;
+    commits_beside(alloc, &mut sequence, &mut committed, numbers)
+}
+
+fn commits_beside(
+    alloc: Global,
+    sequence: &mut CellState,
+    committed: &mut Committed,
+    numbers: &mut Numbers,
+) -> Result<Seen, AllocError> {
     let mut commits = Commits {
         same: 0,
         other: None,
     };
+    let mut regions = committed.open_all(alloc)?;
     for _ in 0..COMMITS {
         make_calls(alloc, &mut regions, numbers)?;
-        let (worked, batch) = commit(alloc, &mut committed, regions)?;
-        regions = worked;
-        commits.add(&mut sequence, &batch);
+        regions = commit(alloc, committed, regions, sequence, &mut commits)?;
     }
-    Ok(commits)
+    Ok((commits.same.min(LEAST_COMMITTED), commits.other))
 }
 
 // Lets the regions step, and hear others near them, in an order of no meaning; two of three calls are steps.
@@ -123,27 +136,28 @@ fn place_below(numbers: &mut Numbers, count: usize) -> usize {
     number.checked_rem(count).unwrap_or(0)
 }
 
-// The regions after a commit, and what it made final.
+// The regions after a commit; what it made final is compared.
 fn commit(
     alloc: Global,
     committed: &mut Committed,
     given: Vec<Region>,
-) -> Result<(Vec<Region>, Batch), AllocError> {
+    sequence: &mut CellState,
+    commits: &mut Commits,
+) -> Result<Vec<Region>, AllocError> {
     if given.len() != committed.state().grid().regions() as usize {
-        return Ok((given, Batch::new(alloc)));
+        return Ok(given);
     }
     let mut regions = committed.adopt_all(alloc, given)?;
     let batch = committed.commit(alloc, regions.as_mut_slice())?;
-    Ok((regions, batch))
+    commits.add(sequence, &batch);
+    Ok(regions)
 }
 
 #[test]
 fn commits_are_what_the_cell_run_does(rt: HostRuntime) -> Result<(), Fail> {
     for &(seed, asked) in DRAWN {
-        let commits = commits_of(rt.alloc(), seed, asked)?;
-        let are_right = commits.is_some_and(|commits| commits.same >= LEAST_COMMITTED
-            && commits.other.is_none());
-        assert!(rt; are_right, "{asked} regions from {seed} on: {commits:?}");
+        let found = commits_of(rt.alloc(), seed, asked)?;
+        expect(&rt, (seed, asked), found, Some((LEAST_COMMITTED, None)));
     }
     Ok(())
 }

@@ -2,10 +2,11 @@
 
 ghost use Rattle.commit_horizon.specs.Horizon.{AllStand};
 
-use super::opened::{act, committed_of};
+use super::opened::{act, committed_of, expect};
 use commit_horizon::Committed;
 use event_stamps::{Kind, Stamp};
 use region_core::Region;
+use region_view::Action;
 use std::alloc::{AllocError, Global};
 use std::test::Fail;
 use test_scenes::ROLLED_BACK;
@@ -34,31 +35,31 @@ const CROSSING: Key = (4, 0, Kind::Cross, 0, 0);
 const END: Key = (20, 0, Kind::Cross, 0, 0);
 
 // What bounds the horizon, the calls, and what each of the four regions then has due.
-type Row = (&'static str, &'static [Call], &'static [Key]);
+type Row = (&'static str, &'static [Call], [Option<Key>; 4]);
 
 const ROWS: &[Row] = &[
-    ("news that weren't heard", UNHEARD, &[END, END, END, END]),
-    ("news that wait", HEARD, &[END, CROSSING, END, END]),
+    (
+        "news that weren't heard",
+        UNHEARD,
+        [Some(END), Some(END), Some(END), Some(END)],
+    ),
+    (
+        "news that wait",
+        HEARD,
+        [Some(END), Some(CROSSING), Some(END), Some(END)],
+    ),
 ];
 
-// What is committed: the horizon is at the crossing.
-const COMMITTED: &[Key] = &[(1, 0, Kind::Wall, 1, 3), (3, 0, Kind::Wall, 1, 2)];
+// What is committed, and nothing after it: the horizon is at the crossing.
+const COMMITTED: [Option<Key>; 3] = [
+    Some((1, 0, Kind::Wall, 1, 3)),
+    Some((3, 0, Kind::Wall, 1, 2)),
+    None,
+];
 
-// What the regions have due, the horizon, and what a commit makes final then.
-#[derive(Debug, Drop)]
-struct Found {
-    due: Vec<Key>,
-    horizon: Key,
-    committed: Vec<Key>,
-}
-
-impl Found {
-    fn is(&self, due: &[Key]) -> bool {
-        self.due.as_slice() == due
-            && self.horizon == CROSSING
-            && self.committed.as_slice() == COMMITTED
-    }
-}
+// How many regions there are, what the first four have due, the horizon, and the first of what a commit makes final
+// then.
+type Found = (usize, [Option<Key>; 4], Key, [Option<Key>; 3]);
 
 // What is found after some calls; none where the scene is refused.
 fn found_after(alloc: Global, calls: &[Call]) -> Result<Option<Found>, AllocError> {
@@ -91,38 +92,39 @@ fn found_in(
 ) -> Result<Found, AllocError>
     requires { AllStand committed.old regions.old }
 {
-    let due = due_of(alloc, regions)?;
+    let due = [
+        due_at(regions, 0),
+        due_at(regions, 1),
+        due_at(regions, 2),
+        due_at(regions, 3),
+    ];
     let horizon = key_of(&committed.horizon(regions));
-    let committed = committed_by(alloc, committed, regions)?;
-    Ok(Found {
-        due,
-        horizon,
-        committed,
-    })
+    let keys = committed_by(alloc, committed, regions)?;
+    Ok((regions.len(), due, horizon, keys))
 }
 
-fn due_of(alloc: Global, regions: &[Region]) -> Result<Vec<Key>, AllocError> {
-    let mut due = Vec::new(alloc);
-    for region in regions {
-        due.push(key_of(&region.due()))?;
-    }
-    Ok(due)
+// What the region at a place has due.
+fn due_at(regions: &[Region], place: usize) -> Option<Key> {
+    let region = regions.get(place)?;
+    Some(key_of(&region.due()))
 }
 
-// The stamps of what a commit makes final.
+// The stamps of the first three actions that a commit makes final.
 fn committed_by(
     alloc: Global,
     committed: &mut Committed,
     regions: &mut [Region],
-) -> Result<Vec<Key>, AllocError>
+) -> Result<[Option<Key>; 3], AllocError>
     requires { AllStand committed.old regions.old }
 {
     let batch = committed.commit(alloc, regions)?;
-    let mut keys = Vec::new(alloc);
-    for action in batch.as_slice() {
-        keys.push(key_of(&action.stamp()))?;
-    }
-    Ok(keys)
+    let actions = batch.as_slice();
+    Ok([key_at(actions, 0), key_at(actions, 1), key_at(actions, 2)])
+}
+
+fn key_at(actions: &[Action], place: usize) -> Option<Key> {
+    let action = actions.get(place)?;
+    Some(key_of(&action.stamp()))
 }
 
 fn key_of(stamp: &Stamp) -> Key {
@@ -139,8 +141,7 @@ fn key_of(stamp: &Stamp) -> Key {
 fn what_isnt_heard_or_waits_bounds_the_horizon(rt: HostRuntime) -> Result<(), Fail> {
     for &(bound, calls, due) in ROWS {
         let found = found_after(rt.alloc(), calls)?;
-        let is_right = found.as_ref().is_some_and(|found| found.is(due));
-        assert!(rt; is_right, "{bound}: {found:?}");
+        expect(&rt, bound, found, Some((4, due, CROSSING, COMMITTED)));
     }
     Ok(())
 }

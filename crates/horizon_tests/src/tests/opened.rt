@@ -1,11 +1,23 @@
-//! Committed states at the start, and calls on regions.
+//! Committed states at the start, calls on regions, and how what is found is compared.
 
 ghost use Rattle.cell_grid.specs.Grid.{IsAsked};
 
 use commit_horizon::Committed;
 use region_core::Region;
 use std::alloc::{AllocError, Global};
+use std::fmt::Debug;
+use std::process::Abort;
 use test_scenes::{LONG, scene, scene_of};
+
+/// What is found in a case has to be what is wanted.
+pub fn expect<C: Debug + Copy, V: PartialEq + Debug + Copy>(
+    rt: &impl Abort,
+    case: C,
+    found: V,
+    wanted: V,
+) {
+    assert_eq!(rt; found, wanted, "{case:?}");
+}
 
 /// The committed state with which the run of some disks begins in a box of 20 columns.
 pub fn committed_of(

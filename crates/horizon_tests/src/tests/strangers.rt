@@ -2,7 +2,7 @@
 
 ghost use Rattle.cell_grid.specs.Grid.{IsRegion};
 
-use super::opened::committed_of;
+use super::opened::{committed_of, expect};
 use cell_grid::MAX_REGIONS;
 use commit_horizon::{Adopted, Committed};
 use event_stamps::{Kind, Stamp};
@@ -135,19 +135,16 @@ fn regions_of(
 // The region of a number, in a form.
 fn picked(regions: Vec<Region>, number: u32, form: Form) -> Option<Region> {
     match form {
-        Form::Spent => regions.get(number as usize).map(spent),
+        Form::Spent => spent(regions.get(number as usize)),
         Form::Opened | Form::Raised => regions.into_iter().nth(number as usize),
     }
 }
 
 // The same region, spent.
-fn spent(region: &Region) -> Region {
-    Region::spent(
-        region.number(),
-        region.rules(),
-        region.grid(),
-        region.floor(),
-    )
+fn spent(region: Option<&Region>) -> Option<Region> {
+    let region = region?;
+    let (rules, grid) = (region.rules(), region.grid());
+    Some(Region::spent(region.number(), rules, grid, region.floor()))
 }
 
 // What is found where a region is to be adopted; none where there is no region or no such place.
@@ -203,7 +200,7 @@ fn differs(adopted: &Adopted) -> Option<Differs> {
 fn exactly_a_region_that_stands_is_adopted(rt: HostRuntime) -> Result<(), Fail> {
     for (shows, place, given, differs) in GIVEN {
         let found = adopted(rt.alloc(), place, given)?;
-        assert_eq!(rt; found, Some(*differs), "{shows}");
+        expect(&rt, *shows, found, Some(*differs));
     }
     Ok(())
 }
