@@ -5,6 +5,7 @@ ghost use Rattle.cell_grid.specs.Grid.{IsAsked};
 ghost use Rattle.local_run.specs.Bursts.{AreTogether};
 ghost use Rattle.local_run.specs.RunOn.{AreRunOn};
 
+use super::cases::{Case, expect};
 use super::scenes::valid_scene;
 use super::texts::{report, sums};
 use super::told::{Keeping, Told, expect_plain};
@@ -25,7 +26,7 @@ use test_scenes::{
 };
 
 // What is done to the regions in a burst.
-#[derive(Clone, Copy, Debug)]
+#[derive(Clone, Copy)]
 enum Deed {
     // Nothing.
     Rest,
@@ -240,7 +241,7 @@ fn told_over<B: Burst>(
 fn run_beside<B: Burst>(
     rt: &(impl Threads + Wait + Sync + Abort),
     alloc: Global,
-    case: &str,
+    case: Case<'_>,
     scene: &Scene,
     regions: u32,
     burst: &mut B,
@@ -252,73 +253,83 @@ fn run_beside<B: Burst>(
     Ok(found)
 }
 
-// What stands before the limits of a scene, its end, its disks, how many regions there are, and what is done to them.
-type DeedRow = (&'static str, u32, &'static str, u32, Deed);
+// How many regions there are of the four disks' scene, and what is done to them.
+type DeedRow = (u32, Deed);
+
+fn expect_rows(
+    rt: &(impl Threads + Wait + Sync + Abort),
+    alloc: Global,
+    rows: &[DeedRow],
+) -> Result<(), AllocError> {
+    let scene = valid_scene(rt, alloc, LONG, 8, 40, FOUR_IN_A_ROW)?;
+    for (number, &row) in rows.iter().enumerate() {
+        expect_row(rt, alloc, number, row, &scene)?;
+    }
+    Ok(())
+}
 
 fn expect_row(
     rt: &(impl Threads + Wait + Sync + Abort),
     alloc: Global,
-    row: &DeedRow,
-) -> Result<(), AllocError> {
-    let &(sizes, end, disks, regions, _) = row;
-    assert!(rt; 1 <= regions && regions <= MAX_REGIONS, "{regions} regions");
-    let scene = valid_scene(rt, alloc, sizes, 8, end, disks)?;
-    let mut burst = tampering_of(rt, alloc, row)?;
-    expect_plain_run(rt, alloc, row, &scene, &mut burst)
-}
-
-// Does the deed of a row; the other scene is that of the row with a later end.
-fn tampering_of(rt: &impl Abort, alloc: Global, row: &DeedRow) -> Result<Tampering, AllocError>
-    requires { IsAsked row.now.3 }
-{
-    let &(sizes, end, disks, regions, deed) = row;
-    let later = end.wrapping_add(1);
-    let other = valid_scene(rt, alloc, sizes, 8, later, disks)?;
-    Tampering::new(alloc, deed, &other, regions)
-}
-
-fn expect_plain_run(
-    rt: &(impl Threads + Wait + Sync + Abort),
-    alloc: Global,
-    row: &DeedRow,
+    number: usize,
+    (regions, deed): DeedRow,
     scene: &Scene,
-    burst: &mut Tampering,
-) -> Result<(), AllocError>
-    requires { IsAsked row.now.3 }
-{
-    let &(_, _, disks, regions, deed) = row;
-    let case = format!(in alloc; "{deed:?} with {regions} regions of {disks}")?;
-    run_beside(rt, alloc, case.as_str(), scene, regions, burst)?;
+) -> Result<(), AllocError> {
+    assert!(rt; 1 <= regions && regions <= MAX_REGIONS, "{regions} regions");
+    let mut burst = tampering_of(rt, alloc, deed, regions)?;
+    run_beside(
+        rt,
+        alloc,
+        (number, FOUR_IN_A_ROW),
+        scene,
+        regions,
+        &mut burst,
+    )?;
     Ok(())
 }
 
+// Does this deed; the other scene is that of the four disks with a later end.
+fn tampering_of(
+    rt: &impl Abort,
+    alloc: Global,
+    deed: Deed,
+    regions: u32,
+) -> Result<Tampering, AllocError>
+    requires { IsAsked regions }
+{
+    let other = valid_scene(rt, alloc, LONG, 8, 41, FOUR_IN_A_ROW)?;
+    Tampering::new(alloc, deed, &other, regions)
+}
+
 const RESTING: &[DeedRow] = &[
-    (LONG, 40, FOUR_IN_A_ROW, 1, Deed::Rest),
-    (LONG, 40, FOUR_IN_A_ROW, 2, Deed::Rest),
-    (LONG, 40, FOUR_IN_A_ROW, 4, Deed::Rest),
-    (LONG, 40, FOUR_IN_A_ROW, 20, Deed::Rest),
+    (1, Deed::Rest),
+    (2, Deed::Rest),
+    (4, Deed::Rest),
+    (20, Deed::Rest),
 ];
 
 #[test]
 fn regions_that_rest_tell_the_plain_run(rt: HostRuntime) -> Result<(), Fail> {
-    for row in RESTING {
-        expect_row(&rt, rt.alloc(), row)?;
-    }
+    expect_rows(&rt, rt.alloc(), RESTING)?;
     Ok(())
 }
 
 const MOVED_OR_LOST: &[DeedRow] = &[
-    (LONG, 40, FOUR_IN_A_ROW, 4, Deed::Swap),
-    (LONG, 40, FOUR_IN_A_ROW, 4, Deed::Reverse),
-    (LONG, 40, FOUR_IN_A_ROW, 4, Deed::Spend),
-    (LONG, 40, FOUR_IN_A_ROW, 4, Deed::OneAhead),
+    (4, Deed::Swap),
+    (4, Deed::Reverse),
+    (4, Deed::Spend),
+    (4, Deed::OneAhead),
 ];
 
 #[test]
 fn regions_that_are_moved_or_lost_tell_the_plain_run(rt: HostRuntime) -> Result<(), Fail> {
-    for row in MOVED_OR_LOST {
-        expect_row(&rt, rt.alloc(), row)?;
-    }
+    expect_rows(&rt, rt.alloc(), MOVED_OR_LOST)?;
+    Ok(())
+}
+
+#[test]
+fn regions_of_another_scene_tell_the_plain_run(rt: HostRuntime) -> Result<(), Fail> {
+    expect_rows(&rt, rt.alloc(), &[(4, Deed::Replace)])?;
     Ok(())
 }
 
@@ -326,7 +337,7 @@ fn regions_that_are_moved_or_lost_tell_the_plain_run(rt: HostRuntime) -> Result<
 fn workers_keep<R: Threads + Wait + Sync + Abort>(
     rt: &R,
     alloc: Global,
-    case: &str,
+    case: Case<'_>,
     scene: &Scene,
 ) -> Result<bool, AllocError> {
     let workers = Workers {
@@ -351,7 +362,7 @@ fn workers_keep<R: Threads + Wait + Sync + Abort>(
 fn call_keeps<C: Call + Drop>(
     rt: &(impl Threads + Wait + Sync + Abort),
     alloc: Global,
-    case: &str,
+    case: Case<'_>,
     scene: &Scene,
     call: C,
 ) -> Result<bool, AllocError>
@@ -366,7 +377,7 @@ fn call_keeps<C: Call + Drop>(
 fn swapping_keeps(
     rt: &(impl Threads + Wait + Sync + Abort),
     alloc: Global,
-    case: &str,
+    case: Case<'_>,
     scene: &Scene,
 ) -> Result<bool, AllocError> {
     let mut burst = Tampering::new(alloc, Deed::RunAndSwap, scene, 4)?;
@@ -383,23 +394,10 @@ const KEPT_OR_SWAPPED: &[KeptRow] = &[(40, FOUR_IN_A_ROW), (20, ROLLED_BACK)];
 // is told of the run sees a difference.
 #[test]
 fn bursts_that_keep_and_that_swap_are_told_apart_by_nothing(rt: HostRuntime) -> Result<(), Fail> {
-    for row in KEPT_OR_SWAPPED {
-        expect_keepers(&rt, rt.alloc(), row)?;
+    for (number, &row) in KEPT_OR_SWAPPED.iter().enumerate() {
+        let found = keep_and_swap(&rt, rt.alloc(), number, row)?;
+        expect(&rt, number, found, (true, false));
     }
-    Ok(())
-}
-
-fn expect_keepers<R: Threads + Wait + Sync + Abort>(
-    rt: &R,
-    alloc: Global,
-    row: &KeptRow,
-) -> Result<(), AllocError> {
-    let &(_, disks) = row;
-    assert_eq!(rt;
-        keep_and_swap(rt, alloc, row)?,
-        (true, false),
-        "{disks}: the workers keep their regions, and nobody else"
-    );
     Ok(())
 }
 
@@ -407,36 +405,19 @@ fn expect_keepers<R: Threads + Wait + Sync + Abort>(
 fn keep_and_swap<R: Threads + Wait + Sync + Abort>(
     rt: &R,
     alloc: Global,
-    &(end, disks): &KeptRow,
+    number: usize,
+    (end, disks): KeptRow,
 ) -> Result<(bool, bool), AllocError> {
     let scene = valid_scene(rt, alloc, LONG, 8, end, disks)?;
-    let workers = workers_keep(rt, alloc, disks, &scene)?;
-    let swapping = swapping_keeps(rt, alloc, disks, &scene)?;
+    let workers = workers_keep(rt, alloc, (number, disks), &scene)?;
+    let swapping = swapping_keeps(rt, alloc, (number, disks), &scene)?;
     Ok((workers, swapping))
 }
 
 #[test]
-fn regions_of_another_scene_tell_the_plain_run(rt: HostRuntime) -> Result<(), Fail> {
-    expect_row(
-        &rt,
-        rt.alloc(),
-        &(LONG, 40, FOUR_IN_A_ROW, 4, Deed::Replace),
-    )?;
-    Ok(())
-}
-
-#[test]
 fn a_long_run_of_one_region_tells_the_plain_run_and_its_sums(rt: HostRuntime) -> Result<(), Fail> {
-    expect_sums_of_bouncing(&rt, rt.alloc())?;
-    Ok(())
-}
-
-fn expect_sums_of_bouncing(
-    rt: &(impl Threads + Wait + Sync + Abort),
-    alloc: Global,
-) -> Result<(), AllocError> {
-    let found = sums_of_bouncing(rt, alloc)?;
-    assert_eq!(rt; found.as_str(), BOUNCING_SUMMARY);
+    let found = sums_of_bouncing(&rt, rt.alloc())?;
+    expect(&rt, BOUNCING, found.as_str(), BOUNCING_SUMMARY);
     Ok(())
 }
 
@@ -456,7 +437,7 @@ fn told_at_rest(
     scene: &Scene,
 ) -> Result<Told, AllocError> {
     let mut burst = Tampering::new(alloc, Deed::Rest, scene, 1)?;
-    run_beside(rt, alloc, BOUNCING, scene, 1, &mut burst)
+    run_beside(rt, alloc, (0, BOUNCING), scene, 1, &mut burst)
 }
 
 // The calls of a script: how often each one is made, one after the other.
@@ -500,37 +481,28 @@ const SCRIPTS: &[ScriptRow] = &[
 
 #[test]
 fn scripts_tell_their_reports(rt: HostRuntime) -> Result<(), Fail> {
-    for row in SCRIPTS {
-        expect_report_of_script(&rt, rt.alloc(), row)?;
+    for (number, row) in SCRIPTS.iter().enumerate() {
+        let found = report_of_script(&rt, rt.alloc(), number, row)?;
+        expect(&rt, number, found.as_str(), row.3);
     }
-    Ok(())
-}
-
-fn expect_report_of_script(
-    rt: &(impl Threads + Wait + Sync + Abort),
-    alloc: Global,
-    row: &ScriptRow,
-) -> Result<(), AllocError> {
-    let &(disks, _, _, want) = row;
-    let found = report_of_script(rt, alloc, row)?;
-    assert_eq!(rt; found.as_str(), want, "{disks}");
     Ok(())
 }
 
 fn report_of_script(
     rt: &(impl Threads + Wait + Sync + Abort),
     alloc: Global,
+    number: usize,
     &(disks, end, calls, _): &ScriptRow,
 ) -> Result<String, AllocError> {
     let scene = valid_scene(rt, alloc, LONG, 8, end, disks)?;
-    let told = told_by_script(rt, alloc, disks, &scene, calls)?;
+    let told = told_by_script(rt, alloc, (number, disks), &scene, calls)?;
     report(alloc, &scene, &told)
 }
 
 fn told_by_script(
     rt: &(impl Threads + Wait + Sync + Abort),
     alloc: Global,
-    case: &str,
+    case: Case<'_>,
     scene: &Scene,
     calls: &[Calls],
 ) -> Result<Told, AllocError> {
@@ -548,27 +520,37 @@ fn hostile_bursts_tell_the_plain_run(rt: HostRuntime) -> Result<(), Fail> {
     let mut numbers = Numbers { state: 5 };
     let mut found: u64 = 0;
     for _ in 0..MOST_TRIED {
-        let text = generated(rt.alloc(), &mut numbers)?;
-        if found < GENERATED && is_run(&rt, rt.alloc(), text.as_str(), found)? {
+        if found < GENERATED && is_run(&rt, rt.alloc(), &mut numbers, found)? {
             found = found.wrapping_add(1);
         }
     }
-    assert_eq!(rt; found, GENERATED);
+    expect(&rt, "scenes", found, GENERATED);
     Ok(())
 }
 
-// Runs the scene of a text under hostile bursts; says no where the text is refused.
+// Runs the next generated scene under hostile bursts; says no where it is refused.
 fn is_run(
     rt: &(impl Threads + Wait + Sync + Abort),
     alloc: Global,
-    text: &str,
-    number: u64,
+    numbers: &mut Numbers,
+    found: u64,
 ) -> Result<bool, AllocError> {
-    let Some(scene) = scene_of(alloc, text)? else {
-        return Ok(false);
-    };
-    let mut burst = Tampering::new(alloc, Deed::Hostile, &scene, 4)?;
-    burst.numbers.state = number.wrapping_add(1);
-    run_beside(rt, alloc, text, &scene, 4, &mut burst)?;
+    let text = generated(alloc, numbers)?;
+    match scene_of(alloc, text.as_str())? {
+        Some(scene) => run_hostile(rt, alloc, text.as_str(), &scene, found),
+        None => Ok(false),
+    }
+}
+
+fn run_hostile(
+    rt: &(impl Threads + Wait + Sync + Abort),
+    alloc: Global,
+    text: &str,
+    scene: &Scene,
+    found: u64,
+) -> Result<bool, AllocError> {
+    let mut burst = Tampering::new(alloc, Deed::Hostile, scene, 4)?;
+    burst.numbers.state = found.wrapping_add(1);
+    run_beside(rt, alloc, (found as usize, text), scene, 4, &mut burst)?;
     Ok(true)
 }

@@ -2,6 +2,9 @@
 
 ghost use Rattle.cell_grid.specs.Grid.{IsAsked};
 
+use super::cases::{Case, expect};
+use super::scenes::valid_scene;
+use super::texts::counts;
 use super::told::{Told, expect_plain};
 use cell_sequence::CellState;
 use event_rules::{Limit, Spot};
@@ -10,7 +13,7 @@ use region_view::Action;
 use std::alloc::{AllocError, Global};
 use std::process::Abort;
 use std::test::Fail;
-use test_scenes::{FOUR_IN_A_ROW, LONG, Numbers, ROLLED_BACK, USUAL, generated, scene, scene_of};
+use test_scenes::{FOUR_IN_A_ROW, LONG, Numbers, ROLLED_BACK, USUAL, generated, scene_of};
 
 // More actions than the cell run of a test has.
 const MOST_ACTIONS: u32 = 10_000;
@@ -101,51 +104,38 @@ const RUNS: &[RunRow] = &[
 
 #[test]
 fn cell_runs_tell_the_plain_run(rt: HostRuntime) -> Result<(), Fail> {
-    for row in RUNS {
-        expect_counts(&rt, rt.alloc(), row)?;
+    for (number, row) in RUNS.iter().enumerate() {
+        let found = counts_of(&rt, rt.alloc(), number, row)?;
+        expect(&rt, number, found, row.4);
     }
     Ok(())
 }
 
-fn expect_counts(rt: &impl Abort, alloc: Global, row: &RunRow) -> Result<(), AllocError> {
-    let &(_, _, _, disks, want) = row;
-    assert_eq!(rt;
-        counts_of(rt, alloc, row)?,
-        Some(want),
-        "{disks}: crossings and collisions"
-    );
-    Ok(())
-}
-
-// How many crossings and collisions the cell run of a row has; none where its scene is refused.
+// How many crossings and collisions the cell run of a row has.
 fn counts_of(
     rt: &impl Abort,
     alloc: Global,
+    number: usize,
     &(sizes, rounds, end, disks, _): &RunRow,
-) -> Result<Option<(u32, usize)>, AllocError> {
-    let text = scene(alloc, sizes, rounds, end, disks)?;
-    match run_beside(rt, alloc, text.as_str(), 4)? {
-        Some(run) => Ok(Some((run.crossings, run.told.changes.len()))),
-        None => Ok(None),
-    }
+) -> Result<(u32, usize), AllocError> {
+    let scene = valid_scene(rt, alloc, sizes, rounds, end, disks)?;
+    let run = run_beside(rt, alloc, (number, disks), &scene, 4)?;
+    Ok((run.crossings, run.told.changes.len()))
 }
 
-// The cell run of a text, which has to come to what the engine that looks at all pairs tells; none where the text is
-// refused.
+// The cell run of a scene, which has to come to what the engine that looks at all pairs tells.
 fn run_beside(
     rt: &impl Abort,
     alloc: Global,
-    text: &str,
+    case: Case<'_>,
+    scene: &Scene,
     regions: u32,
-) -> Result<Option<CellRun>, AllocError>
+) -> Result<CellRun, AllocError>
     requires { IsAsked regions }
 {
-    let Some(scene) = scene_of(alloc, text)? else {
-        return Ok(None);
-    };
-    let run = cell_run(alloc, &scene, regions)?;
-    expect_plain(rt, alloc, text, &scene, &run.told)?;
-    Ok(Some(run))
+    let run = cell_run(alloc, scene, regions)?;
+    expect_plain(rt, alloc, case, scene, &run.told)?;
+    Ok(run)
 }
 
 // How many generated scenes were run, and what their runs had.
@@ -159,12 +149,7 @@ struct Tally {
 
 impl Tally {
     fn add(&mut self, run: &CellRun) {
-        let pairs = run
-            .told
-            .changes
-            .iter()
-            .filter(|change| change.second.is_some())
-            .count();
+        let (_, pairs) = counts(&run.told.changes);
         self.scenes = self.scenes.wrapping_add(1);
         self.crossings = self.crossings.wrapping_add(run.crossings);
         self.pairs = self.pairs.wrapping_add(pairs);
@@ -172,10 +157,22 @@ impl Tally {
             .limits
             .wrapping_add(u32::from(run.told.limit.is_some()));
     }
+
+    // The numbers of scenes, crossings, collisions of two disks, and limits.
+    fn numbers(&self) -> (u32, u32, usize, u32) {
+        (self.scenes, self.crossings, self.pairs, self.limits)
+    }
+
+    fn is_enough(&self) -> bool {
+        self.scenes >= LEAST_SCENES
+            && self.crossings >= LEAST_CROSSINGS
+            && self.pairs >= LEAST_PAIRS
+            && self.limits >= LEAST_LIMITS
+    }
 }
 
 // Some of the scenes that are generated are refused, and enough of them have to be left.
-const SCENES: u32 = 400;
+const SCENES: usize = 400;
 
 const LEAST_SCENES: u32 = 200;
 
@@ -194,28 +191,36 @@ fn cell_runs_of_generated_scenes_tell_the_plain_run(rt: HostRuntime) -> Result<(
         pairs: 0,
         limits: 0,
     };
-    for _ in 0..SCENES {
-        let text = generated(rt.alloc(), &mut numbers)?;
-        if let Some(run) = run_beside(&rt, rt.alloc(), text.as_str(), 8)? {
-            tally.add(&run);
-        }
+    for number in 0..SCENES {
+        add_generated(&rt, rt.alloc(), &mut numbers, number, &mut tally)?;
     }
-    expect_enough(&rt, &tally);
+    expect(&rt, tally.numbers(), tally.is_enough(), true);
     Ok(())
 }
 
-fn expect_enough(rt: &impl Abort, tally: &Tally) {
-    let (scenes, crossings) = (tally.scenes, tally.crossings);
-    let (pairs, limits) = (tally.pairs, tally.limits);
-    assert!(rt;
-        is_enough(tally),
-        "only {scenes} scenes, {crossings} crossings, {pairs} collisions of two disks, {limits} limits"
-    );
+// Adds the run of the next generated scene, if that isn't refused.
+fn add_generated(
+    rt: &impl Abort,
+    alloc: Global,
+    numbers: &mut Numbers,
+    number: usize,
+    tally: &mut Tally,
+) -> Result<(), AllocError> {
+    let text = generated(alloc, numbers)?;
+    match scene_of(alloc, text.as_str())? {
+        Some(scene) => add_run(rt, alloc, (number, text.as_str()), &scene, tally),
+        None => Ok(()),
+    }
 }
 
-fn is_enough(tally: &Tally) -> bool {
-    tally.scenes >= LEAST_SCENES
-        && tally.crossings >= LEAST_CROSSINGS
-        && tally.pairs >= LEAST_PAIRS
-        && tally.limits >= LEAST_LIMITS
+fn add_run(
+    rt: &impl Abort,
+    alloc: Global,
+    case: Case<'_>,
+    scene: &Scene,
+    tally: &mut Tally,
+) -> Result<(), AllocError> {
+    let run = run_beside(rt, alloc, case, scene, 8)?;
+    tally.add(&run);
+    Ok(())
 }

@@ -1,21 +1,18 @@
 //! What runs over regions tell a listener between two bursts.
 
+use super::cases::expect;
+use super::scenes::valid_scene;
 use event_rules::{Change, Deaf, Listener, RunFault};
 use fixed_motion::Scene;
 use region_core::{Burst, Region, Step};
 use run_core::simulate;
 use std::alloc::{AllocError, Global};
+use std::process::Abort;
 use std::sync::Wait;
 use std::sync::atomic::{AtomicU64, Ordering};
 use std::test::Fail;
 use std::thread::Threads;
-use test_scenes::{FOUR_IN_A_ROW, LONG, ROLLED_BACK, scene, scene_of};
-
-// The scene of some disks in a row of 20 columns.
-fn long_scene(alloc: Global, end: u32, disks: &str) -> Result<Option<Scene>, AllocError> {
-    let text = scene(alloc, LONG, 8, end, disks)?;
-    scene_of(alloc, text.as_str())
-}
+use test_scenes::{FOUR_IN_A_ROW, LONG, ROLLED_BACK};
 
 // Counts in a word that others read how often it was told, and refuses one of the tellings.
 #[derive(Drop)]
@@ -83,15 +80,9 @@ impl<'a> Burst for Reading<'a> {
     }
 }
 
-// What a run came to that was listened to.
-#[derive(Debug, Drop)]
-struct Listened {
-    cut_short: bool,
-    // How often the burst was called.
-    calls: u32,
-    // How many changes had been told at its last call.
-    told_before: u64,
-}
+// Whether a run was cut short that was listened to, how often the burst was called, and how many changes had been
+// told at its last call.
+type Listened = (bool, u32, u64);
 
 // Runs a scene over four regions, where the ear refuses this telling.
 fn listen(
@@ -108,26 +99,33 @@ fn listen(
         calls: 0,
     };
     let answer = simulate(rt, alloc, scene, 4, &mut burst, &mut ear);
-    Listened {
-        cut_short: matches!(&answer, Err(RunFault::Listener)),
-        calls: burst.calls,
-        told_before: burst.last,
-    }
+    let is_cut_short = matches!(&answer, Err(RunFault::Listener));
+    (is_cut_short, burst.calls, burst.last)
+}
+
+// What a run comes to with an ear that refuses nothing, and with one that refuses the second telling.
+fn whole_and_part(
+    rt: &(impl Threads + Wait + Sync + Abort),
+    alloc: Global,
+) -> Result<(Listened, Listened), AllocError> {
+    let scene = valid_scene(rt, alloc, LONG, 8, 20, ROLLED_BACK)?;
+    let whole = listen(rt, alloc, &scene, None);
+    let part = listen(rt, alloc, &scene, Some(1));
+    Ok((whole, part))
 }
 
 #[test]
 fn each_batch_is_told_before_the_next_burst(rt: HostRuntime) -> Result<(), Fail> {
-    let read = long_scene(rt.alloc(), 20, ROLLED_BACK)?;
-    assert!(rt; read.is_some(), "{ROLLED_BACK} is refused");
-    if let Some(scene) = read {
-        let whole = listen(&rt, rt.alloc(), &scene, None);
-        assert!(rt; !whole.cut_short && whole.told_before > 0, "{whole:?}");
-        let part = listen(&rt, rt.alloc(), &scene, Some(1));
-        assert!(rt;
-            part.cut_short && part.calls < whole.calls,
-            "{part:?} of {whole:?}"
-        );
-    }
+    let (whole, part) = whole_and_part(&rt, rt.alloc())?;
+    let (is_cut_short, calls, told_before) = whole;
+    let (is_part, calls_of_part, _) = part;
+    let found = (
+        is_cut_short,
+        told_before > 0,
+        is_part,
+        calls_of_part < calls,
+    );
+    expect(&rt, (whole, part), found, (false, true, true, true));
     Ok(())
 }
 
@@ -158,22 +156,22 @@ impl Burst for Counting {
 
 // Whether the four disks' run over one region came to its end, how often the burst was called, and how often the
 // ear was told.
-fn counted(rt: &(impl Threads + Wait + Sync), alloc: Global, scene: &Scene) -> (bool, u32, u64) {
+fn counted(
+    rt: &(impl Threads + Wait + Sync + Abort),
+    alloc: Global,
+) -> Result<(bool, u32, u64), AllocError> {
+    let scene = valid_scene(rt, alloc, LONG, 8, 40, FOUR_IN_A_ROW)?;
     let told = AtomicU64::new(0);
     let mut ear = Ear::new(&told, None);
     let mut burst = Counting { calls: 0 };
-    let is_done = simulate(rt, alloc, scene, 1, &mut burst, &mut ear).is_ok();
-    (is_done, burst.calls, told.load(Ordering::SeqCst))
+    let is_done = simulate(rt, alloc, &scene, 1, &mut burst, &mut ear).is_ok();
+    Ok((is_done, burst.calls, told.load(Ordering::SeqCst)))
 }
 
 #[test]
 fn what_a_burst_did_is_taken_over(rt: HostRuntime) -> Result<(), Fail> {
-    let read = long_scene(rt.alloc(), 40, FOUR_IN_A_ROW)?;
-    assert!(rt; read.is_some(), "{FOUR_IN_A_ROW} is refused");
-    if let Some(scene) = read {
-        let (is_done, calls, told) = counted(&rt, rt.alloc(), &scene);
-        assert!(rt; is_done && told == 4, "done: {is_done}, {told} changes");
-        assert!(rt; calls <= 2, "{calls} bursts");
-    }
+    let (is_done, calls, told) = counted(&rt, rt.alloc())?;
+    let found = (is_done, told, calls <= 2);
+    expect(&rt, ("bursts", calls), found, (true, 4, true));
     Ok(())
 }

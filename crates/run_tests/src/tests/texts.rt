@@ -53,12 +53,12 @@ fn spot_line(alloc: Global, number: usize, spot: &Spot) -> Result<String, AllocE
     format!(in alloc; "disk {number} {x} {y} {vx} {vy}\n")
 }
 
-// How many events are of one disk at a wall, and how many of two disks.
-fn counts(changes: &[Change]) -> (usize, usize) {
-    let pairs = changes
-        .iter()
-        .filter(|change| change.second.is_some())
-        .count();
+/// How many events are of one disk at a wall, and how many of two disks.
+pub fn counts(changes: &[Change]) -> (usize, usize) {
+    let mut pairs: usize = 0;
+    for change in changes {
+        pairs = pairs.wrapping_add(usize::from(change.second.is_some()));
+    }
     (changes.len().wrapping_sub(pairs), pairs)
 }
 

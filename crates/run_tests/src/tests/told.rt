@@ -3,6 +3,7 @@
 //! A report is a function of the scene, of the changes of its run and of how that ends: runs that come to the same
 //! have the same report.
 
+use super::cases::{Case, expect};
 use all_pairs::simulate_plain;
 use event_rules::{Change, Deaf, Limit, Listener, Outcome, RunFault, Spot};
 use fixed_motion::Scene;
@@ -89,7 +90,7 @@ impl Told {
 pub fn expect_plain(
     rt: &impl Abort,
     alloc: Global,
-    case: &str,
+    case: Case<'_>,
     scene: &Scene,
     found: &Told,
 ) -> Result<(), AllocError> {
@@ -105,13 +106,10 @@ fn told_plainly(alloc: Global, scene: &Scene) -> Result<Told, AllocError> {
 }
 
 // Stops a test at the first change that differs or that one of the two has alone, or where the ends differ.
-fn expect_same(rt: &impl Abort, case: &str, found: &Told, want: &Told) {
+fn expect_same(rt: &impl Abort, case: Case<'_>, found: &Told, want: &Told) {
     let place = first_difference(&found.changes, &want.changes);
-    assert_eq!(rt;
-        seen_at(found, place),
-        seen_at(want, place),
-        "{case}: change {place}, the limit and the end"
-    );
+    let (found, want) = (seen_at(found, place), seen_at(want, place));
+    expect(rt, (case, "change", place), found, want);
 }
 
 // How many changes two runs have in common from the first one on.

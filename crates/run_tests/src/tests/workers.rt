@@ -3,6 +3,7 @@
 ghost use Rattle.std.specs.Prelude.{IfOk};
 ghost use Rattle.local_run.specs.Bursts.{AreTogether};
 
+use super::cases::expect;
 use super::scenes::valid_scene;
 use commit_horizon::Committed;
 use event_stamps::{Kind, Stamp};
@@ -10,12 +11,13 @@ use fixed_motion::Scene;
 use region_core::{Gate, OpenGate, Region};
 use region_workers::Workers;
 use std::alloc::{AllocError, Global};
+use std::process::Abort;
 use std::sync::Wait;
 use std::sync::atomic::{AtomicBool, AtomicU32, Ordering};
 use std::test::Fail;
 use std::thread;
 use std::thread::Threads;
-use test_scenes::{FOUR_IN_A_ROW, LONG, scene, scene_of};
+use test_scenes::{FOUR_IN_A_ROW, LONG};
 
 // Disk 0 reaches the cell beside its own.
 const CROSSING: Stamp = Stamp {
@@ -55,7 +57,10 @@ fn after_one_step<R: Threads + Wait + Sync>(
 type Seen = (usize, Option<Stamp>, Option<usize>);
 
 fn seen(region: &Region) -> Seen {
-    let heard = region.heard(0).map(|trail| trail.len());
+    let heard = match region.heard(0) {
+        Some(trail) => Some(trail.len()),
+        None => None,
+    };
     (region.entries(), region.clock(), heard)
 }
 
@@ -71,42 +76,25 @@ const ONE_STEP_ON: &[Seen] = &[
 fn a_worker_steps_and_hears(rt: HostRuntime) -> Result<(), Fail> {
     for (number, &want) in ONE_STEP_ON.iter().enumerate() {
         let found = seen_after_one_step(&rt, rt.alloc(), number)?;
-        assert_eq!(rt;
-            found,
-            Some((ONE_STEP_ON.len(), want)),
-            "regions, and region {number}"
-        );
+        expect(&rt, number, found, Some((4, want)));
     }
     Ok(())
 }
 
-// How many regions there are after the burst, and one of them; none where there is no such region, or the scene is
-// refused.
-fn seen_after_one_step<R: Threads + Wait + Sync>(
+// How many regions there are after the burst, and one of them; none where there is no such region.
+fn seen_after_one_step<R: Threads + Wait + Sync + Abort>(
     rt: &R,
     alloc: Global,
     number: usize,
 ) -> Result<Option<(usize, Seen)>, AllocError> {
-    let text = scene(alloc, LONG, 8, 40, FOUR_IN_A_ROW)?;
-    match scene_of(alloc, text.as_str())? {
-        Some(scene) => seen_in(rt, alloc, &scene, number),
-        None => Ok(None),
-    }
+    let scene = valid_scene(rt, alloc, LONG, 8, 40, FOUR_IN_A_ROW)?;
+    let regions = after_one_step(rt, alloc, opened(alloc, &scene)?)?;
+    Ok(seen_among(&regions, number))
 }
 
-fn seen_in<R: Threads + Wait + Sync>(
-    rt: &R,
-    alloc: Global,
-    scene: &Scene,
-    number: usize,
-) -> Result<Option<(usize, Seen)>, AllocError> {
-    let regions = opened(alloc, scene)?;
-    let regions = after_one_step(rt, alloc, regions)?;
-    Ok(
-        regions
-            .get(number)
-            .map(|region| (regions.len(), seen(region))),
-    )
+fn seen_among(regions: &[Region], number: usize) -> Option<(usize, Seen)> {
+    let region = regions.get(number)?;
+    Some((regions.len(), seen(region)))
 }
 
 // Worker 0 waits in its first turn until worker 1 was here, and notes whether it was. All turns are counted, and it is
@@ -146,27 +134,19 @@ type Met = (usize, bool, u32, bool);
 
 #[test]
 fn two_workers_meet(rt: HostRuntime) -> Result<(), Fail> {
-    let scene = valid_scene(&rt, rt.alloc(), LONG, 8, 20, "")?;
-    assert_eq!(rt;
-        met_in(&rt, rt.alloc(), &scene)?,
-        (4, true, 131_072, true),
-        "regions, whether the workers met, turns, and whether one could have been held up"
-    );
+    let found: Met = met(&rt, rt.alloc())?;
+    expect(&rt, "two workers", found, (4, true, 131_072, true));
     Ok(())
 }
 
-fn met_in<R: Threads + Wait + Sync>(
-    rt: &R,
-    alloc: Global,
-    scene: &Scene,
-) -> Result<Met, AllocError> {
+fn met<R: Threads + Wait + Sync + Abort>(rt: &R, alloc: Global) -> Result<Met, AllocError> {
     let gate = Meeting {
         came: AtomicBool::new(false),
         met: AtomicBool::new(false),
         turns: AtomicU32::new(0),
         paused: AtomicBool::new(false),
     };
-    let count = count_after(rt, alloc, scene, &gate)?;
+    let count = count_after(rt, alloc, &gate)?;
     Ok((
         count,
         gate.met.load(Ordering::SeqCst),
@@ -177,18 +157,18 @@ fn met_in<R: Threads + Wait + Sync>(
 
 // How many regions two workers give back that pass a gate. With no disk there is nothing to do, so these turns would
 // take minutes if they did more than that.
-fn count_after<R: Threads + Wait + Sync>(
+fn count_after<R: Threads + Wait + Sync + Abort>(
     rt: &R,
     alloc: Global,
-    scene: &Scene,
     gate: &Meeting,
 ) -> Result<usize, AllocError> {
+    let scene = valid_scene(rt, alloc, LONG, 8, 20, "")?;
     let workers = Workers {
         workers: 2,
         turns: 65_536,
         steps: 4096,
         gate,
     };
-    let regions = workers.burst(rt, alloc, opened(alloc, scene)?)?;
+    let regions = workers.burst(rt, alloc, opened(alloc, &scene)?)?;
     Ok(regions.len())
 }
