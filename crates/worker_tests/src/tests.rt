@@ -1,5 +1,6 @@
 //! One module for each part.
 
+mod cases;
 mod locks;
 mod pace;
 mod regions;

@@ -1,5 +1,6 @@
 //! How far regions run, and where a burst stands.
 
+use super::cases::expect;
 use super::regions::{RULES, empty_scene, opened};
 use event_stamps::{Kind, Stamp};
 use region_locks::Progress;
@@ -45,11 +46,7 @@ fn a_phase_ends_when_it_is_done_of_all_regions(rt: HostRuntime) {
     let mut roll = Roll::of(0);
     for (row, (share, want)) in SHARES.iter().enumerate() {
         roll = kept(roll, share);
-        assert_eq!(rt;
-            (roll.phase, roll.done, roll.hears),
-            *want,
-            "after share {row}"
-        );
+        expect(&rt, row, (roll.phase, roll.done, roll.hears), *want);
     }
 }
 
@@ -90,7 +87,7 @@ fn first_out_of_order(disks: u64) -> Option<usize> {
 #[test]
 fn parts_are_in_the_order_of_stamps(rt: HostRuntime) {
     for &disks in &[1u64, 1000, 65_536] {
-        assert_eq!(rt; first_out_of_order(disks), None, "{disks} disks");
+        expect(&rt, disks, first_out_of_order(disks), None);
     }
 }
 
@@ -144,10 +141,8 @@ fn a_slice_goes_as_far_as_its_steps_took_lately(rt: HostRuntime) -> Result<(), A
     let earlier = (16, Stamp::end_of(16));
     // Settling goes to the farthest bound.
     let settling = (5, Stamp::end_of(17));
-    assert_eq!(rt;
-        slices(rt.alloc())?,
-        Some((first, (next, earlier, settling))),
-        "steps and ends"
-    );
+    let found = slices(rt.alloc())?;
+    let want: Slices = (first, (next, earlier, settling));
+    expect(&rt, "steps and ends", found, Some(want));
     Ok(())
 }

@@ -2,6 +2,7 @@
 
 ghost use Rattle.std.specs.Prelude.{◌≡◌, ◌+◌, ◌<◌, ◌^◌};
 
+use super::cases::expect;
 use lent_scope::scope_mut;
 use std::sync::Wait;
 use std::sync::atomic::{AtomicU64, Ordering};
@@ -56,9 +57,5 @@ fn found_after_scope<R: Threads + Wait + Sync>(rt: &R) -> (u64, u64, u64) {
 
 #[test]
 fn a_closure_leaves_what_it_wrote_and_its_thread_has_ended(rt: HostRuntime) {
-    assert_eq!(rt;
-        found_after_scope(&rt),
-        (5, 7, 1),
-        "what the number was and is, and how often the thread counted"
-    );
+    expect(&rt, "after the scope", found_after_scope(&rt), (5, 7, 1));
 }
