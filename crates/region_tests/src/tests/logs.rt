@@ -3,6 +3,7 @@
 ghost use Rattle.std.specs.Prelude.{IsTrue};
 ghost use Rattle.region_view.specs.Setting.{IsInOrder};
 
+use super::cases::expect;
 use cell_grid::Grid;
 use event_log::EventLog;
 use event_rules::Change;
@@ -238,7 +239,7 @@ fn all_taken() -> [Taken; 7] {
 fn taking_back_leads_to_the_first_view(rt: HostRuntime) -> Result<(), Fail> {
     for (times, taken) in all_taken().iter().enumerate() {
         let found = taken_back(rt.alloc(), times)?;
-        assert_eq!(rt; found, Some(*taken), "{times} taken back");
+        expect(&rt, times, found, Some(*taken));
     }
     Ok(())
 }
@@ -272,8 +273,11 @@ fn dropped(log: &mut EventLog) -> Dropped {
     (last, first, log.len())
 }
 
-// What a log holds into which a message came late, and what is taken off it; none where there is no room.
-fn put_late(alloc: Global) -> Result<Option<(Held, Dropped)>, AllocError> {
+// What a log holds, and what is taken off it.
+type Late = (Held, Dropped);
+
+// What comes of a log into which a message came late; none where there is no room.
+fn put_late(alloc: Global) -> Result<Option<Late>, AllocError> {
     let mut log = EventLog::new(alloc);
     if put_both(&mut log)? {
         Ok(Some((held(&log), dropped(&mut log))))
@@ -287,9 +291,8 @@ fn a_late_message_is_put_before_later_entries(rt: HostRuntime) -> Result<(), Fai
     let held = (2, Some(CROSSING.stamp()), None, Some(CROSSING));
     let last = (Entry::Native(CROSSING), Rows::one((0, Some(FIRST))));
     let first = (message(), Rows::two((0, None), (1, None)));
-    assert_eq!(rt;
-        put_late(rt.alloc())?,
-        Some((held, (Some(last), Some(first), 0)))
-    );
+    let found = put_late(rt.alloc())?;
+    let want: Late = (held, (Some(last), Some(first), 0));
+    expect(&rt, "held and dropped", found, Some(want));
     Ok(())
 }

@@ -2,6 +2,7 @@
 
 ghost use Rattle.cell_grid.specs.Grid.{IsRegion};
 
+use super::cases::expect;
 use cell_sequence::CellState;
 use event_rules::Limit;
 use event_stamps::{Kind, Stamp};
@@ -41,7 +42,7 @@ pub enum Call {
 }
 
 /// What a region answers, or how many entries its log has after a call that answers nothing.
-#[derive(Clone, Copy, Debug, PartialEq, Eq)]
+#[derive(Clone, Copy)]
 pub enum Answer {
     Ran(Key),
     Heard(Key),
@@ -65,12 +66,39 @@ pub type Row = (usize, Call, Answer);
 /// What a script shows, its regions, and its rows.
 pub type Script = (&'static str, &'static [Member], &'static [Row]);
 
+// What an answer is named, its stamps, and its number: what can be compared and shown.
+type Plain = (&'static str, Option<Key>, Option<Key>, usize);
+
+fn plain(answer: Answer) -> Plain {
+    match answer {
+        Answer::Ran(at) => ("ran", Some(at), None, 0),
+        Answer::Heard(at) => ("heard", Some(at), None, 0),
+        Answer::PassedSpeed(at) => ("passed speed", Some(at), None, 0),
+        Answer::Past(due, clock) => ("past", Some(due), Some(clock), 0),
+        Answer::Tied(at) => ("tied", Some(at), None, 0),
+        Answer::Held => ("held", None, None, 0),
+        Answer::Spent => ("spent", None, None, 0),
+        Answer::Rewound(at) => ("rewound", Some(at), None, 0),
+        Answer::Later(at) => ("later", Some(at), None, 0),
+        Answer::Same => ("same", None, None, 0),
+        Answer::Apart => ("apart", None, None, 0),
+        Answer::Entries(count) => ("entries", None, None, count),
+        Answer::News(is_there) => ("news", None, None, usize::from(is_there)),
+        Answer::Other => ("other", None, None, 0),
+    }
+}
+
 // Where a script goes wrong: what it shows, the number of the row, from 0 on, and what was answered.
-type Wrong = (&'static str, usize, Answer);
+type Wrong = (&'static str, usize, Plain);
 
 /// Plays some scripts: each row has to be answered as it says.
 pub fn play(rt: &impl Abort, alloc: Global, scripts: &[Script]) -> Result<(), Fail> {
-    assert_eq!(rt; first_wrong(alloc, scripts)?, None);
+    expect(
+        rt,
+        "the first wrong row",
+        first_wrong(alloc, scripts)?,
+        None,
+    );
     Ok(())
 }
 
@@ -88,11 +116,11 @@ fn first_wrong_row(
     alloc: Global,
     members: &[Member],
     rows: &[Row],
-) -> Result<Option<(usize, Answer)>, AllocError> {
+) -> Result<Option<(usize, Plain)>, AllocError> {
     let mut regions = opened(alloc, members)?;
     for (i, &(place, call, expected)) in rows.iter().enumerate() {
-        let answer = answer_to(alloc, &mut regions, place, call)?;
-        if answer != expected {
+        let answer = plain(answer_to(alloc, &mut regions, place, call)?);
+        if answer != plain(expected) {
             return Ok(Some((i, answer)));
         }
     }
@@ -120,7 +148,8 @@ fn region_of(
     }
 }
 
-fn region_in(
+/// The region of a state with this number, if there is one.
+pub fn region_in(
     alloc: Global,
     state: &CellState,
     number: u32,

@@ -1,8 +1,12 @@
 //! Messages that come late, beside regions that heard the same before they ran.
 
+use super::cases::expect;
+use super::scripts::region_in;
 use cell_sequence::CellState;
+use event_stamps::Stamp;
 use region_core::Region;
 use region_messages::Trail;
+use region_view::Message;
 use std::alloc::{AllocError, Global};
 use std::test::Fail;
 use test_scenes::{Numbers, crowd, scene_of};
@@ -21,7 +25,7 @@ const LEAST_LATE: usize = 2_000;
 const LEAST_ALIKE: usize = 700;
 
 // What came of late messages.
-#[derive(Clone, Copy, Debug)]
+#[derive(Drop)]
 struct Seen {
     // How many there were.
     late: usize,
@@ -62,19 +66,11 @@ fn opened(alloc: Global, scene: &fixed_motion::Scene) -> Result<Scene, AllocErro
 fn regions_of(alloc: Global, state: &CellState) -> Result<Vec<Region>, AllocError> {
     let mut regions = Vec::new(alloc);
     for number in 0..REGIONS {
-        if let Some(region) = region_of(alloc, state, number)? {
+        if let Some(region) = region_in(alloc, state, number, false)? {
             regions.push(region)?;
         }
     }
     Ok(regions)
-}
-
-fn region_of(alloc: Global, state: &CellState, number: u32) -> Result<Option<Region>, AllocError> {
-    if number < state.grid().regions() {
-        Ok(Some(Region::open(alloc, state, number)?))
-    } else {
-        Ok(None)
-    }
 }
 
 // Lets the region at a place run some steps.
@@ -127,19 +123,34 @@ fn catch_up_with(
 
 // How many messages of a region another one hasn't heard that are before the last thing that it did.
 fn count_late(hearer: &Region, teller: &Region) -> usize {
-    let (Some(clock), Some(sent)) = (hearer.clock(), teller.sent(hearer.number())) else {
-        return 0;
-    };
-    let heard = hearer.heard(teller.number()).map_or(0, Trail::len);
-    let mut late = 0usize;
-    for i in heard..sent.len() {
-        if let Some(message) = sent.get(i)
-            && message.stamp < clock
-        {
-            late = late.wrapping_add(1);
-        }
+    match (hearer.clock(), teller.sent(hearer.number())) {
+        (Some(clock), Some(sent)) => count_before(clock, sent, count_heard(hearer, teller)),
+        _ => 0,
     }
-    late
+}
+
+// How many messages a region heard of another one.
+fn count_heard(hearer: &Region, teller: &Region) -> usize {
+    match hearer.heard(teller.number()) {
+        Some(trail) => trail.len(),
+        None => 0,
+    }
+}
+
+// How many messages from a place on are before a stamp.
+fn count_before(clock: Stamp, sent: &Trail, from: usize) -> usize {
+    let mut count: usize = 0;
+    for i in from..sent.len() {
+        count = count.wrapping_add(usize::from(is_before(clock, sent.get(i))));
+    }
+    count
+}
+
+fn is_before(clock: Stamp, message: Option<&Message>) -> bool {
+    match message {
+        Some(message) => message.stamp < clock,
+        None => false,
+    }
 }
 
 // Compares the region at a place with one that hears the same at the start and then makes as many steps.
@@ -157,7 +168,7 @@ fn compare_with_first(
     scene: &Scene,
     region: &Region,
 ) -> Result<Option<bool>, AllocError> {
-    let Some(mut first) = region_of(alloc, &scene.state, region.number())? else {
+    let Some(mut first) = region_in(alloc, &scene.state, region.number(), false)? else {
         return Ok(None);
     };
     let are_alike = is_as_if_in_time(alloc, region, &mut first, &scene.regions);
@@ -184,7 +195,12 @@ fn is_as_if_in_time(
 }
 
 fn has_heard_all_of(region: &Region, others: &[Region]) -> bool {
-    others.iter().all(|other| has_heard_all(region, other))
+    for other in others {
+        if !has_heard_all(region, other) {
+            return false;
+        }
+    }
+    true
 }
 
 // Whether what a region heard of another is what that one sends to it now.
@@ -195,20 +211,46 @@ fn has_heard_all(region: &Region, other: &Region) -> bool {
 // Whether there are the same messages.
 fn are_alike(trail: Option<&Trail>, other: Option<&Trail>) -> bool {
     match (trail, other) {
-        (Some(trail), Some(other)) => {
-            trail.len() == other.len() && (0..trail.len()).all(|i| trail.get(i) == other.get(i))
-        }
+        (Some(trail), Some(other)) => trail.len() == other.len() && goes_on_as(trail, other),
         (None, None) => true,
         _ => false,
     }
+}
+
+// Whether each message of a trail is at its place in another one.
+fn goes_on_as(trail: &Trail, other: &Trail) -> bool {
+    for i in 0..trail.len() {
+        if trail.get(i) != other.get(i) {
+            return false;
+        }
+    }
+    true
 }
 
 // Whether the logs of two regions have the same events, and what comes next and what is sent is the same.
 fn did_the_same(region: &Region, other: &Region) -> bool {
     region.entries() == other.entries()
         && region.due() == other.due()
-        && (0..region.entries()).all(|i| region.native(i) == other.native(i))
-        && (0..REGIONS).all(|to| are_alike(region.sent(to), other.sent(to)))
+        && ran_the_same(region, other)
+        && sent_the_same(region, other)
+}
+
+fn ran_the_same(region: &Region, other: &Region) -> bool {
+    for i in 0..region.entries() {
+        if region.native(i) != other.native(i) {
+            return false;
+        }
+    }
+    true
+}
+
+fn sent_the_same(region: &Region, other: &Region) -> bool {
+    for to in 0..REGIONS {
+        if !are_alike(region.sent(to), other.sent(to)) {
+            return false;
+        }
+    }
+    true
 }
 
 // Lets all regions of a scene run, and then each catch up with all others.
@@ -243,10 +285,21 @@ fn note(alike: Option<bool>, seed: u64, place: usize, seen: &mut Seen) {
 
 fn see(alloc: Global, seed: u64, seen: &mut Seen) -> Result<(), AllocError> {
     let mut numbers = Numbers { state: seed };
-    if let Some(mut scene) = scene_from(alloc, &mut numbers)? {
-        for _ in 0..TURNS {
-            turn(alloc, &mut scene, &mut numbers, seed, seen)?;
-        }
+    match scene_from(alloc, &mut numbers)? {
+        Some(mut scene) => make_turns(alloc, &mut scene, &mut numbers, seed, seen),
+        None => Ok(()),
+    }
+}
+
+fn make_turns(
+    alloc: Global,
+    scene: &mut Scene,
+    numbers: &mut Numbers,
+    seed: u64,
+    seen: &mut Seen,
+) -> Result<(), AllocError> {
+    for _ in 0..TURNS {
+        turn(alloc, scene, numbers, seed, seen)?;
     }
     Ok(())
 }
@@ -263,14 +316,14 @@ fn late_messages_come_as_if_in_time(rt: HostRuntime) -> Result<(), Fail> {
     for seed in 1..=SCENES {
         see(rt.alloc(), seed, &mut seen)?;
     }
-    assert!(rt; seen.other.is_none(), "another region: {seen:?}");
-    assert!(rt;
-        seen.late >= LEAST_LATE && seen.alike >= LEAST_ALIKE,
-        "too few: {seen:?}"
-    );
-    assert!(rt;
-        seen.kept >= seen.times / 2,
-        "too much taken back: {seen:?}"
+    let counts = (seen.late, seen.times, seen.kept, seen.alike);
+    let are_enough = seen.late >= LEAST_LATE && seen.alike >= LEAST_ALIKE;
+    let are_kept = seen.kept >= seen.times / 2;
+    expect(
+        &rt,
+        counts,
+        (seen.other, are_enough, are_kept),
+        (None, true, true),
     );
     Ok(())
 }
