@@ -1,5 +1,6 @@
 //! One module for each part.
 
+mod cases;
 mod scenes;
 mod seats;
 mod workers;

@@ -7,6 +7,7 @@ ghost use Rattle.region_table.specs.Bases.{MayLieIn};
 ghost use Rattle.region_table.specs.Rule.{slots_of};
 ghost use Rattle.region_table.specs.Tables.{IsSeatOf};
 
+use super::cases::expect;
 use super::scenes::opened;
 use event_stamps::{Kind, Stamp};
 use region_core::{Region, Step};
@@ -30,7 +31,7 @@ const THIRD_HIT: Stamp = Stamp {
 };
 
 // What a seat is answered: with how many entries the region comes, or why it doesn't.
-#[derive(Clone, Copy, Debug, PartialEq, Eq)]
+#[derive(Clone, Copy, Debug, PartialEq)]
 enum Answer {
     Entries(usize),
     Away,
@@ -74,6 +75,9 @@ fn step_thrice(alloc: Global, region: &mut Region) -> Result<Step, AllocError>
     region.run(alloc, 3)
 }
 
+// What the last of a region's steps answers, and what seats are answered that ask for it and for another.
+type Shared = (Step, [Answer; 3]);
+
 // A seat takes a region out, steps it and puts it back; meanwhile another asks for it and for the next one.
 // The last answer is to the first seat, which asks for the region again.
 fn share(
@@ -81,7 +85,7 @@ fn share(
     table: &RegionTable,
     seat: &mut TableSeat,
     other: &mut TableSeat,
-) -> Result<Option<(Step, [Answer; 3])>, AllocError>
+) -> Result<Option<Shared>, AllocError>
     requires regions { OTHER < length table.now.opened }
     requires seat { IsSeatOf table.now seat.old × (slots_of seat.old.view.held ≡ []) }
     requires other { IsSeatOf table.now other.old × (slots_of other.old.view.held ≡ []) }
@@ -97,25 +101,31 @@ fn share(
     Ok(Some((last, [while_out, beside, back])))
 }
 
-#[test]
-fn a_region_is_away_until_it_is_put_back(rt: HostRuntime) -> Result<(), Fail> {
-    let alloc = rt.alloc();
-    let Some(scene) = scene_of(alloc, SLOW_CROSSING)? else {
-        assert!(rt; false, "the scene is refused");
-        return Ok(());
-    };
-    let regions = opened(alloc, &scene)?;
+// None where there are not four regions.
+fn share_all(alloc: Global, regions: Vec<Region>) -> Result<Option<Shared>, AllocError>
+    requires { AreTogether regions.items }
+{
     if regions.len() != 4 {
-        assert!(rt; false, "{} regions", regions.len());
-        return Ok(());
+        return Ok(None);
     }
     let (table, mut seat) = RegionTable::open(alloc, regions)?;
     let mut other = table.split(&mut seat);
-    let found = share(alloc, &table, &mut seat, &mut other)?;
-    let expected = [Answer::Away, Answer::Entries(0), Answer::Entries(3)];
-    assert!(rt;
-        found == Some((Step::Ran(THIRD_HIT), expected)),
-        "found {found:?}"
-    );
+    share(alloc, &table, &mut seat, &mut other)
+}
+
+// None where the scene is refused, too.
+fn shared(alloc: Global) -> Result<Option<Shared>, AllocError> {
+    match scene_of(alloc, SLOW_CROSSING)? {
+        Some(scene) => share_all(alloc, opened(alloc, &scene)?),
+        None => Ok(None),
+    }
+}
+
+#[test]
+fn a_region_is_away_until_it_is_put_back(rt: HostRuntime) -> Result<(), Fail> {
+    let found = shared(rt.alloc())?;
+    let answers = [Answer::Away, Answer::Entries(0), Answer::Entries(3)];
+    let want: Shared = (Step::Ran(THIRD_HIT), answers);
+    expect(&rt, "two seats", found, Some(want));
     Ok(())
 }

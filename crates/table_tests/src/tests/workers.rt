@@ -4,6 +4,7 @@ ghost use Rattle.std.specs.Prelude.{◌≡◌, length, IfOk};
 ghost use Rattle.local_run.specs.Bursts.{AreTogether};
 ghost use Rattle.local_run.specs.RunOn.{AreRunOn};
 
+use super::cases::expect;
 use super::scenes::{REGIONS, opened};
 use event_rules::{Change, Deaf, Listener};
 use event_stamps::{Kind, Stamp};
@@ -38,38 +39,65 @@ fn row_scene(alloc: Global) -> Result<Option<Scene>, AllocError> {
     scene_of(alloc, text.as_str())
 }
 
-// Whether region 0 has made its step, region 1 has heard of it, and there is nothing else.
-fn are_one_step_on(regions: &[Region]) -> bool {
-    let [first, second, third, fourth] = regions else {
-        return false;
+// Whether a region is spent, the number of its entries and its clock, and how many messages it heard from region 0.
+type Seen = (bool, usize, Option<Stamp>, Option<usize>);
+
+// Region 0 has made its step, region 1 has heard of it, and there is nothing else.
+const ONE_STEP_ON: [Option<Seen>; 5] = [
+    Some((false, 1, Some(CROSSING), None)),
+    Some((false, 0, None, Some(1))),
+    Some((false, 0, None, None)),
+    Some((false, 0, None, None)),
+    None,
+];
+
+fn seen_at(regions: &[Region], place: usize) -> Option<Seen> {
+    let region = regions.get(place)?;
+    let heard = match region.heard(0) {
+        Some(trail) => Some(trail.len()),
+        None => None,
     };
-    first.entries() == 1
-        && first.clock() == Some(CROSSING)
-        && second.heard(0).is_some_and(|trail| trail.len() == 1)
-        && [second, third, fourth]
-            .iter()
-            .all(|region| !region.is_spent() && region.entries() == 0)
+    Some((region.is_spent(), region.entries(), region.clock(), heard))
 }
 
-#[test]
-fn a_worker_steps_and_hears(rt: HostRuntime) -> Result<(), Fail> {
-    let alloc = rt.alloc();
-    let Some(scene) = row_scene(alloc)? else {
-        assert!(rt; false, "the scene is refused");
-        return Ok(());
-    };
+// The regions of the scene after a burst by one worker, of one turn with one step; none where the scene is refused.
+fn after_one_step<R: Threads + Wait + Sync>(
+    rt: &R,
+    alloc: Global,
+) -> Result<Option<[Option<Seen>; 5]>, AllocError> {
+    match row_scene(alloc)? {
+        Some(scene) => one_step_on(rt, alloc, opened(alloc, &scene)?),
+        None => Ok(None),
+    }
+}
+
+fn one_step_on<R: Threads + Wait + Sync>(
+    rt: &R,
+    alloc: Global,
+    regions: Vec<Region>,
+) -> Result<Option<[Option<Seen>; 5]>, AllocError>
+    requires { AreTogether regions.items }
+{
     let workers = TableWorkers {
         workers: 1,
         turns: 1,
         steps: 1,
         gate: &OpenGate,
     };
-    let worked = workers.burst(&rt, alloc, opened(alloc, &scene)?)?;
-    assert!(rt;
-        are_one_step_on(&worked),
-        "{} regions aren't one step on",
-        worked.len()
-    );
+    let worked = workers.burst(rt, alloc, regions)?;
+    Ok(Some([
+        seen_at(&worked, 0),
+        seen_at(&worked, 1),
+        seen_at(&worked, 2),
+        seen_at(&worked, 3),
+        seen_at(&worked, 4),
+    ]))
+}
+
+#[test]
+fn a_worker_steps_and_hears(rt: HostRuntime) -> Result<(), Fail> {
+    let found = after_one_step(&rt, rt.alloc())?;
+    expect(&rt, "regions", found, Some(ONE_STEP_ON));
     Ok(())
 }
 
@@ -164,13 +192,18 @@ fn changes_by_call<R: Threads + Wait + Sync, C: Call + Drop>(
     }
 }
 
-#[test]
-fn two_workers_meet(rt: HostRuntime) -> Result<(), Fail> {
-    let alloc = rt.alloc();
-    let Some(scene) = row_scene(alloc)? else {
-        assert!(rt; false, "the scene is refused");
-        return Ok(());
-    };
+// How many changes a run tells over which two workers work, and whether these met; none where the scene is refused.
+fn met<R: Threads + Wait + Sync>(
+    rt: &R,
+    alloc: Global,
+) -> Result<Option<(Option<u32>, bool)>, AllocError> {
+    match row_scene(alloc)? {
+        Some(scene) => Ok(Some(met_in(rt, alloc, &scene))),
+        None => Ok(None),
+    }
+}
+
+fn met_in<R: Threads + Wait + Sync>(rt: &R, alloc: Global, scene: &Scene) -> (Option<u32>, bool) {
     let gate = Meeting {
         came: AtomicBool::new(false),
         met: AtomicBool::new(false),
@@ -182,11 +215,18 @@ fn two_workers_meet(rt: HostRuntime) -> Result<(), Fail> {
         steps: 5,
         gate: &gate,
     };
-    let changes = changes_by(&rt, alloc, &scene, &workers);
-    assert!(rt; changes == Some(COLLISIONS), "told of {changes:?} changes");
-    assert!(rt;
-        gate.met.load(Ordering::SeqCst),
-        "worker 0 didn't see worker 1"
+    let changes = changes_by(rt, alloc, scene, &workers);
+    (changes, gate.met.load(Ordering::SeqCst))
+}
+
+#[test]
+fn two_workers_meet(rt: HostRuntime) -> Result<(), Fail> {
+    let found = met(&rt, rt.alloc())?;
+    expect(
+        &rt,
+        "changes, and whether they met",
+        found,
+        Some((Some(COLLISIONS), true)),
     );
     Ok(())
 }
