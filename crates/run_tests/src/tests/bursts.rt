@@ -185,15 +185,10 @@ fn put(place: &mut Region, region: Region) {
 }
 
 fn run_last(alloc: Global, regions: &mut [Region]) -> Result<(), AllocError> {
-    match regions.last_mut() {
-        Some(region) => run_ahead(alloc, region),
-        None => Ok(()),
-    }
-}
-
-fn run_ahead(alloc: Global, region: &mut Region) -> Result<(), AllocError> {
-    for _ in 0..4_096 {
-        region.step(alloc)?;
+    if let Some(region) = regions.last_mut() {
+        for _ in 0..4_096 {
+            region.step(alloc)?;
+        }
     }
     Ok(())
 }

@@ -7,7 +7,6 @@ use super::cases::expect;
 use super::scenes::valid_scene;
 use commit_horizon::Committed;
 use event_stamps::{Kind, Stamp};
-use fixed_motion::Scene;
 use region_core::{Gate, OpenGate, Region};
 use region_workers::Workers;
 use std::alloc::{AllocError, Global};
@@ -28,11 +27,12 @@ const CROSSING: Stamp = Stamp {
     second: 0,
 };
 
-// The regions at the start of a scene.
-fn opened(alloc: Global, scene: &Scene) -> Result<Vec<Region>, AllocError>
+// The regions at the start of the scene of some disks.
+fn opened(rt: &impl Abort, alloc: Global, end: u32, disks: &str) -> Result<Vec<Region>, AllocError>
     ensures { IfOk result (λ regions. AreTogether regions.items) }
 {
-    let committed = Committed::open(alloc, scene, 4)?;
+    let scene = valid_scene(rt, alloc, LONG, 8, end, disks)?;
+    let committed = Committed::open(alloc, &scene, 4)?;
     committed.open_all(alloc)
 }
 
@@ -87,8 +87,8 @@ fn seen_after_one_step<R: Threads + Wait + Sync + Abort>(
     alloc: Global,
     number: usize,
 ) -> Result<Option<(usize, Seen)>, AllocError> {
-    let scene = valid_scene(rt, alloc, LONG, 8, 40, FOUR_IN_A_ROW)?;
-    let regions = after_one_step(rt, alloc, opened(alloc, &scene)?)?;
+    let opened = opened(rt, alloc, 40, FOUR_IN_A_ROW)?;
+    let regions = after_one_step(rt, alloc, opened)?;
     Ok(seen_among(&regions, number))
 }
 
@@ -162,13 +162,12 @@ fn count_after<R: Threads + Wait + Sync + Abort>(
     alloc: Global,
     gate: &Meeting,
 ) -> Result<usize, AllocError> {
-    let scene = valid_scene(rt, alloc, LONG, 8, 20, "")?;
     let workers = Workers {
         workers: 2,
         turns: 65_536,
         steps: 4096,
         gate,
     };
-    let regions = workers.burst(rt, alloc, opened(alloc, &scene)?)?;
+    let regions = workers.burst(rt, alloc, opened(rt, alloc, 20, "")?)?;
     Ok(regions.len())
 }
