@@ -9,6 +9,7 @@ use Rattle.local_run.specs.LocalRun.{IsRight}
 use Rattle.local_run.specs.Opening.{RegionData}
 use Rattle.region_core.specs.Live.{run_in, IsLive, IsSound}
 use Rattle.local_run.specs.Keeping.{IsKept}
+use Rattle.local_run.specs.RunOn.{BeginsAs}
 
 pub kept_is : {border : Border} (home : Home) (floor : Stamp) (live : Option Live) (region : RegionData) →
     record { home = home; floor = floor; run = option_map (run_in floor) live } ≡ region →
@@ -47,3 +48,14 @@ spent_sound home floor old new sound gone = still_sound home floor old new sound
 pub body_is : {border : Border} (home : Home) (floor : Stamp) (o : Option Live) (live : Live) →
     IsSound home border floor o → o ≡ Some live → IsLive home floor live
 body_is home floor o live sound here = subst (λ (p : Option Live). IfSome p (IsLive home floor)) here sound.alive
+
+-- it begins as it did, where it is as it was
+pub still_begins : (home : Home) (floor : Stamp) (live : Option Live) (region : RegionData) →
+    record { home = home; floor = floor; run = option_map (run_in floor) live } ≡ region →
+    BeginsAs region (record { home = home; floor = floor; run = option_map (run_in floor) live })
+still_begins home floor live region is = subst (λ (old : RegionData). BeginsAs old
+    (record { home = home; floor = floor; run = option_map (run_in floor) live })) is record {
+      home = refl;
+      floor = refl;
+      base = refl;
+    }

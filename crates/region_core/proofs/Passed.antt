@@ -112,3 +112,7 @@ all_aside h rows log kept passed = all_from (IsLateAside h rows) kept log (λ k 
     late : (o : Option Logged) → IfSome o (IsOutOfWay h rows) → IfSome o (IsLateAside h rows)
     late None out = tt
     late (Some l) out = out.1
+
+-- at the beginning, none
+pub none_passed : (h : Home) (rows : RowList) (log : List Logged) (kept : ℕ) → ArePassed h rows log kept kept
+none_passed h rows log kept k lt le = absurd (omega arith)

@@ -27,7 +27,7 @@ use Rattle.local_run.specs.declared.entry.Entry.{Entry}
 use Rattle.local_run.specs.declared.entry.Entry.TheVariants.{Native, Heard}
 use Rattle.local_run.specs.Entries.{native_in}
 use Rattle.local_run.specs.LocalRun.{Trails, trail_of}
-use Rattle.local_run.specs.Weaving.{IsApart}
+use Rattle.local_run.specs.Weaving.{IsApart, AreOthers}
 use Rattle.local_run.proofs.Touched.{over_others, same_but}
 use Rattle.region_core.specs.Weaving.{disk_of, IsOwnTouch, TouchAfter, IsStepAside, IsLateAside, IsValidBack, BeginsAfter}
 use Rattle.region_core.proofs.Lists.{read_or}
@@ -195,3 +195,42 @@ touch_after h at row other p q here there one two =
     each : (s : Stamp) → IsOwnTouch h row.0 p other.0 q s ⊎ IsOwnTouch h other.0 q row.0 p s → Before at s
     each s (inl touch) = one s touch
     each s (inr touch) = two s touch
+
+-- what stands nowhere touches nothing
+pub none_touched : (h : Home) (at : Stamp) (row other : ℕ × Option Placed) → other.1 ≡ None →
+    TouchAfter h at row other
+none_touched h at (i, None) other none = tt
+none_touched h at (i, Some p) other none =
+    subst (λ (o : Option Placed). TouchAfter h at (i, Some p) (other.0, o)) (sym none) tt
+
+-- ---- rows by how many there are
+pub of_none : (P : ℕ × Option Placed → Type 0) (slice : RowList) → length slice < 1 →
+    (row : ℕ × Option Placed) → IsAmong row slice → P row
+of_none P [] none row among = absurd among
+of_none P (r ∷ rest) none row among = absurd (omega arith)
+
+pub within_two : (n : ℕ) → 2 ≤ n → 0 < n
+within_two n some = omega arith
+
+pub others_none : (xs ys : RowList) → length xs < 1 → AreOthers xs ys
+others_none [] ys none i (k, lt, same) = absurd (omega arith)
+others_none (x ∷ xs) ys none i here = absurd (omega arith)
+
+pub others_one : (xs ys : RowList) (d : ℕ × Option Placed) → 1 ≤ length xs → length xs < 2 →
+    ¬ Contains (numbers_of ys) (get_or xs 0 d).0 → AreOthers xs ys
+others_one [] ys d some few one i here = absurd (omega arith)
+others_one (x ∷ []) ys d some few one i (zero, lt, same) =
+    subst (λ (n : ℕ). ¬ Contains (numbers_of ys) n) same one
+others_one (x ∷ []) ys d some few one i (suc k, lt, same) = absurd (omega arith)
+others_one (x ∷ y ∷ xs) ys d some few one i here = absurd (omega arith)
+
+pub others_two : (xs ys : RowList) (d : ℕ × Option Placed) → AreRows xs → 2 ≤ length xs →
+    ¬ Contains (numbers_of ys) (get_or xs 0 d).0 → ¬ Contains (numbers_of ys) (get_or xs 1 d).0 → AreOthers xs ys
+others_two [] ys d are some one two i here = absurd (omega arith)
+others_two (x ∷ []) ys d are some one two i here = absurd (omega arith)
+others_two (x ∷ y ∷ []) ys d are some one two i (zero, lt, same) =
+    subst (λ (n : ℕ). ¬ Contains (numbers_of ys) n) same one
+others_two (x ∷ y ∷ []) ys d are some one two i (suc zero, lt, same) =
+    subst (λ (n : ℕ). ¬ Contains (numbers_of ys) n) same two
+others_two (x ∷ y ∷ []) ys d are some one two i (suc (suc k), lt, same) = absurd (omega arith)
+others_two (x ∷ y ∷ z ∷ xs) ys d are some one two i here = absurd are

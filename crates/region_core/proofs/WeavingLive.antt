@@ -1,8 +1,8 @@
 -- Weaving a message into a body, by what the code tests and changes.
-use Rattle.std.proofs.Common.{◌≡◌, ◌≢◌, ◌⊎◌, inl, inr, ℕ, ◌+◌, ◌<◌, ◌≤◌, List, [], ◌∷◌, ◌++◌, length, take, drop, slice_set, Some, Option, sym, ap, ◌∙◌, subst, refl, arith}
-use Rattle.std.specs.Prelude.{All}
+use Rattle.std.proofs.Common.{◌≡◌, ◌≢◌, ◌⊎◌, inl, inr, ℕ, ◌+◌, ◌<◌, ◌≤◌, List, [], ◌∷◌, ◌++◌, length, take, drop, slice_set, Some, Option, sym, ap, ◌∙◌, subst, refl, arith, None}
+use Rattle.std.specs.Prelude.{All, ◌↔◌}
 use Rattle.std.proofs.lemmas.List.{take-append-drop}
-use Rattle.std.proofs.lemmas.Option.{same_Some}
+use Rattle.std.proofs.lemmas.Option.{same_Some, none-some}
 use Rattle.event_stamps.specs.declared.Stamp.{Stamp}
 use Rattle.event_stamps.specs.Order.{Before}
 use Rattle.cell_grid.specs.Grid.{IsRegion}
@@ -22,7 +22,7 @@ use Rattle.local_run.specs.declared.entry.Entry.TheVariants.{Heard}
 use Rattle.local_run.specs.declared.entry.TheConstants.{MAX_ENTRIES}
 use Rattle.region_core.specs.declared.live.Live.{Live}
 use Rattle.local_run.specs.Entries.{entry_stamp, RiseAfter as RiseOn, RiseFrom, entries_below, entries_from, clock_of, last_stamp}
-use Rattle.local_run.specs.LocalRun.{At, trail_of, after_log, Moves, IsInPlace, IsHearable, IsOwn}
+use Rattle.local_run.specs.LocalRun.{At, trail_of, after_log, Moves, IsInPlace, IsHearable, IsOwn, Local}
 use Rattle.region_core.specs.Inbox.{taken_from}
 use Rattle.event_log.specs.Logged.{Logged, entries_in}
 use Rattle.event_log.specs.Undoing.{LeadBack, view_after, AreAside as AreSpared}
@@ -31,7 +31,7 @@ use Rattle.event_log.proofs.AtFloor.{view_of_log}
 use Rattle.event_log.proofs.Traced.{traced_dropped, traced_woven}
 use Rattle.region_core.specs.Live.{base_in, run_in, start_in, now_in, HasTrace, IsLive}
 use Rattle.local_run.specs.Weaving.{IsWoven, MayWeave, IsApart, AreAside}
-use Rattle.region_core.specs.Weaving.{IsLateAside, IsValidBack, IsSetLate, BeginsAfter, IsTried}
+use Rattle.region_core.specs.Weaving.{IsLateAside, IsValidBack, IsSetLate, BeginsAfter, IsTried, Weaves}
 use Rattle.local_run.proofs.Logs.{below_then_from, moves_split}
 use Rattle.region_core.proofs.News.{heard_there, heard_elsewhere}
 use Rattle.region_core.proofs.Traced.{now_is, base_is, has_trace, as_many, entries_joined, entries_taken, entries_dropped}
@@ -323,3 +323,20 @@ few_taken home floor live q kept m region is tried =
     let many = as_many live.log in
     let room = tried.room in
     omega arith
+
+-- of two changes of a queue
+pub of_before : (a b c : QueueData) → IsOf b a.rules a.grid a.region → IsOf c b.rules b.grid b.region →
+    IsOf c a.rules a.grid a.region
+of_before a b c of again = record {
+  rules = again.rules ∙ of.rules;
+  grid = again.grid ∙ of.grid;
+  region = again.region ∙ of.region;
+}
+
+-- a hindrance that is told by another stamp is one still
+pub still_weaves : (q : ℕ) (m : Message) (r new : Local) (o told : Option Stamp) → Weaves q m r o new →
+    (told ≡ None) ↔ (o ≡ None) → Weaves q m r told new
+still_weaves q m r new None None weaves both = weaves
+still_weaves q m r new None (Some at) weaves both = absurd (none-some at (sym (both.1 refl)))
+still_weaves q m r new (Some at) None weaves both = absurd (none-some at (sym (both.0 refl)))
+still_weaves q m r new (Some at) (Some s) weaves both = weaves

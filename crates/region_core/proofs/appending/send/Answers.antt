@@ -49,3 +49,12 @@ returns-clause-told c = λ to sends.
     let below = all_below_end c.args.home.now to c.min-end.result c.regions-regions.ensures.kept
     (c.min-end.ensures ∙ ap (min (c.args.home.now.number + 3)) c.regions-regions.ensures.value) sends in
     c.loop-to.invariant.below to sends (omega arith)
+
+pub message_for-message-requires-clause-cells : goal.message_for-message-requires-clause-cells
+message_for-message-requires-clause-cells c = c.requires.cells
+
+pub message_for-message-requires-clause-cell : goal.message_for-message-requires-clause-cell
+message_for-message-requires-clause-cell c = c.requires.cell
+
+pub message_for-message-requires-clause-order : goal.message_for-message-requires-clause-order
+message_for-message-requires-clause-order c = c.requires.order

@@ -9,3 +9,6 @@ returns-then-is_untold-clause-told c = λ to sends.
     let trail = trail_of c.args.sent.now.items to in
     let none = c.requires.untold c.if-is_untold.true to sends in
     sym (append-nil trail) ∙ ap (λ (m : Option Message). trail ++ told m []) (sym none)
+
+pub send-requires-clause-cells : goal.send-requires-clause-cells
+send-requires-clause-cells c = c.requires.cells

@@ -2,6 +2,7 @@ use Rattle.std.proofs.Common.{[], sym, subst}
 use Rattle.region_view.specs.Setting.{AreRows}
 use Rattle.region_core.proofs.News.{on_ok}
 use Rattle.local_run.proofs.Touched.{no_number, one_number, two_numbers, same_but_at}
+use Rattle.region_core.proofs.Tests.{within_two}
 use Rattle.region_core.proofs.appending.touch.Goals as goal
 
 pub returns-in-empty-clause-stands : goal.returns-in-empty-clause-stands
@@ -31,3 +32,21 @@ returns-in-len2-up-clause-stands c =
     (two_numbers slice _ (subst AreRows (sym c.as_slice.ensures.value) c.as_slice.ensures.rows)
     c.in-len2-up.len_at_least) is))
     c.touched-in-len2-up.ensures.stands
+
+pub bounds-row-0 : goal.bounds-row-0
+bounds-row-0 c = c.in-len1.len_at_least
+
+pub bounds-first-0 : goal.bounds-first-0
+bounds-first-0 c = within_two _ c.in-len2-up.len_at_least
+
+pub bounds-second-1 : goal.bounds-second-1
+bounds-second-1 c = c.in-len2-up.len_at_least
+
+pub returns-in-len2-up-clause-queue : goal.returns-in-len2-up-clause-queue
+returns-in-len2-up-clause-queue c = c.touched-in-len2-up.ensures.same
+
+pub returns-in-len1-clause-queue : goal.returns-in-len1-clause-queue
+returns-in-len1-clause-queue c = c.touched-in-len1.ensures.same
+
+pub returns-in-empty-clause-queue : goal.returns-in-empty-clause-queue
+returns-in-empty-clause-queue c = c.touched.ensures.same

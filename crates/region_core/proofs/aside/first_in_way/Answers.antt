@@ -1,5 +1,5 @@
 use Rattle.std.proofs.Common.{arith, sym}
-use Rattle.region_core.proofs.Passed.{passed_more, passed_all, all_apart, all_aside}
+use Rattle.region_core.proofs.Passed.{passed_more, passed_all, all_apart, all_aside, none_passed}
 use Rattle.std.proofs.lemmas.Option.{none-some}
 use Rattle.region_core.proofs.aside.first_in_way.Goals as goal
 
@@ -28,3 +28,15 @@ returns-clause-aside c = λ none.
 
 pub returns-then-is_hindrance-clause-aside : goal.returns-then-is_hindrance-clause-aside
 returns-then-is_hindrance-clause-aside c = λ none. absurd (none-some _ (sym none))
+
+pub returns-then-is_hindrance-clause-apart : goal.returns-then-is_hindrance-clause-apart
+returns-then-is_hindrance-clause-apart c = λ none. absurd (none-some _ (sym none))
+
+pub stamp-requires : goal.stamp-requires
+stamp-requires c = record { within = c.in-Some.ensures.place.1 }
+
+pub is_hindrance-requires-clause-within : goal.is_hindrance-requires-clause-within
+is_hindrance-requires-clause-within c = c.in-Some.ensures.place.1
+
+pub loop-i-init : goal.loop-i-init
+loop-i-init c = none_passed c.args.home.now c.args.rows.now c.args.log.now c.args.kept

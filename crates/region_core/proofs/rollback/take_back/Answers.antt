@@ -1,6 +1,8 @@
 use Rattle.region_core.proofs.News.{on_ok}
 use Rattle.local_run.specs.LocalRun.{after_entry}
 use Rattle.region_core.proofs.Shorter.{least_again, native_leaves, heard_leaves}
+use Rattle.std.proofs.Common.{refl}
+use Rattle.region_core.proofs.Tests.{still_valid}
 use Rattle.region_core.proofs.rollback.take_back.Goals as goal
 
 pub take_back-requires-clause-least : goal.take_back-requires-clause-least
@@ -24,3 +26,14 @@ returns-in-Heard-clause-stands c =
     (heard_leaves before c.args.view.now c.args.entry.now c.in-Heard.from c.in-Heard.message
     c.in-Heard.is same))
     c.touch.ensures.stands
+
+pub take_back-requires-clause-valid : goal.take_back-requires-clause-valid
+take_back-requires-clause-valid c =
+    still_valid c.args.queue.now c.args.home.now.rules c.args.home.now.grid c.args.home.now.number
+    c.args.view.now c.args.view.now c.requires.of refl c.requires.valid
+
+pub touch-requires : goal.touch-requires
+touch-requires c = record {
+  valid = still_valid c.args.queue.now c.args.home.now.rules c.args.home.now.grid c.args.home.now.number
+      c.args.view.now c.args.view.now c.requires.of refl c.requires.valid;
+}

@@ -43,3 +43,12 @@ returns-clause-counts c =
     (c.count_down.auto.counts ∙ c.deref_mut-2.ensures.len))
     ∙ c.count_down.auto.counts
     ∙ ap length (c.deref_mut-2.ensures.value ∙ ap (λ (a : InboxData). a.taken) c.self.view_is)
+
+pub count_down-requires-clause-taken : goal.count_down-requires-clause-taken
+count_down-requires-clause-taken c = λ q.
+    let es = entries_in c.args.log.now in
+    let given = c.requires.taken q in
+    let same : get_or c.deref_mut-2.result.now q 0 ≡ taken_from c.args.self.now q =
+    ap (λ (v : List ℕ). get_or v q 0) c.deref_mut-2.ensures.value
+    ∙ ap (λ (a : InboxData). taken_from a q) c.self.view_is in
+    omega arith

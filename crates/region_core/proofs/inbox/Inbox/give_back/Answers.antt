@@ -42,3 +42,13 @@ invariant_of-self c =
     (inbox_of c.self.inside.heard.items c.self.inside.taken.items) _ _ _ c.self.invariant.sizes refl
     (ap length taken ∙ c.count_down.auto.counts ∙ ap length c.deref_mut.ensures.value) c.deref.ensures.value
     c.deref-2.ensures.value c.least_head-self-inside.ensures
+
+pub returns-clause-counts : goal.returns-clause-counts
+returns-clause-counts c =
+    ap length (with_items_is c.self.inside.taken c.count_down.new.counts
+    (c.count_down.auto.counts ∙ c.deref_mut.ensures.len))
+    ∙ c.count_down.auto.counts
+    ∙ ap length (c.deref_mut.ensures.value ∙ ap (λ (a : InboxData). a.taken) c.self.view_is)
+
+pub returns-clause-heard : goal.returns-clause-heard
+returns-clause-heard c = ap (λ (a : InboxData). a.heard) c.self.view_is

@@ -1,11 +1,12 @@
-use Rattle.std.proofs.Common.{[], List, ap, refl}
+use Rattle.std.proofs.Common.{[], List, ap, refl, ◌<◌, length, sym, subst, rules}
 use Rattle.region_view.specs.declared.rows.Message.{Message}
 use Rattle.region_core.specs.Inbox.{InboxData, inbox_of}
 use Rattle.region_core.specs.Replaced.{mixed}
 use Rattle.region_core.proofs.Lists.{item_changed}
-use Rattle.region_core.proofs.News.{on_ok}
+use Rattle.region_core.proofs.News.{on_ok, on_any}
 use Rattle.std.proofs.lemmas.List.{length-set}
 use Rattle.region_core.proofs.Heads.{least_found}
+use Rattle.local_run.specs.LocalRun.{Trails}
 use Rattle.region_core.proofs.inbox.Inbox.replace.Goals as goal
 
 pub returns-clause-heard : goal.returns-clause-heard
@@ -21,3 +22,12 @@ invariant_of-self c =
     (inbox_of c.self.inside.heard.items c.self.inside.taken.items) _ _ _ c.self.invariant.sizes
     (length-set c.self.inside.heard.items c.args.from c.replace_from-replaced.new.self) refl c.deref.ensures.value
     c.deref-2.ensures.value c.least_head-self-inside.ensures
+
+pub returns-clause-taken : goal.returns-clause-taken
+returns-clause-taken c = on_any c.replace_from-replaced.result _ (ap (λ (a : InboxData). a.taken) c.self.view_is)
+
+pub index_mut-requires : goal.index_mut-requires
+index_mut-requires c =
+    let within : c.args.from < length c.self.inside.heard.items =
+    subst (λ (v : Trails). c.args.from < length v) (sym (ap (λ (a : InboxData). a.heard) c.self.view_is)) c.requires in
+    search (rules, within)

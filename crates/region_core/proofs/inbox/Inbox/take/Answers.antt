@@ -1,4 +1,4 @@
-use Rattle.std.proofs.Common.{ap, arith, ◌+◌, ℕ, refl}
+use Rattle.std.proofs.Common.{ap, arith, ◌+◌, ℕ, refl, ◌<◌, List, length, sym, subst, rules}
 use Rattle.region_core.specs.Inbox.{InboxData, inbox_of}
 use Rattle.region_core.proofs.Lists.{item_read, item_changed}
 use Rattle.region_core.proofs.Heads.{waits_within, least_found}
@@ -29,3 +29,11 @@ invariant_of-self c =
     (inbox_of c.self.inside.heard.items c.self.inside.taken.items) _ _ _ c.self.invariant.sizes refl
     (length-set c.self.inside.taken.items c.args.from (c.index_mut.result.now + 1)) c.deref.ensures.value
     c.deref-2.ensures.value c.least_head-self-inside.ensures
+
+pub index_mut-requires : goal.index_mut-requires
+index_mut-requires c =
+    let within : c.args.from < length c.self.inside.taken.items =
+    subst (λ (v : List ℕ). c.args.from < length v) (sym (ap (λ (a : InboxData). a.taken) c.self.view_is))
+    (waits_within c.self.inside.regions (inbox_of c.self.inside.heard.items c.self.inside.taken.items)
+    c.args.self.now c.args.from c.self.view_is c.self.invariant.sizes c.requires.waits) in
+    search (rules, within)

@@ -15,3 +15,9 @@ returns-clause-live c = c.in_ok-hear_from.ensures.live c.args.floor c.in_ok-at.e
 
 pub returns-clause-base : goal.returns-clause-base
 returns-clause-base c = c.in_ok-hear_from.ensures.base ∙ c.in_ok-at.ensures.base
+
+pub hear_from-requires-clause-region : goal.hear_from-requires-clause-region
+hear_from-requires-clause-region c = c.requires.region
+
+pub hear_from-requires-clause-place : goal.hear_from-requires-clause-place
+hear_from-requires-clause-place c = c.requires.place

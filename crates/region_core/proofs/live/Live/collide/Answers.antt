@@ -1,4 +1,4 @@
-use Rattle.std.proofs.Common.{◌∷◌, [], sym, subst}
+use Rattle.std.proofs.Common.{◌∷◌, [], sym, subst, refl}
 use Rattle.region_view.specs.Naming.{IsSameBut}
 use Rattle.event_log.specs.Running.{collision}
 use Rattle.local_run.proofs.Aside.{here_first, later_still}
@@ -25,3 +25,24 @@ touched-requires c =
       valid = subst (λ (view : ViewData). IsValidPlacing queue.rules queue.grid (rows_in view))
           (sym c.in_ok-collide.ensures.view) c.requires.valid;
     }
+
+pub returns-clause-log : goal.returns-clause-log
+returns-clause-log c = c.in_ok-collide.ensures.log
+
+pub returns-clause-view : goal.returns-clause-view
+returns-clause-view c = c.in_ok-collide.ensures.view
+
+pub returns-clause-queue : goal.returns-clause-queue
+returns-clause-queue c = c.touched.ensures.same
+
+pub returns-clause-inbox : goal.returns-clause-inbox
+returns-clause-inbox c = refl
+
+pub returns-clause-sent : goal.returns-clause-sent
+returns-clause-sent c = refl
+
+pub returns-in_err-touched-clause-inbox : goal.returns-in_err-touched-clause-inbox
+returns-in_err-touched-clause-inbox c = refl
+
+pub returns-in_err-touched-clause-sent : goal.returns-in_err-touched-clause-sent
+returns-in_err-touched-clause-sent c = refl

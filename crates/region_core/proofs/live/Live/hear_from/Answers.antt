@@ -77,3 +77,14 @@ returns-in_ok-replace-2-clause-live c = λ floor live hearable.
     (left.right.heard c.args.from) hearable)
     (subst (λ (n : ℕ). c.args.from < n) (sym left.inbox.regions) c.requires.region)
     c.in_ok-replace-2.ensures
+
+pub replace-requires-else-ends_before : goal.replace-requires-else-ends_before
+replace-requires-else-ends_before c =
+    subst (λ (ts : Trails). c.args.from < length ts) (sym c.in_ok-rewind.ensures.heard)
+    (subst (λ (n : ℕ). c.args.from < n) (sym c.requires.live.1.inbox.regions) c.requires.region)
+
+pub replace-requires : goal.replace-requires
+replace-requires c = subst (λ (n : ℕ). c.args.from < n) (sym c.requires.live.1.inbox.regions) c.requires.region
+
+pub rewind-requires-clause-place : goal.rewind-requires-clause-place
+rewind-requires-clause-place c = c.requires.place

@@ -27,3 +27,18 @@ returns-then-not-begins_after-clause-aside c = λ none. absurd (none-some _ (sym
 
 pub returns-then-not-begins_after-clause-tried : goal.returns-then-not-begins_after-clause-tried
 returns-then-not-begins_after-clause-tried c = λ none. absurd (none-some _ (sym none))
+
+pub first_in_way-requires-clause-place : goal.first_in_way-requires-clause-place
+first_in_way-requires-clause-place c = c.requires.place
+
+pub first_in_way-requires-clause-valid : goal.first_in_way-requires-clause-valid
+first_in_way-requires-clause-valid c = c.requires.valid
+
+pub first_in_way-requires-clause-rows : goal.first_in_way-requires-clause-rows
+first_in_way-requires-clause-rows c = c.requires.rows
+
+pub is_free-requires : goal.is_free-requires
+is_free-requires c = c.requires.heard
+
+pub returns-clause-aside : goal.returns-clause-aside
+returns-clause-aside c = c.first_in_way.ensures.aside

@@ -30,3 +30,11 @@ returns-in-Some-clause-free c = λ off.
       c.or_end.ensures (now_in live) c.requires,
       c.is_before.ensures.0 (is_so _ off),
     )
+
+pub returns-in-None-clause-held : goal.returns-in-None-clause-held
+returns-in-None-clause-held c = λ never. absurd (false≢true never)
+
+pub returns-in-None-clause-free : goal.returns-in-None-clause-free
+returns-in-None-clause-free c = λ off.
+    subst (λ (bound : Option Stamp). IfSome bound (λ b. HasDueBefore c.args.home.now b c.args.self.now))
+    (sym c.in-None.is) tt

@@ -80,3 +80,12 @@ message_move-requires-clause-first c = c.in-Some-sender_at.ensures
 
 pub returns-in-Some-sender_at : goal.returns-in-Some-sender_at
 returns-in-Some-sender_at c = c.message_move.ensures
+
+pub sender_at-requires-clause-head : goal.sender_at-requires-clause-head
+sender_at-requires-clause-head c = c.requires.head
+
+pub sender_at-requires-clause-live : goal.sender_at-requires-clause-live
+sender_at-requires-clause-live c = (c.args.floor, c.requires.live)
+
+pub message_move-requires-clause-live : goal.message_move-requires-clause-live
+message_move-requires-clause-live c = c.requires.live

@@ -46,3 +46,9 @@ returns-clause-live c =
     (ap length c.drop_before-2.ensures ∙ length-map c.deref_mut.result.now (from c.args.to)
     ∙ c.deref_mut.ensures.len) ∙ sent)
     refl
+
+pub count_before-gone-requires : goal.count_before-gone-requires
+count_before-gone-requires c = (c.requires.live.0, c.requires.live.1.right.rises)
+
+pub drop_first-requires : goal.drop_first-requires
+drop_first-requires c = record { place = c.count_before-gone.ensures.within }

@@ -63,3 +63,12 @@ returns-clause-live c = λ floor is.
     (ap length c.cut_from.ensures ∙ length-map c.deref_mut.result.now (below c.args.at)
     ∙ c.deref_mut.ensures.len) ∙ cut)
     c.in_ok-drop_down_to.ensures.along
+
+pub returns-clause-heard : goal.returns-clause-heard
+returns-clause-heard c = ap (λ (x : InboxData). x.heard) c.drop_down_to.ensures.inbox ∙ c.give_back.ensures.heard
+
+pub returns-clause-base : goal.returns-clause-base
+returns-clause-base c = c.in_ok-drop_down_to.ensures.base
+
+pub count_before-kept-requires : goal.count_before-kept-requires
+count_before-kept-requires c = (c.requires.live.0, c.requires.live.1.right.rises)

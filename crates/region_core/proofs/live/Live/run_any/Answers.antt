@@ -50,3 +50,15 @@ returns-in-Err-clause-steps c =
 
 pub run-requires-clause-border : goal.run-requires-clause-border
 run-requires-clause-border c = c.requires.border
+
+pub returns-in_ok-run-in-Ok-clause-live : goal.returns-in_ok-run-in-Ok-clause-live
+returns-in_ok-run-in-Ok-clause-live c = c.in_ok-run-in-Ok.ensures.live
+
+pub returns-in-Err-clause-live : goal.returns-in-Err-clause-live
+returns-in-Err-clause-live c = c.requires.live
+
+pub run-requires-clause-place : goal.run-requires-clause-place
+run-requires-clause-place c = c.requires.place
+
+pub run-requires-clause-live : goal.run-requires-clause-live
+run-requires-clause-live c = c.requires.live

@@ -84,3 +84,33 @@ are_far-is_untold-requires-clause-border c = c.requires.border
 
 pub run_any-requires-clause-border : goal.run_any-requires-clause-border
 run_any-requires-clause-border c = c.requires.border
+
+pub returns-in_ok-cross_and_send-in-Some-crossed_cell-clause-live : goal.returns-in_ok-cross_and_send-in-Some-crossed_cell-clause-live
+returns-in_ok-cross_and_send-in-Some-crossed_cell-clause-live c = c.in_ok-cross_and_send-in-Some-crossed_cell.ensures.live
+
+pub returns-in-None-clause-live : goal.returns-in-None-clause-live
+returns-in-None-clause-live c = c.requires.live
+
+pub returns-in_default-clause-steps : goal.returns-in_default-clause-steps
+returns-in_default-clause-steps c = c.run_any.ensures.steps
+
+pub returns-in_default-clause-live : goal.returns-in_default-clause-live
+returns-in_default-clause-live c = c.run_any.ensures.live
+
+pub cross_and_send-requires-clause-place : goal.cross_and_send-requires-clause-place
+cross_and_send-requires-clause-place c = c.requires.place
+
+pub cross_and_send-requires-clause-live : goal.cross_and_send-requires-clause-live
+cross_and_send-requires-clause-live c = c.requires.live
+
+pub crossed_cell-requires-clause-checked : goal.crossed_cell-requires-clause-checked
+crossed_cell-requires-clause-checked c = c.requires.place.checked
+
+pub run_any-requires-clause-place : goal.run_any-requires-clause-place
+run_any-requires-clause-place c = c.requires.place
+
+pub run_any-requires-clause-live : goal.run_any-requires-clause-live
+run_any-requires-clause-live c = c.requires.live
+
+pub run_any-requires-clause-turn : goal.run_any-requires-clause-turn
+run_any-requires-clause-turn c = c.requires.turn

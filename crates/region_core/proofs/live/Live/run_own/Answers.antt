@@ -39,3 +39,24 @@ returns-in-Some-2-clause-ran c =
 
 pub run_event-requires-clause-border : goal.run_event-requires-clause-border
 run_event-requires-clause-border c = c.requires.border
+
+pub returns-in-None-clause-live : goal.returns-in-None-clause-live
+returns-in-None-clause-live c = c.in_ok-run_event.ensures.live
+
+pub returns-in-Some-2-clause-live : goal.returns-in-Some-2-clause-live
+returns-in-Some-2-clause-live c = c.in_ok-run_event.ensures.live
+
+pub returns-then-not-is_before-clause-live : goal.returns-then-not-is_before-clause-live
+returns-then-not-is_before-clause-live c = c.requires.live
+
+pub returns-then-len-ge-MAX_ENTRIES-clause-live : goal.returns-then-len-ge-MAX_ENTRIES-clause-live
+returns-then-len-ge-MAX_ENTRIES-clause-live c = c.requires.live
+
+pub returns-in_default-clause-live : goal.returns-in_default-clause-live
+returns-in_default-clause-live c = c.requires.live
+
+pub run_event-requires-clause-place : goal.run_event-requires-clause-place
+run_event-requires-clause-place c = c.requires.place
+
+pub run_event-requires-clause-live : goal.run_event-requires-clause-live
+run_event-requires-clause-live c = c.requires.live

@@ -7,7 +7,7 @@ use Rattle.region_view.specs.declared.action.Action.TheVariants.{Hit}
 use Rattle.region_view.specs.Views.{rows_in}
 use Rattle.region_core.specs.Live.{run_in}
 use Rattle.region_core.proofs.RunningEvents.{valid_row, valid_is_small, pair_event, hit_comes, pair_is_untold, change_of_both, moved_has, moved_to, change_is, second_valid, turn_fits, turn_ran, halted_is}
-use Rattle.std.specs.Prelude.{IfSome}
+use Rattle.std.specs.Prelude.{IfSome, IsTrue, is_some}
 use Rattle.region_view.specs.declared.action.Placed.{Placed}
 use Rattle.region_core.proofs.live.Live.run_pair.Goals as goal
 
@@ -165,3 +165,54 @@ run_any-requires-in_default-narrow-clause-border c = c.requires.border
 
 pub run_any-requires-clause-border : goal.run_any-requires-clause-border
 run_any-requires-clause-border c = c.requires.border
+
+pub returns-in_ok-collide_and_send-in-Ok-clause-live : goal.returns-in_ok-collide_and_send-in-Ok-clause-live
+returns-in_ok-collide_and_send-in-Ok-clause-live c = c.in_ok-collide_and_send-in-Ok.ensures.live
+
+pub returns-in-Err-clause-live : goal.returns-in-Err-clause-live
+returns-in-Err-clause-live c = c.requires.live
+
+pub returns-in_default-narrow-clause-steps : goal.returns-in_default-narrow-clause-steps
+returns-in_default-narrow-clause-steps c = c.run_any-in_default-narrow.ensures.steps
+
+pub returns-in_default-narrow-clause-live : goal.returns-in_default-narrow-clause-live
+returns-in_default-narrow-clause-live c = c.run_any-in_default-narrow.ensures.live
+
+pub returns-in_default-clause-steps : goal.returns-in_default-clause-steps
+returns-in_default-clause-steps c = c.run_any.ensures.steps
+
+pub returns-in_default-clause-live : goal.returns-in_default-clause-live
+returns-in_default-clause-live c = c.run_any.ensures.live
+
+pub collide_and_send-requires-clause-place : goal.collide_and_send-requires-clause-place
+collide_and_send-requires-clause-place c = c.requires.place
+
+pub collide_and_send-requires-clause-live : goal.collide_and_send-requires-clause-live
+collide_and_send-requires-clause-live c = c.requires.live
+
+pub apply-requires-clause-checked : goal.apply-requires-clause-checked
+apply-requires-clause-checked c = c.requires.place.checked
+
+pub run_any-requires-in_default-narrow-clause-place : goal.run_any-requires-in_default-narrow-clause-place
+run_any-requires-in_default-narrow-clause-place c = c.requires.place
+
+pub run_any-requires-in_default-narrow-clause-live : goal.run_any-requires-in_default-narrow-clause-live
+run_any-requires-in_default-narrow-clause-live c = c.requires.live
+
+pub run_any-requires-in_default-narrow-clause-turn : goal.run_any-requires-in_default-narrow-clause-turn
+run_any-requires-in_default-narrow-clause-turn c = c.requires.turn
+
+pub run_any-requires-clause-place : goal.run_any-requires-clause-place
+run_any-requires-clause-place c = c.requires.place
+
+pub run_any-requires-clause-live : goal.run_any-requires-clause-live
+run_any-requires-clause-live c = c.requires.live
+
+pub run_any-requires-clause-turn : goal.run_any-requires-clause-turn
+run_any-requires-clause-turn c = c.requires.turn
+
+pub rows_of_hit-one-requires-clause-some : goal.rows_of_hit-one-requires-clause-some
+rows_of_hit-one-requires-clause-some c = subst (λ (o : Option Placed). IsTrue (is_some o)) (sym c.unwrap-first.ensures ∙ c.get.ensures) refl
+
+pub rows_of_hit-other-requires-clause-some : goal.rows_of_hit-other-requires-clause-some
+rows_of_hit-other-requires-clause-some c = subst (λ (o : Option Placed). IsTrue (is_some o)) (sym c.unwrap-second.ensures ∙ c.get-2.ensures) refl

@@ -44,3 +44,45 @@ returns-in_ok-take_in-in-TakeIn-clause-steps c =
 
 pub run_event-requires-clause-border : goal.run_event-requires-clause-border
 run_event-requires-clause-border c = c.requires.border
+
+pub returns-in-Some-clause-live : goal.returns-in-Some-clause-live
+returns-in-Some-clause-live c = c.in_ok-run_event-in-Run.ensures.live
+
+pub returns-in-None-clause-live : goal.returns-in-None-clause-live
+returns-in-None-clause-live c = c.in_ok-run_event-in-Run.ensures.live
+
+pub returns-in_ok-take_in-in-TakeIn-clause-live : goal.returns-in_ok-take_in-in-TakeIn-clause-live
+returns-in_ok-take_in-in-TakeIn-clause-live c = c.in_ok-take_in-in-TakeIn.ensures.live
+
+pub returns-in-Answer-clause-live : goal.returns-in-Answer-clause-live
+returns-in-Answer-clause-live c = c.requires.live
+
+pub returns-then-is_held_back-clause-live : goal.returns-then-is_held_back-clause-live
+returns-then-is_held_back-clause-live c = c.requires.live
+
+pub take_in-requires-clause-place : goal.take_in-requires-clause-place
+take_in-requires-clause-place c = c.requires.place
+
+pub take_in-requires-clause-live : goal.take_in-requires-clause-live
+take_in-requires-clause-live c = c.requires.live
+
+pub run_event-requires-clause-place : goal.run_event-requires-clause-place
+run_event-requires-clause-place c = c.requires.place
+
+pub run_event-requires-clause-live : goal.run_event-requires-clause-live
+run_event-requires-clause-live c = c.requires.live
+
+pub next_move-requires-clause-due : goal.next_move-requires-clause-due
+next_move-requires-clause-due c = c.due_beside-due.ensures
+
+pub next_move-requires-clause-head : goal.next_move-requires-clause-head
+next_move-requires-clause-head c = c.least-head.ensures
+
+pub next_move-requires-clause-place : goal.next_move-requires-clause-place
+next_move-requires-clause-place c = c.requires.place
+
+pub next_move-requires-clause-live : goal.next_move-requires-clause-live
+next_move-requires-clause-live c = c.requires.live
+
+pub is_held_back-requires : goal.is_held_back-requires
+is_held_back-requires c = c.due_beside-due.ensures

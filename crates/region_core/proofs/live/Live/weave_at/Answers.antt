@@ -1,4 +1,4 @@
-use Rattle.std.proofs.Common.{◌++◌, ◌∷◌, Some, None, take, drop, ◌∙◌, sym, ap, refl}
+use Rattle.std.proofs.Common.{◌++◌, ◌∷◌, Some, None, take, drop, ◌∙◌, sym, ap, refl, ◌<◌, ℕ, subst}
 use Rattle.region_view.specs.Setting.{RowList}
 use Rattle.region_view.specs.Views.{ViewData}
 use Rattle.local_run.specs.declared.entry.Entry.TheVariants.{Heard}
@@ -62,3 +62,18 @@ returns c =
       queue = of;
       stands = set.2;
     })
+
+pub weave-requires-clause-free : goal.weave-requires-clause-free
+weave-requires-clause-free c = c.requires.tried.free
+
+pub weave-requires-clause-heard : goal.weave-requires-clause-heard
+weave-requires-clause-heard c = subst (λ (n : ℕ). c.args.from < n) (sym c.requires.live.inbox.regions) c.requires.region
+
+pub weave-requires-clause-taken : goal.weave-requires-clause-taken
+weave-requires-clause-taken c = subst (λ (n : ℕ). c.args.from < n) (sym c.requires.live.inbox.counts) c.requires.region
+
+pub insert-requires-clause-place : goal.insert-requires-clause-place
+insert-requires-clause-place c = c.requires.within
+
+pub insert-requires-clause-room : goal.insert-requires-clause-room
+insert-requires-clause-room c = c.requires.tried.room

@@ -1,4 +1,4 @@
-use Rattle.std.proofs.Common.{inl, refl}
+use Rattle.std.proofs.Common.{inl, refl, ℕ, ◌<◌, sym, subst}
 use Rattle.region_core.proofs.WeavingLive.{back_valid}
 use Rattle.region_core.proofs.live.Live.weave_if_aside.Goals as goal
 
@@ -11,3 +11,39 @@ hindrance-requires-clause-rows c = (c.requires.hearable.rows c.args.message (inl
 
 pub weave_at-requires-clause-aside : goal.weave_at-requires-clause-aside
 weave_at-requires-clause-aside c = c.in-None.ensures.aside refl
+
+pub weave_at-requires-clause-tried : goal.weave_at-requires-clause-tried
+weave_at-requires-clause-tried c = c.in-None.ensures.tried refl
+
+pub weave_at-requires-clause-within : goal.weave_at-requires-clause-within
+weave_at-requires-clause-within c = c.count_before-kept.ensures.within
+
+pub weave_at-requires-clause-rest : goal.weave_at-requires-clause-rest
+weave_at-requires-clause-rest c = c.count_before-kept.ensures.from
+
+pub weave_at-requires-clause-below : goal.weave_at-requires-clause-below
+weave_at-requires-clause-below c = c.count_before-kept.ensures.before
+
+pub weave_at-requires-clause-region : goal.weave_at-requires-clause-region
+weave_at-requires-clause-region c = c.requires.region
+
+pub weave_at-requires-clause-place : goal.weave_at-requires-clause-place
+weave_at-requires-clause-place c = c.requires.place
+
+pub weave_at-requires-clause-live : goal.weave_at-requires-clause-live
+weave_at-requires-clause-live c = c.requires.live
+
+pub weave_at-requires-clause-hearable : goal.weave_at-requires-clause-hearable
+weave_at-requires-clause-hearable c = c.requires.hearable
+
+pub returns-in-Some : goal.returns-in-Some
+returns-in-Some c = (c.requires.live, refl)
+
+pub returns-in-None : goal.returns-in-None
+returns-in-None c = c.weave_at.ensures
+
+pub count_before-kept-requires : goal.count_before-kept-requires
+count_before-kept-requires c = (c.args.floor, c.requires.live.right.rises)
+
+pub hindrance-requires-clause-heard : goal.hindrance-requires-clause-heard
+hindrance-requires-clause-heard c = subst (λ (n : ℕ). c.args.from < n) (sym c.requires.live.inbox.regions) c.requires.region

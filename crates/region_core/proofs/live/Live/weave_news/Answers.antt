@@ -1,5 +1,5 @@
 use Rattle.region_core.proofs.WeavingLive.{hearable_one}
-use Rattle.std.proofs.Common.{◌∙◌}
+use Rattle.std.proofs.Common.{◌∙◌, ℕ, ◌<◌, sym, subst}
 use Rattle.region_core.proofs.live.Live.weave_news.Goals as goal
 
 pub weave_or_rewind-requires-clause-hearable : goal.weave_or_rewind-requires-clause-hearable
@@ -13,3 +13,39 @@ loop-preserved c =
 pub returns-then-not-branch-clause-base : goal.returns-then-not-branch-clause-base
 returns-then-not-branch-clause-base c =
     c.in_ok-weave_or_rewind.ensures.base ∙ c.loop.invariant.1
+
+pub returns-then-not-branch-clause-live : goal.returns-then-not-branch-clause-live
+returns-then-not-branch-clause-live c = c.in_ok-weave_or_rewind.ensures.live
+
+pub returns-in_default-told_at-clause-base : goal.returns-in_default-told_at-clause-base
+returns-in_default-told_at-clause-base c = c.loop.invariant.1
+
+pub returns-in_default-told_at-clause-live : goal.returns-in_default-told_at-clause-live
+returns-in_default-told_at-clause-live c = c.loop.invariant.0
+
+pub returns-in_default-clause-base : goal.returns-in_default-clause-base
+returns-in_default-clause-base c = c.loop.invariant.1
+
+pub returns-in_default-clause-live : goal.returns-in_default-clause-live
+returns-in_default-clause-live c = c.loop.invariant.0
+
+pub returns-clause-base : goal.returns-clause-base
+returns-clause-base c = c.loop.invariant.1
+
+pub returns-clause-live : goal.returns-clause-live
+returns-clause-live c = c.loop.invariant.0
+
+pub weave_or_rewind-requires-clause-place : goal.weave_or_rewind-requires-clause-place
+weave_or_rewind-requires-clause-place c = c.requires.place
+
+pub weave_or_rewind-requires-clause-region : goal.weave_or_rewind-requires-clause-region
+weave_or_rewind-requires-clause-region c = c.requires.region
+
+pub weave_or_rewind-requires-clause-live : goal.weave_or_rewind-requires-clause-live
+weave_or_rewind-requires-clause-live c = c.loop.invariant.0
+
+pub first_news-news-requires : goal.first_news-news-requires
+first_news-news-requires c = subst (λ (n : ℕ). c.args.from < n) (sym c.loop.invariant.0.inbox.regions) c.requires.region
+
+pub first_news-requires : goal.first_news-requires
+first_news-requires c = subst (λ (n : ℕ). c.args.from < n) (sym c.loop.invariant.0.inbox.regions) c.requires.region

@@ -33,3 +33,6 @@ returns-clause-base c =
     c.in_ok-rewind.ensures.base
     ∙ woven_base c.args.from c.args.message (run_in floor c.args.self.now) (run_in floor c.weave.new.self)
     c.in_ok-at.field-0 c.in_ok-at.ensures.weaves
+
+pub rewind-requires-clause-place : goal.rewind-requires-clause-place
+rewind-requires-clause-place c = c.requires.place

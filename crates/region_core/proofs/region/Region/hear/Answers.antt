@@ -1,4 +1,4 @@
-use Rattle.std.proofs.Common.{Some, sym, ap, ◌∙◌}
+use Rattle.std.proofs.Common.{Some, sym, ap, ◌∙◌, inl, refl, subst, ◌≡◌}
 use Rattle.std.proofs.lemmas.Option.{none-some, same_Some}
 use Rattle.std.specs.Result.{result_ok}
 use Rattle.local_run.specs.declared.answers.Hearing.TheVariants.{Apart}
@@ -6,7 +6,8 @@ use Rattle.region_core.specs.Live.{run_in}
 use Rattle.region_core.proofs.Kept.{still_sound, spent_sound, body_is}
 use Rattle.region_core.proofs.Shown.{seen_as}
 use Rattle.region_core.proofs.Pairs.{heard_region, heard_hearable, no_apart, region_of}
-use Rattle.local_run.specs.Opening.{spent}
+use Rattle.local_run.specs.Opening.{spent, RegionData}
+use Rattle.std.specs.Prelude.{None}
 use Rattle.region_core.proofs.region.Region.hear.Goals as goal
 
 pub hear-requires : goal.hear-requires
@@ -63,3 +64,13 @@ returns-in-Err-clause-apart c = (
 pub returns-in-Err-clause-spent : goal.returns-in-Err-clause-spent
 returns-in-Err-clause-spent c =
     ap (seen_as c.self.inside.home c.self.inside.floor) c.let_go.ensures ∙ ap spent c.self.view_is
+
+pub returns-in_default-live-clause-apart : goal.returns-in_default-live-clause-apart
+returns-in_default-live-clause-apart c = (
+  λ _. inl (subst (λ (region : RegionData). region.run ≡ None)
+      (ap (seen_as c.self.inside.home c.self.inside.floor) (sym c.in_default-live.is) ∙ c.self.view_is) refl),
+  λ _. refl,
+)
+
+pub returns-in_default-clause-apart : goal.returns-in_default-clause-apart
+returns-in_default-clause-apart c = (λ _. c.in_default.ensures, λ _. refl)

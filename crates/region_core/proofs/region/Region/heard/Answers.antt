@@ -1,5 +1,7 @@
-use Rattle.region_core.proofs.Shown.{heard_shown}
+use Rattle.region_core.proofs.Shown.{heard_shown, seen_as}
 use Rattle.region_core.proofs.Kept.{kept_is}
+use Rattle.std.proofs.Common.{◌≡◌, None, inl, ap, sym, subst, refl, ◌∙◌}
+use Rattle.local_run.specs.Opening.{RegionData}
 use Rattle.region_core.proofs.region.Region.heard.Goals as goal
 
 pub returns-in-Some-clause-kept : goal.returns-in-Some-clause-kept
@@ -10,3 +12,7 @@ returns-in-None-clause-kept c = kept_is _ _ _ _ c.self.view_is c.self.invariant
 
 pub returns-in-Some-clause-value : goal.returns-in-Some-clause-value
 returns-in-Some-clause-value c = heard_shown (λ t. t.now) c.heard_from.result _ _ _ c.in-Some.live _ c.args.from c.self.view_is c.in-Some.is c.heard_from.ensures
+
+pub returns-in-None-clause-value : goal.returns-in-None-clause-value
+returns-in-None-clause-value c = inl (subst (λ (region : RegionData). region.run ≡ None)
+    (ap (seen_as c.self.inside.home c.self.inside.floor) (sym c.in-None.is) ∙ c.self.view_is) refl)

@@ -1,7 +1,7 @@
 use Rattle.std.proofs.Common.{◌≡◌, [], replicate, List, slice_get, length, ◌≤◌, ◌∙◌, Some, sym, ap, subst}
 use Rattle.event_stamps.specs.declared.Stamp.{Stamp}
 use Rattle.event_stamps.specs.Order.{Before, end_stamp}
-use Rattle.cell_grid.specs.Grid.{GridData}
+use Rattle.cell_grid.specs.Grid.{GridData, IsRegion}
 use Rattle.region_view.specs.declared.action.Placed.{Placed}
 use Rattle.region_view.specs.Laws.{HasCells}
 use Rattle.fixed_motion.specs.declared.rules.Rules.{Rules}
@@ -103,3 +103,9 @@ returns c = record {
       heard = (c.in_ok-live.ensures.heard ∙ ap (λ (grid : GridData). replicate grid.regions []) c.grid.ensures.value) i;
       log = ap entries_in c.in_ok-live.ensures.log i;
     }
+
+pub new-requires : goal.new-requires
+new-requires c = subst (λ (grid : GridData). IsRegion grid c.args.number) (sym c.grid.ensures.value) c.requires
+
+pub opening-requires-clause-region : goal.opening-requires-clause-region
+opening-requires-clause-region c = subst (λ (grid : GridData). IsRegion grid c.args.number) (sym c.grid-2.ensures.value) c.requires

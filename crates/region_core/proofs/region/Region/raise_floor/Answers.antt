@@ -1,9 +1,12 @@
-use Rattle.std.proofs.Common.{Some, sym, subst, ap, ◌∙◌}
+use Rattle.std.proofs.Common.{Some, sym, subst, ap, ◌∙◌, Option}
 use Rattle.event_stamps.specs.Order.{Before, end_stamp}
 use Rattle.local_run.specs.Opening.{RegionData}
-use Rattle.local_run.specs.Raising.{raised}
+use Rattle.local_run.specs.Raising.{raised, HasNoneWaitingBelow}
 use Rattle.region_core.proofs.Kept.{body_is}
 use Rattle.region_core.proofs.Shown.{seen_as}
+use Rattle.std.specs.Prelude.{IfSome}
+use Rattle.region_core.specs.declared.live.Live.{Live}
+use Rattle.region_core.specs.Live.{IsLive}
 use Rattle.region_core.proofs.region.Region.raise_floor.Goals as goal
 
 pub returns-clause-raised : goal.returns-clause-raised
@@ -33,3 +36,24 @@ pub raise_floor-requires-clause-in_time : goal.raise_floor-requires-clause-in_ti
 raise_floor-requires-clause-in_time c =
     subst (λ (region : RegionData). ¬ Before (end_stamp region.home.rules.end) c.args.to) (sym c.self.view_is)
     c.requires.in_time
+
+pub invariant_of-self : goal.invariant_of-self
+invariant_of-self c = record {
+  place = c.self.invariant.place;
+  far = c.self.invariant.far;
+  in_time = subst (λ (region : RegionData). ¬ Before (end_stamp region.home.rules.end) c.args.to) (sym c.self.view_is)
+      c.requires.in_time;
+  alive = subst (λ (o : Option Live). IfSome o (IsLive c.self.inside.home c.args.to)) (sym c.in_default.is) tt;
+}
+
+pub returns-in_default-clause-raised : goal.returns-in_default-clause-raised
+returns-in_default-clause-raised c =
+    let home = c.self.inside.home in
+    ap (seen_as home c.args.to) c.in_default.is
+    ∙ ap (raised c.args.to) (ap (seen_as home c.self.inside.floor) (sym c.in_default.is) ∙ c.self.view_is)
+
+pub raise_floor-requires-clause-none_waiting : goal.raise_floor-requires-clause-none_waiting
+raise_floor-requires-clause-none_waiting c = λ any.
+    subst (λ (region : RegionData). IfSome region.run (HasNoneWaitingBelow c.args.to))
+    (sym (ap (seen_as c.self.inside.home c.self.inside.floor) (sym c.in-Some.is) ∙ c.self.view_is))
+    c.requires.none_waiting

@@ -42,3 +42,8 @@ invariant_of-self-in-Err c = spent_sound c.self.inside.home c.self.inside.floor 
 pub returns-in-Err-clause-spent : goal.returns-in-Err-clause-spent
 returns-in-Err-clause-spent c =
     ap (seen_as c.self.inside.home c.self.inside.floor) c.let_go.ensures ∙ ap spent c.self.view_is
+
+pub returns-in_default-clause-rewound : goal.returns-in_default-clause-rewound
+returns-in_default-clause-rewound c =
+    let seen = seen_as c.self.inside.home c.self.inside.floor in
+    ap seen c.in_default.is ∙ ap (rewound c.args.at) (ap seen (sym c.in_default.is) ∙ c.self.view_is)

@@ -103,3 +103,18 @@ first_apart-requires-clause-few c =
 
 pub returns-in_default-clause-kept : goal.returns-in_default-clause-kept
 returns-in_default-clause-kept c = kept_is _ _ _ _ c.self.view_is c.self.invariant
+
+pub returns-in-Some-first_apart-clause-kept : goal.returns-in-Some-first_apart-clause-kept
+returns-in-Some-first_apart-clause-kept c = c.number-own.ensures.kept
+
+pub returns-in-None-clause-kept : goal.returns-in-None-clause-kept
+returns-in-None-clause-kept c = c.number-own.ensures.kept
+
+pub returns-then-ne-3-clause-kept : goal.returns-then-ne-3-clause-kept
+returns-then-ne-3-clause-kept c = c.number-own.ensures.kept
+
+pub returns-then-ne-2-clause-kept : goal.returns-then-ne-2-clause-kept
+returns-then-ne-2-clause-kept c = c.number-own.ensures.kept
+
+pub returns-then-ne-clause-kept : goal.returns-then-ne-clause-kept
+returns-then-ne-clause-kept c = c.number-own.ensures.kept

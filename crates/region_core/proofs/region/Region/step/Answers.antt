@@ -5,7 +5,7 @@ use Rattle.local_run.specs.Opening.{RegionData, spent}
 use Rattle.region_core.specs.Live.{run_in}
 use Rattle.local_run.specs.Steps.{StepsOn}
 use Rattle.region_core.proofs.Bounded.{of_some}
-use Rattle.region_core.proofs.Kept.{spent_sound, body_is}
+use Rattle.region_core.proofs.Kept.{spent_sound, body_is, still_sound}
 use Rattle.region_core.proofs.Shown.{seen_as}
 use Rattle.region_core.proofs.region.Region.step.Goals as goal
 
@@ -39,3 +39,6 @@ step-requires-clause-border c = c.self.invariant.far
 pub returns-in-Err-clause-spent : goal.returns-in-Err-clause-spent
 returns-in-Err-clause-spent c =
     ap (seen_as c.self.inside.home c.self.inside.floor) c.let_go.ensures ∙ ap spent c.self.view_is
+
+pub invariant_of-self-in-Ok-Some : goal.invariant_of-self-in-Ok-Some
+invariant_of-self-in-Ok-Some c = still_sound c.self.inside.home c.self.inside.floor c.self.inside.live (Some c.step.new.self) c.self.invariant c.in-Ok-Some.ensures.live

@@ -1,4 +1,4 @@
-use Rattle.std.proofs.Common.{◌≡◌, Option, sym, subst, ap, ◌∙◌}
+use Rattle.std.proofs.Common.{◌≡◌, Option, sym, subst, ap, ◌∙◌, Some}
 use Rattle.std.specs.Prelude.{option_map, MatchOption}
 use Rattle.local_run.specs.Opening.{RegionData, spent}
 use Rattle.local_run.specs.Running.{IsDueBefore, IsDueLater}
@@ -6,7 +6,7 @@ use Rattle.local_run.specs.Steps.{Steps}
 use Rattle.region_core.specs.declared.live.Live.{Live}
 use Rattle.region_core.specs.Live.{run_in, region_in}
 use Rattle.region_core.proofs.Bounded.{bounded_step}
-use Rattle.region_core.proofs.Kept.{spent_sound, body_is}
+use Rattle.region_core.proofs.Kept.{spent_sound, body_is, still_sound}
 use Rattle.region_core.proofs.Shown.{seen_as}
 use Rattle.region_core.proofs.region.Region.step_before.Goals as goal
 
@@ -38,3 +38,9 @@ step-requires-clause-border c = c.self.invariant.far
 pub returns-in-Err-clause-spent : goal.returns-in-Err-clause-spent
 returns-in-Err-clause-spent c =
     ap (seen_as c.self.inside.home c.self.inside.floor) c.let_go.ensures ∙ ap spent c.self.view_is
+
+pub invariant_of-self-in-Ok : goal.invariant_of-self-in-Ok
+invariant_of-self-in-Ok c = still_sound c.self.inside.home c.self.inside.floor c.self.inside.live (Some c.step.new.self) c.self.invariant c.in-Ok.ensures.live
+
+pub step-requires-clause-place : goal.step-requires-clause-place
+step-requires-clause-place c = c.self.invariant.place
