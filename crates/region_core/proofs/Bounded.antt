@@ -1,5 +1,5 @@
 -- What a step before a bound makes of a region.
-use Rattle.std.proofs.Common.{◌≡◌, Option, Some, None, ap, refl, subst}
+use Rattle.std.proofs.Common.{◌≡◌, Option, Some, None, ap, refl, subst, sym, ◌∙◌}
 use Rattle.std.specs.Prelude.{MatchOption}
 use Rattle.event_stamps.specs.declared.Stamp.{Stamp}
 use Rattle.local_run.specs.declared.home.Home.{Home}
@@ -9,6 +9,11 @@ use Rattle.local_run.specs.Running.{IsDueBefore, IsDueLater}
 use Rattle.local_run.specs.Steps.{Steps}
 use Rattle.region_core.specs.declared.live.Live.{Live}
 use Rattle.region_core.specs.Live.{run_in, region_in, HasDueBefore, HasDueLater}
+use Rattle.event_stamps.specs.Order.{Before}
+use Rattle.local_run.specs.declared.answers.Step.TheVariants.{Spent}
+use Rattle.local_run.specs.Opening.{RegionData}
+use Rattle.local_run.specs.Keeping.{IsDueIn}
+use Rattle.region_core.proofs.Shown.{seen_as}
 
 -- what the step makes of its body it makes of the region
 pub bounded_step : (home : Home) (floor bound : Stamp) (old new : Live) (last : Option Step) →
@@ -31,3 +36,34 @@ of_none last P Q is found = subst (λ (o : Option Step). MatchOption o P Q) is f
 pub of_some : (last : Option Step) (step : Step) (P : Type 0) (Q : Step → Type 0) → last ≡ Some step →
     MatchOption last P Q → Q step
 of_some last step P Q is found = subst (λ (o : Option Step). MatchOption o P Q) is found
+
+pub as_none : (last : Option Step) (P : Type 0) (Q : Step → Type 0) → last ≡ None → P → MatchOption last P Q
+as_none last P Q is p = subst (λ (o : Option Step). MatchOption o P Q) (sym is) p
+
+pub as_some : (last : Option Step) (step : Step) (P : Type 0) (Q : Step → Type 0) → last ≡ Some step → Q step →
+    MatchOption last P Q
+as_some last step P Q is q = subst (λ (o : Option Step). MatchOption o P Q) (sym is) q
+
+-- ---- what a region that is spent answers
+pub steps_spent : (home : Home) (floor : Stamp) (o : Option Live) (region : RegionData) → o ≡ None →
+    seen_as home floor o ≡ region → Steps region Spent (seen_as home floor o)
+steps_spent home floor o region none is =
+    subst (λ (p : Option Live). Steps region Spent (seen_as home floor p)) (sym none)
+    (subst (λ (old : RegionData). Steps old Spent (seen_as home floor None))
+    (ap (seen_as home floor) (sym none) ∙ is) record { home = refl; floor = refl; run = (refl, refl) })
+
+due_spent : (home : Home) (floor : Stamp) (o : Option Live) (region : RegionData) → o ≡ None →
+    seen_as home floor o ≡ region → IsDueIn region floor
+due_spent home floor o region none is =
+    subst (λ (old : RegionData). IsDueIn old floor) (ap (seen_as home floor) (sym none) ∙ is) refl
+
+pub spent_before : (home : Home) (floor bound : Stamp) (o : Option Live) (region : RegionData) → o ≡ None →
+    seen_as home floor o ≡ region → Before floor bound →
+    IsDueBefore bound region × Steps region Spent (seen_as home floor o)
+spent_before home floor bound o region none is before =
+    ((floor, due_spent home floor o region none is, before), steps_spent home floor o region none is)
+
+pub spent_later : (home : Home) (floor bound : Stamp) (o : Option Live) (region : RegionData) → o ≡ None →
+    seen_as home floor o ≡ region → ¬ Before floor bound →
+    IsDueLater bound region × (seen_as home floor o ≡ region)
+spent_later home floor bound o region none is later = ((floor, due_spent home floor o region none is, later), is)

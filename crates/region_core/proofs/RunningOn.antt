@@ -1,5 +1,5 @@
 -- Events of a region's own columns that run one after the other.
-use Rattle.std.proofs.Common.{◌≡◌, inl, inr, ℕ, zero, suc, ◌+◌, ◌<◌, length, sym, ap, ◌∙◌, subst, refl, arith, Option, Some, Result, Ok, Err}
+use Rattle.std.proofs.Common.{◌≡◌, inl, inr, ℕ, zero, suc, ◌+◌, ◌<◌, length, sym, ap, ◌∙◌, subst, refl, arith, Option, Some, Result, Ok, Err, None}
 use Rattle.std.specs.Prelude.{MatchOption, OnErr}
 use Rattle.event_stamps.specs.declared.Stamp.{Stamp}
 use Rattle.event_stamps.specs.Order.{Before}
@@ -94,3 +94,7 @@ went_on bound made (suc n) first before answer old new way on (last, mid, follow
 pub on_err : {A E : Type 0} (r : Result A E) (P : Type 0) → P → OnErr r P
 on_err (Ok x) P p = tt
 on_err (Err e) P p = p
+
+-- where none did
+pub none_ran : (o : Option Stamp) (P : Type 0) (Q : Stamp → Type 0) → o ≡ None → MatchOption o P Q → P
+none_ran o P Q is found = subst (λ (v : Option Stamp). MatchOption v P Q) is found

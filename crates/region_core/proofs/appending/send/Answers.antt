@@ -58,3 +58,6 @@ message_for-message-requires-clause-cell c = c.requires.cell
 
 pub message_for-message-requires-clause-order : goal.message_for-message-requires-clause-order
 message_for-message-requires-clause-order c = c.requires.order
+
+pub message_for-message-requires-clause-region : goal.message_for-message-requires-clause-region
+message_for-message-requires-clause-region c = (c.sends_to.ensures.0 c.if-not-sends_to.false).0

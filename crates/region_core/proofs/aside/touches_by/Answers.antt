@@ -20,3 +20,6 @@ returns-else-not-is_before c = λ none s touch.
 
 pub returns-in-None : goal.returns-in-None
 returns-in-None c = λ none s touch. absurd (c.in-None.ensures s touch.1)
+
+pub owner-requires : goal.owner-requires
+owner-requires c = c.requires.first.1

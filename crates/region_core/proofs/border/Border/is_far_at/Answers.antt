@@ -16,3 +16,6 @@ pub returns-in-None : goal.returns-in-None
 returns-in-None c =
     subst (λ (o : Option Placed). IsTrue true ↔ IsFarRow c.args.home.now o) (sym c.in-None.is ∙ c.get.ensures)
     (λ _. tt, λ _. refl)
+
+pub is_far-requires-clause-cell : goal.is_far-requires-clause-cell
+is_far-requires-clause-cell c = c.requires.cells c.args.disk c.in-Some.row (sym c.get.ensures ∙ c.in-Some.is)

@@ -1,7 +1,9 @@
-use Rattle.std.proofs.Common.{suc, refl, arith}
+use Rattle.std.proofs.Common.{suc, refl, arith, Some, subst, sym}
 use Rattle.region_core.specs.Live.{run_in, region_in}
-use Rattle.region_core.specs.RunsOn.{RunsNext}
-use Rattle.region_core.proofs.RunningOn.{still_clear, next_follows, one_ran}
+use Rattle.region_core.specs.RunsOn.{RunsNext, RunsOn}
+use Rattle.region_core.proofs.RunningOn.{still_clear, next_follows, one_ran, none_ran}
+use Rattle.local_run.specs.LocalRun.{Local}
+use Rattle.local_run.specs.Opening.{RegionData}
 use Rattle.region_core.proofs.live.Live.run_on.Goals as goal
 
 pub loop-left-init : goal.loop-left-init
@@ -35,3 +37,18 @@ loop-left-preserved c =
 
 pub run_own-requires-clause-border : goal.run_own-requires-clause-border
 run_own-requires-clause-border c = c.requires.border
+
+pub returns-in-None-clause-ran : goal.returns-in-None-clause-ran
+returns-in-None-clause-ran c =
+    let home = c.args.home.now in
+    let floor = c.args.floor in
+    subst (λ (run : Local). RunsOn c.args.bound.now c.args.so_far (region_in home floor c.args.self.now)
+    (record { home = home; floor = floor; run = Some run })
+    (record { answer = c.loop-left.answer; left = c.loop-left.left }))
+    (sym (none_ran c.in_ok-due.field-0 _ _ c.in-None.is c.in_ok-due.ensures.ran)) c.loop-left.invariant.ran
+
+pub returns-in-None-clause-live : goal.returns-in-None-clause-live
+returns-in-None-clause-live c = c.in_ok-due.ensures.live
+
+pub run_own-requires-clause-clear : goal.run_own-requires-clause-clear
+run_own-requires-clause-clear c = c.loop-left.invariant.clear

@@ -5,6 +5,7 @@ use Rattle.local_run.proofs.Begins.{runs_before_begin}
 use Rattle.local_run.proofs.Running.{first_made_before, one_more_made_before, stops, follows}
 use Rattle.region_core.proofs.Bounded.{of_none, of_some}
 use Rattle.region_core.proofs.RunningOn.{went_on, on_err}
+use Rattle.local_run.specs.RunOn.{BeginsAs}
 use Rattle.region_core.proofs.region.Region.run_before.Goals as goal
 
 pub loop-left-init : goal.loop-left-init
@@ -86,3 +87,12 @@ returns-in-None-clause-run c =
 pub returns-in-None-clause-begins : goal.returns-in-None-clause-begins
 returns-in-None-clause-begins c =
     runs_before_begin _ c.args.steps _ _ _ (returns-in-None-clause-run c)
+
+pub returns-in_default-clause-run : goal.returns-in_default-clause-run
+returns-in_default-clause-run c = of_none _ _ _ c.in_default.is c.in_ok-answer.ensures.step
+
+pub returns-in_default-clause-begins : goal.returns-in_default-clause-begins
+returns-in_default-clause-begins c =
+    subst (λ (new : RegionData). BeginsAs c.args.self.now new)
+    (sym (of_none _ _ _ c.in_default.is c.in_ok-answer.ensures.step).1)
+    record { home = refl; floor = refl; base = refl }

@@ -4,7 +4,7 @@ use Rattle.region_core.specs.declared.live.Live.{Live}
 use Rattle.local_run.specs.Opening.{RegionData, spent}
 use Rattle.region_core.specs.Live.{run_in}
 use Rattle.local_run.specs.Steps.{StepsOn}
-use Rattle.region_core.proofs.Bounded.{of_some}
+use Rattle.region_core.proofs.Bounded.{of_some, of_none, steps_spent}
 use Rattle.region_core.proofs.Kept.{spent_sound, body_is, still_sound}
 use Rattle.region_core.proofs.Shown.{seen_as}
 use Rattle.region_core.proofs.region.Region.step.Goals as goal
@@ -42,3 +42,9 @@ returns-in-Err-clause-spent c =
 
 pub invariant_of-self-in-Ok-Some : goal.invariant_of-self-in-Ok-Some
 invariant_of-self-in-Ok-Some c = still_sound c.self.inside.home c.self.inside.floor c.self.inside.live (Some c.step.new.self) c.self.invariant c.in-Ok-Some.ensures.live
+
+pub unreachable-requires : goal.unreachable-requires
+unreachable-requires c = (of_none _ _ _ c.in-Ok-None.field-0-is c.in-Ok-None.ensures.steps).0
+
+pub returns-in_default-clause-step : goal.returns-in_default-clause-step
+returns-in_default-clause-step c = steps_spent c.self.inside.home c.self.inside.floor c.self.inside.live c.args.self.now c.in_default.is c.self.view_is

@@ -5,9 +5,12 @@ use Rattle.local_run.specs.Running.{IsDueBefore, IsDueLater}
 use Rattle.local_run.specs.Steps.{Steps}
 use Rattle.region_core.specs.declared.live.Live.{Live}
 use Rattle.region_core.specs.Live.{run_in, region_in}
-use Rattle.region_core.proofs.Bounded.{bounded_step}
+use Rattle.region_core.proofs.Bounded.{bounded_step, as_none, as_some, spent_before, spent_later}
 use Rattle.region_core.proofs.Kept.{spent_sound, body_is, still_sound}
 use Rattle.region_core.proofs.Shown.{seen_as}
+use Rattle.local_run.specs.declared.answers.Step.TheVariants.{Spent}
+use Rattle.region_core.proofs.region.Region.step_before.Goals.{then-is_before, else-is_before}
+use Rattle.std.proofs.lemmas.Bool.{false≢true}
 use Rattle.region_core.proofs.region.Region.step_before.Goals as goal
 
 pub returns-in-Ok-clause-step : goal.returns-in-Ok-clause-step
@@ -44,3 +47,16 @@ invariant_of-self-in-Ok c = still_sound c.self.inside.home c.self.inside.floor c
 
 pub step-requires-clause-place : goal.step-requires-clause-place
 step-requires-clause-place c = c.self.invariant.place
+
+pub returns-in_default-clause-step : goal.returns-in_default-clause-step
+returns-in_default-clause-step c =
+    let home = c.self.inside.home in
+    let floor = c.self.inside.floor in
+    let bound = c.args.bound.now in
+    elim c.if-is_before.branch [
+      | then-is_before w ↦ as_some c.if-is_before.result Spent _ _ w.result-is (spent_before home floor bound
+          c.self.inside.live c.args.self.now c.in_default.is c.self.view_is (c.is_before.ensures.0 w.if-is_before.true))
+      | else-is_before w ↦ as_none c.if-is_before.result _ _ w.result-is (spent_later home floor bound
+          c.self.inside.live c.args.self.now c.in_default.is c.self.view_is
+          (λ before. false≢true (sym w.if-is_before.false ∙ c.is_before.ensures.1 before)))
+    ]
