@@ -10,7 +10,7 @@ ghost use Rattle.local_run.specs.Answers.{HasDue, IsInTurn, StepsTo};
 ghost use Rattle.region_core.specs.Border.{IsBorderOf};
 ghost use Rattle.region_core.specs.Choices.{Chooses};
 ghost use Rattle.region_core.specs.Inbox.{head_stamp, IsLeastHead, IsFirstOf};
-ghost use Rattle.region_core.specs.Live.{run_in, now_in, IsLive, HasRun, HasTrace, HasDueBefore, IsHeldBack};
+ghost use Rattle.region_core.specs.Live.{run_in, now_in, IsLive, HasRun, HasDueBefore, IsHeldBack};
 ghost use Rattle.local_run.specs.Moves.{ComesAfter};
 
 use crate::border::Border;
@@ -38,14 +38,6 @@ pub(crate) enum Choice {
 }
 
 impl Live {
-    /// The view after the whole log.
-    pub(crate) fn view(&self) -> &View
-        requires { HasTrace self.now }
-        ensures { result.now ≡ (now_in self.now).view }
-    {
-        &self.view
-    }
-
     /// The least stamp of its native candidates.
     pub(crate) fn least_own(&self, home: &Home) -> Option<Stamp>
         requires { HasRun home.now self.now }
