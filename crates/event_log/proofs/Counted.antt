@@ -1,5 +1,5 @@
 -- The place in a log where a stamp would stand, by the heads.
-use Rattle.std.proofs.Common.{◌≡◌, ℕ, ◌<◌, ◌≤◌, true, false, List, get_or, length, map, sym, ap, ◌∙◌, arith}
+use Rattle.std.proofs.Common.{◌≡◌, ℕ, ◌<◌, ◌≤◌, true, false, List, get_or, length, map, sym, ap, ◌∙◌, arith, ◌-◌, ◌==◌, Bool, [], ◌∷◌, take, slice_get, None, refl}
 use Rattle.std.specs.List.Sorted.{IsPartitionedBy, IsPartitionPoint}
 use Rattle.std.proofs.lemmas.List.{get_or-map, length-map}
 use Rattle.event_stamps.specs.declared.Stamp.{Stamp}
@@ -9,6 +9,7 @@ use Rattle.local_run.specs.Entries.{entry_stamp, RiseFrom}
 use Rattle.local_run.proofs.Counted.{IsPlace, partitioned}
 use Rattle.event_log.specs.declared.heads.Head.{Head}
 use Rattle.event_log.proofs.Laid.{head_stamp, whole_head}
+use Rattle.event_log.specs.Logged.{Logged}
 
 -- heads have the stamps of these entries
 abbrev pub HaveStamps : List Head → List Entry → Type 0
@@ -51,3 +52,18 @@ place_of_heads t heads es n same le point =
           ap (λ (s : Stamp). is_before s t) (sym (same_stamp heads es k (some_head d) d same (omega arith)))
           ∙ point.1 k (some_head d) low (omega arith),
     )
+
+-- ---- whether there is an entry
+pub some_there : (b : Bool) (n : ℕ) → b ≡ (n == 0) → b ≡ false → 0 < n
+some_there b n is off = grind arith
+
+pub none_there : (b : Bool) (n : ℕ) → b ≡ (n == 0) → b ≡ true → n ≡ 0
+none_there b n is on = grind arith
+
+pub nothing_to_take : (log : List Logged) → length log ≡ 0 → log ≡ take (length log - 1) log
+nothing_to_take [] none = refl
+nothing_to_take (l ∷ log) none = absurd (omega arith)
+
+pub nothing_last : (log : List Logged) → length log ≡ 0 → None ≡ slice_get log (length log - 1)
+nothing_last [] none = refl
+nothing_last (l ∷ log) none = absurd (omega arith)

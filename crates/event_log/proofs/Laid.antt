@@ -359,3 +359,10 @@ dropped_laid rows wholes heads n laid =
   where
     nothing : (n : ℕ) → n - n ≡ 0
     nothing n = omega arith
+
+-- what is as it was is laid as it was
+pub still_laid : (rows more : NarrowList) (wholes : List Logged) (heads again : List Head) → more ≡ rows →
+    again ≡ heads → AreLaid rows wholes heads → AreLaid more wholes again
+still_laid rows more wholes heads again same_rows same laid =
+    subst (λ (hs : List Head). AreLaid more wholes hs) (sym same)
+    (subst (λ (rs : NarrowList). AreLaid rs wholes heads) (sym same_rows) laid)

@@ -1,12 +1,12 @@
 -- Why what a walk passes over has nothing to do with some rows.
-use Rattle.std.proofs.Common.{◌≡◌, ◌≢◌, inl, inr, ℕ, zero, suc, ◌+◌, ◌<◌, List, [], ◌∷◌, length, get_or, slice_get, Option, Some, None, sym, ◌∙◌, subst, refl, arith}
+use Rattle.std.proofs.Common.{◌≡◌, ◌≢◌, inl, inr, ℕ, zero, suc, ◌+◌, ◌<◌, List, [], ◌∷◌, length, get_or, slice_get, Option, Some, None, sym, ◌∙◌, subst, refl, arith, ◌≤◌, ◌⊎◌}
 use Rattle.std.specs.Prelude.{IfSome, All, option_map, unwrap_or}
 use Rattle.std.specs.List.{Contains}
 use Rattle.std.proofs.lemmas.Option.{slice_get-map, slice_get-get_or}
 use Rattle.event_stamps.specs.declared.Stamp.{Stamp}
 use Rattle.cell_grid.specs.Grid.{GridData, IsAdjacent}
 use Rattle.region_view.specs.declared.action.Placed.{Placed}
-use Rattle.region_view.specs.Setting.{RowList, numbers_of}
+use Rattle.region_view.specs.Setting.{RowList, numbers_of, AreRows}
 use Rattle.region_messages.specs.Trails.{IsAmong}
 use Rattle.event_log.specs.declared.heads.Head.{Head}
 use Rattle.event_log.specs.declared.heads.Form.{Form}
@@ -14,7 +14,7 @@ use Rattle.event_log.specs.declared.heads.Form.TheVariants.{Crossing, Single, Do
 use Rattle.event_log.specs.declared.nearness.Side.{Side}
 use Rattle.event_log.specs.declared.nearness.Sides.{Sides}
 use Rattle.event_log.specs.Logged.{Logged}
-use Rattle.event_log.specs.Heads.{NarrowList, row_place, row_size, row_at, entry_as, back_as, logged, log_of, AreLaid}
+use Rattle.event_log.specs.Heads.{NarrowList, row_place, row_size, row_at, entry_as, back_as, logged, log_of, AreLaid, row_count}
 use Rattle.event_log.specs.Nearness.{AreAway, IsFar, IsFarHead, HasNarrow, AllUpTo, IsPutAt, AreSidesOf, AreUnnamed, IsAwayFrom}
 use Rattle.event_log.proofs.Cuts.{piece_at}
 use Rattle.event_log.proofs.Read.{count_is}
@@ -147,3 +147,67 @@ far_up_to grid rows narrow wholes heads log from found is far k le lt =
     (subst (λ (o : Option Logged). IfSome o (IsFar grid rows)) (sym (slice_get-map (logged narrow wholes) heads k))
     (logged_far grid rows narrow wholes (slice_get heads k) (far k le
     (subst (λ (n : ℕ). k < unwrap_or found n) (count_is narrow wholes heads log is) lt))))
+
+-- ---- rows by how many there are
+pub within_two : (n : ℕ) → 2 ≤ n → 0 < n
+within_two n some = omega arith
+
+pub ordered_two : (slice : RowList) (d : ℕ × Option Placed) → AreRows slice → 2 ≤ length slice →
+    (get_or slice 0 d).0 < (get_or slice 1 d).0
+ordered_two [] d are some = absurd (omega arith)
+ordered_two (r ∷ []) d are some = absurd (omega arith)
+ordered_two (r ∷ s ∷ []) d are some = are
+ordered_two (r ∷ s ∷ t ∷ rows) d are some = absurd are
+
+pub sides_none : (a b : Side) (slice rows : RowList) → slice ≡ rows → length slice < 1 →
+    AreSidesOf (record { first = a; second = b }) rows
+sides_none a b slice rows is none = subst (AreSidesOf (record { first = a; second = b })) is (each slice none)
+  where
+    each : (s : RowList) → length s < 1 → AreSidesOf (record { first = a; second = b }) s
+    each [] none row among = absurd among
+    each (r ∷ rest) none row among = absurd (omega arith)
+
+pub sides_one : (a b : Side) (slice rows : RowList) (d : ℕ × Option Placed) → slice ≡ rows → 1 ≤ length slice →
+    length slice < 2 → IsPutAt a (get_or slice 0 d) → AreSidesOf (record { first = a; second = b }) rows
+sides_one a b slice rows d is some few one =
+    subst (AreSidesOf (record { first = a; second = b })) is (each slice some few one)
+  where
+    each : (s : RowList) → 1 ≤ length s → length s < 2 → IsPutAt a (get_or s 0 d) →
+        AreSidesOf (record { first = a; second = b }) s
+    each [] some few one row among = absurd (omega arith)
+    each (r ∷ []) some few one row (inl same) = inl (subst (IsPutAt a) (sym same) one)
+    each (r ∷ []) some few one row (inr none) = absurd none
+    each (r ∷ s ∷ rest) some few one row among = absurd (omega arith)
+
+pub sides_two : (a b : Side) (slice rows : RowList) (d : ℕ × Option Placed) → slice ≡ rows → AreRows slice →
+    2 ≤ length slice → IsPutAt a (get_or slice 0 d) → IsPutAt b (get_or slice 1 d) →
+    AreSidesOf (record { first = a; second = b }) rows
+sides_two a b slice rows d is are some one two =
+    subst (AreSidesOf (record { first = a; second = b })) is (each slice are some one two)
+  where
+    each : (s : RowList) → AreRows s → 2 ≤ length s → IsPutAt a (get_or s 0 d) → IsPutAt b (get_or s 1 d) →
+        AreSidesOf (record { first = a; second = b }) s
+    each [] are some one two row among = absurd (omega arith)
+    each (r ∷ []) are some one two row among = absurd (omega arith)
+    each (r ∷ s ∷ []) are some one two row (inl same) = inl (subst (IsPutAt a) (sym same) one)
+    each (r ∷ s ∷ []) are some one two row (inr (inl same)) = inr (subst (IsPutAt b) (sym same) two)
+    each (r ∷ s ∷ []) are some one two row (inr (inr none)) = absurd none
+    each (r ∷ s ∷ t ∷ rest) are some one two row among = absurd are
+
+-- ---- the narrow rows of a head
+first_of_form : (narrow : NarrowList) (h : Head) (f : Form) → h.form ≡ f → HasNarrow narrow h →
+    h.row + row_count f ≤ length narrow
+first_of_form narrow h f is has = subst (λ (g : Form). h.row + row_count g ≤ length narrow) is has
+
+pub first_place : (narrow : NarrowList) (h : Head) → (h.form ≡ Crossing) ⊎ (h.form ≡ Single) → HasNarrow narrow h →
+    h.row < length narrow
+first_place narrow h (inl is) has = let fits = first_of_form narrow h Crossing is has in omega arith
+first_place narrow h (inr is) has = let fits = first_of_form narrow h Single is has in omega arith
+
+pub both_places : (narrow : NarrowList) (h : Head) → h.form ≡ Double → HasNarrow narrow h →
+    (h.row < length narrow) × (h.row + 1 < length narrow)
+both_places narrow h is has = let fits = first_of_form narrow h Double is has in (omega arith, omega arith)
+
+-- nothing is claimed of what isn't there
+pub none_if : {A : Type 0} (o : Option A) (P : A → Type 0) → o ≡ None → IfSome o P
+none_if o P is = subst (λ v. IfSome v P) (sym is) tt

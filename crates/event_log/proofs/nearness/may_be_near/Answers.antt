@@ -1,6 +1,7 @@
-use Rattle.std.proofs.Common.{inl, inr}
+use Rattle.std.proofs.Common.{inl, inr, sym, ◌∙◌}
 use Rattle.event_log.specs.declared.heads.Form.TheVariants.{Crossing, Single, Double}
-use Rattle.event_log.proofs.Near.{far_head}
+use Rattle.event_log.proofs.Near.{far_head, first_place, both_places}
+use Rattle.std.proofs.lemmas.Bool.{false≢true}
 use Rattle.event_log.proofs.nearness.may_be_near.Goals as goal
 
 pub returns-in-Crossing : goal.returns-in-Crossing
@@ -21,3 +22,21 @@ returns-else-may_be_beside c = λ off rows are.
     far_head c.args.grid.now c.args.sides.now rows c.args.narrow.now c.args.head.now Double c.in-Double.is are
     (c.may_name.ensures c.if-may_name.false)
     (c.may_be_beside-in-Double.ensures c.if-may_be_beside.false, c.may_be_beside-else-may_be_beside.ensures off)
+
+pub returns-then-may_be_beside : goal.returns-then-may_be_beside
+returns-then-may_be_beside c = λ off. absurd (false≢true (sym off ∙ c.if-may_be_beside.true))
+
+pub returns-then-may_name : goal.returns-then-may_name
+returns-then-may_name c = λ off. absurd (false≢true (sym off))
+
+pub returns-in-Whole : goal.returns-in-Whole
+returns-in-Whole c = λ off. absurd (false≢true (sym off))
+
+pub may_be_beside-requires : goal.may_be_beside-requires
+may_be_beside-requires c = record { within = first_place c.args.narrow.now c.args.head.now c.in-Crossing.is c.requires.narrow }
+
+pub may_be_beside-requires-in-Double : goal.may_be_beside-requires-in-Double
+may_be_beside-requires-in-Double c = record { within = (both_places c.args.narrow.now c.args.head.now c.in-Double.is c.requires.narrow).0 }
+
+pub may_be_beside-requires-else-may_be_beside : goal.may_be_beside-requires-else-may_be_beside
+may_be_beside-requires-else-may_be_beside c = record { within = (both_places c.args.narrow.now c.args.head.now c.in-Double.is c.requires.narrow).1 }

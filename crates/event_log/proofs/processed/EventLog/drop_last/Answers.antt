@@ -1,10 +1,11 @@
-use Rattle.std.proofs.Common.{◌≡◌, ℕ, ◌-◌, List, length, take, slice_get, sym, ap, ◌∙◌, rules, arith, Option, Some, None}
+use Rattle.std.proofs.Common.{◌≡◌, ℕ, ◌-◌, List, length, take, slice_get, sym, ap, ◌∙◌, rules, arith, Option, Some, None, ◌<◌, vec_len}
 use Rattle.std.specs.Prelude.{option_map}
 use Rattle.std.proofs.lemmas.Option.{none-some, same_Some, slice_get-map}
 use Rattle.region_view.specs.Setting.{RowList}
 use Rattle.local_run.specs.declared.entry.Entry.{Entry}
 use Rattle.event_log.specs.Logged.{Logged, entries_in, backs_in}
 use Rattle.event_log.proofs.Read.{count_is}
+use Rattle.event_log.proofs.Counted.{some_there, none_there, nothing_to_take, nothing_last}
 use Rattle.event_log.proofs.processed.EventLog.drop_last.Goals as goal
 
 item_is : (o : Option Logged) (e : Entry) (back : RowList) → option_map (λ (l : Logged). l.0) o ≡ Some e →
@@ -45,3 +46,31 @@ truncate-requires c =
     let count = count_is a.rows.items a.wholes.items a.heads.items c.args.self.now c.self.view_is in
     let all : c.len-last.result ≡ length a.heads.items = search rules in
     record { place = omega arith }
+
+pub entry-requires : goal.entry-requires
+entry-requires c =
+    let a = c.self.inside in
+    let count = count_is a.rows.items a.wholes.items a.heads.items c.args.self.now c.self.view_is in
+    let some = some_there c.is_empty.result (vec_len a.heads) c.is_empty.ensures c.if-is_empty.false in
+    record { within = omega (arith, a.heads.ok.0, c.len-last.ensures) }
+
+pub back-requires : goal.back-requires
+back-requires c =
+    let a = c.self.inside in
+    let count = count_is a.rows.items a.wholes.items a.heads.items c.args.self.now c.self.view_is in
+    let some = some_there c.is_empty.result (vec_len a.heads) c.is_empty.ensures c.if-is_empty.false in
+    record { within = omega (arith, a.heads.ok.0, c.len-last.ensures) }
+
+pub returns-then-is_empty-clause-log : goal.returns-then-is_empty-clause-log
+returns-then-is_empty-clause-log c =
+    let a = c.self.inside in
+    let count = count_is a.rows.items a.wholes.items a.heads.items c.args.self.now c.self.view_is in
+    let none = none_there c.is_empty.result (vec_len a.heads) c.is_empty.ensures c.if-is_empty.true in
+    nothing_to_take c.args.self.now (omega (arith, a.heads.ok.0))
+
+pub returns-then-is_empty-clause-last : goal.returns-then-is_empty-clause-last
+returns-then-is_empty-clause-last c =
+    let a = c.self.inside in
+    let count = count_is a.rows.items a.wholes.items a.heads.items c.args.self.now c.self.view_is in
+    let none = none_there c.is_empty.result (vec_len a.heads) c.is_empty.ensures c.if-is_empty.true in
+    nothing_last c.args.self.now (omega (arith, a.heads.ok.0))

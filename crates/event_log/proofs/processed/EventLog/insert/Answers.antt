@@ -1,4 +1,4 @@
-use Rattle.std.proofs.Common.{◌≡◌, ◌<◌, ◌≤◌, ◌++◌, ℕ, List, length, take, drop, map, ap, ◌∙◌, rules, arith, sym, subst}
+use Rattle.std.proofs.Common.{◌≡◌, ◌<◌, ◌≤◌, ◌++◌, ℕ, List, length, take, drop, map, ap, ◌∙◌, rules, arith, sym, subst, refl}
 use Rattle.std.specs.List.{insert}
 use Rattle.std.proofs.lemmas.List.{with_items_is}
 use Rattle.local_run.specs.declared.entry.TheConstants.{MAX_ENTRIES}
@@ -7,7 +7,7 @@ use Rattle.event_log.specs.declared.heads.Form.TheVariants.{Whole}
 use Rattle.event_log.specs.Logged.{Logged}
 use Rattle.event_log.specs.Heads.{edge_of, row_place, whole_place, whole_size, raised, log_of, AreLaid}
 use Rattle.event_log.proofs.Cuts.{edge_within}
-use Rattle.event_log.proofs.Laid.{inserted_log, inserted_laid, length_raised, with_whole}
+use Rattle.event_log.proofs.Laid.{inserted_log, inserted_laid, length_raised, with_whole, still_laid}
 use Rattle.event_log.proofs.Read.{row_edge_fits, whole_edge_fits, place_fits, count_is}
 use Rattle.event_log.proofs.processed.EventLog.insert.Goals as goal
 
@@ -129,3 +129,9 @@ invariant_of-self-in_err-insert c =
     subst (λ (wholes : List Logged). AreLaid rows wholes c.reserve.new.self.items)
     (sym c.in_err-insert.ensures.items)
     (subst (AreLaid rows c.self.inside.wholes.items) (sym c.in_ok-reserve.ensures.items) c.self.invariant)
+
+pub invariant_of-self : goal.invariant_of-self
+invariant_of-self c =
+    let a = c.self.inside in
+    still_laid a.rows.items a.rows.items a.wholes.items a.heads.items c.reserve.new.self.items refl
+    c.in_err-reserve.ensures.items c.self.invariant

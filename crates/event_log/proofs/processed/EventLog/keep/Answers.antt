@@ -1,9 +1,9 @@
-use Rattle.std.proofs.Common.{◌≡◌, ◌<◌, ◌++◌, [], ◌∷◌, List, length, ap, ◌∙◌, rules, arith}
+use Rattle.std.proofs.Common.{◌≡◌, ◌<◌, ◌++◌, [], ◌∷◌, List, length, ap, ◌∙◌, rules, arith, refl}
 use Rattle.local_run.specs.declared.entry.TheConstants.{MAX_ENTRIES}
 use Rattle.event_log.specs.declared.heads.Head.{Head}
 use Rattle.event_log.specs.Logged.{Logged}
 use Rattle.event_log.specs.Heads.{log_of, logged}
-use Rattle.event_log.proofs.Laid.{IsNext, pushed_log, pushed_laid}
+use Rattle.event_log.proofs.Laid.{IsNext, pushed_log, pushed_laid, still_laid}
 use Rattle.event_log.proofs.Alike.{placed_at}
 use Rattle.event_log.proofs.Read.{rows_fit, wholes_fit, count_is}
 use Rattle.event_log.proofs.processed.EventLog.keep.Goals as goal
@@ -66,3 +66,15 @@ returns-clause-pushed c =
     (λ i. log_of (c.in_ok-extend_from_slice.ensures.items i) a.wholes.items (heads i))
     ∙ pushed_log a.rows.items a.wholes.items a.heads.items c.args.rows.now head c.self.invariant next
     ∙ ap (λ (l : List Logged). l ++ logged c.args.rows.now [] (placed_at 0 0 head) ∷ []) c.self.view_is
+
+pub invariant_of-self : goal.invariant_of-self
+invariant_of-self c =
+    let a = c.self.inside in
+    still_laid a.rows.items a.rows.items a.wholes.items a.heads.items c.reserve.new.self.items refl
+    c.in_err-reserve.ensures.items c.self.invariant
+
+pub invariant_of-self-in_err-extend_from_slice : goal.invariant_of-self-in_err-extend_from_slice
+invariant_of-self-in_err-extend_from_slice c =
+    let a = c.self.inside in
+    still_laid a.rows.items c.extend_from_slice.new.self.items a.wholes.items a.heads.items
+    c.reserve.new.self.items c.in_err-extend_from_slice.ensures.items c.in_ok-reserve.ensures.items c.self.invariant
