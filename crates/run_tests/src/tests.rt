@@ -5,6 +5,5 @@ mod cases;
 mod cell_runs;
 mod listeners;
 mod scenes;
-mod texts;
 mod told;
 mod workers;

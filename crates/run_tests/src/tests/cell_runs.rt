@@ -4,7 +4,6 @@ ghost use Rattle.cell_grid.specs.Grid.{IsAsked};
 
 use super::cases::{Case, expect};
 use super::scenes::valid_scene;
-use super::texts::counts;
 use super::told::{Told, expect_plain};
 use cell_sequence::CellState;
 use event_rules::{Limit, Spot};
@@ -13,7 +12,7 @@ use region_view::Action;
 use std::alloc::{AllocError, Global};
 use std::process::Abort;
 use std::test::Fail;
-use test_scenes::{FOUR_IN_A_ROW, LONG, Numbers, ROLLED_BACK, USUAL, generated, scene_of};
+use test_scenes::{FOUR_IN_A_ROW, LONG, ROLLED_BACK, USUAL};
 
 // More actions than the cell run of a test has.
 const MOST_ACTIONS: u32 = 10_000;
@@ -136,91 +135,4 @@ fn run_beside(
     let run = cell_run(alloc, scene, regions)?;
     expect_plain(rt, alloc, case, scene, &run.told)?;
     Ok(run)
-}
-
-// How many generated scenes were run, and what their runs had.
-#[derive(Drop)]
-struct Tally {
-    scenes: u32,
-    crossings: u32,
-    pairs: usize,
-    limits: u32,
-}
-
-impl Tally {
-    fn add(&mut self, run: &CellRun) {
-        let (_, pairs) = counts(&run.told.changes);
-        self.scenes = self.scenes.wrapping_add(1);
-        self.crossings = self.crossings.wrapping_add(run.crossings);
-        self.pairs = self.pairs.wrapping_add(pairs);
-        self.limits = self
-            .limits
-            .wrapping_add(u32::from(run.told.limit.is_some()));
-    }
-
-    // The numbers of scenes, crossings, collisions of two disks, and limits.
-    fn numbers(&self) -> (u32, u32, usize, u32) {
-        (self.scenes, self.crossings, self.pairs, self.limits)
-    }
-
-    fn is_enough(&self) -> bool {
-        self.scenes >= LEAST_SCENES
-            && self.crossings >= LEAST_CROSSINGS
-            && self.pairs >= LEAST_PAIRS
-            && self.limits >= LEAST_LIMITS
-    }
-}
-
-// Some of the scenes that are generated are refused, and enough of them have to be left.
-const SCENES: usize = 400;
-
-const LEAST_SCENES: u32 = 200;
-
-const LEAST_CROSSINGS: u32 = 200;
-
-const LEAST_PAIRS: usize = 200;
-
-const LEAST_LIMITS: u32 = 20;
-
-#[test]
-fn cell_runs_of_generated_scenes_tell_the_plain_run(rt: HostRuntime) -> Result<(), Fail> {
-    let mut numbers = Numbers { state: 1 };
-    let mut tally = Tally {
-        scenes: 0,
-        crossings: 0,
-        pairs: 0,
-        limits: 0,
-    };
-    for number in 0..SCENES {
-        add_generated(&rt, rt.alloc(), &mut numbers, number, &mut tally)?;
-    }
-    expect(&rt, tally.numbers(), tally.is_enough(), true);
-    Ok(())
-}
-
-// Adds the run of the next generated scene, if that isn't refused.
-fn add_generated(
-    rt: &impl Abort,
-    alloc: Global,
-    numbers: &mut Numbers,
-    number: usize,
-    tally: &mut Tally,
-) -> Result<(), AllocError> {
-    let text = generated(alloc, numbers)?;
-    match scene_of(alloc, text.as_str())? {
-        Some(scene) => add_run(rt, alloc, (number, text.as_str()), &scene, tally),
-        None => Ok(()),
-    }
-}
-
-fn add_run(
-    rt: &impl Abort,
-    alloc: Global,
-    case: Case<'_>,
-    scene: &Scene,
-    tally: &mut Tally,
-) -> Result<(), AllocError> {
-    let run = run_beside(rt, alloc, case, scene, 8)?;
-    tally.add(&run);
-    Ok(())
 }
