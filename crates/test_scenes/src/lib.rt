@@ -10,6 +10,5 @@ mod texts;
 pub use drawn::{crowd, generated, wide};
 pub use numbers::Numbers;
 pub use texts::{
-    BOUNCING, BOUNCING_SUMMARY, FOUR_IN_A_ROW, FOUR_IN_A_ROW_REPORT, LONG, MISLED, MISLED_REPORT,
-    PAIR, ROLLED_BACK, ROLLED_BACK_REPORT, SLOW_CROSSING, USUAL, scene, scene_of,
+    BOUNCING, FOUR_IN_A_ROW, LONG, MISLED, ROLLED_BACK, SLOW_CROSSING, USUAL, scene, scene_of,
 };

@@ -11,50 +11,83 @@ use std::sync::Wait;
 use std::test::Fail;
 use std::thread::Threads;
 
-// The number of bytes of the text, which a source in steps of one byte gives call by call.
-const BYTES: u64 = 125;
+const AUDIT: &[&str] = &["--mode", "audit", "--regions", "4"];
+
+// The meeting with its report, for an audit.
+const AUDITED: &str = "width = 40\n\
+    height = 20\n\
+    diameter = 4\n\
+    speed_limit = 8\n\
+    round_limit = 8\n\
+    end = 5\n\
+    disks = [\n  \
+    [10, 10, 1, 0],\n  \
+    [20, 10, -1, 0],\n\
+    ]\n\
+    ===\n\
+    3 0 pair 0 1 -1 0 1 0\n\
+    done 5\n\
+    walls 0\n\
+    pairs 1\n\
+    momentum 0 0\n\
+    energy 2 2\n\
+    disk 0 11 10 -1 0\n\
+    disk 1 19 10 1 0\n";
+
+// The words, the input, and the output where no call fails.
+type TakeRow = (&'static [&'static str], &'static str, &'static str);
+
+const TAKES: &[TakeRow] = &[
+    (PLAIN, MEETING, MEETING_REPORT),
+    (RUN, MEETING, MEETING_REPORT),
+    (AUDIT, AUDITED, "audit ok 8\n"),
+];
 
 #[test]
 fn writes_nothing_where_a_take_fails(rt: HostRuntime) -> Result<(), Fail> {
-    for words in BOTH_ENGINES {
-        expect_all_taken(&rt, rt.alloc(), words)?;
+    for row in TAKES {
+        expect_all_taken(&rt, rt.alloc(), row)?;
     }
     Ok(())
 }
 
+// A source in steps of one byte gives the input call by call, and says in one call more that nothing is left.
 fn expect_all_taken(
     rt: &(impl Threads + Wait + Sync + Abort),
     alloc: Global,
-    words: &[&str],
+    &(words, text, want): &TakeRow,
 ) -> Result<(), AllocError> {
-    for call in 0..=BYTES {
-        expect_taken(rt, alloc, words, call, Status::ReadFault, "")?;
+    let calls = text.len() as u64;
+    for call in 0..=calls {
+        expect_taken(rt, alloc, words, text, call, Status::ReadFault, "")?;
     }
-    expect_taken(rt, alloc, words, BYTES + 1, Status::Done, MEETING_REPORT)
+    expect_taken(rt, alloc, words, text, calls + 1, Status::Done, want)
 }
 
-// Stops a test where the run of the meeting, of which this take fails, comes to something else.
+// Stops a test where the call with an input, of which this take fails, comes to something else.
 fn expect_taken(
     rt: &(impl Threads + Wait + Sync + Abort),
     alloc: Global,
     words: &[&str],
+    text: &str,
     call: u64,
     status: Status,
     want: &str,
 ) -> Result<(), AllocError> {
-    let found = output_without_take(rt, alloc, words, call)?;
+    let found = output_without_take(rt, alloc, words, text, call)?;
     expect(rt, &(words, "take", call), &found, status, want);
     Ok(())
 }
 
-// What is written of the meeting, of which this take fails, and the status.
+// What is written of an input, of which this take fails, and the status.
 fn output_without_take(
     rt: &(impl Threads + Wait + Sync),
     alloc: Global,
     words: &[&str],
+    text: &str,
     call: u64,
 ) -> Result<(MemorySink, Status), AllocError> {
-    let source = MemorySource::in_steps(alloc, MEETING.as_bytes(), &[call], 1)?;
+    let source = MemorySource::in_steps(alloc, text.as_bytes(), &[call], 1)?;
     let sink = MemorySink::new(alloc, &[], AMPLE_ROOM)?;
     Ok(output_between(rt, alloc, words, source, sink))
 }

@@ -1,9 +1,6 @@
-//! Runs by workers, whose numbers and gates make no difference to what is written.
+//! What workers do, which their gates see.
 
-use super::helpers::{
-    AMPLE_ROOM, FOUR_IN_A_ROW, FOUR_IN_A_ROW_REPORT, LONG, expect, expect_output, output_through,
-    row_source, scene,
-};
+use super::helpers::{AMPLE_ROOM, FOUR_IN_A_ROW_REPORT, expect, output_through, row_source};
 use hard_disks::Status;
 use region_core::Gate;
 use report_ports::MemorySink;
@@ -14,90 +11,6 @@ use std::sync::atomic::{AtomicBool, AtomicU64, Ordering};
 use std::test::Fail;
 use std::thread;
 use std::thread::Threads;
-
-const REGIONS: &[&str] = &["1", "2", "4", "20"];
-
-const WORKERS: &[&str] = &["1", "2", "8"];
-
-// Where regions lie while workers run them.
-const BURST_KINDS: &[&str] = &["locks", "table"];
-
-#[test]
-fn any_numbers_of_regions_and_workers_write_the_report(rt: HostRuntime) -> Result<(), Fail> {
-    let text = scene(rt.alloc(), LONG, 8, 40, FOUR_IN_A_ROW)?;
-    expect_report_with_any(&rt, rt.alloc(), text.as_str())?;
-    Ok(())
-}
-
-fn expect_report_with_any(
-    rt: &(impl Threads + Wait + Sync + Abort),
-    alloc: Global,
-    text: &str,
-) -> Result<(), AllocError> {
-    for regions in REGIONS {
-        for workers in WORKERS {
-            for burst in BURST_KINDS {
-                let words = ["--regions", regions, "--workers", workers, "--burst", burst];
-                expect_output(rt, alloc, &words, text, Status::Done, FOUR_IN_A_ROW_REPORT)?;
-            }
-        }
-    }
-    Ok(())
-}
-
-// The number of disks of a scene that is made, where its regions lie, and the sums of its run, which are those of a
-// simulator that was written apart from this one.
-const LOADS: &[(&str, &str, &str)] = &[
-    (
-        "36",
-        "locks",
-        "done 1000\nwalls 338\npairs 953\nmomentum 149 -254\nenergy 117185 115633\n",
-    ),
-    (
-        "1000",
-        "locks",
-        "done 1000\nwalls 1451\npairs 22220\nmomentum -332 -1236\nenergy 2680548 2690350\n",
-    ),
-    (
-        "1000",
-        "table",
-        "done 1000\nwalls 1451\npairs 22220\nmomentum -332 -1236\nenergy 2680548 2690350\n",
-    ),
-];
-
-#[test]
-fn made_scenes_write_the_same_however_they_are_run(rt: HostRuntime) -> Result<(), Fail> {
-    for &(disks, burst, want) in LOADS {
-        expect_made(&rt, rt.alloc(), disks, burst, "4", want)?;
-        expect_made(&rt, rt.alloc(), disks, burst, "1", want)?;
-    }
-    Ok(())
-}
-
-// Runs the made scene over so many regions by as many workers.
-fn expect_made(
-    rt: &(impl Threads + Wait + Sync + Abort),
-    alloc: Global,
-    disks: &str,
-    burst: &str,
-    number: &str,
-    want: &str,
-) -> Result<(), AllocError> {
-    let words = [
-        "--mode=load",
-        "--number=7",
-        "--format=summary",
-        "--disks",
-        disks,
-        "--burst",
-        burst,
-        "--regions",
-        number,
-        "--workers",
-        number,
-    ];
-    expect_output(rt, alloc, &words, "", Status::Done, want)
-}
 
 // Stops a test where the four disks don't write their report with these words and through this gate.
 fn expect_report_through<G: Gate>(

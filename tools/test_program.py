@@ -1,0 +1,277 @@
+#!/usr/bin/env python3
+"""Tests of what the built program writes: whole outputs that were worked out by hand, the reports of scenes/, and what
+its words must not change.
+
+    python3 tools/test_program.py [PROGRAM]
+
+PROGRAM is the built one, crates/hard_disks_program/out/hard_disks_program, where none is named."""
+import itertools
+import os
+import random
+import resource
+import signal
+import subprocess
+import sys
+import tempfile
+import tomllib
+import unittest
+from pathlib import Path
+
+TOOLS = Path(__file__).resolve().parent
+SCENES = TOOLS.parent / "scenes"
+PROGRAM = TOOLS.parent / "crates" / "hard_disks_program" / "out" / "hard_disks_program"
+OUTPUTS = tomllib.loads((TOOLS / "outputs.toml").read_text(encoding="utf-8"))
+# How long, in seconds, a run may take, on a busy machine.
+LONG = 120
+DONE, SCENE_REFUSED, SPEED_LIMIT, ROUND_LIMIT, READ_FAULT, WRITE_FAULT, WRONG = 0, 3, 4, 5, 6, 7, 9
+# The most bytes that a text may have.
+MOST_BYTES = 67_108_864
+# Part of a line.
+HASHES = b"#" * 65_536
+# How a scene may be run, which makes no difference to its report.
+WAYS = [
+    "--mode plain",
+    "--mode run",
+    "--regions 1 --workers 1",
+    "--regions 20 --workers 8",
+    "--regions 4 --workers 4 --turns 1 --steps 1",
+    "--regions 4 --workers 2 --turns 64 --steps 4096",
+    "--regions 4 --workers 2 --burst table",
+]
+
+
+def output(words, text=""):
+    """What the program writes with these words and this input, and its status."""
+    ran = subprocess.run([PROGRAM, *words.split()], input=text.encode(), capture_output=True, timeout=LONG)
+    if ran.stderr:
+        raise AssertionError(f"{words}: on standard error stands {ran.stderr}")
+    return ran.stdout.decode(), ran.returncode
+
+
+def endless_output(words, text):
+    """The same where a line without an end follows the input."""
+    how = {"stdin": subprocess.PIPE, "stdout": subprocess.PIPE, "bufsize": 0}
+    with subprocess.Popen([PROGRAM, *words.split()], **how) as ran:
+        try:
+            ran.stdin.write(text.encode())
+            for _ in range(2 * MOST_BYTES // len(HASHES)):
+                ran.stdin.write(HASHES)
+            raise AssertionError("it reads on and on")
+        except BrokenPipeError:
+            return ran.stdout.read().decode(), ran.wait(LONG)
+        finally:
+            ran.kill()
+
+
+def output_into(words, text, room):
+    """What the program writes into a file that holds so many bytes, and its status."""
+
+    def limit():
+        signal.signal(signal.SIGXFSZ, signal.SIG_IGN)
+        resource.setrlimit(resource.RLIMIT_FSIZE, (room, room))
+
+    with tempfile.TemporaryFile() as file:
+        how = {"input": text.encode(), "stdout": file, "preexec_fn": limit, "timeout": LONG}
+        ran = subprocess.run([PROGRAM, *words.split()], **how)
+        file.seek(0)
+        return file.read().decode(), ran.returncode
+
+
+def changed(scene, old, new):
+    """The text of a scene with one place changed."""
+    if old not in scene:
+        raise AssertionError(f"no such place in the scene: {old}")
+    return scene.replace(old, new, 1)
+
+
+def drawn(chance):
+    """The text of a scene of up to five disks, with limits that its run may pass; it may be refused."""
+    width, height = chance.randint(20, 79), chance.randint(8, 47)
+    rows = []
+    for _ in range(chance.randint(1, 5)):
+        place = [chance.randint(2, width - 2), chance.randint(2, height - 2)]
+        rows.append([*place, chance.randint(-2, 2), chance.randint(-2, 2), chance.choice([2, 4])])
+    speed, rounds, last = chance.randint(2, 4), chance.randint(1, 3), chance.randint(0, 39)
+    limits = f"speed_limit = {speed}\nround_limit = {rounds}\nend = {last}\n"
+    return f"width = {width}\nheight = {height}\ndiameter = 4\n{limits}disks = {rows}\n"
+
+
+def drawn_scenes(count):
+    """So many texts of scenes that aren't refused."""
+    chance = random.Random(3)
+    texts = (drawn(chance) for _ in range(20 * count))
+    scenes = list(itertools.islice((it for it in texts if output("--mode check", it)[1] == DONE), count))
+    if len(scenes) < count:
+        raise AssertionError(f"of {20 * count} drawn scenes {len(scenes)} aren't refused")
+    return scenes
+
+
+def later(line, by):
+    """A line of a report, in which the first number, a tick, is so much greater."""
+    words = line.split(" ")
+    at = next(i for i, word in enumerate(words) if word.isdigit())
+    return " ".join([*words[:at], str(int(words[at]) + by), *words[at + 1 :]])
+
+
+def events(report, by=0):
+    """The lines of the events of a report, so many ticks later."""
+    return [later(line, by) for line in report.splitlines() if line[0].isdigit()]
+
+
+def end(report, by=0):
+    """The lines of a report on how the run ended, so many ticks later, and on where the disks are then."""
+    lines = report.splitlines()
+    ends = [later(line, by) for line in lines if line.startswith(("done ", "limit "))]
+    return ends + [line for line in lines if line.startswith("disk ")]
+
+
+class Outputs(unittest.TestCase):
+    maxDiff = None
+
+    def assert_output(self, words, text, status, want):
+        found, code = output(words, text)
+        self.assertEqual((code, found), (status, want), words)
+
+    def assert_refused(self, table):
+        for words in table["words"]:
+            for old, new, line in table["rows"]:
+                with self.subTest(words=words, old=old, new=new):
+                    self.assert_output(words, changed(table["scene"], old, new), SCENE_REFUSED, line + "\n")
+
+    def test_each_case_has_its_output(self):
+        for case in OUTPUTS["case"]:
+            for words in case["words"]:
+                with self.subTest(case["name"], words=words):
+                    self.assert_output(words, case["input"], case["status"], case["output"])
+
+    def test_each_broken_scene_is_refused(self):
+        self.assert_refused(OUTPUTS["refusals"])
+
+    def test_the_first_of_two_faults_is_told(self):
+        self.assert_refused(OUTPUTS["two_faults"])
+
+    def test_too_many_disks_are_refused(self):
+        scene = changed(OUTPUTS["refusals"]["scene"], "[10, 10, 1, 0],\n  [20, 10, -1, 0]", "[], " * 65_536 + "[]")
+        self.assert_output("--mode plain", scene, SCENE_REFUSED, "refused 7 too many disks 65537\n")
+
+    def test_a_text_of_a_byte_too_much_is_too_long(self):
+        scene = OUTPUTS["refusals"]["scene"]
+        longest = scene + "#" * (MOST_BYTES - len(scene))
+        self.assert_output("--mode check --format summary", longest, DONE, "scene 2\n")
+        self.assert_output("--mode check", longest + "#", SCENE_REFUSED, "refused 1 too long\n")
+
+    def test_four_hundred_disks_have_room(self):
+        rows = [[3 + 5 * (i // 20), 3 + 5 * (i % 20), 0, 0] for i in range(400)]
+        limits = "speed_limit = 8\nround_limit = 8\nend = 2\n"
+        scene = f"width = 101\nheight = 101\ndiameter = 4\nevery = 1\n{limits}disks = {rows}\n"
+        self.assert_output("--mode check --format summary", scene, DONE, "scene 400\n")
+        sums = "done 2\nwalls 0\npairs 0\nmomentum 0 0\nenergy 0 0\n"
+        self.assert_output("--mode plain --format summary", scene, DONE, sums)
+
+    def test_a_full_disk_leaves_a_prefix(self):
+        scene = OUTPUTS["refusals"]["scene"]
+        for words in ("--mode plain", "--mode run", "--mode check", "--mode cut --at 4"):
+            want = output(words, scene)[0]
+            for room in range(0, len(want), 7):
+                with self.subTest(words, room=room):
+                    self.assertEqual(output_into(words, scene, room), (want[:room], WRITE_FAULT))
+            self.assertEqual(output_into(words, scene, len(want)), (want, DONE))
+
+    def test_nothing_is_written_where_no_byte_can_be_read(self):
+        for words in ("--mode plain", "--mode run", "--mode check", "--mode cut", "--mode audit"):
+            with self.subTest(words), open("/proc/self/mem", "rb") as unreadable:
+                ran = subprocess.run([PROGRAM, *words.split()], stdin=unreadable, capture_output=True, timeout=LONG)
+                self.assertEqual((ran.stdout, ran.returncode), (b"", READ_FAULT))
+
+    def test_each_scene_of_the_repository_has_its_report(self):
+        for scene in sorted(SCENES.glob("*.toml")):
+            want = scene.with_suffix(".report").read_text(encoding="ascii")
+            for words in WAYS:
+                with self.subTest(scene.name, words=words):
+                    self.assertEqual(output(words, scene.read_text(encoding="utf-8"))[0], want)
+
+    def test_any_numbers_of_regions_and_workers_write_the_report(self):
+        scene, want = ((SCENES / f"row.{kind}").read_text(encoding="utf-8") for kind in ("toml", "report"))
+        for regions in (1, 2, 4, 20, 64):
+            for workers in (1, 2, 8):
+                for burst in ("locks", "table"):
+                    words = f"--regions {regions} --workers {workers} --burst {burst}"
+                    with self.subTest(words):
+                        self.assert_output(words, scene, DONE, want)
+
+    def test_drawn_scenes_write_the_same_however_they_are_run(self):
+        for scene in drawn_scenes(30):
+            want = output("--mode plain", scene)
+            for words in WAYS:
+                with self.subTest(words, scene=scene):
+                    self.assertEqual(output(words, scene), want)
+
+    def test_made_scenes_have_the_sums_of_another_simulator(self):
+        sums = {
+            36: "done 1000\nwalls 338\npairs 953\nmomentum 149 -254\nenergy 117185 115633\n",
+            1000: "done 1000\nwalls 1451\npairs 22220\nmomentum -332 -1236\nenergy 2680548 2690350\n",
+        }
+        for disks, want in sums.items():
+            for how in ("--regions 1 --workers 1", "--regions 4 --workers 4", "--regions 4 --workers 4 --burst table"):
+                words = f"--mode=load --number=7 --format=summary --disks {disks} {how}"
+                with self.subTest(words):
+                    self.assert_output(words, "", DONE, want)
+
+    def test_a_canonical_text_is_read_back_as_the_same_scene(self):
+        scenes = [path.read_text(encoding="utf-8") for path in SCENES.glob("*.toml")]
+        for scene in scenes + drawn_scenes(10):
+            with self.subTest(scene=scene):
+                text = output("--mode check", scene)[0]
+                self.assert_output("--mode check", text, DONE, text)
+                self.assertEqual(output("--mode plain", text), output("--mode plain", scene))
+
+    def test_the_reports_of_parts_are_that_of_the_run(self):
+        for scene in drawn_scenes(20):
+            last = tomllib.loads(scene)["end"]
+            for at in sorted({last // 4, last // 2, last}):
+                with self.subTest(at=at, scene=scene):
+                    self.assert_parts(scene, last, at)
+
+    def assert_parts(self, scene, last, at):
+        rest, status = output(f"--mode cut --at {at}", scene)
+        if status != DONE:
+            self.assertIn(status, (SPEED_LIMIT, ROUND_LIMIT))
+            self.assertEqual((rest, status), output("--format summary", scene))
+            return
+        whole = output("--mode run", scene)[0]
+        first = output("--mode run", changed(scene, f"end = {last}\n", f"end = {at}\n"))[0]
+        second = output("--mode run", rest)[0]
+        self.assertEqual(events(first) + events(second, at) + end(second, at), events(whole) + end(whole))
+
+    def test_an_audit_ends_where_its_input_has_no_end(self):
+        meeting = OUTPUTS["refusals"]["scene"]
+        report = output("--mode run", meeting)[0]
+        rows = [
+            ("", SCENE_REFUSED, "refused 1 too long\n"),
+            (f"{meeting}===", SCENE_REFUSED, "refused 1 too long\n"),
+            (f"{meeting}===\n3 0 pair 0 1 -1 0 1 0\ndone 5", WRONG, "audit line 2\nexpected done 5\n"),
+            (f"{meeting}===\n{report}", WRONG, "audit line 9\nexpected nothing\n"),
+        ]
+        for text, status, want in rows:
+            with self.subTest(text):
+                self.assertEqual(endless_output("--mode audit", text), (want, status))
+
+    def test_an_audit_finds_each_report_right(self):
+        for scene in drawn_scenes(10):
+            report = output("--mode plain", scene)[0]
+            with self.subTest(scene=scene):
+                right = f"audit ok {len(report.splitlines())}\n"
+                self.assert_output("--mode audit", f"{scene}===\n{report}", DONE, right)
+
+
+def main():
+    global PROGRAM
+    if len(sys.argv) > 1:
+        PROGRAM = Path(sys.argv.pop(1)).resolve()
+    if not os.access(PROGRAM, os.X_OK):
+        sys.exit(f"{PROGRAM} isn't there: ./hard_disks builds it")
+    unittest.main()
+
+
+if __name__ == "__main__":
+    main()
