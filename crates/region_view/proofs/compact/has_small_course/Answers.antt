@@ -1,7 +1,6 @@
 use Rattle.std.proofs.Common.{w64, rules, sym, ◌∙◌}
 use mir.Val.{SFits}
 use Rattle.std.proofs.lemmas.Bool.{both_ways}
-use Rattle.region_view.specs.Compact.{HasSmallCourse}
 use Rattle.region_view.proofs.CompactRows.{narrow_sent}
 use Rattle.region_view.proofs.compact.has_small_course.Goals as goal
 use Rattle.region_view.proofs.compact.has_small_course.Goals.{then-has_narrow_centre, else-has_narrow_centre}

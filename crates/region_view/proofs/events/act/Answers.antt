@@ -1,5 +1,5 @@
 -- What isn't a crossing is a hit.
-use Rattle.std.proofs.Common.{◌≡◌, inl, inr, subst, sym, ap, ◌∙◌, Option, Result}
+use Rattle.std.proofs.Common.{◌≡◌, inl, inr, subst, sym, ap, ◌∙◌, Option}
 use Rattle.std.specs.Prelude.{◌⊎◌}
 use Rattle.fixed_motion.specs.declared.rules.Rules.{Rules}
 use Rattle.fixed_motion.specs.declared.disk.Disk.{Disk}
@@ -9,9 +9,7 @@ use Rattle.event_stamps.specs.declared.Kind.TheVariants.{Wall, Pair}
 use Rattle.event_rules.specs.Events.{IsEventOf}
 use Rattle.event_rules.specs.Effect.{applied}
 use Rattle.cell_grid.specs.Grid.{GridData}
-use Rattle.region_view.specs.declared.action.Action.{Action}
 use Rattle.region_view.specs.declared.action.Placed.{Placed}
-use Rattle.event_rules.specs.declared.change.Limit.{Limit}
 use Rattle.region_view.specs.Events.{IsEventBy}
 use Rattle.region_view.specs.Acting.{action_of, hit_of}
 use Rattle.region_view.proofs.events.act.Goals as goal

@@ -1,4 +1,4 @@
-use Rattle.std.proofs.Common.{◌≡◌, Bool, true, false, Decides, FitsSigned, rules, refl, ap, subst, sym, ◌∙◌, w64}
+use Rattle.std.proofs.Common.{◌≡◌, Bool, true, false, Decides, FitsSigned, rules, refl, subst, sym, w64}
 use Rattle.std.specs.Prelude.{ℤ, ◌≤ℤ◌}
 use lib.Dec.{T}
 use lib.Signed.{le_z}

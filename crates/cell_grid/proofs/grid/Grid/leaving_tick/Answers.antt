@@ -1,5 +1,5 @@
 -- A disk that is ever in the cell is in it at the last tick before it is past an end of it.
-use Rattle.std.proofs.Common.{◌≡◌, ◌-◌, ◌∙◌, ap, true, false, ℕ}
+use Rattle.std.proofs.Common.{◌≡◌, ◌-◌, ◌∙◌, ap, ℕ}
 use Rattle.std.specs.Prelude.{Some, None}
 use Rattle.std.proofs.lemmas.Bool.{both_ways}
 use Rattle.cell_grid.specs.Leaving.{IsInRoomAfter, EndsAt}

@@ -1,4 +1,4 @@
-use Rattle.std.proofs.Common.{◌≡◌, ℕ, ◌-◌, List, length, take, slice_get, sym, ap, ◌∙◌, rules, arith, Option, Some, None, ◌<◌, vec_len}
+use Rattle.std.proofs.Common.{◌≡◌, ℕ, ◌-◌, List, length, take, slice_get, sym, ap, ◌∙◌, rules, arith, Option, Some, None, vec_len}
 use Rattle.std.specs.Prelude.{option_map}
 use Rattle.std.proofs.lemmas.Option.{none-some, same_Some, slice_get-map}
 use Rattle.region_view.specs.Setting.{RowList}

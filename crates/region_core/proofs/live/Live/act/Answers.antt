@@ -1,4 +1,4 @@
-use Rattle.std.proofs.Common.{sym, subst, refl}
+use Rattle.std.proofs.Common.{sym, subst}
 use Rattle.region_view.specs.Placing.{IsValidPlacing}
 use Rattle.region_view.specs.Views.{ViewData, rows_in}
 use Rattle.region_core.proofs.live.Live.act.Goals as goal

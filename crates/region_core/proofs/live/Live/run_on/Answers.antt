@@ -3,7 +3,6 @@ use Rattle.region_core.specs.Live.{run_in, region_in}
 use Rattle.region_core.specs.RunsOn.{RunsNext, RunsOn}
 use Rattle.region_core.proofs.RunningOn.{still_clear, next_follows, one_ran, none_ran}
 use Rattle.local_run.specs.LocalRun.{Local}
-use Rattle.local_run.specs.Opening.{RegionData}
 use Rattle.region_core.proofs.live.Live.run_on.Goals as goal
 
 pub loop-left-init : goal.loop-left-init

@@ -1,4 +1,4 @@
-use Rattle.std.proofs.Common.{[], ◌∷◌, ap, ◌∙◌}
+use Rattle.std.proofs.Common.{◌∷◌, ap, ◌∙◌}
 use Rattle.region_table.specs.Rule.{slots_of}
 use Rattle.region_table.proofs.Slots.{held_first, held_second, held_alone, without_first, without_second, without_alone}
 use Rattle.region_table.proofs.job.Job.hear.Goals as goal

@@ -1,5 +1,5 @@
 -- What stands at a number is what the map has there.
-use Rattle.std.proofs.Common.{◌≡◌, List, Option, Some, None, sym, ap, ◌∙◌}
+use Rattle.std.proofs.Common.{◌≡◌, List, Option, None, sym, ap, ◌∙◌}
 use Rattle.std.specs.Prelude.{slice_index_or}
 use Rattle.std.proofs.lemmas.Option.{IfSome_then}
 use Rattle.region_view.specs.declared.action.Placed.{Placed}
