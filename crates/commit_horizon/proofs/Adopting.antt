@@ -47,6 +47,9 @@ pub record StandUpTo (state : CellStateData) (n : ℕ) (regions : List RegionDat
   pub count : length regions ≡ n
   pub each : (k : ℕ) (region : RegionData) → slice_get regions k ≡ Some region → StandsOn state k region
 
+pub none_stand : (state : CellStateData) → StandUpTo state 0 []
+none_stand state = record { count = refl; each = λ k region at. absurd (none-some region at) }
+
 pub one_more_stands : (state : CellStateData) (n : ℕ) (regions : List RegionData) (region : RegionData) →
     StandUpTo state n regions → StandsOn state n region →
     StandUpTo state (n + 1) (regions ++ region ∷ [])
@@ -77,6 +80,13 @@ pub record AdoptedUpTo (state : CellStateData) (given : List RegionData) (n : �
   pub done : (k : ℕ) (old : RegionData) → k < n → slice_get given k ≡ Some old →
       (region : RegionData) × (slice_get regions k ≡ Some region) × IsAdopted state k old region
   pub rest : (k : ℕ) → n ≤ k → slice_get regions k ≡ slice_get given k
+
+pub none_adopted : (state : CellStateData) (given : List RegionData) → AdoptedUpTo state given 0 given
+none_adopted state given = record {
+  count = refl;
+  done = λ k old lt at. absurd (omega arith);
+  rest = λ k le. refl;
+}
 
 pub one_more_adopted : (state : CellStateData) (given regions : List RegionData) (n : ℕ)
     (old region : RegionData) → AdoptedUpTo state given n regions → slice_get regions n ≡ Some old →

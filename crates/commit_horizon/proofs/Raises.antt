@@ -1,5 +1,6 @@
 -- Regions whose floors are raised one after the other.
-use Rattle.std.proofs.Common.{◌≡◌, ℕ, zero, suc, ◌<◌, List, [], ◌∷◌, ◌++◌, length, get_or, take, drop, map, sym, ap, ◌∙◌, subst, refl, arith}
+use Rattle.std.proofs.Common.{◌≡◌, ℕ, zero, suc, ◌<◌, ◌≤◌, List, [], ◌∷◌, ◌++◌, length, get_or, take, drop, map, sym, ap, ◌∙◌, subst, refl, arith}
+use Rattle.std.proofs.lemmas.List.{append-nil, take_all, drop_all}
 use Rattle.std.proofs.lemmas.Option.{slice_get-get_or}
 use Rattle.event_stamps.specs.declared.Stamp.{Stamp}
 use Rattle.local_run.specs.Opening.{RegionData}
@@ -20,3 +21,11 @@ may_rise_next to regions items k d lt so_far all =
     subst (MayRise to)
     (sym (ap (λ (v : List RegionData). get_or v k d) so_far ∙ get_left (raised to) regions k d lt))
     (all k (get_or regions k d) (slice_get-get_or regions k d lt))
+
+-- none is left
+pub all_raised : (to : Stamp) (regions : List RegionData) (k : ℕ) → length regions ≤ k →
+    map (raised to) (take k regions) ++ drop k regions ≡ map (raised to) regions
+all_raised to regions k le =
+    ap (λ (v : List RegionData). map (raised to) v ++ drop k regions) (take_all k regions le)
+    ∙ ap (λ (v : List RegionData). map (raised to) regions ++ v) (drop_all k regions le)
+    ∙ append-nil (map (raised to) regions)

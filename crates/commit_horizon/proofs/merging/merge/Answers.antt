@@ -31,6 +31,9 @@ bounds-regions-first c =
     let least = leads_at heads first c.in-Some.field-0 c.actions.invariant.leads c.in-Some.ensures.value in
     subst (λ n. first.number < n) c.actions.invariant.keeps.count least.0
 
+pub offset_bounds-regions-first : goal.offset_bounds-regions-first
+offset_bounds-regions-first c = omega (arith, bounds-regions-first c)
+
 pub action_at-action-requires : goal.action_at-action-requires
 action_at-action-requires c =
     let state = c.args.state.now in

@@ -67,3 +67,9 @@ returns-clause-told g c =
     c.raise_floors.new.regions
     (c.in_ok-last.ensures.told state (merged_from c.args.rules.now regions h bound kept state of))
     c.in_ok-raise_floors.ensures
+
+pub returns-clause-counts : goal.returns-clause-counts
+returns-clause-counts g c = c.in_ok-last.ensures.counts
+
+pub returns-clause-cut_short : goal.returns-clause-cut_short
+returns-clause-cut_short g c = tt

@@ -61,6 +61,9 @@ bounds-regions-first g c =
     (c.actions.invariant.telling state from) first.number head
     (leads_at heads first c.in-Some.stamp c.actions.invariant.leads c.in-Some.ensures.value)
 
+pub offset_bounds-regions-first : goal.offset_bounds-regions-first
+offset_bounds-regions-first g c = omega (arith, bounds-regions-first g c)
+
 pub tell_at-requires-clause-there : goal.tell_at-requires-clause-there
 tell_at-requires-clause-there g c =
     let L = g.L.Listener in

@@ -1,4 +1,4 @@
-use Rattle.std.proofs.Common.{subst, refl}
+use Rattle.std.proofs.Common.{◌<◌, sym, subst, refl}
 use Rattle.cell_sequence.specs.State.{CellStateData}
 use Rattle.local_run.specs.Opening.{IsOpened}
 use Rattle.local_run.specs.Standing.{StandsOn, DiffersBy}
@@ -9,6 +9,10 @@ returns-in_default c = (
   subst (λ (v : CellStateData). StandsOn v c.args.number c.args.region) c.self.view_is c.in_default.ensures.value,
   refl,
 )
+
+pub open-requires : goal.open-requires
+open-requires c =
+    subst (λ (state : CellStateData). c.args.number < state.grid.regions) (sym c.self.view_is) c.requires
 
 pub returns : goal.returns
 returns c = (

@@ -1,9 +1,18 @@
 use Rattle.std.proofs.Common.{sym, subst}
 use Rattle.cell_sequence.specs.State.{CellStateData}
-use Rattle.commit_horizon.specs.Horizon.{runs_of, IsBound}
+use Rattle.commit_horizon.specs.Horizon.{runs_of, AllStand, IsBound}
 use Rattle.commit_horizon.specs.Merging.{Merges}
 use Rattle.commit_horizon.proofs.Commit.{may_rise, state_may_rise, commits}
 use Rattle.commit_horizon.proofs.committed.Committed.commit.Goals as goal
+
+pub merge-requires-clause-stand : goal.merge-requires-clause-stand
+merge-requires-clause-stand c =
+    subst (λ (v : CellStateData). AllStand v c.args.regions.now) (sym c.self.view_is) c.requires
+
+pub merge-requires-clause-bound : goal.merge-requires-clause-bound
+merge-requires-clause-bound c =
+    subst (λ (v : CellStateData). IsBound v (runs_of c.args.regions.now) c.horizon-horizon.result)
+    (sym c.self.view_is) c.horizon-horizon.ensures.value.bound
 
 pub raise_floors-requires : goal.raise_floors-requires
 raise_floors-requires c = may_rise c.args.self.now c.args.regions.now c.horizon-horizon.result c.requires

@@ -1,7 +1,15 @@
 use Rattle.std.proofs.Common.{◌≡◌, ◌<◌, length, get_or, arith}
 use Rattle.std.proofs.lemmas.Option.{slice_get-get_or}
-use Rattle.commit_horizon.proofs.Adopting.{one_more_adopted, all_adopted, all_adopted_stand}
+use Rattle.cell_sequence.proofs.Orderly.{known}
+use Rattle.commit_horizon.proofs.Adopting.{none_adopted, one_more_adopted, all_adopted, all_adopted_stand}
 use Rattle.commit_horizon.proofs.committed.Committed.renew_all.Goals as goal
+
+pub loop-place-init : goal.loop-place-init
+loop-place-init c = none_adopted c.args.self.now c.args.regions.now
+
+pub overflow_cast-place : goal.overflow_cast-place
+overflow_cast-place c =
+    omega (arith, c.loop-place-test.true, c.requires, (known _ c.state-state.ensures.kept).sizes.most_regions)
 
 pub loop-place-preserved : goal.loop-place-preserved
 loop-place-preserved c =
