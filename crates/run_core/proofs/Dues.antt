@@ -26,6 +26,13 @@ due_first regions region s here due = record {
     first : (k : ℕ) → k < 1 → 0 ≡ k
     first k lt = omega arith
 
+-- the same by other names
+pub due_as : (regions : List RegionData) (n home : ℕ) (least : Stamp) (at : ℕ) (s : Stamp) → at ≡ home → s ≡ least →
+    IsFirstDue regions n home least → IsFirstDue regions n at s
+due_as regions n home least at s at_home is_least first =
+    subst (λ (v : ℕ). IsFirstDue regions n v s) (sym at_home)
+    (subst (IsFirstDue regions n home) (sym is_least) first)
+
 below_or_last : (k n : ℕ) → k < n + 1 → (k < n) ⊎ (k ≡ n)
 below_or_last k n lt = grind arith
 

@@ -112,6 +112,13 @@ row_there earlier last floor regions state goes i lt =
     let here = slice_get-get_or state.placed i no_row lt in
     row_is state regions goes.is goes.stand i (get_or state.placed i no_row) here ∙ sym here
 
+-- with the rows of the state, what the earlier one goes on to is the state
+pub with_rows : (earlier : CellStateData) (last : Option Stamp) (floor : Stamp) (regions : List RegionData)
+    (state : CellStateData) → GoesOnTo earlier last floor regions state → (rows : List Placed) →
+    rows ≡ state.placed → later earlier rows last floor ≡ state
+with_rows earlier last floor regions state goes rows are =
+    ap (λ (v : List Placed). later earlier v last floor) are ∙ sym goes.is_later
+
 -- ---- a committed state
 pub stands_on_it : (state : CellStateData) (floor : Stamp) (regions : List RegionData) → IsCellState state →
     floor ≡ state.floor → AllStand state regions → GoesOnTo state None floor regions state

@@ -51,6 +51,11 @@ pub advance_in : {M : Type 0} {after : M → Change → M} {old new : CellStateD
     (told : AdvancesTold after old course new before later) → Advances old (answer_with course told.1.batch) new
 advance_in told = record { runs = told.0; is = told.1.is }
 
+-- what holds of a known error holds of a `Result` that is that error
+pub at_fault : {T E : Type 0} (P : Result T E → Type 0) (r : Result T E) (e fault : E) → r ≡ Err e → e ≡ fault →
+    P (Err fault) → P r
+at_fault P r e fault is known holds = subst P (sym (is ∙ ap Err known)) holds
+
 -- a count of refusals where a call breaks off, whatever it would have answered
 pub counts_of_err : (S T : Type 0) (before after : ℕ) (fault : RunFault) →
     CountsRun {T = S} before after (Err fault) → CountsRun {T = T} before after (Err fault)

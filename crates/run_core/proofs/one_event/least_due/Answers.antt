@@ -1,8 +1,8 @@
-use Rattle.std.proofs.Common.{◌≡◌, ℕ, length, refl, sym, ◌∙◌, subst, arith}
+use Rattle.std.proofs.Common.{◌≡◌, ◌+◌, ℕ, length, refl, sym, ◌∙◌, subst, arith}
 use Rattle.std.proofs.lemmas.Option.{slice_get_read}
 use Rattle.region_messages.proofs.Order.{before_from_true, not_before_from_false}
 use Rattle.run_core.specs.Taking.{IsFirstDue}
-use Rattle.run_core.proofs.Dues.{due_first, due_there, due_before}
+use Rattle.run_core.proofs.Dues.{due_as, due_first, due_there, due_before}
 use Rattle.run_core.proofs.one_event.least_due.Goals.{then-comes_before, else-comes_before}
 use Rattle.run_core.proofs.one_event.least_due.Goals as goal
 
@@ -19,15 +19,17 @@ loop-k-preserved c =
     c.index-regions-k.is in
     elim c.if-comes_before.branch [
       | then-comes_before w ↦
-          rw w.home-is (rw w.least-is (due_there regions c.loop-k.k c.loop-k.home c.loop-k.least c.due-due.result
-          c.index-regions-k.result c.loop-k.invariant here c.due-due.ensures.value
+          due_as regions (c.loop-k.k + 1) c.loop-k.k c.due-due.result c.if-comes_before.home
+          c.if-comes_before.least w.home-is w.least-is (due_there regions c.loop-k.k c.loop-k.home c.loop-k.least
+          c.due-due.result c.index-regions-k.result c.loop-k.invariant here c.due-due.ensures.value
           (before_from_true c.due-due.result c.loop-k.least
-          (sym c.comes_before.ensures ∙ w.if-comes_before.true))))
+          (sym c.comes_before.ensures ∙ w.if-comes_before.true)))
       | else-comes_before w ↦
-          rw w.home-is (rw w.least-is (due_before regions c.loop-k.k c.loop-k.home c.loop-k.least c.due-due.result
-          c.index-regions-k.result c.loop-k.invariant here c.due-due.ensures.value
+          due_as regions (c.loop-k.k + 1) c.loop-k.home c.loop-k.least c.if-comes_before.home
+          c.if-comes_before.least w.home-is w.least-is (due_before regions c.loop-k.k c.loop-k.home c.loop-k.least
+          c.due-due.result c.index-regions-k.result c.loop-k.invariant here c.due-due.ensures.value
           (not_before_from_false c.due-due.result c.loop-k.least
-          (sym c.comes_before.ensures ∙ w.if-comes_before.false))))
+          (sym c.comes_before.ensures ∙ w.if-comes_before.false)))
     ]
 
 pub returns : goal.returns

@@ -42,3 +42,6 @@ returns-in_default c =
           c.new-in_default.ensures;
       stand = event.stand;
     }
+
+pub returns-in_ok-batch-in-Ran-clause-stand : goal.returns-in_ok-batch-in-Ran-clause-stand
+returns-in_ok-batch-in-Ran-clause-stand c = c.in_ok-batch-in-Ran.ensures.stand

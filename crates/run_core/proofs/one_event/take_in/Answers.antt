@@ -1,4 +1,4 @@
-use Rattle.std.proofs.Common.{refl, subst}
+use Rattle.std.proofs.Common.{refl, sym, subst}
 use Rattle.cell_grid.specs.Grid.{GridData, AreLinked}
 use Rattle.run_core.proofs.Passed.{place_of, region_of, linked_of, still_on}
 use Rattle.run_core.proofs.Standing.{has_heard}
@@ -53,3 +53,6 @@ returns-in_default c = λ state on.
     (region_of grid regions state c.args.from on c.requires.sender)
     (linked_of grid regions state c.args.from c.args.hearer on (c.if-not-linked.ensures.0 refl))
     c.in_ok-hearing.ensures.hears c.in_default.not-Later
+
+pub hear_at-requires-clause-other : goal.hear_at-requires-clause-other
+hear_at-requires-clause-other c = λ e. (c.if-not-linked.ensures.0 refl).0 (sym e)

@@ -1,4 +1,4 @@
-use Rattle.std.proofs.Common.{refl, subst}
+use Rattle.std.proofs.Common.{refl, sym, subst}
 use Rattle.cell_grid.specs.Grid.{GridData, AreLinked}
 use Rattle.run_core.specs.Passing.{HearsOne}
 use Rattle.run_core.proofs.Passed.{place_of, region_of, linked_of, heard_none, heard_one}
@@ -28,3 +28,6 @@ returns c = λ state on.
     (region_of grid regions state c.args.from on c.requires.sender)
     (linked_of grid regions state c.args.from c.args.hearer on (c.if-not-linked.ensures.0 refl))
     c.in_ok-hearing.ensures.hears c.is_rewound.ensures
+
+pub hear_at-requires-clause-other : goal.hear_at-requires-clause-other
+hear_at-requires-clause-other c = λ e. (c.if-not-linked.ensures.0 refl).0 (sym e)

@@ -42,3 +42,12 @@ returns-else-is_empty-clause-answer c =
     answers_well c.args.committed.now c.commit.new.self c.args.regions.now c.commit.new.regions
     (Raised c.in_ok-batch.batch) c.state.ensures.kept c.requires c.know.ensures
     (returns-else-is_empty-clause-works c)
+
+pub returns-then-is_empty-clause-stand : goal.returns-then-is_empty-clause-stand
+returns-then-is_empty-clause-stand c = c.one_event.ensures.stand
+
+pub returns-else-is_empty-clause-stand : goal.returns-else-is_empty-clause-stand
+returns-else-is_empty-clause-stand c = c.in_ok-batch.ensures.stand
+
+pub one_event-requires : goal.one_event-requires
+one_event-requires c = c.in_ok-batch.ensures.stand

@@ -1,16 +1,30 @@
-use Rattle.std.proofs.Common.{subst}
+use Rattle.std.proofs.Common.{Result, refl, subst}
 use Rattle.std.specs.Prelude.{IfOk, IfErr}
 use Rattle.std.proofs.lemmas.Result.{err_from_is_err_and}
+use Rattle.event_rules.specs.declared.outcome.RunFault.{RunFault}
+use Rattle.event_rules.specs.declared.outcome.RunFault.TheVariants.{NoMemory}
+use Rattle.event_rules.specs.Tellings.{CountsRun}
 use Rattle.cell_sequence.specs.State.{CellStateData}
+use Rattle.run_core.specs.declared.answers.Course.{Course}
 use Rattle.run_core.specs.AdvancesTold.{AdvancesTold, NextCutShort}
-use Rattle.run_core.proofs.TellingOn.{nothing_cut}
+use Rattle.run_core.proofs.TellingOn.{at_fault, nothing_cut}
 use Rattle.run_core.proofs.simulation.work.Goals as goal
 
 pub returns-in_err-worked-clause-cut_short : goal.returns-in_err-worked-clause-cut_short
 returns-in_err-worked-clause-cut_short g c =
     let L = g.L.Listener in
-    let fault = err_from_is_err_and c.from_residual.result c.from_residual.ensures.1 in
-    rw (fault.1, fault.2) (nothing_cut L.after L.torn c.args.standing (L.meaning c.args.listener.now))
+    let old = L.meaning c.args.listener.now in
+    let r = c.from_residual.result in
+    let fault = err_from_is_err_and r c.from_residual.ensures.1 in
+    at_fault (λ (v : Result (Course × CellStateData) RunFault). IfErr v (λ e. NextCutShort L.after L.torn
+    c.args.standing e old old)) r fault.0 NoMemory fault.1 fault.2 (nothing_cut L.after L.torn c.args.standing old)
+
+pub returns-in_err-worked-clause-counts : goal.returns-in_err-worked-clause-counts
+returns-in_err-worked-clause-counts g c =
+    let faults = g.L.Listener.faults c.args.listener.now in
+    let r = c.from_residual.result in
+    let fault = err_from_is_err_and r c.from_residual.ensures.1 in
+    at_fault (CountsRun {T = Course × CellStateData} faults faults) r fault.0 NoMemory fault.1 fault.2 refl
 
 pub returns : goal.returns
 returns g c =

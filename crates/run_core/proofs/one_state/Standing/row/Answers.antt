@@ -2,6 +2,7 @@ use Rattle.std.proofs.Common.{◌≡◌, ◌≤◌, length, List, sym, ap, ◌�
 use Rattle.std.specs.Option.{IsSome}
 use Rattle.std.proofs.lemmas.Option.{slice_get-get_or}
 use Rattle.region_view.proofs.Seen.{no_row}
+use Rattle.cell_sequence.specs.State.{IsCellState}
 use Rattle.cell_sequence.proofs.Followed.{few_rows}
 use Rattle.local_run.specs.Opening.{RegionData}
 use Rattle.run_core.specs.Standing.{GoesOnTo, row_among}
@@ -34,3 +35,6 @@ returns-clause-value c =
     c.args.self.now goes c.args.disk c.requires in
     let unwrapped : c.row_among.result ≡ Some c.unwrap.result = search (c.unwrap.ensures) in
     sym found ∙ unwrapped
+
+pub returns-clause-kept : goal.returns-clause-kept
+returns-clause-kept c = subst IsCellState c.self.view_is c.self.invariant.is
