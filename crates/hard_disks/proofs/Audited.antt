@@ -1,5 +1,5 @@
 -- How the parts of an audit go together.
-use Rattle.std.proofs.Common.{◌≡◌, ℕ, List, [], ap, ◌∙◌, subst, refl, Option, Some, None, Ok}
+use Rattle.std.proofs.Common.{◌≡◌, ℕ, List, [], ap, ◌∙◌, subst, refl, Option, Some, None, Ok, Err}
 use Rattle.report_audit.specs.Parting.{all_left, front_of, rest_of, front_of_known, rest_of_known}
 use Rattle.report_audit.specs.Stages.{left_in, coming_in}
 use Rattle.report_audit.specs.declared.parted.Stage.{Stage}
@@ -8,6 +8,7 @@ use Rattle.report_audit.specs.Compared.{Compares, IsVerdict, LeavesNone}
 use Rattle.report_audit.specs.declared.verdict.Verdict.{Verdict}
 use Rattle.report_audit.specs.declared.verdict.Verdict.TheVariants.{Same, Line}
 use Rattle.report_audit.proofs.Fronts.{turned_leaves_nothing}
+use Rattle.hard_disks.specs.declared.audit.AuditFault.TheVariants.{ReadFault}
 use Rattle.hard_disks.specs.Audits.{HasKept, IsAudited, IsClaimedOf, IsRead, Empties}
 
 -- what is left after it is turned, of known bytes
@@ -66,3 +67,8 @@ emptied report None told stage ahead left v last rest h = tt
 emptied report (Some bytes) told stage ahead left v last rest h =
     let is = compared report (rest_of bytes) told (left_in stage (all_left ahead left)) v (rest bytes refl) h in
     read_to_end v stage ahead left is.0 last is.1 is.3
+
+-- where the source failed, nothing is said of what it has left
+pub unread_empties : (old left : Option (List ℕ)) → Empties old left (Err ReadFault)
+unread_empties None left = tt
+unread_empties (Some bytes) left = tt

@@ -1,4 +1,4 @@
-use Rattle.std.proofs.Common.{◌≡◌, ◌∙◌, ℕ, ap, sym, subst, rules}
+use Rattle.std.proofs.Common.{◌∙◌, ℕ, ap, sym, subst}
 use Rattle.collision_report.specs.Meaning.{TableData, ReportSoFar, so_far, nothing_yet}
 use Rattle.live_progress.specs.Lists.{Known}
 use Rattle.hard_disks.specs.declared.status.Status.TheVariants.{NoMemory}
@@ -28,7 +28,7 @@ pub returns-clause-wrote : goal.returns-clause-wrote
 returns-clause-wrote g c =
     let K = g.K.Sink in let scene = c.args.scene.now in
     let kept = c.report_run.ensures.loan ∙ c.new-reporter.ensures.loan in
-    let last : c.sink-1.given.0 ≡ c.report_run.new.watched.inner.sink.now = search (rules, kept) in
+    let last = c.sink-1.given.1 (sym kept) in
     subst (λ v. Wrote (IsReport c.args.format scene) (K.taken c.args.sink.now) (K.taken v) c.report_run.result) (sym last)
     (subst (λ (m : ReportSoFar). Wrote (IsReport m.format scene) m.taken (K.taken c.report_run.new.watched.inner.sink.now) c.report_run.result)
     c.new-reporter.ensures.meaning c.report_run.ensures.wrote)
@@ -37,7 +37,7 @@ pub returns-clause-counts : goal.returns-clause-counts
 returns-clause-counts g c =
     let K = g.K.Sink in
     let kept = c.report_run.ensures.loan ∙ c.new-reporter.ensures.loan in
-    let last : c.sink-1.given.0 ≡ c.report_run.new.watched.inner.sink.now = search (rules, kept) in
+    let last = c.sink-1.given.1 (sym kept) in
     subst (λ v. CountsWrites (K.faults c.args.sink.now) (K.faults v) c.report_run.result) (sym last)
     (subst (λ (n : ℕ). CountsWrites n (K.faults c.report_run.new.watched.inner.sink.now) c.report_run.result)
     (ap K.faults c.new-reporter.ensures.sink) c.report_run.ensures.counts)
@@ -45,11 +45,11 @@ returns-clause-counts g c =
 pub returns-clause-board_kept : goal.returns-clause-board_kept
 returns-clause-board_kept g c =
     let kept = c.report_run.ensures.pen_loan in
-    let last : c.pen-1.given.0 ≡ c.report_run.new.watched.pen.now = search (rules, kept) in
+    let last = c.pen-1.given.1 (sym kept) in
     ap (λ (k : Known). k.board) last ∙ c.report_run.ensures.board_kept
 
 pub returns-clause-published : goal.returns-clause-published
 returns-clause-published g c =
     let kept = c.report_run.ensures.pen_loan in
-    let last : c.pen-1.given.0 ≡ c.report_run.new.watched.pen.now = search (rules, kept) in
+    let last = c.pen-1.given.1 (sym kept) in
     subst (λ (k : Known). PublishesRun c.args.scene.now c.report_run.result k.list) (sym last) c.report_run.ensures.published

@@ -1,0 +1,13 @@
+use Rattle.std.proofs.Common.{◌∙◌, ℕ, List, subst}
+use Rattle.hard_disks.specs.declared.status.Status.TheVariants.{SceneRefused}
+use Rattle.hard_disks.specs.Shows.{WritesText}
+use Rattle.hard_disks.proofs.calls.refuse.Goals as goal
+
+pub returns-in_default : goal.returns-in_default
+returns-in_default g c = let K = g.K.Sink in record {
+  read_fault = λ e. absurd (c.in_default.not-ReadFault e);
+  no_memory = λ e. absurd (c.in_default.not-NoMemory e);
+  line = λ _ _. subst (λ (line : List ℕ). WritesText line SceneRefused (K.taken c.args.sink.now) (K.taken c.write_text.new.sink) c.write_text.result)
+      (c.as_bytes.ensures ∙ c.refusal_line.ensures) c.write_text.ensures.text;
+  counts = c.write_text.ensures.counts;
+}
