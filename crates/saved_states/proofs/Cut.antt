@@ -1,13 +1,14 @@
 -- What stays of kept views where those after a position, or before it, are dropped.
-use Rattle.std.proofs.Common.{◌≡◌, List, ◌-◌, ◌++◌, subst, ℕ, zero, suc, ◌<◌, ◌≤◌, true, false, [], ◌∷◌, length, take, drop, sym, ap, ◌∙◌, refl, arith}
+use Rattle.std.proofs.Common.{◌≡◌, List, ◌-◌, ◌++◌, subst, ℕ, zero, suc, ◌<◌, ◌≤◌, true, false, [], ◌∷◌, length, get_or, take, drop, sym, ap, ◌∙◌, refl, arith}
 use Rattle.std.specs.Prelude.{nat_le}
 use Rattle.std.proofs.Math.Seq.{take-append_seam}
-use Rattle.std.proofs.lemmas.List.{length-drop, take_rest}
+use Rattle.std.proofs.lemmas.List.{length-drop, take_rest, take_all, drop_all, take-take, get_or-take}
 use Rattle.region_view.specs.Views.{ViewData}
+use Rattle.region_view.specs.Setting.{RowList, set_rows}
 use Rattle.saved_states.specs.Positions.{SavedData, EndsWith, up_to, dropped_after, dropped_before}
 use Rattle.saved_states.specs.Steps.{StepList, last_position, undone, later, rebuilt}
 use Rattle.saved_states.proofs.Rising.{IsPlace, next_place}
-use Rattle.saved_states.proofs.Rebuilt.{undone_parts, ends}
+use Rattle.saved_states.proofs.Rebuilt.{undone_parts, undone_more, ends}
 
 le_true : (m n : ℕ) → m ≤ n → nat_le m n ≡ true
 le_true m n le = grind arith
@@ -93,3 +94,27 @@ undone_is_cut position n first steps newest left view place undone_to =
     ap (λ (v : ViewData). rebuilt first v left) undone_to.view
     ∙ ap (rebuilt first (undone newest (drop n steps))) undone_to.steps
     ∙ sym (cut position n first newest steps place)
+
+-- none is undone yet
+pub none_undone : (n : ℕ) (steps : StepList) (newest : ViewData) → n ≡ length steps →
+    AreUndone n steps newest steps newest
+none_undone n steps newest all = record {
+  within = omega arith;
+  steps = sym (take_all n steps (omega arith));
+  view = sym (ap (undone newest) (drop_all n steps (omega arith)));
+}
+
+-- the last of those that are left is undone too
+pub one_more_undone : (n : ℕ) (old left now_left : StepList) (newest before now : ViewData)
+    (step : ℕ × RowList) → 0 < n → AreUndone n old newest left before →
+    step ≡ get_or left (n - 1) step → now ≡ set_rows before step.1 → now_left ≡ take (n - 1) left →
+    AreUndone (n - 1) old newest now_left now
+one_more_undone n old left now_left newest before now step some so_far is set cut_off =
+    let within = so_far.within in
+    let read = is ∙ ap (λ (s : StepList). get_or s (n - 1) step) so_far.steps
+    ∙ get_or-take n old (n - 1) step (omega arith) in
+    record {
+      within = omega arith;
+      steps = cut_off ∙ ap (take (n - 1)) so_far.steps ∙ take-take (n - 1) n old (omega arith);
+      view = undone_more newest before now n old step some within read so_far.view set;
+    }

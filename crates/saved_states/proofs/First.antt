@@ -44,7 +44,7 @@ over_elsewhere rows k row i before lt is other = over_next rows k row i before l
     (other_number i row.0 (λ e. other (sym e)))
 
 -- ---- one step more
-step_off : (steps : StepList) (k : ℕ) (step : ℕ × RowList) → k < length steps → step ≡ get_or steps k step →
+pub step_off : (steps : StepList) (k : ℕ) (step : ℕ × RowList) → k < length steps → step ≡ get_or steps k step →
     drop k steps ≡ step ∷ drop (k + 1) steps
 step_off steps k step lt is =
     let next : suc k ≡ k + 1 = omega arith in

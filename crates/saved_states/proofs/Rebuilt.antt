@@ -1,11 +1,12 @@
 -- The views that steps lead back to.
-use Rattle.std.proofs.Common.{◌≡◌, ℕ, ◌<◌, [], ◌∷◌, ◌++◌, take, drop, sym, ap, ◌∙◌, subst, refl}
+use Rattle.std.proofs.Common.{◌≡◌, ℕ, ◌+◌, ◌-◌, ◌<◌, ◌≤◌, [], ◌∷◌, ◌++◌, length, get_or, take, drop, sym, ap, ◌∙◌, subst, refl, arith}
 use Rattle.std.proofs.lemmas.List.{take-append-drop}
 use Rattle.region_view.specs.Views.{ViewData, rows_in}
 use Rattle.region_view.specs.Setting.{RowList, set_rows, rows_at}
 use Rattle.saved_states.specs.Positions.{PositionsRiseAfter, AreSaved, last_of, EndsWith, IsAfterLast, Appends}
 use Rattle.saved_states.specs.Steps.{StepList, RiseAfter, last_position, undone, later, rebuilt}
 use Rattle.saved_states.proofs.Undone.{set_back}
+use Rattle.saved_states.proofs.First.{step_off}
 
 undone_join : (view : ViewData) (xs ys : StepList) →
     undone view (xs ++ ys) ≡ undone (undone view ys) xs
@@ -19,6 +20,15 @@ pub undone_parts : (view : ViewData) (n : ℕ) (steps : StepList) →
 undone_parts view n steps =
     ap (undone view) (sym (take-append-drop n steps))
     ∙ undone_join view (take n steps) (drop n steps)
+
+-- one step more is undone, the one before these
+pub undone_more : (view now new : ViewData) (n : ℕ) (steps : StepList) (step : ℕ × RowList) → 0 < n →
+    n ≤ length steps → step ≡ get_or steps (n - 1) step → now ≡ undone view (drop n steps) →
+    new ≡ set_rows now step.1 → new ≡ undone view (drop (n - 1) steps)
+undone_more view now new n steps step some within is so_far set =
+    let next : n - 1 + 1 ≡ n = omega arith in
+    let off = step_off steps (n - 1) step (omega arith) is ∙ ap (λ (k : ℕ). step ∷ drop k steps) next in
+    set ∙ ap (λ (v : ViewData). set_rows v step.1) so_far ∙ sym (ap (undone view) off)
 
 -- ---- the last pair
 last_of_later : (first : ℕ) (view : ViewData) (steps : StepList) →

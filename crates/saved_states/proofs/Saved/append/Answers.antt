@@ -1,6 +1,6 @@
 use Rattle.std.proofs.Common.{[], ◌∷◌, ◌++◌, sym, ap, ◌∙◌, subst}
 use Rattle.saved_states.specs.Positions.{SavedData, IsAfterLast, Appends}
-use Rattle.saved_states.specs.Steps.{StepList, rebuilt}
+use Rattle.saved_states.specs.Steps.{StepList, RiseAfter, rebuilt}
 use Rattle.saved_states.proofs.Rising.{rise_push}
 use Rattle.saved_states.proofs.Rebuilt.{last_before, appends}
 use Rattle.saved_states.proofs.Saved.append.Goals as goal
@@ -24,3 +24,16 @@ returns-clause-appended c =
     (rebuilt a.first c.swap.new.self v) c.args.position c.args.rows) (sym pushed)
     (appends a.first a.newest c.swap.new.self a.steps.items c.args.position c.args.rows
     c.swap.new.rows c.in_ok-swap.ensures.view c.in_ok-swap.ensures.rows))
+
+pub invariant_of-self-in_err-push : goal.invariant_of-self-in_err-push
+invariant_of-self-in_err-push c =
+    subst (RiseAfter c.self.inside.first)
+    (sym (c.in_err-push.ensures.items ∙ c.in_ok-reserve.ensures.items)) c.self.invariant
+
+pub invariant_of-self-in_err-swap : goal.invariant_of-self-in_err-swap
+invariant_of-self-in_err-swap c =
+    subst (RiseAfter c.self.inside.first) (sym c.in_ok-reserve.ensures.items) c.self.invariant
+
+pub invariant_of-self : goal.invariant_of-self
+invariant_of-self c =
+    subst (RiseAfter c.self.inside.first) (sym c.in_err-reserve.ensures.items) c.self.invariant

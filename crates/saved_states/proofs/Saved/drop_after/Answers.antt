@@ -1,11 +1,12 @@
-use Rattle.std.proofs.Common.{◌≡◌, ◌∙◌, ℕ, take, sym, ap, subst, arith, Result, Ok, Err}
+use Rattle.std.proofs.Common.{◌≡◌, ◌∙◌, ℕ, length, take, sym, ap, subst, refl, arith, Result, Ok, Err}
 use Rattle.std.specs.Prelude.{OnErr}
+use Rattle.std.proofs.lemmas.List.{length-take-le}
 use Rattle.std.specs.List.Sorted.{IsNonDecreasingBy}
 use Rattle.region_view.specs.Views.{ViewData}
 use Rattle.saved_states.specs.Positions.{dropped_after}
 use Rattle.saved_states.specs.Steps.{StepList, RiseAfter, last_position, rebuilt}
 use Rattle.saved_states.proofs.Rising.{IsPlace, non_decreasing, rise_take, own_place, place_after}
-use Rattle.saved_states.proofs.Cut.{AreUndone, undone_is_cut}
+use Rattle.saved_states.proofs.Cut.{AreUndone, none_undone, one_more_undone, undone_is_cut}
 use Rattle.saved_states.proofs.Saved.drop_after.Goals as goal
 
 pub count_up_to-kept-requires : goal.count_up_to-kept-requires
@@ -70,3 +71,29 @@ returns-clause-dropped c =
     ∙ undone_is_cut c.args.position l.last a.first steps a.newest l.self-inside.steps.items
     l.self-inside.newest (subst (IsPlace c.args.position steps) at_end place) l.invariant.2
     ∙ ap (dropped_after c.args.position) c.self.view_is
+
+pub loop-last-preserved : goal.loop-last-preserved
+loop-last-preserved c =
+    let a = c.self.inside in
+    let l = c.loop-last in (
+      omega arith,
+      l.invariant.1,
+      one_more_undone l.last a.steps.items l.self-inside.steps.items
+          c.truncate.new.self.items a.newest l.self-inside.newest c.swap.new.self c.index.result.now
+          (omega arith) l.invariant.2 c.index.ensures c.in_ok-swap.ensures.view c.truncate.ensures.items,
+    )
+
+pub loop-last-init : goal.loop-last-init
+loop-last-init c =
+    let all : c.len-last.result ≡ length c.self.inside.steps.items =
+    c.len-last.ensures ∙ sym c.deref.ensures.len ∙ ap length c.deref.ensures.value in (
+      omega (arith, c.count_up_to-kept.ensures.within, c.len-last.ensures, c.deref.ensures.len),
+      refl,
+      none_undone c.len-last.result c.self.inside.steps.items c.self.inside.newest all,
+    )
+
+pub index-requires : goal.index-requires
+index-requires c =
+    let l = c.loop-last in
+    let left = ap length l.invariant.2.steps ∙ length-take-le l.last c.self.inside.steps.items l.invariant.2.within in
+    omega (arith, left, c.loop-last-test.true, l.invariant.0, l.self-inside.steps.ok.0)

@@ -1,9 +1,10 @@
-use Rattle.std.proofs.Common.{◌∙◌, ◌-◌, ℕ, length, take, drop, sym, ap, subst}
+use Rattle.std.proofs.Common.{◌∙◌, ◌-◌, ℕ, length, take, drop, sym, ap, subst, arith}
 use Rattle.std.specs.List.Sorted.{IsNonDecreasingBy}
 use Rattle.saved_states.specs.Positions.{dropped_before}
 use Rattle.saved_states.specs.Steps.{StepList, RiseAfter, last_position, rebuilt}
 use Rattle.saved_states.proofs.Rising.{IsPlace, non_decreasing, rise_drop}
 use Rattle.saved_states.proofs.Cut.{turned, dropped}
+use Rattle.std.proofs.lemmas.List.{length-take-le}
 use Rattle.saved_states.proofs.Saved.drop_before.Goals as goal
 
 pub count_up_to-dropped-requires : goal.count_up_to-dropped-requires
@@ -41,3 +42,8 @@ returns c =
     (subst (λ (v : StepList). IsPlace c.args.position v n) c.deref.ensures.value
     c.count_up_to-dropped.ensures.place))
     ∙ ap (dropped_before c.args.position) c.self.view_is
+
+pub slice_bounds-last_position-end : goal.slice_bounds-last_position-end
+slice_bounds-last_position-end c =
+    sym (length-take-le c.count_up_to-dropped.result c.deref-2.result.now
+    (omega (arith, c.count_up_to-dropped.ensures.within, c.deref.ensures.len, c.deref-2.ensures.len)))

@@ -1,9 +1,10 @@
-use Rattle.std.proofs.Common.{ℕ, take, sym, ap, ◌∙◌, subst}
+use Rattle.std.proofs.Common.{ℕ, take, sym, ap, ◌∙◌, subst, arith}
 use Rattle.std.specs.List.Sorted.{IsNonDecreasingBy}
 use Rattle.saved_states.specs.Positions.{EndsWith, dropped_after}
 use Rattle.saved_states.specs.Steps.{StepList, last_position}
 use Rattle.saved_states.proofs.Rising.{IsPlace, non_decreasing}
 use Rattle.saved_states.proofs.Cut.{restored}
+use Rattle.std.proofs.lemmas.List.{length-take-le}
 use Rattle.saved_states.proofs.Saved.restore.Goals as goal
 
 pub count_up_to-kept-requires : goal.count_up_to-kept-requires
@@ -23,3 +24,8 @@ returns c =
     (restored c.args.position n a.first a.newest c.in_ok-view.view c.undo.new.view a.steps.items
     c.deref-2.result.now c.args.self.now place c.self.view_is c.deref-2.ensures.value
     c.in_ok-view.ensures c.in_ok-undo.ensures)
+
+pub slice_bounds-last_position-end : goal.slice_bounds-last_position-end
+slice_bounds-last_position-end c =
+    sym (length-take-le c.count_up_to-kept.result c.deref-3.result.now
+    (omega (arith, c.count_up_to-kept.ensures.within, c.deref.ensures.len, c.deref-3.ensures.len)))
