@@ -86,7 +86,7 @@ pub listed_same : (xs ys : List (Option ℕ)) → ((i : ℕ) → at ys i ≡ at 
 listed_same xs ys same = same_cells ys (cells_in xs) (λ i. same i ∙ sym (cell_of xs i))
 
 -- ---- what the lists are seen as
-listed_within : (xs : List (Option ℕ)) (disk cell : ℕ) → at xs disk ≡ Some cell → disk < length xs
+pub listed_within : (xs : List (Option ℕ)) (disk cell : ℕ) → at xs disk ≡ Some cell → disk < length xs
 listed_within xs disk cell here = elim (cases_lt disk (length xs)) [
   | inl lt ↦ lt
   | inr past ↦ absurd (let none : at xs disk ≡ None = get_or_past xs disk None past in cc)
@@ -118,6 +118,14 @@ take_seen grid old new lists disk cell seen here e =
 pub same_seen : (grid : GridData) (old new : List (Option ℕ)) (lists : ListsData) → lists_of grid (cells_in old) ≡ lists →
     ((i : ℕ) → at new i ≡ at old i) → lists_of grid (cells_in new) ≡ lists
 same_seen grid old new lists seen same = ap (lists_of grid) (listed_same old new same) ∙ seen
+
+-- with a cell of the grid, or none, for one disk, each cell is still one of the grid
+pub still_cells : (grid : GridData) (old new : List (Option ℕ)) (d : ℕ) (o : Option ℕ) → AreCells grid old → d < length old →
+    ((cell : ℕ) → o ≡ Some cell → IsCell grid cell) → new ≡ set old d o → AreCells grid new
+still_cells grid old new d o are lt is e disk cell here = elim (cases_eq disk d) [
+  | inl same ↦ is cell (sym (get_or-set_same old d o None lt) ∙ sym (ap (λ xs. at xs d) e) ∙ ap (at new) (sym same) ∙ here)
+  | inr other ↦ are disk cell (sym (get_or-set_other old d disk o None other) ∙ sym (ap (λ xs. at xs disk) e) ∙ here)
+]
 
 pub on_err : {T E : Type 0} (r : Result T E) (P : Type 0) → P → OnErr r P
 on_err (Ok x) P p = tt

@@ -1,13 +1,13 @@
 -- Nodes that are read and written, as the two lists that they are seen as.
-use Rattle.std.proofs.Common.{◌≡◌, ℕ, zero, suc, ◌<◌, List, ◌∷◌, length, get_or, set, refl, sym, ap, subst, ◌∙◌, arith}
+use Rattle.std.proofs.Common.{◌≡◌, ℕ, zero, suc, ◌^◌, ◌<◌, List, ◌∷◌, length, get_or, set, refl, sym, ap, subst, ◌∙◌, arith}
 use Rattle.std.specs.Prelude.{Option, Some, None, IfSome, replicate}
-use Rattle.std.proofs.lemmas.List.{map-set, length-map, length-set, get_or_default}
+use Rattle.std.proofs.lemmas.List.{map-set, length-map, length-set, length-replicate, get_or_default}
 use Rattle.std.proofs.Math.ListN.{get_or-map}
 use Rattle.std.proofs.Math.Seq.{map-set_same}
 use Rattle.cell_lists.specs.declared.chains.Node.{Node}
 use Rattle.cell_lists.specs.Nodes.{nexts_of, cells_of}
-use Rattle.cell_lists.specs.Chain.{ChainsData, chains_of, with_cell, at, IsLast, IsChained, IsLinked, IsUnlinked}
-use Rattle.cell_lists.proofs.Chaining.{within}
+use Rattle.cell_lists.specs.Chain.{ChainsData, chains_of, with_cell, at, InBucket, IsLast, IsChained, IsLinked, IsUnlinked}
+use Rattle.cell_lists.proofs.Chaining.{within, chained_none}
 
 -- ---- what is read
 pub next_read : (nodes : List Node) (i : ℕ) (node : Node) → node ≡ get_or nodes i node → node.next ≡ get_or (nexts_of nodes) i node.next
@@ -24,6 +24,12 @@ next_at nodes i node lt e = next_read nodes i node e
 pub count_seen : (count : ℕ) (nodes : List Node) (chains : ChainsData) → chains_of count (cells_of nodes) ≡ chains →
     length nodes ≡ length chains.cells
 count_seen count nodes chains seen = sym (length-map nodes (λ n. n.cell)) ∙ ap (λ (c : ChainsData). length c.cells) seen
+
+-- a disk of a bucket has a node
+pub node_there : (count len : ℕ) (nodes : List Node) (chains : ChainsData) (m b i : ℕ) → chains_of count (cells_of nodes) ≡ chains →
+    len ≡ length nodes → InBucket chains.cells m b i → i < len
+node_there count len nodes chains m b i seen as_many here =
+    let same = count_seen count nodes chains seen in let lt = within chains.cells m b i here in omega arith
 
 -- the disk that comes before one in a bucket has a node
 pub before_within : (count m b d : ℕ) (nodes : List Node) (chains : ChainsData) (last : Option ℕ) → chains_of count (cells_of nodes) ≡ chains →
@@ -119,6 +125,17 @@ nexts_unlisted (suc n) = ap (λ (xs : List (Option ℕ)). None ∷ xs) (nexts_un
 pub cells_unlisted : (n : ℕ) → cells_of (replicate n unlisted) ≡ replicate n None
 cells_unlisted zero = refl
 cells_unlisted (suc n) = ap (λ (xs : List (Option ℕ)). None ∷ xs) (cells_unlisted n)
+
+-- the heads and nodes with which chains begin
+pub none_chained : (count room : ℕ) (heads : List (Option ℕ)) (nodes : List Node) → 0 < count → room < 2 ^ 32 →
+    heads ≡ replicate count None → nodes ≡ replicate room unlisted → IsChained heads (nexts_of nodes) (cells_of nodes)
+none_chained count room heads nodes some few empty none =
+    rw (empty, none) (rw (nexts_unlisted room, cells_unlisted room) (chained_none count room some few))
+
+pub none_seen : (count room : ℕ) (heads : List (Option ℕ)) (nodes : List Node) → heads ≡ replicate count None →
+    nodes ≡ replicate room unlisted → chains_of (length heads) (cells_of nodes) ≡ chains_of count (replicate room None)
+none_seen count room heads nodes empty none =
+    rw (empty, none) (rw (cells_unlisted room, length-replicate {A = Option ℕ} count None) refl)
 
 -- ---- a node that was asked for, where there may be none
 pub cell_got : (count : ℕ) (nodes : List Node) (chains : ChainsData) (i : ℕ) (node : Node) → chains_of count (cells_of nodes) ≡ chains →

@@ -1,11 +1,11 @@
 -- The chain ascends.
-use Rattle.std.proofs.Common.{◌<◌, arith, sym, subst}
+use Rattle.std.proofs.Common.{◌<◌, length, arith, sym, subst}
 use Rattle.std.specs.Prelude.{ℕ, Option}
 use Rattle.cell_lists.proofs.Firsts.{after_of, ascent, last_past, last_end}
 use Rattle.cell_lists.specs.Chain.{InBucket, IsFirst}
 use Rattle.cell_lists.specs.Nodes.{nexts_of, cells_of}
 use Rattle.cell_lists.proofs.Chaining.{seen, head_is_first, next_is_first, next_falls}
-use Rattle.cell_lists.proofs.Nodes.{next_read}
+use Rattle.cell_lists.proofs.Nodes.{next_read, node_there}
 use Rattle.cell_lists.proofs.chains.Chains.last_below.Goals as goal
 
 pub loop-next-init : goal.loop-next-init
@@ -51,3 +51,9 @@ returns-in_default c =
     last_end (InBucket c.args.self.now.cells c.args.self.now.buckets c.args.bucket) c.loop-next.last c.args.disk
     (subst (λ (o : Option ℕ). IsFirst c.args.self.now.cells c.args.self.now.buckets c.args.bucket (after_of c.loop-next.last) o) c.in_default.is c.loop-next.invariant.next)
     c.loop-next.invariant.last
+
+pub index-requires-in-Some : goal.index-requires-in-Some
+index-requires-in-Some c =
+    let chains = c.args.self.now in
+    let here = subst (λ (o : Option ℕ). IsFirst chains.cells chains.buckets c.args.bucket (after_of c.loop-next.last) o) c.in-Some.is c.loop-next.invariant.next in
+    node_there (length c.self.inside.heads.items) _ c.self.inside.nodes.items chains chains.buckets c.args.bucket c.in-Some.i c.self.view_is c.self.inside.nodes.ok.0 here.1

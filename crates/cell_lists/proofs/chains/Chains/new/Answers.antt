@@ -1,23 +1,21 @@
 -- No disk is in any bucket.
-use Rattle.std.proofs.Common.{rules, ◌≡◌, ℕ, ◌<◌, replicate, arith, refl}
+use Rattle.std.proofs.Common.{◌≡◌, ◌∙◌, ap, ℕ, ◌<◌, replicate, arith}
 use Rattle.std.specs.Prelude.{Option, None}
-use Rattle.std.proofs.lemmas.List.{length-replicate}
-use Rattle.cell_lists.specs.Chain.{bucket_count}
-use Rattle.cell_lists.proofs.Chaining.{chained_none}
-use Rattle.cell_lists.proofs.Nodes.{unlisted, nexts_unlisted, cells_unlisted}
+use Rattle.cell_lists.specs.Chain.{chains_of, bucket_count}
+use Rattle.cell_lists.proofs.Nodes.{unlisted, none_chained, none_seen}
 use Rattle.cell_lists.proofs.chains.Chains.new.Goals as goal
 
 pub invariant_of-result : goal.invariant_of-result
 invariant_of-result c =
-    let some = c.requires.some in
-    let buckets : 0 < c.max-buckets.result = omega arith in
-    let heads : c.in_ok-vec.field-0.items ≡ replicate c.max-buckets.result None = search rules in
-    let nodes : c.in_ok-vec-2.field-0.items ≡ replicate c.args.room unlisted = search rules in
-    rw (heads, nodes) (rw (nexts_unlisted c.args.room, cells_unlisted c.args.room) (chained_none c.max-buckets.result c.args.room buckets c.requires.most))
+    let buckets : 0 < c.max-buckets.result = omega (arith, c.requires.some, c.max-buckets.ensures) in
+    none_chained c.max-buckets.result c.args.room c.in_ok-vec.field-0.items c.in_ok-vec-2.field-0.items buckets c.requires.most
+    (c.in_ok-vec.ensures.items_if_clones_equal (λ y h. h) ∙ ap (replicate {A = Option ℕ} c.max-buckets.result) c.none.ensures)
+    (c.in_ok-vec-2.ensures.items_if_clones_equal (λ y h. h) ∙ ap (replicate c.args.room) c.none-2.ensures)
 
 pub returns : goal.returns
 returns c =
-    let heads : c.in_ok-vec.field-0.items ≡ replicate c.max-buckets.result None = search rules in
-    let nodes : c.in_ok-vec-2.field-0.items ≡ replicate c.args.room unlisted = search rules in
-    let count : c.max-buckets.result ≡ bucket_count c.args.cell_count c.args.room = search rules in
-    rw (heads, nodes) (rw (cells_unlisted c.args.room, length-replicate {A = Option ℕ} c.max-buckets.result None, count) refl)
+    let count : c.max-buckets.result ≡ bucket_count c.args.cell_count c.args.room = omega (arith, c.max-buckets.ensures, c.min.ensures) in
+    none_seen c.max-buckets.result c.args.room c.in_ok-vec.field-0.items c.in_ok-vec-2.field-0.items
+    (c.in_ok-vec.ensures.items_if_clones_equal (λ y h. h) ∙ ap (replicate {A = Option ℕ} c.max-buckets.result) c.none.ensures)
+    (c.in_ok-vec-2.ensures.items_if_clones_equal (λ y h. h) ∙ ap (replicate c.args.room) c.none-2.ensures)
+    ∙ ap (λ (n : ℕ). chains_of n (replicate c.args.room None)) count

@@ -1,8 +1,8 @@
 -- The chain of the bucket is that of the cell, and goes on.
-use Rattle.std.proofs.Common.{◌+◌}
+use Rattle.std.proofs.Common.{◌+◌, ◌%◌, length, refl}
 use Rattle.cell_lists.specs.Nodes.{nexts_of, cells_of}
 use Rattle.cell_lists.proofs.Chaining.{seen, next_is_first}
-use Rattle.cell_lists.proofs.Nodes.{next_read}
+use Rattle.cell_lists.proofs.Nodes.{next_read, node_there}
 use Rattle.cell_lists.proofs.Walks.{own_bucket, own_first}
 use Rattle.cell_lists.proofs.chains.Chains.next_of.Goals as goal
 
@@ -16,3 +16,10 @@ returns c = λ cell here.
     (next_is_first heads nexts chains cell c.args.disk c.index.result.now.next
     (seen heads nexts (cells_of c.self.inside.nodes.items) chains c.self.view_is c.self.invariant)
     ((own_bucket chains cell c.requires.own lt c.args.disk).1 here) (next_read c.self.inside.nodes.items c.args.disk c.index.result.now c.index.ensures))
+
+pub index-requires : goal.index-requires
+index-requires c =
+    let chains = c.args.self.now in
+    let listed = c.requires.listed in
+    node_there (length c.self.inside.heads.items) _ c.self.inside.nodes.items chains chains.buckets (listed.0 % chains.buckets) c.args.disk
+    c.self.view_is c.self.inside.nodes.ok.0 (listed.0, listed.1, refl)

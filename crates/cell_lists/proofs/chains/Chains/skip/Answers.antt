@@ -6,7 +6,7 @@ use Rattle.cell_lists.proofs.Firsts.{ascent}
 use Rattle.cell_lists.specs.Chain.{IsFirst, IsIn}
 use Rattle.cell_lists.specs.Nodes.{nexts_of, cells_of}
 use Rattle.cell_lists.proofs.Chaining.{within, cell_is_read, is_that, is_other, seen, next_is_first, next_falls, passed_more, passed_all, passed_one}
-use Rattle.cell_lists.proofs.Nodes.{next_read, cell_read}
+use Rattle.cell_lists.proofs.Nodes.{next_read, cell_read, node_there}
 use Rattle.cell_lists.proofs.chains.Chains.skip.Goals as goal
 
 pub loop-next-smaller : goal.loop-next-smaller
@@ -54,3 +54,13 @@ returns-in_default c =
     (passed_all c.args.self.now.cells c.args.self.now.buckets c.args.cell c.args.from c.loop-next.invariant.0
     (subst (λ (o : Option ℕ). IsFirst c.args.self.now.cells c.args.self.now.buckets (c.args.cell % c.args.self.now.buckets) c.loop-next.invariant.0 o) c.in_default.is c.loop-next.invariant.3)
     c.loop-next.invariant.2)
+
+pub index-node-requires : goal.index-node-requires
+index-node-requires c =
+    let chains = c.args.self.now in
+    let bucket = c.args.cell % chains.buckets in
+    let here = subst (λ (o : Option ℕ). IsFirst chains.cells chains.buckets bucket c.loop-next.invariant.0 o) c.in-Some.is c.loop-next.invariant.3 in
+    node_there (length c.self.inside.heads.items) _ c.self.inside.nodes.items chains chains.buckets bucket c.in-Some.disk c.self.view_is c.self.inside.nodes.ok.0 here.1
+
+pub loop-next-init : goal.loop-next-init
+loop-next-init c = (c.args.from, omega arith, λ j low high. absurd (omega arith), c.requires)

@@ -1,6 +1,7 @@
 -- The chains stay chains.
 use Rattle.std.proofs.Common.{◌≡◌, ◌%◌, ◌<◌, List, length, set, refl, sym, subst, arith}
 use Rattle.std.specs.Prelude.{ℕ, Option, Some, None}
+use Rattle.std.proofs.lemmas.List.{length-map}
 use Rattle.cell_lists.specs.Chain.{ChainsData, at, IsLast, IsChained}
 use Rattle.cell_lists.specs.Nodes.{nexts_of, cells_of}
 use Rattle.cell_lists.proofs.Chaining.{chained_take, within}
@@ -47,3 +48,12 @@ returns c =
     c.index_mut.result.now c.none.result None c.self.view_is
     (unlinked_count c.self.inside.heads.items (nexts_of c.self.inside.nodes.items) c.unlink.new.heads.items (nexts_of c.unlink.new.nodes.items)
     c.bucket-bucket.result c.args.disk c.last_below-before.result c.unlink.ensures.unlinked) c.unlink.ensures.cells c.none.ensures
+
+pub index_mut-requires : goal.index_mut-requires
+index_mut-requires c =
+    let chains = c.args.self.now in
+    let few = subst (λ (d : ChainsData). c.args.disk < length d.cells) (sym c.self.view_is)
+    (within chains.cells chains.buckets (c.args.cell % chains.buckets) c.args.disk (c.args.cell, c.requires, refl)) in
+    subst (λ (n : ℕ). c.args.disk < n) (sym c.unlink.new.nodes.ok.0)
+    (subst (λ (n : ℕ). c.args.disk < n) (length-map c.unlink.new.nodes.items _)
+    (subst (λ (cells : List (Option ℕ)). c.args.disk < length cells) (sym c.unlink.ensures.cells) few))

@@ -82,3 +82,8 @@ pub returns : goal.returns
 returns c =
     let done = c.loop-disk-test.false in
     (c.loop-disk.invariant.room, λ i. c.loop-disk.invariant.kept i (omega arith))
+
+pub index-requires : goal.index-requires
+index-requires c =
+    let count = count_seen (length c.self.inside.heads.items) c.self.inside.nodes.items c.args.self.now c.self.view_is in
+    omega (arith, count, c.loop-disk.invariant.most, c.loop-disk-test.true, c.self.inside.nodes.ok.0)
