@@ -1,13 +1,15 @@
 -- Products and sums that are told but for what goes beyond 64 bits, where nothing does.
-use Rattle.std.proofs.Common.{rules, ◌≡◌, ◌↔◌, Bool, true, false, IsTrue, ◌+◌, ◌-◌, ◌*◌, ◌%◌, ◌^◌, ◌<◌, ◌≤◌, refl, sym, ap, subst, ◌∙◌, arith, FitsSigned, to_z, of_z}
+use Rattle.std.proofs.Common.{rules, ◌≡◌, ◌↔◌, Bool, true, false, IsTrue, ℕ, ◌+◌, ◌-◌, ◌*◌, ◌/◌, ◌%◌, min, ◌^◌, ◌<◌, ◌≤◌, refl, sym, ap, subst, ◌∙◌, arith, FitsSigned, to_z, of_z}
 use Rattle.std.specs.Prelude.{ℤ, pos, nat_abs, ◌+ℤ◌, ◌-ℤ◌, ◌*ℤ◌, ◌<ℤ◌, ◌&&◌}
 use Rattle.std.specs.Int.{int_wrap, w64}
 use Rattle.std.proofs.lemmas.Int.{ints, wraps, wrapping_sub-bits, int_wrap_fits, int_wrap-add_right, int_wrap-mul_left, SFits-int_wrap, fits_signed_from_abs, unsigned_abs-mul}
 use Rattle.std.proofs.lemmas.Bool.{false≢true}
+use Rattle.std.proofs.Math.Nat.{le_trans, mul-le-mul_right, mul-div-le}
 use lib.Signed.{lt_z}
 use Rattle.plane_vectors.proofs.Sizes.{size_of_product, sent, sent_same}
 use Rattle.contact_predictor.specs.declared.approach.Approach.{Approach}
-use Rattle.contact_predictor.specs.Approach.{IsSmall, IsCourse}
+use Rattle.contact_predictor.specs.Approach.{IsSmall, IsCourse, IsEarly}
+use Rattle.contact_predictor.proofs.Signs.{less}
 
 -- ---- numbers
 pub exact : (z n : ℤ) → nat_abs n < 2 ^ 63 → z ≡ int_wrap w64 n → sent z ≡ n
@@ -38,13 +40,23 @@ wrapped_gap c b e x t is =
     ap (λ (n : ℤ). int_wrap w64 (c +ℤ (n *ℤ t))) slope ∙ sym (int_wrap-add_right w64 c (int_wrap w64 (b +ℤ e) *ℤ t))
     ∙ ap (λ (n : ℤ). int_wrap w64 (c +ℤ n)) (int_wrap-mul_left w64 (b +ℤ e) t) ∙ int_wrap-add_right w64 c ((b +ℤ e) *ℤ t)
 
+-- a quotient by at least |b| is early
+pub early : (q : Approach) (gap root size divisor : ℕ) → FitsSigned w64 q.gap → FitsSigned w64 q.closing →
+    gap ≡ nat_abs (sent q.gap) → size ≡ nat_abs (sent q.closing) → size ≤ 9223372036854775808 →
+    divisor ≡ min (root + size) 18446744073709551615 → IsEarly q (gap / divisor)
+early q gap root size divisor fits fits' gap_is size_is small is =
+    let far : nat_abs q.gap ≡ gap = sym (gap_is ∙ ap nat_abs (sent_same q.gap fits)) in
+    let slow : nat_abs q.closing ≡ size = sym (size_is ∙ ap nat_abs (sent_same q.closing fits')) in
+    let much : size ≤ divisor = rw is (above root size small) in
+    rw (far, slow) (le_trans (mul-le-mul_right (gap / divisor) much) (mul-div-le gap divisor))
+  where
+    above : (m n : ℕ) → n ≤ 9223372036854775808 → n ≤ min (m + n) 18446744073709551615
+    above m n h = omega arith
+
 -- ---- the test of a course
 both : (x y : Bool) → IsTrue (x && y) ↔ (IsTrue x × IsTrue y)
 both true y = (λ h. (refl, h), λ h. h.1)
 both false y = (λ h. absurd (false≢true h), λ h. h.0)
-
-less : (x y : ℤ) → IsTrue (lt_z x y) ↔ (x <ℤ y)
-less x y = (λ h. grind (arith, ints), λ h. grind (arith, ints))
 
 tests : (b m n : ℤ) → IsTrue (lt_z b (pos 0) && lt_z m n) ↔ ((b <ℤ pos 0) × (m <ℤ n))
 tests b m n = (
