@@ -1,15 +1,16 @@
 -- The least of the topmost keys of a tree is the least of its leaves.
-use Rattle.std.proofs.Common.{◌≡◌, ◌≢◌, ◌⊎◌, ℕ, zero, suc, ◌+◌, ◌-◌, ◌*◌, ◌/◌, ◌^◌, ◌<◌, ◌≤◌, List, length, take, drop, set, get_or, arith, refl, sym, ap, subst, ◌∙◌, inl, inr}
-use Rattle.std.specs.Prelude.{Some, None, if◌then◌else◌}
+use Rattle.std.proofs.Common.{◌≡◌, ◌≢◌, ◌⊎◌, ℕ, zero, suc, ◌+◌, ◌-◌, ◌*◌, ◌/◌, ◌^◌, ◌<◌, ◌≤◌, List, length, take, drop, set, get_or, replicate, below_more, arith, refl, sym, ap, subst, ◌∙◌, inl, inr}
+use Rattle.std.specs.Prelude.{Some, None, is_some, false, if◌then◌else◌}
 use Rattle.std.specs.Ordering.{is_lt}
 use Rattle.std.specs.declared.cmp.Ordering.{Ordering}
 use Rattle.std.specs.declared.cmp.Ordering.TheVariants.{Less, Equal, Greater}
-use Rattle.std.proofs.lemmas.List.{get_or-take, get_or-drop, get_or-set_same, get_or-set_other, get_or_past, get_or_default}
+use Rattle.std.proofs.lemmas.List.{get_or-take, get_or-drop, get_or-set_same, get_or-set_other, get_or_past, get_or_default, get_or-replicate, length-replicate, length-drop, length-set, drop-replicate}
+use Rattle.std.proofs.lemmas.Bool.{false≢true}
 use Rattle.event_stamps.specs.declared.Stamp.{Stamp}
 use Rattle.event_stamps.specs.Order.{Before, stamp_cmp}
 use Rattle.event_stamps.specs.Least.{earlier_of}
 use Rattle.event_stamps.proofs.StampOrder.{before_decides, before_trans, same_stamp, not_before_itself}
-use Rattle.event_tree.specs.Keys.{Key, IsNotAfter, IsLeastKey, IsLeastFrom, IsPlayed, IsTree, IsTreeBut, key_at}
+use Rattle.event_tree.specs.Keys.{Key, IsNotAfter, IsLeastKey, IsLeastFrom, IsPlayed, IsTree, IsTreeBut, IsSetAt, key_at}
 
 -- ---- the order of keys
 not_after_itself : (a : Key) → IsNotAfter a a
@@ -71,6 +72,9 @@ alone nodes start key within read = record {
     here : (i : ℕ) → i < 1 → key ≡ key_at nodes (start + i)
     here i lt = read ∙ get_or_default nodes start key None within ∙ at_same nodes start (start + i) (omega arith)
 
+pub below_or_not : (i m : ℕ) → (i < m) ⊎ (m ≤ i)
+below_or_not i m = grind arith
+
 -- of some and of those that follow them
 both : (nodes : List Key) (start m n : ℕ) (a b : Key) → IsLeastFrom nodes start m a →
     IsLeastFrom nodes (start + m) n b → IsLeastFrom nodes start (m + n) (earlier_of a b)
@@ -85,9 +89,6 @@ both nodes start m n a b left right = record {
     one (inl e) (i, lt, same) y = (i, omega arith, same ∙ sym e)
     one (inr e) x (i, lt, same) =
         (m + i, omega arith, at_same nodes (start + (m + i)) (start + m + i) (omega arith) ∙ same ∙ sym e)
-
-    below_or_not : (i m : ℕ) → (i < m) ⊎ (m ≤ i)
-    below_or_not i m = grind arith
 
     least : (i : ℕ) → i < m + n → (i < m) ⊎ (m ≤ i) → IsNotAfter (earlier_of a b) (key_at nodes (start + i))
     least i lt (inl first) =
@@ -245,3 +246,60 @@ leaf_set first leaf nodes key after tree k inner other =
 
     same : (i : ℕ) → i < 4 → key_at nodes (4 * k + 3 + i) ≡ key_at (set nodes leaf key) (4 * k + 3 + i)
     same i lt = stays (4 * k + 3 + i) (omega arith)
+
+-- ---- more room
+-- where no key is set, no disk has one
+none_at : (n disk : ℕ) → key_at (replicate n None) disk ≡ None
+none_at n disk = at (below_or_not disk n)
+  where
+    at : (disk < n) ⊎ (n ≤ disk) → key_at (replicate n None) disk ≡ None
+    at (inl lt) = get_or-replicate n disk None None lt
+    at (inr ge) = get_or_past (replicate n None) disk None (let len = length-replicate {A = Key} n None in omega arith)
+
+-- a tree without keys
+pub blank_tree : (first : ℕ) (nodes : List Key) → first ≤ 2 ^ 32 → nodes ≡ replicate (4 * first + 3) None → IsTree first nodes
+blank_tree first nodes most blank =
+    let len : length nodes ≡ 4 * first + 3 = ap length blank ∙ length-replicate {A = Key} (4 * first + 3) None in
+    record {
+      most = most;
+      within = omega arith;
+      len = λ some. len;
+      played = λ k inner. subst (λ (v : List Key). IsPlayed v k) (sym blank) (played k);
+    }
+  where
+    none : (k : ℕ) → key_at (replicate (4 * first + 3) None) k ≡ None
+    none k = none_at (4 * first + 3) k
+
+    played : (k : ℕ) → IsPlayed (replicate (4 * first + 3) None) k
+    played k = rw (none k) record { one = (0, omega arith, none (4 * k + 3 + 0)); least = λ i lt. rw (none (4 * k + 3 + i)) tt }
+
+-- its leaves are free, and many enough
+pub blank_leaves : (first : ℕ) (nodes : List Key) → nodes ≡ replicate (4 * first + 3) None →
+    (length (drop first nodes) ≡ 3 * first + 3) × ((disk : ℕ) → key_at (drop first nodes) disk ≡ None)
+blank_leaves first nodes blank =
+    let leaves : drop first nodes ≡ replicate (4 * first + 3 - first) None =
+    ap (λ (v : List Key). drop first v) blank ∙ drop-replicate first (4 * first + 3) None in
+    let len = ap length leaves ∙ length-replicate {A = Key} (4 * first + 3 - first) None in
+    (omega (arith, len), λ disk. ap (λ (v : List Key). key_at v disk) leaves ∙ none_at (4 * first + 3 - first) disk)
+
+-- a disk's key is in the node of its leaf
+pub leaf_within : (first disk : ℕ) (nodes keys : List Key) → drop first nodes ≡ keys → disk < length keys → first + disk < length nodes
+leaf_within first disk nodes keys view lt = let len = ap length view in let left = length-drop first nodes in omega arith
+
+pub leaf_key : (first disk : ℕ) (nodes keys : List Key) (key : Key) → drop first nodes ≡ keys → disk < length keys →
+    key ≡ get_or nodes (first + disk) key → key ≡ key_at keys disk
+leaf_key first disk nodes keys key view lt read =
+    read ∙ get_or_default nodes (first + disk) key None (leaf_within first disk nodes keys view lt)
+    ∙ sym (get_or-drop first nodes disk None) ∙ ap (λ (v : List Key). key_at v disk) view
+
+-- one key more is copied
+pub copied_more : (old wider : List Key) (disk : ℕ) (key : Key) → disk < length wider → key ≡ key_at old disk →
+    ((i : ℕ) → i < disk → key_at wider i ≡ key_at old i) → (i : ℕ) → i < disk + 1 → key_at (set wider disk key) i ≡ key_at old i
+copied_more old wider disk key within same copied = below_more _ _
+    (λ i lt. get_or-set_other wider disk i key None (omega arith) ∙ copied i lt)
+    (get_or-set_same wider disk key None within ∙ same)
+
+-- a disk past the last has no key already
+pub none_past : (disk : ℕ) (key : Key) (keys : List Key) → length keys ≤ disk → is_some key ≡ false → IsSetAt disk key keys keys
+none_past disk None keys past none = record { set = get_or_past keys disk None past; others = λ other ne. refl }
+none_past disk (Some s) keys past none = absurd (false≢true (sym none))

@@ -2,13 +2,23 @@
 use Rattle.std.proofs.Common.{ap, drop, set, ◌+◌, ◌∙◌, arith}
 use Rattle.std.specs.Vec.{with_item}
 use Rattle.std.proofs.lemmas.List.{drop-set-add, with_items_is}
-use Rattle.event_tree.proofs.Trees.{leaf_set}
+use Rattle.event_tree.proofs.Trees.{leaf_set, leaf_within}
 use Rattle.event_tree.proofs.EventTree.put.Goals as goal
 
 pub replay-requires-clause-tree : goal.replay-requires-clause-tree
 replay-requires-clause-tree c = rw c.deref_mut.ensures.value
     (leaf_set c.self.inside.first (c.self.inside.first + c.args.disk) c.self.inside.nodes.items c.args.key (omega arith)
     c.self.invariant)
+
+pub overflow_add-leaf : goal.overflow_add-leaf
+overflow_add-leaf c =
+    let inside = leaf_within c.self.inside.first c.args.disk c.self.inside.nodes.items c.args.self.now c.self.view_is c.requires in
+    omega (arith, inside, c.self.invariant.most, c.self.invariant.len (omega (arith, inside)))
+
+pub replay-requires-clause-within : goal.replay-requires-clause-within
+replay-requires-clause-within c =
+    let inside = leaf_within c.self.inside.first c.args.disk c.self.inside.nodes.items c.args.self.now c.self.view_is c.requires in
+    omega (arith, inside, c.deref_mut.ensures.len, c.self.inside.nodes.ok.0)
 
 pub returns : goal.returns
 returns c =
