@@ -17,7 +17,7 @@ use Rattle.region_view.specs.Views.{ViewData, rows_in}
 use Rattle.region_view.proofs.Naming.{same_row, near_pair}
 use Rattle.region_queue.specs.declared.finder.Finder.{Finder}
 use Rattle.region_queue.specs.Finding.{IsNativeOf, IsNativePair, IsNearby, IsBlockBeside, AreListed}
-use Rattle.region_queue.proofs.Candidates.{native_is, pair_low, pair_high, adjacent_back, listed_at}
+use Rattle.region_queue.proofs.Candidates.{native_is, native_order, pair_low, pair_high, adjacent_back, listed_at}
 
 -- ---- cells
 -- a cell of the block, by its row and column
@@ -100,6 +100,20 @@ pub pair_as_higher : (finder : Finder) (view : ViewData) (disk other : ℕ) (p q
 pair_as_higher finder view disk other p q home o lt here there is_home beside h =
     pair_high finder view disk other o lt (native_is finder view other disk q p o lt there here ((beside q there).1.0 is_home)
     (near_only finder.rules finder.grid other disk q p o (adjacent_back finder.grid p.cell q.cell (beside q there).0) h))
+
+-- where the region doesn't own the cell of the lower one
+owned_first : (finder : Finder) (view : ViewData) (low high : ℕ) (p : Placed) (s : Stamp) → rows_in view low ≡ Some p →
+    IsNativeOf finder view low high s → Owns finder.grid finder.region p.cell
+owned_first finder view low high p s at n =
+    subst (λ (q : Placed). Owns finder.grid finder.region q.cell) (same_row view s.first low n.0.1.0 p n.0.1.1 at n.1.1.0) n.0.1.2
+
+pub pair_unowned : (finder : Finder) (view : ViewData) (disk other : ℕ) (p q : Placed) (own home : Bool) → rows_in view disk ≡ Some p →
+    rows_in view other ≡ Some q → (IsTrue own ↔ Owns finder.grid finder.region p.cell) → IsPlacedBeside finder view p.cell other home →
+    ¬ (((disk < other) × IsTrue own) ⊎ ((other < disk) × IsTrue home)) → HasNone (IsNativePair finder view disk other)
+pair_unowned finder view disk other p q own home here there owns beside neither s (inl low) =
+    neither (inl (native_order finder view disk other s low, owns.1 (owned_first finder view disk other p s here low)))
+pair_unowned finder view disk other p q own home here there owns beside neither s (inr high) =
+    neither (inr (native_order finder view other disk s high, (beside q there).1.1 (owned_first finder view other disk q s there high)))
 
 -- of disks that never hit each other, in either order
 native_never : (finder : Finder) (view : ViewData) (low high : ℕ) (p q : Placed) → rows_in view low ≡ Some p → rows_in view high ≡ Some q →

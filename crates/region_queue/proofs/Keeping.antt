@@ -59,6 +59,10 @@ kept_out IsOut done kept disk are out = record {
   out = λ i x. elim (Contains-push_cases done disk i x) [ inl y ↦ are.out i y | inr same ↦ inr (subst IsOut same out) ];
 }
 
+pub byte_small : (b : Bool) → bool_byte b ≤ 1
+byte_small true = omega arith
+byte_small false = omega arith
+
 -- the next disk is put behind those that are left, and counted where it isn't out
 pub keeping_more : (IsOut : ℕ → Type 0) (old now : List ℕ) (place kept disk : ℕ) (may : Bool) → place < length old →
     IsKeeping IsOut old now place kept → disk ≡ get_or now place 0 → (may ≡ false → IsOut disk) →

@@ -3,7 +3,7 @@ use Rattle.std.proofs.Common.{ℕ, ◌+◌, ◌<◌, ◌≤◌, List, length, ar
 use mir.Val.{bool_byte}
 use Rattle.std.specs.Prelude.{None, slice_index_or}
 use Rattle.region_queue.specs.Finding.{IsMissedBySmall, AreKept}
-use Rattle.region_queue.proofs.Keeping.{IsKeeping, keeping_none, keeping_more, keeping_all}
+use Rattle.region_queue.proofs.Keeping.{IsKeeping, keeping_none, keeping_more, keeping_all, byte_small}
 use Rattle.region_queue.proofs.finder.keep_met.Goals as goal
 
 pub loop-place-init : goal.loop-place-init
@@ -24,3 +24,8 @@ returns c =
     let past : length c.args.near.now ≤ c.loop-place.place = omega (arith, c.len-place-end.ensures) in
     subst (λ (xs : List ℕ). AreKept IsOut c.args.near.now xs) (sym c.cut.ensures)
     (keeping_all IsOut c.args.near.now c.loop-place.near c.loop-place.place c.loop-place.kept c.loop-place.invariant past)
+
+pub overflow_add-kept : goal.overflow_add-kept
+overflow_add-kept c =
+    let few = c.loop-place.invariant.few in
+    omega (arith, byte_small c.may_meet_row-may.result)

@@ -1,8 +1,9 @@
 -- What was known of the disk's pairs is kept, or all is taken again.
-use Rattle.std.proofs.Common.{◌≡◌, sym, subst, ◌∙◌}
-use Rattle.std.specs.Prelude.{IfSome}
+use Rattle.std.proofs.Common.{◌≡◌, ℕ, sym, subst, ◌∙◌}
+use Rattle.std.specs.Prelude.{Option, IfSome}
 use Rattle.event_stamps.specs.declared.Kind.TheVariants.{Pair}
 use Rattle.event_tree.specs.Keys.{Key}
+use Rattle.cell_grid.specs.Grid.{IsCell}
 use Rattle.region_view.specs.Views.{ViewData}
 use Rattle.region_view.specs.Naming.{IsMoved}
 use Rattle.region_queue.specs.Finding.{AreListed, IsFound, IsTakenAt, IsExtended, cell_in}
@@ -52,3 +53,9 @@ returns-then-is_pair_or_none c =
     (subst (λ (key : Key). IfSome key (λ s. s.kind ≡ Pair)) c.get.ensures (c.is_pair_or_none.ensures c.if-is_pair_or_none.true))
     (extended listed) covers)
     c.extend_key.ensures
+
+pub extend_key-requires-clause-cell : goal.extend_key-requires-clause-cell
+extend_key-requires-clause-cell c = subst (λ (o : Option ℕ). IfSome o (IsCell c.args.finder.now.grid)) c.in-Some.is c.requires.cell
+
+pub is_owner_kept-requires-clause-cell : goal.is_owner_kept-requires-clause-cell
+is_owner_kept-requires-clause-cell c = subst (λ (o : Option ℕ). IfSome o (IsCell c.args.finder.now.grid)) c.in-Some.is c.requires.cell

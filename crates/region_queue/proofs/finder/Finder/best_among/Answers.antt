@@ -1,13 +1,15 @@
 -- One more of the disks that are left; those that are out have no key.
-use Rattle.std.proofs.Common.{ℕ, ◌+◌, ◌<◌, List, take, length, get_or, arith, sym, subst}
+use Rattle.std.proofs.Common.{ℕ, ◌+◌, ◌<◌, List, [], take, length, get_or, arith, sym, subst}
 use Rattle.std.specs.Prelude.{Option}
 use Rattle.std.specs.List.{Contains}
 use Rattle.std.proofs.lemmas.List.{take_more}
 use Rattle.std.proofs.lemmas.List.Elements.{Contains-get_or}
 use Rattle.event_stamps.specs.declared.Stamp.{Stamp}
 use Rattle.event_stamps.specs.Least.{IsLeastOf, earlier_of}
+use Rattle.region_view.proofs.Naming.{none_among}
 use Rattle.region_queue.specs.Finding.{IsNativeWith, AreAllWithin}
 use Rattle.region_queue.proofs.Again.{take_whole}
+use Rattle.region_queue.proofs.Candidates.{with_none}
 use Rattle.region_queue.proofs.Among.{one_more, nearby_listed}
 use Rattle.region_queue.proofs.Keeping.{least_of_all}
 use Rattle.region_queue.proofs.finder.Finder.best_among.Goals as goal
@@ -42,3 +44,9 @@ returns c = λ listed within.
 
 pub key_beside-requires-clause-own : goal.key_beside-requires-clause-own
 key_beside-requires-clause-own c = c.requires.own
+
+pub loop-other-init : goal.loop-other-init
+loop-other-init c = λ listed within.
+    let Among : ℕ → Type 0 = λ i. Contains [] i in
+    subst (λ (o : Option Stamp). IsLeastOf (IsNativeWith c.args.self.now c.args.view.now c.args.disk Among) o) (sym c.new-best.ensures)
+    (with_none c.args.self.now c.args.view.now c.args.disk Among none_among)

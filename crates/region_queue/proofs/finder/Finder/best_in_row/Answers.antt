@@ -1,6 +1,7 @@
 -- One more cell of the row.
 use Rattle.std.proofs.Common.{◌≡◌, ℕ, ◌+◌, ◌*◌, ◌≤◌, arith, sym, subst, ap, ◌∙◌}
 use Rattle.std.specs.Prelude.{Option}
+use Rattle.std.proofs.Math.Nat.{mul-le-mul_right}
 use Rattle.event_stamps.specs.declared.Stamp.{Stamp}
 use Rattle.event_stamps.specs.Least.{IsLeastOf}
 use Rattle.cell_grid.specs.Grid.{GridData}
@@ -11,6 +12,11 @@ use Rattle.cell_lists.proofs.Blocks.{no_column}
 use Rattle.region_queue.proofs.Candidates.{with_none, column_more}
 use Rattle.region_queue.proofs.Beside.{cell_within}
 use Rattle.region_queue.proofs.finder.Finder.best_in_row.Goals as goal
+
+start_small : (row columns : ℕ) → row ≤ 1024 → columns ≤ 1024 → row * columns ≤ 1024 * 1024
+start_small row columns few_rows few_columns =
+    let product : row * columns ≤ 1024 * columns = mul-le-mul_right columns few_rows in
+    omega arith
 
 pub loop-column-init : goal.loop-column-init
 loop-column-init c = λ listed.
@@ -54,3 +60,17 @@ returns c = λ listed.
 
 pub best_in_cell-requires-clause-own : goal.best_in_cell-requires-clause-own
 best_in_cell-requires-clause-own c = c.requires.own
+
+pub overflow_add-start : goal.overflow_add-start
+overflow_add-start c =
+    let sizes = c.columns.ensures.kept in
+    omega (
+      arith,
+      c.requires.block.most_columns,
+      start_small c.args.row c.columns.result (omega (arith, c.requires.block.most_rows)) (omega arith),
+    )
+
+pub overflow_mul-start : goal.overflow_mul-start
+overflow_mul-start c =
+    let sizes = c.columns.ensures.kept in
+    omega (arith, start_small c.args.row c.columns.result (omega (arith, c.requires.block.most_rows)) (omega arith))

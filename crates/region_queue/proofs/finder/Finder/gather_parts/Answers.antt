@@ -23,3 +23,6 @@ returns-then-gather_part-3 c = λ yes.
             (c.gather_part-then-gather_part-3.ensures yes)
       ]
     ]
+
+pub returns-else-gather_part-3 : goal.returns-else-gather_part-3
+returns-else-gather_part-3 c = λ yes. absurd (false≢true (sym c.if-gather_part-3.false ∙ yes))

@@ -1,5 +1,6 @@
 -- The two disks are where the view has them.
 use Rattle.std.proofs.Common.{sym}
+use Rattle.std.proofs.lemmas.Bool.{false≢true}
 use Rattle.region_queue.proofs.Candidates.{event_found, none_without_first, none_without_second}
 use Rattle.region_queue.proofs.finder.Finder.has_pair.Goals as goal
 
@@ -17,13 +18,13 @@ is_event_of-requires-clause-second_cell c = c.requires.ready.valid.cell c.args.s
 
 pub returns-in_default : goal.returns-in_default
 returns-in_default c = (
-  λ yes. cc,
+  λ yes. absurd (false≢true yes),
   λ found. absurd (none_without_first c.args.self.now c.args.view.now c.args.stamp.now (sym c.in_default.ensures) found),
 )
 
 pub returns-in_default-get : goal.returns-in_default-get
 returns-in_default-get c = (
-  λ yes. cc,
+  λ yes. absurd (false≢true yes),
   λ found. absurd (none_without_second c.args.self.now c.args.view.now c.args.stamp.now c.requires.pair (sym c.in_default-get.ensures) found),
 )
 

@@ -11,3 +11,7 @@ pub returns-in-Some : goal.returns-in-Some
 returns-in-Some c = λ no.
     subst (λ (row : Option Placed). IsMissed c.args.self.now.rules c.args.disk.now row) (sym (sym c.get.ensures ∙ c.in-Some.is))
     (c.may_hit.ensures.never no, c.may_hit.ensures.never_turned no)
+
+pub returns-in-None : goal.returns-in-None
+returns-in-None c = λ no.
+    subst (λ (row : Option Placed). IsMissed c.args.self.now.rules c.args.disk.now row) (sym (sym c.get.ensures ∙ c.in-None.is)) tt

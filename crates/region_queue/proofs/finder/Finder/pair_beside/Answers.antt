@@ -1,8 +1,14 @@
 -- Of two disks either may be the lower one.
 use Rattle.std.proofs.Common.{◌⊎◌, ◌↔◌, inl, inr, ◌<◌, Bool, sym, subst, ◌∙◌}
-use Rattle.std.specs.Prelude.{IsTrue}
+use Rattle.std.specs.Prelude.{Option, IsTrue, IfSome}
+use Rattle.std.proofs.lemmas.Bool.{both_ways}
+use Rattle.event_stamps.specs.declared.Stamp.{Stamp}
+use Rattle.event_stamps.specs.Least.{IsLeastOf}
+use Rattle.event_stamps.specs.Order.{IsInRange}
 use Rattle.cell_grid.specs.Grid.{Owns}
-use Rattle.region_queue.proofs.Beside.{pair_as_lower, pair_as_higher, placed_beside}
+use Rattle.region_queue.specs.Finding.{IsNativePair}
+use Rattle.region_queue.proofs.Beside.{pair_as_lower, pair_as_higher, pair_unowned, placed_beside}
+use Rattle.region_queue.proofs.Candidates.{pair_without}
 use Rattle.region_queue.proofs.InRange.{between_in_range}
 use Rattle.region_queue.proofs.finder.Finder.pair_beside.Goals as goal
 use Rattle.region_queue.proofs.finder.Finder.pair_beside.Goals.{then-whole, else-whole}
@@ -49,3 +55,27 @@ returns-clause-least c = λ nearby.
 pub owns-home-requires-clause-cell : goal.owns-home-requires-clause-cell
 owns-home-requires-clause-cell c =
     c.requires.ready.valid.cell c.args.other c.in_ok-near.near (sym c.in_ok-near.ensures)
+
+pub returns-then-not-owns_lower-clause-least : goal.returns-then-not-owns_lower-clause-least
+returns-then-not-owns_lower-clause-least c = λ nearby.
+    let finder = c.args.self.now in
+    let view = c.args.view.now in
+    let near = c.in_ok-near.near in
+    let there = sym c.in_ok-near.ensures in
+    let known : (IsTrue c.args.whole × IsTrue c.if-whole.home) ⊎ (IsTrue c.if-whole.home ↔ Owns finder.grid finder.region near.cell) =
+    elim c.if-whole.branch [
+      | then-whole w ↦ inl (w.if-whole.true, w.home-is ∙ w.if-whole.true)
+      | else-whole w ↦
+          inr (subst (λ (b : Bool). IsTrue b ↔ Owns finder.grid finder.region near.cell) (sym w.home-is) w.owns-home.ensures)
+    ] in
+    let beside = placed_beside finder view c.args.placed.now.cell c.args.other near c.args.whole c.if-whole.home there known nearby in
+    pair_unowned finder view c.args.disk c.args.other c.args.placed.now near c.args.own c.if-whole.home c.requires.placed there
+    c.requires.own beside (λ either. both_ways c.owns_lower.result c.if-not-owns_lower.true (c.owns_lower.ensures.1 either))
+
+pub returns-in_err-near-clause-least : goal.returns-in_err-near-clause-least
+returns-in_err-near-clause-least c = λ nearby.
+    subst (λ (o : Option Stamp). IsLeastOf (IsNativePair c.args.self.now c.args.view.now c.args.disk c.args.other) o)
+    (sym c.from_residual.ensures) (pair_without c.args.self.now c.args.view.now c.args.disk c.args.other (sym c.in_err-near.ensures))
+
+pub returns-in_err-near-clause-range : goal.returns-in_err-near-clause-range
+returns-in_err-near-clause-range c = subst (λ (o : Option Stamp). IfSome o IsInRange) (sym c.from_residual.ensures) tt

@@ -1,6 +1,7 @@
 -- The disk is listed again, and its key is taken with what was known of its old cell.
-use Rattle.std.proofs.Common.{subst}
-use Rattle.std.specs.Prelude.{OnOk}
+use Rattle.std.proofs.Common.{subst, ap}
+use Rattle.std.specs.Prelude.{IfSome, OnOk}
+use Rattle.cell_grid.specs.Grid.{GridData, IsCell}
 use Rattle.region_view.specs.Views.{ViewData}
 use Rattle.region_queue.specs.declared.finder.Finder.{Finder}
 use Rattle.region_queue.specs.Finding.{AreListed, IsFound}
@@ -83,3 +84,21 @@ pub invariant_of-self : goal.invariant_of-self
 invariant_of-self c =
     sound_again c.self.inside.finder.rules c.self.inside.finder.grid c.self.inside.finder.region c.self.inside.finder.strip
     c.self.inside.finder.lists.grid c.list_again.new.lists.grid c.list_again.ensures.grid c.self.invariant
+
+pub take_crossed-requires-clause-cell : goal.take_crossed-requires-clause-cell
+take_crossed-requires-clause-cell c =
+    subst (λ (grid : GridData). IfSome c.cell_of-cell.result (IsCell grid)) c.self.invariant.lists c.cell_of-cell.ensures.cell
+
+pub returns-clause-same : goal.returns-clause-same
+returns-clause-same c = record {
+  rules = ap (λ (q : QueueData). q.rules) c.self.view_is;
+  grid = ap (λ (q : QueueData). q.grid) c.self.view_is;
+  region = ap (λ (q : QueueData). q.region) c.self.view_is;
+}
+
+pub returns-in_err-take_crossed-clause-same : goal.returns-in_err-take_crossed-clause-same
+returns-in_err-take_crossed-clause-same c = record {
+  rules = ap (λ (q : QueueData). q.rules) c.self.view_is;
+  grid = ap (λ (q : QueueData). q.grid) c.self.view_is;
+  region = ap (λ (q : QueueData). q.region) c.self.view_is;
+}

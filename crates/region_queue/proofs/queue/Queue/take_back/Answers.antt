@@ -81,3 +81,10 @@ pub invariant_of-self : goal.invariant_of-self
 invariant_of-self c =
     sound_again c.self.inside.finder.rules c.self.inside.finder.grid c.self.inside.finder.region c.self.inside.finder.strip
     c.self.inside.finder.lists.grid c.list_event.new.lists.grid c.list_event.ensures.grid c.self.invariant
+
+pub returns-clause-same : goal.returns-clause-same
+returns-clause-same c = record {
+  rules = ap (λ (q : QueueData). q.rules) c.self.view_is;
+  grid = ap (λ (q : QueueData). q.grid) c.self.view_is;
+  region = ap (λ (q : QueueData). q.region) c.self.view_is;
+}

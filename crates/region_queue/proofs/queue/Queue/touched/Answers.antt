@@ -1,5 +1,5 @@
 -- The disks are listed again, and then their keys are taken in the new lists.
-use Rattle.std.proofs.Common.{subst}
+use Rattle.std.proofs.Common.{subst, ap}
 use Rattle.std.specs.Prelude.{OnOk}
 use Rattle.region_view.specs.Views.{ViewData}
 use Rattle.region_queue.specs.declared.finder.Finder.{Finder}
@@ -81,3 +81,10 @@ pub invariant_of-self : goal.invariant_of-self
 invariant_of-self c =
     sound_again c.self.inside.finder.rules c.self.inside.finder.grid c.self.inside.finder.region c.self.inside.finder.strip
     c.self.inside.finder.lists.grid c.list_again.new.lists.grid c.list_again.ensures.grid c.self.invariant
+
+pub returns-clause-same : goal.returns-clause-same
+returns-clause-same c = record {
+  rules = ap (λ (q : QueueData). q.rules) c.self.view_is;
+  grid = ap (λ (q : QueueData). q.grid) c.self.view_is;
+  region = ap (λ (q : QueueData). q.region) c.self.view_is;
+}
