@@ -276,6 +276,12 @@ energy_stays_but_for_roundings = energy_over_run
 abbrev pair_count : Change → ℕ
 pair_count c = cond (is_some c.second) 1 0
 
+apart : (m n : ℤ) (limit : ℕ) → nat_abs m ≤ limit → nat_abs n ≤ limit → nat_abs (m -ℤ n) ≤ 2 * limit
+apart m n limit h k = omega (arith, ints)
+
+small : (own x y limit : ℕ) → own ≡ 3 * (x + y) + 4 → x ≤ 2 * limit → y ≤ 2 * limit → own ≤ 1 * (12 * limit + 4)
+small own x y limit e h k = omega arith
+
 pair_rounds : (rules : Rules) (disks : List Disk) (c : Change) → IsValidState rules disks → RanPair rules disks c →
     rounding_of disks c ≤ most_rounded rules (pair_count c)
 pair_rounds rules disks c valid p =
@@ -286,12 +292,6 @@ pair_rounds rules disks c valid p =
     let own : rounding_of disks (change_of c.stamp p.first (Some p.second)) ≡ 3 * (nat_abs (p.first.vx -ℤ p.second.vx) + nat_abs (p.first.vy -ℤ p.second.vy)) + 4 =
     ap (λ (z : Vector). 3 * (nat_abs z.x + nat_abs z.y) + 4) (relative_is rules disks c p) in
     subst (λ (k : Change). rounding_of disks k ≤ most_rounded rules (pair_count k)) (sym p.change) (small _ _ _ _ own x y)
-  where
-    apart : (m n : ℤ) (limit : ℕ) → nat_abs m ≤ limit → nat_abs n ≤ limit → nat_abs (m -ℤ n) ≤ 2 * limit
-    apart m n limit h k = omega (arith, ints)
-
-    small : (own x y limit : ℕ) → own ≡ 3 * (x + y) + 4 → x ≤ 2 * limit → y ≤ 2 * limit → own ≤ 1 * (12 * limit + 4)
-    small own x y limit e h k = omega arith
 
 event_rounds : (rules : Rules) (disks : List Disk) (c : Change) → IsValidState rules disks → RanWall rules disks c ⊎ RanPair rules disks c →
     rounding_of disks c ≤ most_rounded rules (pair_count c)

@@ -1,8 +1,8 @@
 -- Where two disks are at the later of their base ticks, by how much later one of them is.
-use Rattle.std.proofs.Common.{◌≡◌, ℕ, zero, suc, ◌+◌, ◌-◌, ◌/◌, ◌*◌, ◌^◌, ◌%◌, ◌≤◌, max, ap, sym, ◌∙◌, arith, to_z, of_z}
+use Rattle.std.proofs.Common.{◌≡◌, ℕ, zero, suc, ◌+◌, ◌-◌, ◌/◌, ◌*◌, ◌^◌, ◌%◌, ◌<◌, ◌≤◌, max, ap, sym, ◌∙◌, arith, to_z, of_z}
 use Rattle.std.specs.Prelude.{ℤ, pos, negsuc, nat_abs, FitsSigned, ◌+ℤ◌, ◌-ℤ◌, ◌*ℤ◌, ◌≤ℤ◌, ◌<ℤ◌}
 use Rattle.std.specs.Int.{int_wrap, w64}
-use Rattle.std.proofs.lemmas.Int.{ints, int_wrap_fits}
+use Rattle.std.proofs.lemmas.Int.{ints, int_wrap_fits, to_z_pos, of_z-to_z}
 use Rattle.plane_vectors.proofs.Sizes.{size_of_product, sent}
 use Rattle.plane_vectors.specs.Vectors.{vector, IsWithin}
 use Rattle.fixed_motion.specs.declared.rules.Rules.{Rules}
@@ -68,7 +68,7 @@ pub early : (rules : Rules) (base : ℕ) → IsChecked rules → base ≤ rules.
 early rules base checked le = let end = checked.end.1 in omega (arith, ints)
 
 -- so the code's numbers are those meant
-record AreLeading (rules : Rules) (a b : Disk) : Type 0 where
+pub record AreLeading (rules : Rules) (a b : Disk) : Type 0 where
   pub first : IsWithin (2 ^ 30) (centre_of a)
   pub second : IsWithin (2 ^ 30) (centre_of b)
   pub first_speed : IsWithin (2 ^ 20) (velocity_of a)
@@ -76,7 +76,7 @@ record AreLeading (rules : Rules) (a b : Disk) : Type 0 where
   pub first_base : a.base ≤ 2 ^ 40
   pub second_base : b.base ≤ 2 ^ 40
 
-leading : (rules : Rules) (a b : Disk) → IsValidPair rules a b → AreLeading rules a b
+pub leading : (rules : Rules) (a b : Disk) → IsValidPair rules a b → AreLeading rules a b
 leading rules a b pair =
     let checked = pair.checked in
     record {
@@ -124,11 +124,30 @@ pub half_told : (m n d : ℤ) (w : ℕ) → pos 2 ≤ℤ m → m ≤ℤ pos 1073
     sent d ≡ half_of m +ℤ half_of n
 half_told m n d w hm lm hn ln em en ew ed = half_sum m n (sent d) hm hn em en (twice m n hm lm hn ln em en ew)
   where
+    below : (m : ℕ) → pos m ≤ℤ pos 1073741824 → m ≤ 1073741824
+    below m h = omega (arith, ints)
+
+    not_negative : (m : ℕ) → pos 2 ≤ℤ negsuc m → ⊥
+    not_negative m h = omega (arith, ints)
+
+    exact : (k : ℕ) → k ≤ 2147483648 → w ≡ of_z w64 (to_z w64 (k % 18446744073709551616)) → w ≡ k
+    exact k le e =
+        let small : k % 18446744073709551616 ≡ k = omega (arith, le) in
+        e ∙ ap (λ (l : ℕ). of_z w64 (to_z w64 l)) small ∙ of_z-to_z w64 k (omega (arith, le))
+
+    halved : (k : ℕ) → k ≤ 2147483648 → w ≡ k → sent d ≡ pos (k / 2)
+    halved k le e =
+        let fits : k / 2 < 9223372036854775808 = omega (arith, le) in
+        ap sent (ed ∙ ap (λ (l : ℕ). to_z w64 (l / 2)) e ∙ to_z_pos w64 (k / 2) fits) ∙ to_z_pos w64 (k / 2) fits
+
+    whole : (m n : ℕ) → m % 2 ≡ 0 → n % 2 ≡ 0 → pos ((m + n) / 2) +ℤ pos ((m + n) / 2) ≡ pos m +ℤ pos n
+    whole m n em en = omega (arith, ints)
+
     twice : (m n : ℤ) → pos 2 ≤ℤ m → m ≤ℤ pos 1073741824 → pos 2 ≤ℤ n → n ≤ℤ pos 1073741824 → nat_abs m % 2 ≡ 0 →
         nat_abs n % 2 ≡ 0 → w ≡ of_z w64 (to_z w64 ((of_z w64 m + of_z w64 n) % 18446744073709551616)) → sent d +ℤ sent d ≡ m +ℤ n
     twice (pos m) (pos n) hm lm hn ln em en e =
-        let sum : w ≡ m + n = omega (arith, ints) in
-        let half : d ≡ pos ((m + n) / 2) = omega (arith, ints) in
-        omega (arith, ints)
-    twice (negsuc m) n hm lm hn ln em en e = absurd (omega (arith, ints))
-    twice (pos m) (negsuc n) hm lm hn ln em en e = absurd (omega (arith, ints))
+        let le : m + n ≤ 2147483648 = omega (arith, below m lm, below n ln) in
+        let half = halved (m + n) le (exact (m + n) le e) in
+        (λ i. half i +ℤ half i) ∙ whole m n em en
+    twice (negsuc m) n hm lm hn ln em en e = absurd (not_negative m hm)
+    twice (pos m) (negsuc n) hm lm hn ln em en e = absurd (not_negative n hn)

@@ -7,7 +7,7 @@ use lib.Signed.{lt_z}
 use mir.Syntax.{w64}
 use Rattle.plane_vectors.specs.declared.Vector.{Vector}
 use Rattle.plane_vectors.specs.Vectors.{difference, dot, IsWithin}
-use Rattle.plane_vectors.proofs.Sizes.{sent, sent_same, size_of_product, dot_size}
+use Rattle.plane_vectors.proofs.Sizes.{sent, sent_same, size_of_sum, size_of_product, dot_size}
 use Rattle.plane_vectors.proofs.Products.{square_not_negative}
 use Rattle.fixed_motion.specs.declared.rules.Rules.{Rules}
 use Rattle.fixed_motion.specs.declared.disk.Disk.{Disk}
@@ -32,23 +32,32 @@ pub record IsProduct (s w h : ℤ) : Type 0 where
   pub fits : FitsSigned w64 (sent s *ℤ sent (sent w +ℤ sent h))
   pub value : sent (sent s *ℤ sent (sent w +ℤ sent h)) ≡ (s *ℤ (w +ℤ h))
 
+up_to : (z : ℤ) (least most : ℕ) → pos least ≤ℤ z → z ≤ℤ pos most → nat_abs z ≤ most
+up_to z least most h k = omega (arith, ints)
+
+up_to_twice : (w h : ℤ) → nat_abs w ≤ 2 ^ 30 → nat_abs h ≤ 2 ^ 30 → nat_abs (w +ℤ h) ≤ 2 ^ 31
+up_to_twice w h hw hh = omega (arith, size_of_sum w h)
+
+sum_fits : (z : ℤ) → nat_abs z ≤ 2 ^ 31 → FitsSigned w64 z
+sum_fits z h = omega (arith, ints)
+
+product_fits : (z : ℤ) → nat_abs z ≤ 2 ^ 20 * 2 ^ 31 → FitsSigned w64 z
+product_fits z h = omega (arith, ints)
+
+product_is : (s w h : ℤ) → nat_abs s ≤ 2 ^ 20 → nat_abs w ≤ 2 ^ 30 → nat_abs h ≤ 2 ^ 30 → IsProduct s w h
+product_is s w h hs hw hh =
+    let size = up_to_twice w h hw hh in
+    let es : sent s ≡ s = small_same s (omega (arith, hs)) in
+    let ew : sent w ≡ w = small_same w hw in
+    let eh : sent h ≡ h = small_same h hh in
+    let sum : sent (w +ℤ h) ≡ (w +ℤ h) = sent_same (w +ℤ h) (sum_fits (w +ℤ h) size) in
+    let fits : FitsSigned w64 (s *ℤ (w +ℤ h)) = product_fits (s *ℤ (w +ℤ h)) (size_of_product s (w +ℤ h) (2 ^ 20) (2 ^ 31) hs size) in
+    record { fits = rw (es, ew, eh, sum) fits; value = rw (es, ew, eh, sum) (sent_same (s *ℤ (w +ℤ h)) fits) }
+
 pub product_of : (rules : Rules) → IsChecked rules → IsProduct rules.speed_limit rules.width rules.height
 product_of rules checked =
-    of rules.speed_limit rules.width rules.height (omega (arith, ints, checked.speed_limit.0, checked.speed_limit.1))
-    (omega (arith, ints, checked.width.0, checked.width.1)) (omega (arith, ints, checked.height.0, checked.height.1))
-  where
-    product_fits : (z : ℤ) → nat_abs z ≤ 2 ^ 20 * 2 ^ 31 → FitsSigned w64 z
-    product_fits z h = omega (arith, ints)
-
-    of : (s w h : ℤ) → nat_abs s ≤ 2 ^ 20 → nat_abs w ≤ 2 ^ 30 → nat_abs h ≤ 2 ^ 30 → IsProduct s w h
-    of s w h hs hw hh =
-        let es : sent s ≡ s = sent_same s (omega (arith, ints)) in
-        let ew : sent w ≡ w = sent_same w (omega (arith, ints)) in
-        let eh : sent h ≡ h = sent_same h (omega (arith, ints)) in
-        let sum : sent (w +ℤ h) ≡ (w +ℤ h) = sent_same (w +ℤ h) (omega (arith, ints)) in
-        let size : nat_abs (w +ℤ h) ≤ 2 ^ 31 = omega (arith, ints) in
-        let fits : FitsSigned w64 (s *ℤ (w +ℤ h)) = product_fits (s *ℤ (w +ℤ h)) (size_of_product s (w +ℤ h) (2 ^ 20) (2 ^ 31) hs size) in
-        record { fits = rw (es, ew, eh, sum) fits; value = rw (es, ew, eh, sum) (sent_same (s *ℤ (w +ℤ h)) fits) }
+    product_is rules.speed_limit rules.width rules.height (up_to rules.speed_limit 1 (2 ^ 20) checked.speed_limit.0 checked.speed_limit.1)
+    (up_to rules.width 2 (2 ^ 30) checked.width.0 checked.width.1) (up_to rules.height 2 (2 ^ 30) checked.height.0 checked.height.1)
 
 pub less : (x y : ℤ) → IsTrue (lt_z x y) ↔ (x <ℤ y)
 less x y = (λ h. grind (arith, ints), λ h. grind (arith, ints))
@@ -152,6 +161,15 @@ whole_product (negsuc s) w h k l m lt = absurd (omega (arith, ints))
 whole_product (pos s) (negsuc w) h k l m lt = absurd (omega (arith, ints))
 whole_product (pos s) (pos w) (negsuc h) k l m lt = absurd (omega (arith, ints))
 
+relative : (m n : ℤ) (k : ℕ) → nat_abs m ≤ k → nat_abs n ≤ k → nat_abs (m -ℤ n) ≤ 2 * k
+relative m n k p q = omega (arith, ints)
+
+within_side : (d most side : ℤ) → pos 2 ≤ℤ d → d ≤ℤ most → most ≤ℤ side → nat_abs d ≤ nat_abs side
+within_side d most side k l m = omega (arith, ints)
+
+at_least : (n : ℤ) → pos 1 ≤ℤ n → 1 ≤ nat_abs n
+at_least n h = omega (arith, ints)
+
 slight : (rules : Rules) (a b : Disk) (s : Separation) → IsSmallPair rules a b → IsSeparation a b s → FitsTheBox rules s.places →
     AreSlight (nat_abs rules.width) (nat_abs rules.height) (nat_abs rules.speed_limit) s.places s.velocities s.distance
 slight rules a b s pair sep near =
@@ -167,23 +185,11 @@ slight rules a b s pair sep near =
       uy = subst (λ (u : Vector). nat_abs u.y ≤ 2 * limit) (sym sep.velocities)
           (relative a.vy b.vy limit pair.first_valid.velocity.y pair.second_valid.velocity.y);
       distance = subst (λ (d : ℤ). nat_abs d ≤ nat_abs rules.width) (sym sep.distance)
-          (up_to (contact_distance a b) rules.diameter rules.width least most checked.diameter.1);
+          (within_side (contact_distance a b) rules.diameter rules.width least most checked.diameter.1);
       least = at_least rules.speed_limit checked.speed_limit.0;
-      most = at_most rules.speed_limit checked.speed_limit.0 checked.speed_limit.1;
+      most = up_to rules.speed_limit 1 (2 ^ 20) checked.speed_limit.0 checked.speed_limit.1;
       product = whole_product rules.speed_limit rules.width rules.height checked.speed_limit.0 checked.width.0 checked.height.0 pair.products;
     }
-  where
-    relative : (m n : ℤ) (k : ℕ) → nat_abs m ≤ k → nat_abs n ≤ k → nat_abs (m -ℤ n) ≤ 2 * k
-    relative m n k p q = omega (arith, ints)
-
-    up_to : (d most side : ℤ) → pos 2 ≤ℤ d → d ≤ℤ most → most ≤ℤ side → nat_abs d ≤ nat_abs side
-    up_to d most side k l m = omega (arith, ints)
-
-    at_least : (n : ℤ) → pos 1 ≤ℤ n → 1 ≤ nat_abs n
-    at_least n h = omega (arith, ints)
-
-    at_most : (n : ℤ) → pos 1 ≤ℤ n → n ≤ℤ pos 1048576 → nat_abs n ≤ 2 ^ 20
-    at_most n h k = omega (arith, ints)
 
 distance_same : (rules : Rules) (a b : Disk) (s : Separation) → IsSmallPair rules a b → IsSeparation a b s → FitsTheBox rules s.places →
     sent s.distance ≡ s.distance

@@ -96,6 +96,17 @@ pub no_event_falling : (rules : Rules) (i j : ℕ) (a b : Disk) → ((tick : ℕ
     (s : Stamp) → IsPairEvent rules j b i a s → ⊥
 no_event_falling rules i j a b never s event = never s.tick event.1 (contact_tick_swapped rules b a s.tick event.0)
 
+-- the meeting of two disks is their one event, in the order of their numbers
+pub event_rising : (rules : Rules) (i j tick round first second : ℕ) (a b : Disk) → i < j → IsTouch rules a b tick →
+    round ≡ max (mark_at a tick) (mark_at b tick) → first ≡ min i j → second ≡ max i j →
+    IsOnly (IsPairEvent rules i a j b) (record { tick = tick; round = round; kind = Pair; first = first; second = second })
+event_rising rules i j tick round first second a b lt meeting r f s =
+    let lower : first ≡ i = omega arith in
+    let higher : second ≡ j = omega arith in
+    let stamp : record { tick = tick; round = round; kind = Pair; first = first; second = second } ≡ pair_stamp i a j b tick =
+    λ n. record { tick = tick; round = r n; kind = Pair; first = lower n; second = higher n } in
+    ((meeting.0, meeting.1, stamp), λ t event. event.2 ∙ ap (pair_stamp i a j b) (meeting.2 t.tick event.0) ∙ sym stamp)
+
 pub event_falling : (rules : Rules) (i j tick round first second : ℕ) (a b : Disk) → j < i → IsTouch rules a b tick →
     round ≡ max (mark_at a tick) (mark_at b tick) → first ≡ min i j → second ≡ max i j →
     IsOnly (IsPairEvent rules j b i a) (record { tick = tick; round = round; kind = Pair; first = first; second = second })

@@ -2,15 +2,17 @@
 use Rattle.std.proofs.Common.{◌≡◌, ◌≢◌, ℕ, ◌<◌, ◌≤◌, max, Bool, true, false, ap, sym, ◌∙◌, subst, refl, arith, Option, Some, None}
 use Rattle.std.specs.Prelude.{◌&&◌, Ok, Err}
 use Rattle.std.proofs.lemmas.Bool.Decides.{nat_tests}
+use Rattle.std.proofs.lemmas.Int.{ints}
 use Rattle.std.specs.Option.{ForSome}
 use Rattle.plane_vectors.specs.declared.Vector.{Vector}
 use Rattle.fixed_motion.specs.declared.rules.Rules.{Rules}
 use Rattle.fixed_motion.specs.declared.disk.Disk.{Disk}
+use Rattle.fixed_motion.specs.Rules.{IsChecked}
 use Rattle.fixed_motion.specs.Motion.{IsInside, IsValidDisk, IsSlow, is_slow, place_of, velocity_of, mark_at}
 use Rattle.event_stamps.specs.declared.Stamp.{Stamp}
 use Rattle.event_rules.specs.declared.change.Change.{Change}
 use Rattle.event_rules.specs.declared.change.Limit.TheVariants.{Rounds, Speed}
-use Rattle.event_rules.specs.Events.{IsEventOf}
+use Rattle.event_rules.specs.Events.{IsEventOf, IsWallEvent, IsPairEvent}
 use Rattle.event_rules.specs.Effect.{applied, change_of, keeps_speed, is_slow_disk, bounced, moved, turned, pushed, pushed_back, impulse_at, KeepsValid}
 
 both_true : (p q : Bool) → (p && q) ≡ true → (p ≡ true) × (q ≡ true)
@@ -23,6 +25,27 @@ slow_from_test rules v h = record { x = grind arith; y = grind arith }
 
 pub mark_within : (a : Disk) (tick n : ℕ) → a.mark ≤ n → mark_at a tick ≤ n
 mark_within a tick n le = grind arith
+
+greater : (m n k : ℕ) → m ≤ k → n ≤ k → max m n ≤ k
+greater m n k h l = omega arith
+
+-- the round of an event is at most the greatest limit
+few_rounds : (rules : Rules) (a : Disk) (tick : ℕ) → IsChecked rules → IsValidDisk rules a → mark_at a tick ≤ 65536
+few_rounds rules a tick checked valid =
+    let limit = checked.round_limit.1 in
+    let mark = valid.mark in
+    mark_within a tick 65536 (omega (arith, ints))
+
+pub wall_round : (rules : Rules) (s : Stamp) (a : Disk) → IsChecked rules → IsValidDisk rules a →
+    IsWallEvent rules s.first a s.second s → s.round ≤ 65536
+wall_round rules s a checked valid event =
+    subst (λ (n : ℕ). n ≤ 65536) (sym (ap (λ (v : Stamp). v.round) event.2)) (few_rounds rules a s.tick checked valid)
+
+pub pair_round : (rules : Rules) (s : Stamp) (a b : Disk) → IsChecked rules → IsValidDisk rules a → IsValidDisk rules b →
+    IsPairEvent rules s.first a s.second b s → s.round ≤ 65536
+pair_round rules s a b checked va vb event =
+    subst (λ (n : ℕ). n ≤ 65536) (sym (ap (λ (v : Stamp). v.round) event.2))
+    (greater (mark_at a s.tick) (mark_at b s.tick) 65536 (few_rounds rules a s.tick checked va) (few_rounds rules b s.tick checked vb))
 
 -- a disk that is inside at an event below the limits becomes a valid one
 moved_valid : (rules : Rules) (s : Stamp) (a : Disk) (v : Vector) → IsValidDisk rules a →

@@ -12,3 +12,6 @@ pub returns : goal.returns
 returns c = λ side past.
     let lt = side_range c.args.rules.now c.args.a.now side c.args.place past in
     c.loop-side.invariant side (omega arith) past
+
+pub returns-then-is_past : goal.returns-then-is_past
+returns-then-is_past c = record { past = c.is_past.ensures.0 c.if-is_past.true; least = c.loop-side.invariant }
