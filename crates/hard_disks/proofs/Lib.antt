@@ -3,6 +3,7 @@ pub mod OneOutput
 pub mod Wrote
 pub mod Answered
 pub mod Reported
+pub mod Shown
 pub mod Published
 pub mod Watched
 pub mod Cuts

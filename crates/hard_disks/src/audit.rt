@@ -14,6 +14,7 @@ use crate::status::Status;
 use collision_report::Format;
 use fixed_motion::Scene;
 use live_progress::Board;
+use region_core::Gate;
 use report_audit::{Kept, Parted, Unread, Verdict, compare};
 use report_ports::{Sink, Source};
 use scene_reader::{SceneFault, read_scene};
@@ -45,11 +46,11 @@ impl From<AllocError> for AuditFault {
 ///
 /// # Errors
 /// The scene was refused, the source failed, or out of memory.
-pub fn audit<R: Threads + Wait + Sync, S: Source, E: Engine>(
+pub fn audit<R: Threads + Wait + Sync, S: Source, G: Gate>(
     rt: &R,
     alloc: Global,
     source: &mut S,
-    engine: &mut E,
+    engine: &Engine<'_, G>,
 ) -> Result<Verdict, AuditFault>
     ensures audits { IsAudit (S.left source.old) result }
     // Where the claimed report is the report, the source was read to its end.
@@ -71,10 +72,10 @@ pub fn audit<R: Threads + Wait + Sync, S: Source, E: Engine>(
 }
 
 // Reads a scene to the end of its source, and keeps the report of its run.
-fn read_report<R: Threads + Wait + Sync, T: Source, E: Engine>(
+fn read_report<R: Threads + Wait + Sync, T: Source, G: Gate>(
     rt: &R,
     alloc: Global,
-    engine: &mut E,
+    engine: &Engine<'_, G>,
     source: &mut T,
 ) -> Result<Kept, AuditFault>
     ensures reads { ReadsReport (T.left source.old) (T.left source.new) result }
@@ -99,10 +100,10 @@ fn audit_fault(fault: SceneFault) -> AuditFault
 }
 
 // Keeps the report of the scene's run.
-fn keep_report<R: Threads + Wait + Sync, E: Engine>(
+fn keep_report<R: Threads + Wait + Sync, G: Gate>(
     rt: &R,
     alloc: Global,
-    engine: &mut E,
+    engine: &Engine<'_, G>,
     scene: &Scene,
 ) -> Result<Kept, AllocError>
     ensures keeps { IfOk result (λ kept. KeepsReport scene.now kept.taken) }
@@ -120,10 +121,10 @@ fn keep_report<R: Threads + Wait + Sync, E: Engine>(
 }
 
 // Writes the report of the scene's run, of which nothing is published: nobody looks at its board.
-fn write_unwatched<R: Threads + Wait + Sync, E: Engine, K: Sink>(
+fn write_unwatched<R: Threads + Wait + Sync, G: Gate, K: Sink>(
     rt: &R,
     alloc: Global,
-    engine: &mut E,
+    engine: &Engine<'_, G>,
     scene: &Scene,
     sink: &mut K,
 ) -> Status

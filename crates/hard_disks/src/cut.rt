@@ -8,6 +8,7 @@ ghost use Rattle.hard_disks.specs.Cut.{CutTold};
 use crate::engines::Engine;
 use event_rules::{Limit, Listener, Outcome, RunFault};
 use fixed_motion::Scene;
+use region_core::Gate;
 use resume::{before, rest};
 use std::alloc::Global;
 use std::sync::Wait;
@@ -27,12 +28,12 @@ pub enum Cut {
 ///
 /// # Errors
 /// The listener refused a change, and its count of refusals rose; or out of memory.
-pub fn cut_at<E: Engine, R: Threads + Wait + Sync, L: Listener>(
+pub fn cut_at<R: Threads + Wait + Sync, G: Gate, L: Listener>(
     rt: &R,
     alloc: Global,
     scene: &Scene,
     at: u64,
-    engine: &mut E,
+    engine: &Engine<'_, G>,
     listener: &mut L,
 ) -> Result<Cut, RunFault>
     requires at { at ≤ scene.now.rules.end }
@@ -52,12 +53,12 @@ pub fn cut_at<E: Engine, R: Threads + Wait + Sync, L: Listener>(
 }
 
 // Runs the part of a scene before the tick.
-fn run_before<E: Engine, R: Threads + Wait + Sync, L: Listener>(
+fn run_before<R: Threads + Wait + Sync, G: Gate, L: Listener>(
     rt: &R,
     alloc: Global,
     scene: &Scene,
     at: u64,
-    engine: &mut E,
+    engine: &Engine<'_, G>,
     listener: &mut L,
 ) -> Result<Outcome, RunFault>
     requires at { at ≤ scene.now.rules.end }

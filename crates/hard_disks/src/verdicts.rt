@@ -1,109 +1,30 @@
 //! What mode `audit` writes: the verdict on a claimed report.
 
 ghost use Rattle.std.specs.Prelude.{◌≡◌, ◌≢◌, ◌≤◌, ◌++◌, ◌∷◌, [], Some, length, codes, decimal};
-ghost use Rattle.local_run.specs.Bursts.{AreTogether};
-ghost use Rattle.command_words.specs.Ranges.{AreInRange};
 ghost use Rattle.command_words.specs.declared.settings.Settings.{Settings};
 ghost use Rattle.command_words.specs.declared.settings.Mode.TheVariants.{Audit};
 ghost use Rattle.text_lines.specs.Lines.{line_of};
 ghost use Rattle.hard_disks.specs.Answers.{Answers, LeavesNothing, CountsReads, CountsWrites};
-ghost use Rattle.hard_disks.specs.Shows.{GivesBack};
 ghost use Rattle.hard_disks.specs.Verdicts.{expected_line, verdict_text, verdict_status};
 
 use crate::audit::{AuditFault, audit};
-use crate::crew::Crew;
-use crate::engines::{Engine, Regions};
+use crate::engines::Engine;
 use crate::refusals::refusal_line;
 use crate::show::write_text;
 use crate::status::Status;
-use command_words::{Mode, Settings};
-use lent_scope::scope_mut;
-use region_core::{Gate, Region};
-use region_workers::{ByCall, Call};
+use region_core::Gate;
 use report_audit::Verdict;
 use report_ports::{Sink, Source};
-use std::alloc::{AllocError, Global};
+use std::alloc::Global;
 use std::sync::Wait;
-use std::thread;
 use std::thread::Threads;
 use text_lines::Line;
 
-/// Audits the claimed report of a source by a run over regions, with the numbers of the settings, and writes the
-/// verdict, or the line of a refused scene.
-pub fn audit_regions<R: Threads + Wait + Sync, S: Source, K: Sink, G: Gate>(
-    rt: &R,
-    alloc: Global,
-    settings: &Settings,
-    source: &mut S,
-    sink: &mut K,
-    gate: &G,
-) -> Status
-    requires ranges { AreInRange settings.now }
-    requires mode { settings.now.mode ≡ Mode.Audit }
-    ensures answers { Answers (Some settings.now) (S.left source.old)
-        (K.taken sink.old) (K.taken sink.new) result }
-    ensures emptied { LeavesNothing (S.left source.old) (S.left source.new) result }
-    ensures reads { CountsReads (S.faults source.old) (S.faults source.new) result }
-    ensures writes { CountsWrites (K.faults sink.old) (K.faults sink.new) result }
-{
-    let crew = Crew::new(settings, gate);
-    scope_mut(
-        thread::scope_env(),
-        rt,
-        &mut |scope| -> Status
-            requires ranges { AreInRange settings.now }
-            requires mode { settings.now.mode ≡ Mode.Audit }
-            ensures answers { Answers (Some settings.entry.now) (S.left source.entry.now)
-                (K.taken sink.entry.now) (K.taken sink.exit.now) result }
-            ensures emptied { LeavesNothing (S.left source.entry.now) (S.left source.exit.now) result }
-            ensures reads { CountsReads (S.faults source.entry.now) (S.faults source.exit.now) result }
-            ensures writes { CountsWrites (K.faults sink.entry.now) (K.faults sink.exit.now) result }
-        {
-            audit_by_call(
-                rt,
-                alloc,
-                |regions: Vec<Region>| -> Result<Vec<Region>, AllocError>
-                    requires { AreTogether regions.items }
-                    ensures { GivesBack regions.items result }
-                { crew.burst_in(rt, alloc, regions, scope) },
-                settings,
-                source,
-                sink,
-            )
-        },
-    )
-}
-
-// The same over regions on which a call works between two commits.
-fn audit_by_call<R: Threads + Wait + Sync, S: Source, K: Sink, C: Call + Drop>(
-    rt: &R,
-    alloc: Global,
-    call: C,
-    settings: &Settings,
-    source: &mut S,
-    sink: &mut K,
-) -> Status
-    requires keeping { C.keeping call }
-    requires ranges { AreInRange settings.now }
-    requires mode { settings.now.mode ≡ Mode.Audit }
-    ensures answers { Answers (Some settings.now) (S.left source.old)
-        (K.taken sink.old) (K.taken sink.new) result }
-    ensures emptied { LeavesNothing (S.left source.old) (S.left source.new) result }
-    ensures reads { CountsReads (S.faults source.old) (S.faults source.new) result }
-    ensures writes { CountsWrites (K.faults sink.old) (K.faults sink.new) result }
-{
-    let mut engine = Regions {
-        regions: settings.regions,
-        burst: ByCall::new(call),
-    };
-    show_audit(rt, alloc, &mut engine, source, sink)
-}
-
 /// Audits the claimed report of a source, and writes the verdict, or the line of a refused scene.
-pub fn show_audit<R: Threads + Wait + Sync, E: Engine, S: Source, K: Sink>(
+pub fn show_audit<R: Threads + Wait + Sync, G: Gate, S: Source, K: Sink>(
     rt: &R,
     alloc: Global,
-    engine: &mut E,
+    engine: &Engine<'_, G>,
     source: &mut S,
     sink: &mut K,
 ) -> Status
