@@ -1,5 +1,10 @@
 //! One module for each part.
 
+mod faults;
+mod helpers;
+mod live;
 mod made_scenes;
 mod progress;
+mod time_sharing;
 mod words;
+mod workers;

@@ -5,3 +5,5 @@ mod locks;
 mod pace;
 mod regions;
 mod scopes;
+mod seats;
+mod table_workers;

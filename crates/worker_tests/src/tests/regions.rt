@@ -1,4 +1,4 @@
-//! Regions without disks.
+//! Regions of scenes, and a scene without disks.
 
 ghost use Rattle.std.specs.Prelude.{◌<◌, ◌^◌, length, IfOk};
 ghost use Rattle.local_run.specs.Bursts.{AreTogether};
@@ -26,11 +26,14 @@ pub fn empty_scene(alloc: Global) -> Option<Scene> {
     }
 }
 
-/// Four regions at the start of a scene.
+/// How many regions are asked for.
+pub const REGIONS: u32 = 4;
+
+/// The regions with which the run of a scene begins.
 pub fn opened(alloc: Global, scene: &Scene) -> Result<Vec<Region>, AllocError>
     ensures few { IfOk result (λ regions. length regions.items < 2 ^ 32) }
     ensures together { IfOk result (λ regions. AreTogether regions.items) }
 {
-    let committed = Committed::open(alloc, scene, 4)?;
+    let committed = Committed::open(alloc, scene, REGIONS)?;
     committed.open_all(alloc)
 }

@@ -1,6 +1,6 @@
 -- The glass stays one of the board.
 use Rattle.std.proofs.Common.{◌≡◌}
-use Rattle.output_tests.proofs.tests.live.rising.Given as goal
+use Rattle.program_tests.proofs.tests.live.rising.Given as goal
 
 abbrev pub invariant-loop : goal.invariant-loop
 invariant-loop g l =

@@ -8,7 +8,7 @@ ghost use Rattle.region_table.specs.Rule.{slots_of};
 ghost use Rattle.region_table.specs.Tables.{IsSeatOf};
 
 use super::cases::expect;
-use super::scenes::opened;
+use super::regions::opened;
 use event_stamps::{Kind, Stamp};
 use region_core::{Region, Step};
 use region_table::{RegionTable, TableSeat, TakeOut};

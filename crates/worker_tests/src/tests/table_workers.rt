@@ -5,7 +5,7 @@ ghost use Rattle.local_run.specs.Bursts.{AreTogether};
 ghost use Rattle.local_run.specs.RunOn.{AreRunOn};
 
 use super::cases::expect;
-use super::scenes::{REGIONS, opened};
+use super::regions::{REGIONS, opened};
 use event_rules::{Change, Deaf, Listener};
 use event_stamps::{Kind, Stamp};
 use fixed_motion::Scene;

@@ -1,7 +1,7 @@
 use Rattle.std.proofs.Common.{[], ap, ◌∙◌, refl}
 use Rattle.region_table.specs.Rule.{slots_of}
 use Rattle.region_table.proofs.Slots.{slots_without, one_left}
-use Rattle.table_tests.proofs.tests.seats.give_back.Goals as goal
+use Rattle.worker_tests.proofs.tests.seats.give_back.Goals as goal
 
 pub returns-clause-idle : goal.returns-clause-idle
 returns-clause-idle c =

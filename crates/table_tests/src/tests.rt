@@ -1,6 +1,0 @@
-//! One module for each part.
-
-mod cases;
-mod scenes;
-mod seats;
-mod workers;
