@@ -5,4 +5,3 @@ mod cells;
 mod helpers;
 mod queues;
 mod views;
-mod walks;

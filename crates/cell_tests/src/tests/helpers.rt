@@ -1,35 +1,52 @@
 //! What several tests ask of a cell state, and how what is found is compared.
 
-ghost use Rattle.std.specs.Prelude.{IfOk};
+ghost use Rattle.std.specs.Prelude.{◌≡◌, IfOk};
 ghost use Rattle.cell_grid.specs.Grid.{IsAsked, IsRegion};
 ghost use Rattle.region_view.specs.Placing.{IsValidPlacing};
 ghost use Rattle.region_view.specs.Views.{rows_in};
 
 use cell_sequence::CellState;
-use region_view::{View, opening};
+use event_stamps::{Kind, Stamp};
+use region_view::{Action, View, opening};
 use std::alloc::{AllocError, Global};
 use std::fmt::Debug;
 use std::process::Abort;
 use test_scenes::scene_of;
 
-/// What is found in a case has to be what is wanted.
-pub fn expect<C: Debug + Copy, V: PartialEq + Debug + Copy>(
-    rt: &impl Abort,
-    case: C,
-    found: V,
-    wanted: V,
-) {
-    assert_eq!(rt; found, wanted, "{case:?}");
+/// What is found in a row has to be what is wanted.
+pub fn expect<V: PartialEq + Debug + Copy>(rt: &impl Abort, row: usize, found: V, wanted: V) {
+    assert!(rt; found == wanted, "row {row}: {found:?}, not {wanted:?}");
 }
 
-/// The cell state at the start of the scene of a text; none where the text is refused.
-pub fn opened(alloc: Global, text: &str, regions: u32) -> Result<Option<CellState>, AllocError>
+/// The cell state at the start of the scene of a text; none where the text is refused, or memory runs out.
+pub fn opened(alloc: Global, text: &str, regions: u32) -> Option<CellState>
     requires { IsAsked regions }
 {
-    match scene_of(alloc, text)? {
-        Some(scene) => Ok(Some(CellState::open(alloc, &scene, regions)?)),
-        None => Ok(None),
-    }
+    let scene = scene_of(alloc, text).ok()??;
+    CellState::open(alloc, &scene, regions).ok()
+}
+
+/// A tick, a round, a kind, two numbers, and the new cell of a crossing.
+pub type Step = (u64, u32, Kind, u32, u32, Option<u32>);
+
+/// The next event, which is run; none where there is none, and where it fails at a limit.
+pub fn run_next(state: &mut CellState) -> Option<Step>
+    ensures rules { state.new.rules ≡ state.old.rules }
+    ensures grid { state.new.grid ≡ state.old.grid }
+{
+    let Stamp {
+        tick,
+        round,
+        kind,
+        first,
+        second,
+    } = state.next()?;
+    let cell = match state.run_next() {
+        Ok(Action::Cross { cell, .. }) => Some(cell),
+        Ok(Action::Hit(_)) => None,
+        Err(_) => return None,
+    };
+    Some((tick, round, kind, first, second, cell))
 }
 
 /// What a region sees of a state.

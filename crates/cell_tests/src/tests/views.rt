@@ -12,8 +12,7 @@ use event_rules::Change;
 use event_stamps::{Kind, Stamp};
 use fixed_motion::Disk;
 use region_view::{Action, Message, Placed, View, message_for};
-use std::alloc::{AllocError, Global};
-use std::test::Fail;
+use std::alloc::Global;
 use test_scenes::SLOW_CROSSING;
 
 const REGIONS: u32 = 4;
@@ -95,77 +94,35 @@ const ACTIONS: &[ActionRow] = &[
     (UP, 1, 3, None, (None, None)),
 ];
 
-fn seen_in(view: &View) -> Seen {
-    (cell_of(view.get(0)), cell_of(view.get(1)))
-}
-
-fn cell_of(row: Option<Placed>) -> Option<u32> {
-    let placed = row?;
-    Some(placed.cell)
-}
-
 #[test]
-fn regions_see_what_is_in_their_reach(rt: HostRuntime) -> Result<(), Fail> {
+fn regions_see_what_is_in_their_reach(rt: HostRuntime) {
     for (region, &want) in AT_THE_START.iter().enumerate() {
-        let found = seen_at_the_start(rt.alloc(), region as u32)?;
+        let found = seen_at_the_start(rt.alloc(), region as u32);
         expect(&rt, region, found, Some(want));
     }
-    Ok(())
 }
 
 // None where the scene is refused, or the grid has no such region.
-fn seen_at_the_start(alloc: Global, region: u32) -> Result<Option<Seen>, AllocError> {
-    match opened(alloc, SLOW_CROSSING, REGIONS)? {
-        Some(state) => seen_by(alloc, &state, region),
-        None => Ok(None),
-    }
-}
-
-fn seen_by(alloc: Global, state: &CellState, region: u32) -> Result<Option<Seen>, AllocError> {
-    if region >= state.grid().regions() {
-        return Ok(None);
-    }
-    let view = view_of(alloc, state, region)?;
-    Ok(Some(seen_in(&view)))
+fn seen_at_the_start(alloc: Global, region: u32) -> Option<Seen> {
+    let state = opened(alloc, SLOW_CROSSING, REGIONS)?;
+    seen_after(alloc, &state, region, None)
 }
 
 #[test]
-fn regions_are_told_what_they_see(rt: HostRuntime) -> Result<(), Fail> {
+fn regions_are_told_what_they_see(rt: HostRuntime) {
     for (row, (action, home, region, told, seen)) in ACTIONS.iter().enumerate() {
-        let found = heard(rt.alloc(), action, *home, *region)?;
+        let found = heard(rt.alloc(), action, *home, *region);
         expect(&rt, row, found, Some((*told, *seen)));
     }
-    Ok(())
 }
 
 // What a region is told of an action, and what it sees then; none where the scene is refused, or the grid has no
 // such region, or not the new cell.
-fn heard(
-    alloc: Global,
-    action: &Action,
-    home: u32,
-    region: u32,
-) -> Result<Option<(Told, Seen)>, AllocError> {
-    match opened(alloc, SLOW_CROSSING, REGIONS)? {
-        Some(state) => heard_in(alloc, &state, action, home, region),
-        None => Ok(None),
-    }
-}
-
-fn heard_in(
-    alloc: Global,
-    state: &CellState,
-    action: &Action,
-    home: u32,
-    region: u32,
-) -> Result<Option<(Told, Seen)>, AllocError> {
-    let grid = state.grid();
-    if home >= grid.regions() || region >= grid.regions() || !is_fit(action, grid) {
-        return Ok(None);
-    }
-    let message = sent(alloc, state, action, home, region)?;
-    let seen = seen_after(alloc, state, region, message.as_ref())?;
-    Ok(Some((told_by(message.as_ref()), seen)))
+fn heard(alloc: Global, action: &Action, home: u32, region: u32) -> Option<(Told, Seen)> {
+    let state = opened(alloc, SLOW_CROSSING, REGIONS)?;
+    let message = sent(alloc, &state, action, home, region)?;
+    let seen = seen_after(alloc, &state, region, message.as_ref())?;
+    Some((told_by(message.as_ref()), seen))
 }
 
 fn sent(
@@ -174,33 +131,41 @@ fn sent(
     action: &Action,
     home: u32,
     region: u32,
-) -> Result<Option<Message>, AllocError>
-    requires home { IsRegion state.now.grid home }
-    requires region { IsRegion state.now.grid region }
-    requires action { IsInOrder action.now × RecordsCell state.now.grid action.now }
-{
-    let before = view_of(alloc, state, home)?;
-    Ok(message_for(&before, action, state.grid(), region))
+) -> Option<Option<Message>> {
+    let grid = state.grid();
+    if home >= grid.regions() || region >= grid.regions() || !is_fit(action, grid) {
+        return None;
+    }
+    let before = view_of(alloc, state, home).ok()?;
+    Some(message_for(&before, action, grid, region))
 }
 
+// What a region sees once it has taken in what it is told.
 fn seen_after(
     alloc: Global,
     state: &CellState,
     region: u32,
     message: Option<&Message>,
-) -> Result<Seen, AllocError>
-    requires { IsRegion state.now.grid region }
-{
-    let mut view = view_of(alloc, state, region)?;
-    take_in(&mut view, message)?;
-    Ok(seen_in(&view))
+) -> Option<Seen> {
+    if region >= state.grid().regions() {
+        return None;
+    }
+    let mut view = view_of(alloc, state, region).ok()?;
+    let seen = taken_in(&mut view, message);
+    drop(view);
+    seen
 }
 
-fn take_in(view: &mut View, message: Option<&Message>) -> Result<(), AllocError> {
-    match message {
-        Some(rows) => view.take_in(rows),
-        None => Ok(()),
+fn taken_in(view: &mut View, message: Option<&Message>) -> Option<Seen> {
+    if let Some(rows) = message {
+        view.take_in(rows).ok()?;
     }
+    Some((cell_of(view.get(0)), cell_of(view.get(1))))
+}
+
+fn cell_of(row: Option<Placed>) -> Option<u32> {
+    let placed = row?;
+    Some(placed.cell)
 }
 
 // Whether the new cell of a crossing is one of the grid, and two disks that collide are in order.
