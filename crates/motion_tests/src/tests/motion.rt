@@ -1,6 +1,6 @@
 //! Where disks are, and which places overlap.
 
-use super::rows::expect;
+use super::rows::{expect, is_valid};
 use fixed_motion::{Disk, Rules, overlap};
 
 const RULES: Rules = Rules {
@@ -28,13 +28,12 @@ const PLACES: &[PlaceRow] = &[
 #[test]
 fn a_disk_has_a_place_from_its_base_to_the_side(rt: HostRuntime) {
     for (row, &(size, tick, want)) in PLACES.iter().enumerate() {
-        expect(&rt, row, place_of(size, tick), Ok(want));
+        expect(&rt, row, place_of(size, tick), Some(want));
     }
 }
 
-// The place of a disk of that size that was at (10, 5) at tick 2; an error where it or the tick is not valid.
-fn place_of(size: i64, tick: u64) -> Result<Option<(i64, i64)>, ()> {
-    let rules = RULES;
+// The place of a disk of that size that was at (10, 5) at tick 2; none where it or the tick is not valid.
+fn place_of(size: i64, tick: u64) -> Option<Option<(i64, i64)>> {
     let disk = Disk {
         x: 10,
         y: 5,
@@ -44,11 +43,13 @@ fn place_of(size: i64, tick: u64) -> Result<Option<(i64, i64)>, ()> {
         base: 2,
         mark: 1,
     };
-    if rules.check().is_ok() && disk.is_valid(&rules) && tick <= 9 {
-        Ok(disk.place(&rules, tick))
-    } else {
-        Err(())
+    if !is_valid(&RULES, &disk) {
+        return None;
     }
+    if tick > 9 {
+        return None;
+    }
+    Some(disk.place(&RULES, tick))
 }
 
 #[test]

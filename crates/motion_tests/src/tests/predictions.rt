@@ -4,10 +4,9 @@ ghost use Rattle.std.specs.Prelude.{IsTrue};
 ghost use Rattle.fixed_motion.specs.Rules.{IsChecked};
 ghost use Rattle.fixed_motion.specs.Motion.{IsValidDisk};
 
-use super::rows::expect;
+use super::rows::{expect, is_valid};
 use event_rules::{
-    Change, Limit, apply, event_between, has_small_products, may_hit_by_small, pair_event,
-    wall_event,
+    Change, Limit, apply, has_small_products, may_hit_by_small, pair_event, wall_event,
 };
 use event_stamps::{Kind, Stamp};
 use fixed_motion::{Disk, Rules};
@@ -86,19 +85,23 @@ const PAIRS: &[PairRow] = &[
 #[test]
 fn finds_when_two_disks_meet(rt: HostRuntime) {
     for (row, &(end, first, second, want)) in PAIRS.iter().enumerate() {
-        let found = meeting(end, &disk_of(first), &disk_of(second));
-        expect(&rt, row, found, Ok(want));
+        let rules = Rules { end, ..RULES };
+        let found = meeting(&rules, &disk_of(first), &disk_of(second));
+        expect(&rt, row, found, Some((true, want)));
     }
 }
 
-// An error where the rules or the disks are not valid.
-fn meeting(end: u64, a: &Disk, b: &Disk) -> Result<Event, ()> {
-    let rules = Rules { end, ..RULES };
-    if are_valid(&rules, a, b) {
-        Ok(event_of(pair_event(&rules, 1, a, 2, b)))
-    } else {
-        Err(())
+// Whether products are small, and when the disks hit each other; none where the rules or the disks are not valid.
+type Meeting = Option<(bool, Event)>;
+
+fn meeting(rules: &Rules, a: &Disk, b: &Disk) -> Meeting {
+    if !are_valid(rules, a, b) {
+        return None;
     }
+    Some((
+        has_small_products(rules),
+        event_of(pair_event(rules, 1, a, 2, b)),
+    ))
 }
 
 // Whether the rules are valid, and two disks by them.
@@ -107,7 +110,7 @@ fn are_valid(rules: &Rules, a: &Disk, b: &Disk) -> bool
     ensures first { IsTrue result → IsValidDisk rules.now a.now }
     ensures second { IsTrue result → IsValidDisk rules.now b.now }
 {
-    rules.check().is_ok() && a.is_valid(rules) && b.is_valid(rules)
+    is_valid(rules, a) && is_valid(rules, b)
 }
 
 // A width, the greatest height at which the products of this box are small, and the greatest speed.
@@ -205,21 +208,17 @@ const SMALL_PAIRS: &[SmallRow] = &[
 fn tells_the_same_where_products_are_small_and_great(rt: HostRuntime) {
     for (row, &(sizes, first, second, crosses, want)) in SMALL_PAIRS.iter().enumerate() {
         let found = small_and_great(sizes, &disk_of(first), &disk_of(second));
-        expect(
-            &rt,
-            row,
-            found,
-            (crosses, Ok((true, want)), Ok((false, want))),
-        );
+        let wanted = (crosses, Some((true, want)), Some((false, want)));
+        expect(&rt, row, found, wanted);
     }
 }
 
 // Whether the disks come nearer on paths that cross, and what is found in a box and in one that is a unit higher.
-fn small_and_great(sizes: Sizes, a: &Disk, b: &Disk) -> (bool, Within, Within) {
+fn small_and_great(sizes: Sizes, a: &Disk, b: &Disk) -> (bool, Meeting, Meeting) {
     (
         may_hit_by_small(a, b),
-        meeting_within(&rules_of(sizes, 0), a, b),
-        meeting_within(&rules_of(sizes, 1), a, b),
+        meeting(&rules_of(sizes, 0), a, b),
+        meeting(&rules_of(sizes, 1), a, b),
     )
 }
 
@@ -231,18 +230,6 @@ fn rules_of((width, height, speed_limit): Sizes, more: i64) -> Rules {
         speed_limit,
         end: 1_073_741_824,
         ..RULES
-    }
-}
-
-// Whether products are small, and when the disks hit each other; an error where the rules or the disks are not valid.
-type Within = Result<(bool, Event), ()>;
-
-fn meeting_within(rules: &Rules, a: &Disk, b: &Disk) -> Within {
-    if are_valid(rules, a, b) {
-        let found = event_of(event_between(rules, 1, a, 2, b));
-        Ok((has_small_products(rules), found))
-    } else {
-        Err(())
     }
 }
 
@@ -281,18 +268,20 @@ const WALLS: &[WallRow] = &[
 #[test]
 fn finds_when_a_disk_hits_each_side(rt: HostRuntime) {
     for (row, &(end, record, side, want)) in WALLS.iter().enumerate() {
-        expect(&rt, row, hit(end, &disk_of(record), side), Ok(want));
+        expect(&rt, row, hit(end, &disk_of(record), side), Some(want));
     }
 }
 
-// An error where the rules, the disk or the side are not valid.
-fn hit(end: u64, a: &Disk, side: u32) -> Result<Event, ()> {
+// None where the rules, the disk or the side are not valid.
+fn hit(end: u64, a: &Disk, side: u32) -> Option<Event> {
     let rules = Rules { end, ..RULES };
-    if rules.check().is_ok() && a.is_valid(&rules) && side < 4 {
-        Ok(event_of(wall_event(&rules, 1, a, side)))
-    } else {
-        Err(())
+    if !is_valid(&rules, a) {
+        return None;
     }
+    if side > 3 {
+        return None;
+    }
+    Some(event_of(wall_event(&rules, 1, a, side)))
 }
 
 // In tick 0, after an event of round 0 that one of the disks took part in.
@@ -304,32 +293,37 @@ const LATE: Stamp = Stamp {
     second: 1,
 };
 
-// A round limit, and the records of FAST, which was in an event of its base tick, and of PASSING after they hit
-// each other.
-type CollisionRow = (u32, Result<(Record, Record), Limit>);
+// FAST, which was in an event of its base tick, and PASSING after they hit each other.
+const HIT: Change = Change {
+    stamp: LATE,
+    first: Disk {
+        x: 10,
+        y: 10,
+        vx: -6,
+        vy: -5,
+        size: 4,
+        base: 0,
+        mark: 2,
+    },
+    second: Some(Disk {
+        x: 18,
+        y: 13,
+        vx: 6,
+        vy: 5,
+        size: 4,
+        base: 0,
+        mark: 2,
+    }),
+};
 
 const FAST_AGAIN: Record = (10, 10, 8, 0, 0, 1);
 
-const COLLISIONS: &[CollisionRow] = &[
-    (2, Ok(((10, 10, -6, -5, 0, 2), (18, 13, 6, 5, 0, 2)))),
-    (1, Err(Limit::Rounds(LATE))),
-];
-
 #[test]
 fn changes_velocities_or_meets_a_limit(rt: HostRuntime) {
-    for (row, &(round_limit, want)) in COLLISIONS.iter().enumerate() {
-        let found = collision(round_limit, &disk_of(FAST_AGAIN), &disk_of(PASSING));
-        expect(&rt, row, found, Some(changed(want)));
-    }
-}
-
-fn changed(records: Result<(Record, Record), Limit>) -> Result<Change, Limit> {
-    let (first, second) = records?;
-    Ok(Change {
-        stamp: LATE,
-        first: disk_of(first),
-        second: Some(disk_of(second)),
-    })
+    let (a, b) = (disk_of(FAST_AGAIN), disk_of(PASSING));
+    expect(&rt, 2, collision(2, &a, &b), Some(Ok(HIT)));
+    let limit = Limit::Rounds(LATE);
+    expect(&rt, 1, collision(1, &a, &b), Some(Err(limit)));
 }
 
 // What the disks 0 and 1 come to; none where the rules or the disks are not valid, or don't meet.
@@ -338,10 +332,9 @@ fn collision(round_limit: u32, a: &Disk, b: &Disk) -> Option<Result<Change, Limi
         round_limit,
         ..RULES
     };
-    if are_valid(&rules, a, b) {
-        let stamp = pair_event(&rules, 0, a, 1, b)?;
-        Some(apply(&rules, &stamp, a, Some(b)))
-    } else {
-        None
+    if !are_valid(&rules, a, b) {
+        return None;
     }
+    let stamp = pair_event(&rules, 0, a, 1, b)?;
+    Some(apply(&rules, &stamp, a, Some(b)))
 }

@@ -1,5 +1,10 @@
 //! Rows of tables, each of which says what is to be found.
 
+ghost use Rattle.std.specs.Prelude.{IsTrue};
+ghost use Rattle.fixed_motion.specs.Rules.{IsChecked};
+ghost use Rattle.fixed_motion.specs.Motion.{IsValidDisk};
+
+use fixed_motion::{Disk, Rules};
 use std::fmt::Debug;
 use std::process::Abort;
 
@@ -10,5 +15,13 @@ pub(super) fn expect<V: PartialEq + Debug + Copy>(
     found: V,
     wanted: V,
 ) {
-    assert_eq!(rt; found, wanted, "row {row}");
+    assert!(rt; found == wanted, "row {row}: {found:?}, not {wanted:?}");
+}
+
+/// Whether the rules are valid, and a disk by them.
+pub(super) fn is_valid(rules: &Rules, a: &Disk) -> bool
+    ensures checked { IsTrue result → IsChecked rules.now }
+    ensures disk { IsTrue result → IsValidDisk rules.now a.now }
+{
+    rules.check().is_ok() && a.is_valid(rules)
 }

@@ -2,20 +2,22 @@
 
 use super::rows::expect;
 use event_stamps::{Kind, Stamp, compare, earlier};
+use std::cmp::Ordering;
+use std::cmp::Ordering::{Equal, Greater, Less};
 
 // A tick, a round, a kind and two numbers.
 type Parts = (u64, u32, Kind, u32, u32);
 
-// Each stamp is before all that follow it, and a part decides before all parts after it. Beside each its place.
-const RISING: &[(usize, Parts)] = &[
-    (0, (0, 0, Kind::Cross, 0, 0)),
-    (1, (0, 0, Kind::Cross, 0, 1)),
-    (2, (0, 0, Kind::Cross, 1, 0)),
-    (3, (0, 0, Kind::Wall, 0, 1)),
-    (4, (0, 0, Kind::Wall, 1, 0)),
-    (5, (0, 0, Kind::Pair, 0, 0)),
-    (6, (0, 1, Kind::Cross, 0, 0)),
-    (7, (1, 0, Kind::Cross, 0, 0)),
+// Two stamps, the first of which is before the second, since a part decides before all parts after it.
+const RISING: &[(Parts, Parts)] = &[
+    ((0, 0, Kind::Cross, 0, 0), (0, 0, Kind::Cross, 0, 1)),
+    ((0, 0, Kind::Cross, 0, 1), (0, 0, Kind::Cross, 1, 0)),
+    ((0, 0, Kind::Cross, 1, 0), (0, 0, Kind::Wall, 0, 1)),
+    ((0, 0, Kind::Wall, 0, 1), (0, 0, Kind::Wall, 1, 0)),
+    ((0, 0, Kind::Wall, 1, 0), (0, 0, Kind::Pair, 0, 0)),
+    ((0, 0, Kind::Cross, 1, 0), (0, 0, Kind::Pair, 0, 0)),
+    ((0, 0, Kind::Pair, 1, 1), (0, 1, Kind::Cross, 0, 0)),
+    ((0, 1, Kind::Pair, 1, 1), (1, 0, Kind::Cross, 0, 0)),
 ];
 
 fn stamp_of((tick, round, kind, first, second): Parts) -> Stamp {
@@ -30,30 +32,30 @@ fn stamp_of((tick, round, kind, first, second): Parts) -> Stamp {
 
 #[test]
 fn orders_stamps(rt: HostRuntime) {
-    for &(place, parts) in RISING {
-        expect(&rt, place, misplaced(place, stamp_of(parts)), None);
+    for (row, &(first, second)) in RISING.iter().enumerate() {
+        let (a, b) = (stamp_of(first), stamp_of(second));
+        let wanted = (Less, Greater, Equal, Some(a), Some(a));
+        expect(&rt, row, orders(a, b), wanted);
     }
 }
 
-// The place of the first stamp with which the stamp at a place isn't ordered as the two places are.
-fn misplaced(place: usize, a: Stamp) -> Option<usize> {
-    for &(other, parts) in RISING {
-        let b = stamp_of(parts);
-        let least = if place < other { a } else { b };
-        if compare(&a, &b) != place.cmp(&other) || earlier(Some(a), Some(b)) != Some(least) {
-            return Some(other);
-        }
-    }
-    None
+// The orders of the first with the second, of the second with the first and with itself, and the earlier of the two,
+// asked either way.
+type Orders = (Ordering, Ordering, Ordering, Option<Stamp>, Option<Stamp>);
+
+fn orders(a: Stamp, b: Stamp) -> Orders {
+    (
+        compare(&a, &b),
+        compare(&b, &a),
+        compare(&b, &b),
+        earlier(Some(a), Some(b)),
+        earlier(Some(b), Some(a)),
+    )
 }
 
 #[test]
 fn a_run_is_between_two_stamps(rt: HostRuntime) {
-    let ends = [
-        (Stamp::first_of_all(), (0, 0, Kind::Cross, 0, 0)),
-        (Stamp::end_of(1), (1, 0, Kind::Cross, 0, 0)),
-    ];
-    for (row, &(found, parts)) in ends.iter().enumerate() {
-        expect(&rt, row, found, stamp_of(parts));
-    }
+    let (first, end) = (Stamp::first_of_all(), Stamp::end_of(1));
+    expect(&rt, 0, first, stamp_of((0, 0, Kind::Cross, 0, 0)));
+    expect(&rt, 1, end, stamp_of((1, 0, Kind::Cross, 0, 0)));
 }
