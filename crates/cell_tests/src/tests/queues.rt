@@ -1,5 +1,5 @@
-//! Queues of regions that are kept over the first event of a cell run, and queues opened anew after it, on rows worked
-//! out by hand.
+//! Queues of regions that are kept while a cell run goes on, beside queues opened anew, and beside rows worked out by
+//! hand.
 
 ghost use Rattle.std.specs.Prelude.{◌≡◌, IfOk};
 ghost use Rattle.cell_grid.specs.Grid.{IsRegion};
@@ -79,7 +79,7 @@ const ROWS: &[Row] = &[
 type Found = (Event, Event, Event);
 
 #[test]
-fn queues_that_are_kept_find_what_queues_opened_anew_find(rt: HostRuntime) {
+fn queues_find_what_was_worked_out_by_hand(rt: HostRuntime) {
     for (row, &(text, region, before, after)) in ROWS.iter().enumerate() {
         let found = found_of(rt.alloc(), text, region);
         expect(&rt, row, found, Some((before, after, after)));
@@ -139,21 +139,99 @@ fn queue_of(alloc: Global, state: &CellState, region: u32) -> Result<Queue, Allo
     Queue::open(alloc, &view, state.grid(), state.rules(), region)
 }
 
-// Runs the next event, and has the queue take in what it changed.
+// Runs the next event, and has the queue take in what it changed; says whether there was one.
 fn take_in_next(
     alloc: Global,
     state: &mut CellState,
     queue: &mut Queue,
     region: u32,
-) -> Result<(), AllocError>
+) -> Result<bool, AllocError>
     requires region { IsRegion state.old.grid region }
     requires queue { IsOf queue.old state.old.rules state.old.grid region }
-    ensures { state.new.grid ≡ state.old.grid }
+    ensures grid { state.new.grid ≡ state.old.grid }
+    ensures queue { IsOf queue.new state.new.rules state.new.grid region }
 {
     let Some((_, _, _, first, second, _)) = run_next(state) else {
-        return Ok(());
+        return Ok(false);
     };
     let view = view_of(alloc, state, region)?;
     // A wall's number may be that of a disk that didn't change, at which the queue looks in vain.
-    queue.touched(alloc, &view, &[first, second])
+    queue.touched(alloc, &view, &[first, second])?;
+    Ok(true)
+}
+
+// A box of 6 columns and 3 rows, and disks that are far apart and slow.
+const CROWD: &str = "width = 124\n\
+    height = 64\n\
+    diameter = 4\n\
+    speed_limit = 8\n\
+    round_limit = 8\n\
+    end = 300\n\
+    disks = [\
+    [12, 8, 2, 1], [12, 32, 2, -2], [32, 20, 1, -2], [32, 44, -2, -2], [52, 8, 2, 3], [52, 56, -1, 1], \
+    [72, 20, 1, -2], [72, 44, -1, 1], [92, 8, -2, 2], [92, 32, -1, 2], [112, 20, -3, 2], [112, 44, 1, -2]]\n";
+
+// More events than the run has.
+const MOST_EVENTS: u32 = 10_000;
+
+const LEAST_CALLS: u32 = 2_000;
+
+// How many changes a queue took in, and after how many of these it found an event, up to where it found another one
+// than a queue opened anew; what both found there.
+type Course = (u32, u32, Option<(Event, Event)>);
+
+#[test]
+fn queues_that_are_kept_find_what_queues_opened_anew_find(rt: HostRuntime) -> Result<(), Fail> {
+    let (mut calls, mut events): (u32, u32) = (0, 0);
+    for region in 0..REGIONS {
+        let (more, found, wrong) = course_of(rt.alloc(), region)?;
+        expect(&rt, region as usize, wrong, None);
+        calls = calls.wrapping_add(more);
+        events = events.wrapping_add(found);
+    }
+    let is_enough = calls >= LEAST_CALLS && events >= 200;
+    expect(&rt, calls as usize, is_enough, true);
+    Ok(())
+}
+
+// No calls where the scene is refused, or the grid has no such region.
+fn course_of(alloc: Global, region: u32) -> Result<Course, AllocError> {
+    match opened(alloc, CROWD, REGIONS) {
+        Some(mut state) if region < state.grid().regions() => follow(alloc, &mut state, region),
+        _ => Ok((0, 0, None)),
+    }
+}
+
+// Compares the queue of a region after each event of the run.
+fn follow(alloc: Global, state: &mut CellState, region: u32) -> Result<Course, AllocError>
+    requires { IsRegion state.old.grid region }
+{
+    let mut queue = queue_of(alloc, state, region)?;
+    let course = follow_on(alloc, state, &mut queue, region);
+    drop(queue);
+    course
+}
+
+fn follow_on(
+    alloc: Global,
+    state: &mut CellState,
+    queue: &mut Queue,
+    region: u32,
+) -> Result<Course, AllocError>
+    requires region { IsRegion state.old.grid region }
+    requires queue { IsOf queue.old state.old.rules state.old.grid region }
+{
+    let (mut calls, mut events): (u32, u32) = (0, 0);
+    for _ in 0..MOST_EVENTS {
+        if !take_in_next(alloc, state, queue, region)? {
+            break;
+        }
+        let (kept, anew) = (event_of(queue.least()), least_anew(alloc, state, region)?);
+        if kept != anew {
+            return Ok((calls, events, Some((kept, anew))));
+        }
+        calls = calls.wrapping_add(1);
+        events = events.wrapping_add(u32::from(kept.is_some()));
+    }
+    Ok((calls, events, None))
 }
