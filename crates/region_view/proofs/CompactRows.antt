@@ -1,15 +1,14 @@
 -- A row of small numbers is what stands in its compact form.
-use Rattle.std.proofs.Common.{◌≡◌, ◌≢◌, ℕ, ◌+◌, ◌*◌, ◌/◌, ◌%◌, ◌^◌, ◌<◌, ◌==◌, Bool, true, false, not, ◌&&◌, Decides, arith, refl, sym, ap, subst, ◌∙◌, ℤ, to_z, of_z, w32, w64}
+use Rattle.std.proofs.Common.{◌≡◌, ◌≢◌, ℕ, ◌+◌, ◌*◌, ◌/◌, ◌%◌, ◌^◌, ◌<◌, ◌==◌, Bool, true, false, Decides, arith, refl, sym, ap, subst, ◌∙◌, ℤ, to_z, of_z, w32, w64}
 use Rattle.std.specs.Prelude.{if◌then◌else◌, Option, Some, None, ◌≤ℤ◌}
 use lib.Dec.{T}
 use lib.Signed.{le_z}
 use mir.Val.{SFits}
-use Rattle.std.proofs.lemmas.Bool.{eqb-true, eqb-false, eq-eqb}
+use Rattle.std.proofs.lemmas.Bool.{eqb-true, eqb-false}
 use Rattle.std.proofs.lemmas.Option.{none-some, same_Some}
 use Rattle.std.proofs.lemmas.Int.{ints, to_z-of_z}
 use Rattle.std.proofs.lemmas.Nat.{div-mul-add, mod-mul-add}
-use Rattle.std.proofs.lemmas.Bool.Decides.{nat_tests, Decides-and, Decides-not, Decides-like, Decides-eqb}
-use Rattle.fixed_motion.specs.declared.disk.Disk.{Disk}
+use Rattle.std.proofs.lemmas.Bool.Decides.{nat_tests}
 use Rattle.region_view.specs.declared.action.Placed.{Placed}
 use Rattle.region_view.specs.declared.compact.Compact.TheInside.{Inside}
 use Rattle.region_view.specs.Compact.{IsNarrow, IsSmall, no_time, row_of, unpacked, packed, recelled_row, IsPacked}
@@ -70,16 +69,7 @@ row_again p small =
 pub is_packed : (p : Placed) → IsSmall p → IsPacked (packed (Some p))
 is_packed p small = record { exact = ap packed (row_again p small) }
 
--- ---- a row that was compared with another
--- a number of 32 bits that is widened against one of 64 bits
-pub Decides-widened : (n m : ℤ) → SFits w32 n → SFits w64 m →
-    Decides (of_z w64 (to_z w32 (of_z w32 n)) == of_z w64 m) (n ≡ m)
-Decides-widened n m narrow fits =
-    subst (λ (k : ℤ). Decides (of_z w64 k == of_z w64 m) (n ≡ m)) (sym (to_z-of_z w32 n narrow)) (
-      λ same. sym (to_z-of_z w64 n (fits_wide n narrow)) ∙ ap (to_z w64) (eqb-true (of_z w64 n) (of_z w64 m) same) ∙ to_z-of_z w64 m fits,
-      λ e. eq-eqb (of_z w64 n) (of_z w64 m) (ap (of_z w64) e),
-    )
-
+-- ---- a row that is there
 pub is_row_of : (a : Inside) (p : Placed) → unpacked a ≡ Some p → (a.time ≢ no_time) × (row_of a ≡ p)
 is_row_of a p e = by_test (a.time == no_time) refl e
   where
@@ -101,47 +91,3 @@ pub recelled : (a b : Inside) (o : Option Placed) (cell : ℕ) → unpacked a �
 recelled a b o cell view other is =
     let moved : Inside = record { time = a.time; x = a.x; y = a.y; vx = a.vx; vy = a.vy; size = a.size; cell = cell } in
     ap unpacked is ∙ there moved other ∙ ap (recelled_row cell) (sym (there a other) ∙ view)
-
--- the numbers of a row and of a disk, as they are compared
-abbrev pub SameTime : Inside → Disk → Type 0
-SameTime a disk = (a.time / 2 ^ 20 ≡ disk.base) × (a.time % 2 ^ 20 ≡ disk.mark)
-
-abbrev pub SameCentre : Inside → Disk → Type 0
-SameCentre a disk = (a.x ≡ disk.x) × (a.y ≡ disk.y)
-
-abbrev pub SameVelocity : Inside → Disk → Type 0
-SameVelocity a disk = (a.vx ≡ disk.vx) × (a.vy ≡ disk.vy)
-
-pub row_decides : (a : Inside) (p : Placed) (time centre velocity size : Bool) →
-    Decides time (SameTime a p.disk) → Decides centre (SameCentre a p.disk) →
-    Decides velocity (SameVelocity a p.disk) → Decides size (a.size ≡ p.disk.size) →
-    Decides (not (a.time == no_time) && time && centre && velocity && size && a.cell == p.cell)
-    (unpacked a ≡ Some p)
-row_decides a p time centre velocity size t c v s = Decides-like _
-    (λ h. there a h.0.0.0.0.0 ∙ (λ i. Some (record {
-      disk = record {
-        x = h.0.0.0.1.0 i;
-        y = h.0.0.0.1.1 i;
-        vx = h.0.0.1.0 i;
-        vy = h.0.0.1.1 i;
-        size = h.0.1 i;
-        base = h.0.0.0.0.1.0 i;
-        mark = h.0.0.0.0.1.1 i;
-      };
-      cell = h.1 i;
-    })))
-    (λ e. let is = is_row_of a p e in (
-      (
-        (
-          (
-            (is.0, (ap (λ (q : Placed). q.disk.base) is.1, ap (λ (q : Placed). q.disk.mark) is.1)),
-            (ap (λ (q : Placed). q.disk.x) is.1, ap (λ (q : Placed). q.disk.y) is.1),
-          ),
-          (ap (λ (q : Placed). q.disk.vx) is.1, ap (λ (q : Placed). q.disk.vy) is.1),
-        ),
-        ap (λ (q : Placed). q.disk.size) is.1,
-      ),
-      ap (λ (q : Placed). q.cell) is.1,
-    ))
-    (Decides-and _ _ (Decides-and _ _ (Decides-and _ _ (Decides-and _ _
-    (Decides-and _ _ (Decides-not _ (Decides-eqb a.time no_time)) t) c) v) s) (Decides-eqb a.cell p.cell))

@@ -1,10 +1,10 @@
+mod Added
 pub mod After
 mod CompactRows
 mod Crossed
 mod First
 pub mod Homes
 mod InSlots
-mod Marks
 pub mod Naming
 pub mod Puts
 pub mod SamePlaced

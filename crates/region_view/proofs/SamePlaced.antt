@@ -1,7 +1,5 @@
 -- Two placed disks are the same or not.
-use Rattle.std.proofs.Common.{◌≡◌, ◌==◌, Bool, ◌&&◌, Decides, sym, ap, ◌∙◌, Option, Some}
-use Rattle.std.specs.Prelude.{◌↔◌, IsTrue}
-use Rattle.std.proofs.lemmas.Option.{same_Some}
+use Rattle.std.proofs.Common.{◌≡◌, ◌==◌, Bool, ◌&&◌, Decides, ap}
 use Rattle.std.specs.Ordering.{int_eq}
 use Rattle.std.proofs.lemmas.Bool.Decides.{Decides-and, Decides-like, Decides-eqb, Decides-int_eq}
 use Rattle.fixed_motion.specs.declared.disk.Disk.{Disk}
@@ -51,12 +49,3 @@ placed_decides p q = Decides-like (placed_eq p q)
     (λ h i. record { disk = h.0 i; cell = h.1 i })
     (λ e. (ap (λ (v : Placed). v.disk) e, ap (λ (v : Placed). v.cell) e))
     (Decides-and _ _ (disk_decides p.disk q.disk) (Decides-eqb p.cell q.cell))
-
--- a row that was compared with the one that stands there
-pub same_row : (row : Option Placed) (own p : Placed) (same : Bool) → row ≡ Some own → same ≡ placed_eq own p →
-    IsTrue same ↔ (row ≡ Some p)
-same_row row own p same is e =
-    let decides = placed_decides own p in (
-      λ h. is ∙ ap (λ (v : Placed). Some v) (decides.0 (sym e ∙ h)),
-      λ h. e ∙ decides.1 (same_Some own p (sym is ∙ h)),
-    )

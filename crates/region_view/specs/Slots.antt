@@ -1,5 +1,5 @@
 -- Placed disks in an array by number.
-use Rattle.std.specs.Prelude.{◌≡◌, ℕ, ◌+◌, ◌^◌, ◌<◌, ◌≤◌, ◌⊎◌, Bool, true, false, IsTrue, List, [], ◌∷◌, length, map as each, slice_index_or, slice_set, Option, Some, None, IfSome, is_some}
+use Rattle.std.specs.Prelude.{ℕ, ◌+◌, ◌^◌, ◌<◌, ◌≤◌, ◌⊎◌, Bool, true, false, IsTrue, List, [], ◌∷◌, length, slice_index_or, slice_set, Option, Some, None, IfSome}
 use Rattle.std.specs.FinMap as map
 use Rattle.region_view.specs.declared.action.Placed.{Placed}
 use Rattle.region_view.specs.declared.slots.Form.{Form}
@@ -20,10 +20,9 @@ abbrev pub slots_in : Form → SlotsData
 slots_in (Compact rows) = record { wide = false; rows = rows.items }
 slots_in (Wide rows) = record { wide = true; rows = rows.items }
 
--- the numbers have 32 bits, and beside the rows stands whether there is one at each
-pub record AreMarked (rows : SlotList) (present : List Bool) : Type 0 where
+-- the numbers have 32 bits
+pub record AreFew (rows : SlotList) : Type 0 where
   pub few : length rows ≤ 2 ^ 32
-  pub marks : present ≡ each is_some rows
 
 -- what stands at a number; past the end nothing does
 abbrev pub at : SlotsData → ℕ → Option Placed

@@ -16,19 +16,6 @@ pub struct Placed {
     pub cell: u32,
 }
 
-impl Placed {
-    // The same disk in another cell.
-    #[inline(always)]
-    pub(crate) fn in_cell(self, cell: u32) -> Placed
-        ensures { result ≡ record { disk = self.disk; cell = cell } }
-    {
-        Placed {
-            disk: self.disk,
-            cell,
-        }
-    }
-}
-
 /// What one event of a cell run did.
 #[derive(Clone, Copy, Debug, PartialEq, Eq)]
 pub enum Action {

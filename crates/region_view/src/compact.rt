@@ -47,7 +47,7 @@ impl Model for Compact {
     ghost inverse_ok = { λ a h. h.exact };
 }
 
-ghost use Rattle.std.specs.Prelude.{◌≡◌, ◌↔◌, ◌/◌, ◌%◌, ◌^◌, IfSome, IsTrue, None, Some, is_some, option_copied};
+ghost use Rattle.std.specs.Prelude.{◌≡◌, ◌↔◌, IfSome, IsTrue, None, Some, is_some, option_copied};
 ghost use Rattle.region_view.specs.Compact.{recelled_row, IsNarrow, HasSmallCourse, HasSmallTime, IsSmall};
 
 impl Compact {
@@ -158,49 +158,6 @@ impl Compact {
     {
         self.time != NO_TIME
     }
-
-    // Whether this row stands there. It mostly does, so all numbers are compared, with no branch between.
-    #[inline(always)]
-    pub(crate) fn is(&self, row: &Placed) -> bool
-        ensures { IsTrue result ↔ (self.now ≡ Some row.now) }
-    {
-        let disk = &row.disk;
-        (self.time != NO_TIME)
-            & has_time(disk, self.time)
-            & has_centre(disk, self.x, self.y)
-            & has_velocity(disk, self.vx, self.vy)
-            & has_size(disk, self.size)
-            & (self.cell == row.cell)
-    }
-}
-
-// Whether a disk has the base tick and the mark of this time.
-#[inline(always)]
-fn has_time(disk: &Disk, time: u64) -> bool
-    ensures { IsTrue result ↔ (time / 2 ^ 20 ≡ disk.now.base) × (time % 2 ^ 20 ≡ disk.now.mark) }
-{
-    (time / MARKS == disk.base) & (time % MARKS == disk.mark as u64)
-}
-
-#[inline(always)]
-fn has_centre(disk: &Disk, x: i32, y: i32) -> bool
-    ensures { IsTrue result ↔ (x ≡ disk.now.x) × (y ≡ disk.now.y) }
-{
-    (x as i64 == disk.x) & (y as i64 == disk.y)
-}
-
-#[inline(always)]
-fn has_velocity(disk: &Disk, vx: i32, vy: i32) -> bool
-    ensures { IsTrue result ↔ (vx ≡ disk.now.vx) × (vy ≡ disk.now.vy) }
-{
-    (vx as i64 == disk.vx) & (vy as i64 == disk.vy)
-}
-
-#[inline(always)]
-fn has_size(disk: &Disk, size: i32) -> bool
-    ensures { IsTrue result ↔ (size ≡ disk.now.size) }
-{
-    size as i64 == disk.size
 }
 
 /// Whether each number of a row has room in the narrow form: coordinates, velocity and size in 32 bits each, with
@@ -211,23 +168,16 @@ pub fn is_small(row: &Placed) -> bool
     has_small_course(&row.disk) && has_small_time(&row.disk)
 }
 
-// Whether the coordinates, the velocity and the size of a disk have 32 bits.
+// Whether the coordinates, the velocity and the size of a disk have 32 bits. They mostly do, so there is no branch
+// between.
 fn has_small_course(disk: &Disk) -> bool
     ensures { IsTrue result ↔ HasSmallCourse disk.now }
 {
-    has_narrow_centre(disk) && has_narrow_velocity(disk) && is_narrow(disk.size)
-}
-
-fn has_narrow_centre(disk: &Disk) -> bool
-    ensures { IsTrue result ↔ IsNarrow disk.now.x × IsNarrow disk.now.y }
-{
-    is_narrow(disk.x) && is_narrow(disk.y)
-}
-
-fn has_narrow_velocity(disk: &Disk) -> bool
-    ensures { IsTrue result ↔ IsNarrow disk.now.vx × IsNarrow disk.now.vy }
-{
-    is_narrow(disk.vx) && is_narrow(disk.vy)
+    is_narrow(disk.x)
+        & is_narrow(disk.y)
+        & is_narrow(disk.vx)
+        & is_narrow(disk.vy)
+        & is_narrow(disk.size)
 }
 
 // Whether the base tick and the mark of a disk have room in one time.

@@ -22,7 +22,13 @@ pub fn rows_of(before: &View, action: &Action) -> Rows
 {
     match action {
         Action::Cross { stamp, cell } => match before.get(stamp.first) {
-            Some(row) => Rows::one((stamp.first, Some(row.in_cell(*cell)))),
+            Some(row) => {
+                let moved = Placed {
+                    disk: row.disk,
+                    cell: *cell,
+                };
+                Rows::one((stamp.first, Some(moved)))
+            }
             None => Rows::none(),
         },
         Action::Hit(change) => Rows::some_of(
@@ -38,14 +44,16 @@ fn row_with(before: &View, number: u32, disk: Option<&Disk>) -> Option<(u32, Opt
         (redisked number (option_copied disk.entry) (map.get before.now number)) }
     ensures number { IfSome result (λ r. r.0 ≡ number) }
 {
-    let row = before.get(number)?;
-    Some((
-        number,
-        Some(Placed {
-            disk: *disk?,
-            cell: row.cell,
-        }),
-    ))
+    match (before.get(number), disk) {
+        (Some(row), Some(disk)) => Some((
+            number,
+            Some(Placed {
+                disk: *disk,
+                cell: row.cell,
+            }),
+        )),
+        _ => None,
+    }
 }
 
 /// The message of an action to a region, by what stands where before it. None exactly where the region

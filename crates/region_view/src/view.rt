@@ -8,9 +8,9 @@ use std::marker::Model;
 /// Placed disks by number.
 ///
 /// Memory is taken for each number up to the greatest one that ever had a row, or for up to twice as many,
-/// and at the opening for those of all disks: 33 bytes a number. Where a row has a coordinate, a component of
+/// and at the opening for those of all disks: 32 bytes a number. Where a row has a coordinate, a component of
 /// its velocity or a size that doesn't fit 32 bits with a sign, a base tick from 2^43 on or a mark from 2^20
-/// on, it is 73 bytes a number from then on. No valid disk has such numbers.
+/// on, it is 72 bytes a number from then on. No valid disk has such numbers.
 #[derive(Drop)]
 pub struct View {
     slots: Slots,
@@ -31,7 +31,7 @@ impl Model for View {
     ghost view = { λ v. placed_in v.slots };
 }
 
-ghost use Rattle.std.specs.Prelude.{◌≡◌, ◌↔◌, ℕ, ◌<◌, ◌≤◌, [], ◌∷◌, length, slice_get, None, is_some, option_copied, IsTrue, IfSome, IfOk, OnOk, OnErr};
+ghost use Rattle.std.specs.Prelude.{◌≡◌, ℕ, ◌<◌, ◌≤◌, [], ◌∷◌, length, slice_get, None, is_some, IsTrue, IfSome, IfOk, OnOk, OnErr};
 ghost use Rattle.std.specs.FinMap as map;
 ghost use Rattle.cell_grid.specs.Grid.{IsRegion};
 ghost use Rattle.region_view.specs.Laws.{HasCells};
@@ -79,14 +79,6 @@ impl View {
         self.slots.compact()
     }
 
-    /// Whether what stands at a number is this row, or none where none is given.
-    #[inline(always)]
-    pub fn is_row(&self, disk: u32, row: Option<&Placed>) -> bool
-        ensures { IsTrue result ↔ (map.get self.now disk ≡ option_copied row.entry) }
-    {
-        self.slots.is_row(disk, row)
-    }
-
     /// The first disk from number `from` on that has a row: its number and the row. None says that no
     /// disk from there on has one.
     pub fn next_row(&self, from: u32) -> Option<(u32, Placed)>
@@ -105,17 +97,6 @@ impl View {
         Ok(View {
             slots: self.slots.copy(alloc)?,
         })
-    }
-
-    /// Becomes equal to another view, in the memory that it has where there is room.
-    ///
-    /// # Errors
-    /// Out of memory: the view stays as it is.
-    pub fn copy_from(&mut self, other: &View) -> Result<(), AllocError>
-        ensures copied { OnOk result (self.new ≡ other.now) }
-        ensures unchanged { OnErr result (self.new ≡ self.old) }
-    {
-        self.slots.copy_from(&other.slots)
     }
 
     /// For how many numbers, from 0 on, memory is in use, whether there are rows or not: what a copy takes

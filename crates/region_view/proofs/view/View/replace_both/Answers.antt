@@ -2,7 +2,7 @@
 use Rattle.std.proofs.Common.{◌≢◌, ℕ, [], ◌∷◌, arith, ap, ◌∙◌}
 use Rattle.std.proofs.lemmas.Result.{err_from_is_err_and}
 use Rattle.region_view.specs.Slots.{SlotsData, at}
-use Rattle.region_view.proofs.InSlots.{same_placed, put_both, get_in, set_other}
+use Rattle.region_view.proofs.InSlots.{same_placed, put_both, get_in, set_other, takes_still}
 use Rattle.region_view.proofs.view.View.replace_both.Goals as goal
 
 pub returns-in_err-make_room-clause-unchanged : goal.returns-in_err-make_room-clause-unchanged
@@ -42,4 +42,11 @@ returns-clause-rows c =
 pub replace-before-requires : goal.replace-before-requires
 replace-before-requires c = record {
   room = c.make_room-2.ensures.kept c.args.first.0 c.args.first.1 (rw c.as_ref.ensures.value at c.in_ok-make_room.ensures.room);
+}
+
+pub replace-after-requires : goal.replace-after-requires
+replace-after-requires c = record {
+  room = rw c.replace-before.ensures.slots
+      (takes_still c.make_room-2.new.self c.args.first.0 c.args.second.0 c.args.first.1 c.args.second.1
+      (rw c.as_ref-2.ensures.value at c.in_ok-make_room-2.ensures.room));
 }
