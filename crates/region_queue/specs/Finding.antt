@@ -57,9 +57,6 @@ abbrev pub AreRelisted : ViewData → List ℕ → Cells → Cells → Type 0
 AreRelisted view disks old new = AreRelistedOf view (λ i. Contains disks i) old new
 
 -- ---- which candidates a disk has
--- the columns of a strip
-abbrev pub IsOfStrip : Strip → ℕ → Type 0
-IsOfStrip strip column = (strip.first ≤ column) × (column < strip.end)
 
 -- a region of a grid of checked rules, its columns, lists of this grid, and a valid view
 pub record IsReady (finder : Finder) (view : ViewData) : Type 0 where

@@ -13,7 +13,7 @@ ghost use Rattle.cell_lists.specs.Listing.{IsListed};
 ghost use Rattle.cell_lists.specs.Nearby.{IsBlock, IsListedWithin, AreGathered, columns_to};
 ghost use Rattle.region_queue.specs.Outside.{IsListedOutside, IsListedInParts};
 ghost use Rattle.region_view.specs.declared.action.Placed.{Placed};
-ghost use Rattle.region_queue.specs.Finding.{IsReady, IsFound, IsAloneAt, IsEventOf, IsNativePair, IsNativeWith, IsBestSingle, IsBestPair, IsBestBeyond, IsBlockBeside, IsNearby, AreAllWithin, IsMissed, IsMissedBySmall, AreKept, IsOfStrip, AreListed};
+ghost use Rattle.region_queue.specs.Finding.{IsReady, IsFound, IsAloneAt, IsEventOf, IsNativePair, IsNativeWith, IsBestSingle, IsBestPair, IsBestBeyond, IsBlockBeside, IsNearby, AreAllWithin, IsMissed, IsMissedBySmall, AreKept, AreListed};
 
 use crate::parts::{Parts, parts_outside};
 use cell_grid::{Grid, Strip};
@@ -148,14 +148,7 @@ impl Finder {
         requires cell { IsCell self.now.grid cell }
         ensures { IsTrue result ↔ Owns self.now.grid self.now.region cell }
     {
-        self.owns_column(self.grid.column(cell))
-    }
-
-    // Whether the region owns a column.
-    #[inline(always)]
-    fn owns_column(&self, column: u32) -> bool
-        ensures { IsTrue result ↔ IsOfStrip self.now.strip column }
-    {
+        let column = self.grid.column(cell);
         self.strip.first <= column && column < self.strip.end
     }
 
