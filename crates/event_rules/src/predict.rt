@@ -205,7 +205,7 @@ pub fn may_hit(rules: &Rules, a: &Disk, b: &Disk) -> bool
     ensures never { result ≡ false → NeverHit rules.now a.now b.now }
     ensures never_turned { result ≡ false → NeverHit rules.now b.now a.now }
 {
-    let s = separate(rules, a, b);
+    let s = separated(a, b);
     fit_in_a_box(s.places) && are_on_course(rules, a, b, &s)
 }
 
@@ -251,7 +251,7 @@ fn touching_tick(rules: &Rules, a: &Disk, b: &Disk) -> Option<u64>
     ensures { MatchOption result ((tick : ℕ) → tick < rules.now.end → IsContactTick rules.now a.now b.now tick → ⊥)
         (IsTouch rules.now a.now b.now) }
 {
-    let s = separate(rules, a, b);
+    let s = separated(a, b);
     if has_small_products(rules) {
         small_tick(rules, a, b, &s)
     } else {
@@ -297,39 +297,14 @@ fn great_tick(rules: &Rules, a: Disk, b: Disk, s: Separation) -> Option<u64>
     if !are_on_course(rules, &a, &b, &s) {
         return None;
     }
-    course_tick(rules, &a, &b, &s)
-}
-
-// Where the paths cross.
-#[inline(always)]
-fn course_tick(rules: &Rules, a: &Disk, b: &Disk, s: &Separation) -> Option<u64>
-    requires checked { IsChecked rules.now }
-    requires first_valid { IsValidDisk rules.now a.now }
-    requires second_valid { IsValidDisk rules.now b.now }
-    requires separation { IsSeparation a.now b.now s.now }
-    requires near { FitInABox s.now }
-    requires paths { IsOnCollisionCourse s.now }
-    ensures { MatchOption result ((tick : ℕ) → tick < rules.now.end → IsContactTick rules.now a.now b.now tick → ⊥)
-        (IsTouch rules.now a.now b.now) }
-{
-    match quick_ticks(rules, a, b, s) {
-        Some(ticks) => tick_inside(rules, a, b, s, ticks),
-        None => searched_tick(rules, *a, *b, *s),
+    // Seldom none, whatever the end and the walls.
+    match quick_contact(s.places, s.velocities, s.distance) {
+        Some(ticks) => tick_inside(rules, &a, &b, &s, ticks),
+        None => searched_tick(rules, a, b, s),
     }
 }
 
-#[inline(always)]
-fn separate(rules: &Rules, a: &Disk, b: &Disk) -> Separation
-    requires checked { IsChecked rules.now }
-    requires first_valid { IsValidDisk rules.now a.now }
-    requires second_valid { IsValidDisk rules.now b.now }
-    ensures { IsSeparation a.now b.now result }
-{
-    let _rules = rules;
-    separated(a, b)
-}
-
-// The same, with nothing said of disks that aren't valid.
+// The separation of two disks; nothing is said of disks that aren't valid.
 #[inline(always)]
 fn separated(a: &Disk, b: &Disk) -> Separation
     ensures { (rules : Rules) → IsValidPair rules a.now b.now → IsSeparation a.now b.now result }
@@ -437,25 +412,7 @@ fn are_on_course(rules: &Rules, a: &Disk, b: &Disk, s: &Separation) -> bool
     may_touch(s.places, s.velocities, s.distance)
 }
 
-// After how many ticks the paths bring the disks into contact, whatever the end and the walls; seldom
-// none.
-#[inline(always)]
-fn quick_ticks(rules: &Rules, a: &Disk, b: &Disk, s: &Separation) -> Option<u64>
-    requires checked { IsChecked rules.now }
-    requires first_valid { IsValidDisk rules.now a.now }
-    requires second_valid { IsValidDisk rules.now b.now }
-    requires separation { IsSeparation a.now b.now s.now }
-    requires near { FitInABox s.now }
-    requires paths { IsOnCollisionCourse s.now }
-    ensures found { IfSome result (PathsTouchAfter s.now) }
-    ensures near { IfSome result (λ ticks. ticks ≤ 2 ^ 30) }
-{
-    let _first = a;
-    let _second = b;
-    quick_contact(s.places, s.velocities, s.distance)
-}
-
-// The tick of that contact, if it is before the end and both disks are inside the box then.
+// The tick of a contact after so many ticks, if it is before the end and both disks are inside the box then.
 #[inline(always)]
 fn tick_inside(rules: &Rules, a: &Disk, b: &Disk, s: &Separation, ticks: u64) -> Option<u64>
     requires checked { IsChecked rules.now }

@@ -12,24 +12,35 @@ returns-then-fit_in_a_box-clause-never_turned c =
 
 pub returns-else-fit_in_a_box-clause-never : goal.returns-else-fit_in_a_box-clause-never
 returns-else-fit_in_a_box-clause-never c = λ far. never_hit c.args.rules.now c.args.a.now c.args.b.now
-    (never_far c.args.rules.now c.args.a.now c.args.b.now c.separate-s.result c.requires.checked c.requires.first_valid c.requires.second_valid c.separate-s.ensures
+    (never_far c.args.rules.now c.args.a.now c.args.b.now c.separated-s.result c.requires.checked c.requires.first_valid c.requires.second_valid (c.separated-s.ensures c.args.rules.now (record { checked = c.requires.checked; first = c.requires.first_valid; second = c.requires.second_valid }))
     (λ near. both_ways c.fit_in_a_box.result c.if-fit_in_a_box.false (c.fit_in_a_box.ensures.1 near)))
 
 pub returns-else-fit_in_a_box-clause-never_turned : goal.returns-else-fit_in_a_box-clause-never_turned
 returns-else-fit_in_a_box-clause-never_turned c = λ far. never_hit_turned c.args.rules.now c.args.a.now c.args.b.now
-    (never_far c.args.rules.now c.args.a.now c.args.b.now c.separate-s.result c.requires.checked c.requires.first_valid c.requires.second_valid c.separate-s.ensures
+    (never_far c.args.rules.now c.args.a.now c.args.b.now c.separated-s.result c.requires.checked c.requires.first_valid c.requires.second_valid (c.separated-s.ensures c.args.rules.now (record { checked = c.requires.checked; first = c.requires.first_valid; second = c.requires.second_valid }))
     (λ near. both_ways c.fit_in_a_box.result c.if-fit_in_a_box.false (c.fit_in_a_box.ensures.1 near)))
 
 pub returns-then-fit_in_a_box-clause-exact : goal.returns-then-fit_in_a_box-clause-exact
 returns-then-fit_in_a_box-clause-exact c =
     let near = c.fit_in_a_box.ensures.0 c.if-fit_in_a_box.true in (
-      λ yes. may_hit_from c.args.a.now c.args.b.now c.separate-s.result c.separate-s.ensures near (c.are_on_course.ensures.fact.0 yes),
-      λ may. c.are_on_course.ensures.fact.1 (course_from c.args.a.now c.args.b.now c.separate-s.result c.separate-s.ensures may),
+      λ yes. may_hit_from c.args.a.now c.args.b.now c.separated-s.result (c.separated-s.ensures c.args.rules.now (record { checked = c.requires.checked; first = c.requires.first_valid; second = c.requires.second_valid })) near (c.are_on_course.ensures.fact.0 yes),
+      λ may. c.are_on_course.ensures.fact.1 (course_from c.args.a.now c.args.b.now c.separated-s.result (c.separated-s.ensures c.args.rules.now (record { checked = c.requires.checked; first = c.requires.first_valid; second = c.requires.second_valid })) may),
     )
 
 pub returns-else-fit_in_a_box-clause-exact : goal.returns-else-fit_in_a_box-clause-exact
 returns-else-fit_in_a_box-clause-exact c = (
   λ yes. cc,
   λ may. absurd (both_ways c.fit_in_a_box.result c.if-fit_in_a_box.false
-      (c.fit_in_a_box.ensures.1 (near_from c.args.a.now c.args.b.now c.separate-s.result c.separate-s.ensures may))),
+      (c.fit_in_a_box.ensures.1 (near_from c.args.a.now c.args.b.now c.separated-s.result (c.separated-s.ensures c.args.rules.now (record { checked = c.requires.checked; first = c.requires.first_valid; second = c.requires.second_valid })) may))),
 )
+
+pub returns-then-fit_in_a_box-clause-never : goal.returns-then-fit_in_a_box-clause-never
+returns-then-fit_in_a_box-clause-never c =
+    λ no. never_hit c.args.rules.now c.args.a.now c.args.b.now (c.are_on_course.ensures.no (cc))
+
+pub are_on_course-requires-clause-separation : goal.are_on_course-requires-clause-separation
+are_on_course-requires-clause-separation c =
+    c.separated-s.ensures c.args.rules.now (record { checked = c.requires.checked; first = c.requires.first_valid; second = c.requires.second_valid })
+
+pub are_on_course-requires-clause-near : goal.are_on_course-requires-clause-near
+are_on_course-requires-clause-near c = c.fit_in_a_box.ensures.0 c.if-fit_in_a_box.true

@@ -7,3 +7,11 @@ small_tick-requires-clause-pair c = record {
   first_valid = c.requires.first_valid;
   second_valid = c.requires.second_valid;
 }
+
+pub small_tick-requires-clause-separation : goal.small_tick-requires-clause-separation
+small_tick-requires-clause-separation c =
+    c.separated-s.ensures c.args.rules.now (record { checked = c.requires.checked; first = c.requires.first_valid; second = c.requires.second_valid })
+
+pub great_tick-requires-clause-separation : goal.great_tick-requires-clause-separation
+great_tick-requires-clause-separation c =
+    c.separated-s.ensures c.args.rules.now (record { checked = c.requires.checked; first = c.requires.first_valid; second = c.requires.second_valid })
