@@ -204,8 +204,10 @@ pub fn first_news(heard: &Trail, told: &Trail, clock: Option<Stamp>, known: usiz
 
 // A stamp, where a clock is after it.
 fn passed_by(clock: Option<Stamp>, stamp: Option<Stamp>) -> Option<Stamp> {
-    let stamp = stamp?;
-    if stamp < clock? { Some(stamp) } else { None }
+    match (clock, stamp) {
+        (Some(clock), Some(stamp)) if stamp < clock => Some(stamp),
+        _ => None,
+    }
 }
 
 // How many messages two lists have in common, from the front on.
@@ -213,7 +215,10 @@ fn count_same(a: &[Message], b: &[Message]) -> usize
     ensures { StartAlike result a.now b.now }
 {
     let mut same = 0;
-    for (m, n) in a.iter().zip(b) {
+    for m in a {
+        let Some(n) = b.get(same) else {
+            return same;
+        };
         if !is_same(m, n) {
             return same;
         }
@@ -226,7 +231,10 @@ fn count_same(a: &[Message], b: &[Message]) -> usize
 fn stamp_at(messages: &[Message], i: usize) -> Option<Stamp>
     ensures { result ≡ option_map (λ m. m.stamp) (slice_get messages.now i) }
 {
-    messages.get(i).map(|m| m.stamp)
+    match messages.get(i) {
+        Some(message) => Some(message.stamp),
+        None => None,
+    }
 }
 
 // Whether there is a stamp, and it is this one.

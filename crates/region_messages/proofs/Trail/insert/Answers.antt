@@ -27,3 +27,6 @@ returns-clause-inserted c =
     ∙ c.count_below-place.ensures.from ∙ ap (from m.stamp) c.deref.ensures.value in
     let parts : take place ms ++ m ∷ drop place ms ≡ with_message m ms = λ i. first i ++ m ∷ rest i in
     c.in_ok-insert.ensures.items ∙ parts ∙ ap (with_message m) c.self.view_is
+
+pub invariant_of-self : goal.invariant_of-self
+invariant_of-self c = subst Rises (sym c.in_err-insert.ensures.items) c.self.invariant
