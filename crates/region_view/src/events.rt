@@ -79,29 +79,17 @@ pub fn act(
         action_of rules.now grid.now stamp.now row.now.disk (option_copied partner.entry) stamp.now.kind }
 {
     match stamp.kind {
-        Kind::Cross => cross(rules, grid, stamp, &row.disk),
+        Kind::Cross => match crossed_cell(rules, grid, stamp, &row.disk) {
+            Some(cell) => Ok(Action::Cross {
+                stamp: *stamp,
+                cell,
+            }),
+            None => Err(Limit::Rounds(*stamp)),
+        },
         Kind::Wall | Kind::Pair => {
             let change = apply(rules, stamp, &row.disk, partner)?;
             Ok(Action::Hit(change))
         }
-    }
-}
-
-#[inline(always)]
-fn cross(rules: &Rules, grid: &Grid, stamp: &Stamp, a: &Disk) -> Result<Action, Limit>
-    requires checked { IsChecked rules.now }
-    requires valid { IsValidDisk rules.now a.now }
-    requires base { a.now.base ≤ stamp.now.tick }
-    requires tick { stamp.now.tick ≤ 2 ^ 40 }
-    requires inside { IsInside rules.now a.now (place_of a.now stamp.now.tick) }
-    ensures { result ≡ crossed rules.now grid.now stamp.now a.now }
-{
-    match crossed_cell(rules, grid, stamp, a) {
-        Some(cell) => Ok(Action::Cross {
-            stamp: *stamp,
-            cell,
-        }),
-        None => Err(Limit::Rounds(*stamp)),
     }
 }
 

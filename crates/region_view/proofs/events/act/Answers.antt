@@ -39,3 +39,15 @@ returns-in_ok-change-in-Wall c =
     hit_by c.args.rules.now c.args.grid.now c.args.stamp.now c.args.row.now.disk _ c.args.stamp.now.kind c.in-Wall.is
     ∙ ap hit_of (sym c.apply.ensures.exact ∙ c.in_ok-change-in-Wall.was)
     )
+
+pub returns-in-Some : goal.returns-in-Some
+returns-in-Some c =
+    sym (
+    ap (action_of c.args.rules.now c.args.grid.now c.args.stamp.now c.args.row.now.disk _) c.in-Cross.is ∙ c.in-Some.ensures.crossed
+    )
+
+pub returns-in-None : goal.returns-in-None
+returns-in-None c =
+    sym (
+    ap (action_of c.args.rules.now c.args.grid.now c.args.stamp.now c.args.row.now.disk _) c.in-Cross.is ∙ c.in-None.ensures.crossed
+    )
