@@ -2,12 +2,12 @@
 use Rattle.std.proofs.Common.{◌≡◌, fold, take}
 use Rattle.clap.specs.Simple.{App}
 use Rattle.clap.specs.Words.{app_of, with_rule}
-use Rattle.command_words.specs.declared.options.NumberOption.{NumberOption}
+use Rattle.command_words.specs.declared.options.WordOption.{WordOption}
 use Rattle.command_words.specs.Listed.{rule_said}
-use Rattle.command_words.proofs.options.with_numbers.Given as goal
+use Rattle.command_words.proofs.options.with_options.Given as goal
 
 -- with the option that an entry of the list says
-abbrev pub with_said : App → NumberOption → App
+abbrev pub with_said : App → WordOption → App
 with_said app option = with_rule app (rule_said option)
 
 abbrev pub invariant-loop-option : goal.invariant-loop-option
