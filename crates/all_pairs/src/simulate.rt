@@ -3,6 +3,7 @@
 ghost use Rattle.std.specs.Prelude.{◌≡◌, ◌<◌, length, IfOk, IfErr, IfSome};
 ghost use Rattle.fixed_motion.specs.Rules.{IsChecked};
 ghost use Rattle.event_rules.specs.Run.{IsNext, IsValidState, ComesTo, effect, spots_of};
+ghost use Rattle.event_rules.specs.declared.outcome.Outcome.TheVariants.{Done};
 ghost use Rattle.event_rules.specs.Tellings.{RunTold, RunCutShort, RunDone, StepsCutShort, CountsRun, scene_of};
 
 use crate::search::next;
@@ -37,11 +38,11 @@ fn put(disks: &mut Vec<Disk>, change: &Change)
     }
 }
 
-// Where all disks are in the end.
-fn final_state(alloc: Global, rules: &Rules, disks: &[Disk]) -> Result<FinalState, AllocError>
+// How a run ends that comes to its last tick: with where all disks are then.
+fn done(alloc: Global, rules: &Rules, disks: &[Disk]) -> Result<Outcome, AllocError>
     requires checked { IsChecked rules.now }
     requires valid { IsValidState rules.now disks.now }
-    ensures { IfOk result (λ spots. spots ≡ spots_of rules.now.end disks.now) }
+    ensures { IfOk result (λ outcome. outcome ≡ Done (spots_of rules.now.end disks.now)) }
 {
     let mut spots = Vec::new(alloc);
     for disk in disks {
@@ -53,7 +54,7 @@ fn final_state(alloc: Global, rules: &Rules, disks: &[Disk]) -> Result<FinalStat
             vy: disk.vy,
         })?;
     }
-    Ok(FinalState::new(spots))
+    Ok(Outcome::Done(FinalState::new(spots)))
 }
 
 /// Runs a scene, and tells each change in the order of the stamps.
@@ -72,37 +73,37 @@ pub fn simulate_plain<L: Listener>(
         (L.meaning listener.old) (L.meaning listener.new)) }
     ensures counts { CountsRun (L.faults listener.old) (L.faults listener.new) result }
 {
-    run(alloc, &scene.rules, &scene.disks, listener)
+    let mut disks = Vec::from_slice(alloc, &scene.disks)?;
+    run(alloc, &scene.rules, &mut disks, listener)
 }
 
-// The run of these disks; what else a scene asks for has no bearing on it.
+// Runs these disks, which are lent so that no way out lets go of them; what else a scene asks for has
+// no bearing on it.
 fn run<L: Listener>(
     alloc: Global,
     rules: &Rules,
-    start: &[Disk],
+    disks: &mut Vec<Disk>,
     listener: &mut L,
 ) -> Result<Outcome, RunFault>
     requires checked { IsChecked rules.now }
-    requires valid { IsValidState rules.now start.now }
+    requires valid { IsValidState rules.now disks.old.items }
     ensures run { IfOk result (λ outcome.
-        RunDone L.after (scene_of rules.now start.now) outcome
+        RunDone L.after (scene_of rules.now disks.old.items) outcome
         (L.meaning listener.old) (L.meaning listener.new)) }
     ensures cut_short { IfErr result (λ fault.
-        StepsCutShort L.after L.torn (scene_of rules.now start.now) fault
+        StepsCutShort L.after L.torn (scene_of rules.now disks.old.items) fault
         (L.meaning listener.old) (L.meaning listener.new)) }
     ensures counts { CountsRun (L.faults listener.old) (L.faults listener.new) result }
 {
-    let mut disks = Vec::from_slice(alloc, start)?;
-    let mut upcoming = next(rules, &disks);
+    let mut upcoming = next(rules, disks);
     while let Some(stamp) = upcoming {
-        let change = match run_event(rules, &disks, &stamp) {
+        let change = match run_event(rules, disks, &stamp) {
             Ok(change) => change,
             Err(limit) => return Ok(Outcome::Limit(limit)),
         };
         listener.event(&change)?;
-        put(&mut disks, &change);
-        upcoming = next(rules, &disks);
+        put(disks, &change);
+        upcoming = next(rules, disks);
     }
-    let spots = final_state(alloc, rules, &disks)?;
-    Ok(Outcome::Done(spots))
+    Ok(done(alloc, rules, disks)?)
 }

@@ -1,9 +1,9 @@
-use Rattle.std.proofs.Common.{◌≡◌, ◌<◌, ◌∙◌, List, [], ◌∷◌, ◌++◌, Err, Some, sym, subst, refl}
+use Rattle.std.proofs.Common.{◌≡◌, ◌<◌, ◌∙◌, List, [], ◌∷◌, ◌++◌, Some, sym, ap, subst, refl}
 use Rattle.std.proofs.lemmas.Result.{err_from_is_err_and}
 use Rattle.fixed_motion.specs.declared.disk.Disk.{Disk}
 use Rattle.event_stamps.specs.declared.Stamp.{Stamp}
 use Rattle.event_stamps.specs.Least.{HasNone, IsLeastOf}
-use Rattle.event_rules.specs.declared.outcome.Outcome.TheVariants.{Done, Limit as Passes}
+use Rattle.event_rules.specs.declared.outcome.Outcome.TheVariants.{Done}
 use Rattle.event_rules.specs.Run.{IsCandidate, IsNext, ComesTo, effect, IsValidState, Steps}
 use Rattle.event_rules.specs.Run.{spots_of}
 use Rattle.event_rules.proofs.Telling.{told_more, told_none, torn_next, all_told}
@@ -13,19 +13,17 @@ use Rattle.all_pairs.proofs.simulate.run.Goals as goal
 
 pub next-upcoming-requires-clause-valid : goal.next-upcoming-requires-clause-valid
 next-upcoming-requires-clause-valid g c =
-    subst (IsValidState c.args.rules.now) (sym (c.deref.ensures.value ∙ c.in_ok-disks.ensures.items))
-    c.requires.valid
+    subst (IsValidState c.args.rules.now) (sym c.deref.ensures.value) c.requires.valid
 
 pub loop-upcoming-init : goal.loop-upcoming-init
 loop-upcoming-init g c =
     let L = g.L.Listener in
     let rules = c.args.rules.now in
-    let copied : c.in_ok-disks.disks.items ≡ c.args.start.now = c.in_ok-disks.ensures.items in
     record {
-      so_far = ([], copied, told_none L.after (L.meaning c.args.listener.now));
+      so_far = ([], refl, told_none L.after (L.meaning c.args.listener.now));
       upcoming = subst (λ (v : List Disk). IsLeastOf (IsCandidate rules v) c.next-upcoming.result)
           c.deref.ensures.value c.next-upcoming.ensures;
-      valid = subst (IsValidState rules) (sym copied) c.requires.valid;
+      valid = c.requires.valid;
       count = refl;
     }
 
@@ -47,13 +45,13 @@ returns-in-Err-clause-run g c =
     let disks = c.loop-upcoming.disks.items in
     let here : IsNext rules disks c.in-Some.stamp =
     rw c.in-Some.is at c.loop-upcoming.invariant.upcoming in
-    let comes : ComesTo rules disks c.in-Some.stamp (Err c.in-Err.limit) =
-    subst (λ (v : List Disk). ComesTo rules v c.in-Some.stamp (Err c.in-Err.limit))
-    c.deref-in-Some.ensures.value c.in-Err.ensures in
+    let came : ComesTo rules disks c.in-Some.stamp c.run_event.result =
+    subst (λ (v : List Disk). ComesTo rules v c.in-Some.stamp c.run_event.result)
+    c.deref-in-Some.ensures.value c.run_event.ensures in
     let so_far = c.loop-upcoming.invariant.so_far in (
       so_far.0,
-      runs_from rules c.args.start.now disks so_far.0 (Passes c.in-Err.limit) so_far.1
-          (c.in-Some.stamp, here, comes),
+      runs_from rules c.args.disks.now.items disks so_far.0 _ so_far.1
+          (c.in-Some.stamp, here, rw c.in-Err.is at came),
       so_far.2,
     )
 
@@ -68,12 +66,12 @@ returns-in_err-event-clause-cut_short g c =
     c.in-Some.stamp change known.valid c.deref-in-Some.ensures.value c.in-Some.is known.upcoming
     c.in-Ok.ensures in
     let so_far = known.so_far in
-    let fault = err_from_is_err_and c.from_residual-in_err-event.result
-    c.from_residual-in_err-event.ensures.1 in
+    let fault = err_from_is_err_and c.from_residual.result
+    c.from_residual.ensures.1 in
     rw (fault.1, fault.2) (
       so_far.0 ++ change ∷ [],
       effect disks change,
-      one_more rules c.args.start.now disks so_far.0 change so_far.1 turn.next turn.comes,
+      one_more rules c.args.disks.now.items disks so_far.0 change so_far.1 turn.next turn.comes,
       torn_next L.after L.torn (L.meaning c.args.listener.now) (L.meaning c.loop-upcoming.listener)
           (L.meaning c.event.new.self) so_far.0 change so_far.2 c.in_err-event.ensures.torn,
     )
@@ -134,7 +132,7 @@ pub loop-upcoming-preserved : goal.loop-upcoming-preserved
 loop-upcoming-preserved g c =
     let L = g.L.Listener in
     let rules = c.args.rules.now in
-    let start = c.args.start.now in
+    let start = c.args.disks.now.items in
     let disks = c.loop-upcoming.disks.items in
     let change = c.in-Ok.change in
     let known = c.loop-upcoming.invariant in
@@ -157,16 +155,16 @@ loop-upcoming-preserved g c =
       count = c.in_ok-event.ensures.counts ∙ known.count;
     }
 
-pub final_state-requires-clause-valid : goal.final_state-requires-clause-valid
-final_state-requires-clause-valid g c =
+pub done-requires-clause-valid : goal.done-requires-clause-valid
+done-requires-clause-valid g c =
     subst (IsValidState c.args.rules.now) (sym c.deref-2.ensures.value) c.loop-upcoming.invariant.valid
 
-pub returns-in_err-spots-clause-cut_short : goal.returns-in_err-spots-clause-cut_short
-returns-in_err-spots-clause-cut_short g c =
+pub returns-in_err-done-clause-cut_short : goal.returns-in_err-done-clause-cut_short
+returns-in_err-done-clause-cut_short g c =
     let L = g.L.Listener in
     let so_far = c.loop-upcoming.invariant.so_far in
-    let fault = err_from_is_err_and c.from_residual-in_err-spots.result
-    c.from_residual-in_err-spots.ensures.1 in
+    let fault = err_from_is_err_and c.from_residual-in_err-done.result
+    c.from_residual-in_err-done.ensures.1 in
     rw (fault.1, fault.2) (
       so_far.0,
       c.loop-upcoming.disks.items,
@@ -179,15 +177,14 @@ pub returns-clause-run : goal.returns-clause-run
 returns-clause-run g c =
     let rules = c.args.rules.now in
     let disks = c.loop-upcoming.disks.items in
-    let spots = c.in_ok-spots.spots in
     let known = c.loop-upcoming.invariant in
     let none : HasNone (IsCandidate rules disks) =
     none_left rules disks c.loop-upcoming.upcoming c.in_default.not-Some known.upcoming in
-    let final : spots ≡ spots_of rules.end disks =
-    subst (λ (v : List Disk). spots ≡ spots_of rules.end v) c.deref-2.ensures.value
-    c.in_ok-spots.ensures in
+    let spots : spots_of rules.end c.deref-2.result.now ≡ spots_of rules.end disks =
+    ap (spots_of rules.end) c.deref-2.ensures.value in
     let so_far = known.so_far in (
       so_far.0,
-      runs_from rules c.args.start.now disks so_far.0 (Done spots) so_far.1 (none, final),
+      rw c.in_ok-done.ensures (runs_from rules c.args.disks.now.items disks so_far.0
+          (Done (spots_of rules.end c.deref-2.result.now)) so_far.1 (none, spots)),
       so_far.2,
     )

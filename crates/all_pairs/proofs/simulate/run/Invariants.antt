@@ -8,7 +8,7 @@ use Rattle.all_pairs.proofs.simulate.run.Given as goal
 
 abbrev pub invariant-loop-upcoming : goal.invariant-loop-upcoming
 invariant-loop-upcoming g l = let L = g.L.Listener in record {
-  so_far : (changes : List Change) × Steps l.fn.rules l.fn.start changes l.disks.items
+  so_far : (changes : List Change) × Steps l.fn.rules l.fn.disks.items changes l.disks.items
       × Told L.after (L.meaning l.fn.listener) changes (L.meaning l.listener);
   upcoming : IsLeastOf (IsCandidate l.fn.rules l.disks.items) l.upcoming;
   valid : IsValidState l.fn.rules l.disks.items;

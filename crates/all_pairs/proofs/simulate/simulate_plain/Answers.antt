@@ -1,16 +1,29 @@
-use Rattle.std.proofs.Common.{◌≡◌, ◌∙◌, subst, sym, ap}
-use Rattle.std.proofs.lemmas.Result.{IfOk-weaker, IfErr-weaker}
+use Rattle.std.proofs.Common.{◌≡◌, ◌∙◌, [], subst, sym, ap, refl}
+use Rattle.std.proofs.lemmas.Result.{err_from_is_err_and, IfOk-weaker, IfErr-weaker}
 use Rattle.fixed_motion.specs.Scene.{SceneData, IsValidScene}
 use Rattle.event_rules.specs.Run.{IsValidState}
 use Rattle.event_rules.proofs.Ranges.{starts_valid}
 use Rattle.event_rules.specs.Tellings.{RunDone, StepsCutShort, scene_of}
+use Rattle.event_rules.proofs.Telling.{told_none}
+use Rattle.event_rules.specs.declared.outcome.RunFault.TheVariants.{NoMemory}
 use Rattle.event_rules.proofs.RunsTold.{run_told, cut_short}
 use Rattle.all_pairs.proofs.simulate.simulate_plain.Goals as goal
 
+pub returns-in_err-disks-clause-cut_short : goal.returns-in_err-disks-clause-cut_short
+returns-in_err-disks-clause-cut_short g c =
+    let L = g.L.Listener in
+    let scene = c.args.scene.now in
+    let old = L.meaning c.args.listener.now in
+    let fault = err_from_is_err_and c.from_residual.result
+    c.from_residual.ensures.1 in
+    rw (fault.1, fault.2) (cut_short L.after L.torn scene NoMemory old old
+    (subst IsValidScene c.scene.view_is c.scene.invariant)
+    ([], scene.disks, refl, (0, told_none L.after old)))
+
 pub run-requires-clause-valid : goal.run-requires-clause-valid
 run-requires-clause-valid g c =
-    subst (IsValidState c.scene.inside.rules) (sym c.deref.ensures.value)
-    (starts_valid _ c.scene.invariant)
+    subst (IsValidState c.scene.inside.rules)
+    (sym (c.in_ok-disks.ensures.items ∙ c.deref.ensures.value)) (starts_valid _ c.scene.invariant)
 
 pub returns-clause-run : goal.returns-clause-run
 returns-clause-run g c =
@@ -18,8 +31,8 @@ returns-clause-run g c =
     let scene = c.args.scene.now in
     let old = L.meaning c.args.listener.now in
     let new = L.meaning c.run.new.listener in
-    let same : scene_of c.scene.inside.rules c.deref.result.now ≡ scene_of scene.rules scene.disks =
-    ap (scene_of c.scene.inside.rules) c.deref.ensures.value
+    let same : scene_of c.scene.inside.rules c.in_ok-disks.disks.items ≡ scene_of scene.rules scene.disks =
+    ap (scene_of c.scene.inside.rules) (c.in_ok-disks.ensures.items ∙ c.deref.ensures.value)
     ∙ ap (λ (v : SceneData). scene_of v.rules v.disks) c.scene.view_is in
     let valid = subst IsValidScene c.scene.view_is c.scene.invariant in
     IfOk-weaker c.run.result _ _
@@ -32,8 +45,8 @@ returns-clause-cut_short g c =
     let scene = c.args.scene.now in
     let old = L.meaning c.args.listener.now in
     let new = L.meaning c.run.new.listener in
-    let same : scene_of c.scene.inside.rules c.deref.result.now ≡ scene_of scene.rules scene.disks =
-    ap (scene_of c.scene.inside.rules) c.deref.ensures.value
+    let same : scene_of c.scene.inside.rules c.in_ok-disks.disks.items ≡ scene_of scene.rules scene.disks =
+    ap (scene_of c.scene.inside.rules) (c.in_ok-disks.ensures.items ∙ c.deref.ensures.value)
     ∙ ap (λ (v : SceneData). scene_of v.rules v.disks) c.scene.view_is in
     let valid = subst IsValidScene c.scene.view_is c.scene.invariant in
     IfErr-weaker c.run.result _ _

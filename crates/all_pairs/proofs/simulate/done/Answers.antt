@@ -2,10 +2,11 @@ use Rattle.std.proofs.Common.{◌≡◌, ◌++◌, ◌∷◌, [], ◌∙◌, ap,
 use Rattle.fixed_motion.specs.declared.disk.Disk.{Disk}
 use Rattle.std.proofs.lemmas.Int.{to_z-of_z}
 use Rattle.std.proofs.lemmas.List.{take_all}
+use Rattle.event_rules.specs.declared.outcome.Outcome.TheVariants.{Done}
 use Rattle.event_rules.specs.Run.{spot_of, spots_of}
 use Rattle.all_pairs.proofs.Turns.{one_spot}
 use Rattle.all_pairs.proofs.Least.{no_disk, disk_at}
-use Rattle.all_pairs.proofs.simulate.final_state.Goals as goal
+use Rattle.all_pairs.proofs.simulate.done.Goals as goal
 
 pub centre_at-centre-requires-clause-valid : goal.centre_at-centre-requires-clause-valid
 centre_at-centre-requires-clause-valid c =
@@ -29,7 +30,6 @@ loop-disk-preserved c =
     c.loop-disk.invariant
 
 pub returns : goal.returns
-returns c =
-    c.new.ensures ∙ (c.loop-disk.invariant
+returns c = ap Done (c.new.ensures ∙ (c.loop-disk.invariant
     ∙ ap (spots_of c.args.rules.now.end)
-    (take_all c.loop-disk.disk-index c.args.disks.now c.loop-disk-test.false))
+    (take_all c.loop-disk.disk-index c.args.disks.now c.loop-disk-test.false)))
