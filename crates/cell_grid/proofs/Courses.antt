@@ -1,12 +1,20 @@
 -- How long a coordinate is within its bounds.
-use Rattle.std.proofs.Common.{◌≡◌, ◌↔◌, ◌⊎◌, inl, inr, ℕ, suc, ◌+◌, ◌*◌, ◌/◌, ◌^◌, ◌<◌, ◌≤◌, ap, arith, sym, subst}
-use Rattle.std.specs.Prelude.{Some, None, ℤ, pos, negsuc, nat_abs, ◌+ℤ◌, ◌-ℤ◌, ◌≤ℤ◌, ◌<ℤ◌}
+use Rattle.std.proofs.Common.{◌≡◌, true, false, ◌↔◌, ◌⊎◌, inl, inr, ℕ, suc, ◌+◌, ◌*◌, ◌/◌, ◌^◌, ◌<◌, ◌≤◌, ◌∙◌, ap, arith, sym, subst}
+use Rattle.std.specs.Prelude.{Some, None, ℤ, pos, negsuc, nat_abs, ◌+ℤ◌, ◌-ℤ◌, ◌≤ℤ◌, ◌<ℤ◌, FitsSigned}
 use Rattle.std.specs.Int.{int_max, int_min}
 use Rattle.std.proofs.lemmas.Int.{ints, by_lt_z}
-use Rattle.plane_vectors.proofs.Sizes.{sent, sent_same}
+use Rattle.plane_vectors.proofs.Sizes.{sent, sent_same, difference_exact}
+use lib.Dec.{T}
+use lib.Signed.{lt_z, non_neg, yes_non_neg}
+use mir.Val.{Fits, of_z}
+use mir.Syntax.{w32, w64}
 use Rattle.std.proofs.lemmas.Bool.{cases_lt}
 use Rattle.std.proofs.Math.Nat.{mul-le-mul_left, le-div_iff_mul-le}
 use Rattle.contact_predictor.specs.Contact.{coordinate_after, IsBetween}
+use Rattle.fixed_motion.specs.declared.rules.Rules.{Rules}
+use Rattle.fixed_motion.specs.declared.disk.Disk.{Disk}
+use Rattle.fixed_motion.specs.Motion.{IsSize, radius_of}
+use Rattle.fixed_motion.proofs.Sizes.{radius_least, two_radii}
 use Rattle.cell_grid.specs.declared.bounds.Bounds.{Bounds}
 use Rattle.cell_grid.specs.declared.bounds.Course.{Course}
 use Rattle.cell_grid.specs.Grid.{along}
@@ -75,8 +83,32 @@ reaches_falling least x k s n e ahead =
     near h = omega (arith, ints, ap (λ (m : ℕ). n * m) e)
 
 -- ---- the code's numbers
-small_sent : (n : ℤ) → nat_abs n ≤ 2 ^ 30 → sent n ≡ n
+-- a course that the code takes for rising doesn't fall, nor does another rise
+pub up_or_not : (v : ℤ) → nat_abs v ≤ 2 ^ 20 →
+    (lt_z (pos 0) (sent v) ≡ true → v <ℤ pos 0 → ⊥) × (lt_z (pos 0) (sent v) ≡ false → pos 0 <ℤ v → ⊥)
+up_or_not v slow =
+    rw (sent_same v (omega (arith, ints))) (λ is down. omega (arith, ints), λ isnt up. omega (arith, ints))
+
+pub small_sent : (n : ℤ) → nat_abs n ≤ 2 ^ 30 → sent n ≡ n
 small_sent n h = sent_same n (omega (arith, ints))
+
+-- what the code makes of the difference of two of them
+pub difference_sent : (m n : ℤ) → nat_abs m ≤ 2 ^ 30 → nat_abs n ≤ 2 ^ 30 → sent (sent m -ℤ sent n) ≡ m -ℤ n
+difference_sent m n hm hn =
+    (difference_exact m n (omega arith) (omega arith)).value
+
+pub difference_fits : (m n : ℤ) → nat_abs m ≤ 2 ^ 30 → nat_abs n ≤ 2 ^ 30 → FitsSigned w64 (sent m -ℤ sent n)
+difference_fits m n hm hn =
+    (difference_exact m n (omega arith) (omega arith)).fits
+
+-- a small number that isn't below 0, cast to one without a sign
+pub cast_fits : (n : ℤ) → pos 0 ≤ℤ n → nat_abs n ≤ 2 ^ 31 → T (non_neg (sent n)) × Fits w32 (nat_abs (sent n))
+cast_fits n least most =
+    subst (λ (z : ℤ). T (non_neg z) × Fits w32 (nat_abs z)) (sym (sent_same n (omega (arith, ints))))
+    (yes_non_neg {z = n} least, omega (arith, ints))
+
+pub side_cast : (n : ℤ) → pos 0 ≤ℤ n → n ≤ℤ pos 1073741824 → T (non_neg (sent n)) × Fits w32 (nat_abs (sent n))
+side_cast n least most = cast_fits n least (omega (arith, ints))
 
 -- the lesser of two small numbers, which the code's comparison gives
 record IsLesser (m n k : ℤ) : Type 0 where
@@ -148,6 +180,58 @@ pub record IsAhead (b : Bounds) (c : Course) (ahead : ℤ) : Type 0 where
   pub rising : pos 0 <ℤ c.velocity → ahead ≡ b.greatest -ℤ c.start
   pub falling : c.velocity <ℤ pos 0 → ahead ≡ c.start -ℤ b.least
 
+-- what the code knows of a course that moves, and of how far ahead the bound is
+pub moves : (v : ℤ) → (of_z w64 v ≡ 0 → ⊥) → ¬ (v ≡ pos 0)
+moves v moving still = moving (ap (of_z w64) still)
+
+pub ahead_size : (b : Bounds) (c : Course) (ahead : ℤ) → AreSmall b → nat_abs c.start ≤ 2 ^ 30 →
+    IsAhead b c ahead → ¬ (c.velocity ≡ pos 0) → nat_abs ahead ≤ 2 ^ 31
+ahead_size b c ahead small start is moves =
+    by_lt_z (pos 0) c.velocity
+    (λ up. rw (is.rising up) (apart b.greatest c.start small.greatest start))
+    (λ le.
+    let down : c.velocity <ℤ pos 0 = by_lt_z c.velocity (pos 0) (λ lt. lt) (λ ge. absurd (moves (omega (arith, ints)))) in
+    rw (is.falling down) (apart c.start b.least start small.least))
+  where
+    apart : (m n : ℤ) → nat_abs m ≤ 2 ^ 30 → nat_abs n ≤ 2 ^ 30 → nat_abs (m -ℤ n) ≤ 2 ^ 31
+    apart m n hm hn = omega (arith, ints)
+
+pub still_ahead : (n : ℤ) → nat_abs n ≤ 2 ^ 31 → lt_z (sent n) (pos 0) ≡ false → pos 0 ≤ℤ n
+still_ahead n size isnt = at_least n (rw (sent_same n (omega (arith, ints))) at isnt)
+  where
+    at_least : (n : ℤ) → lt_z n (pos 0) ≡ false → pos 0 ≤ℤ n
+    at_least n isnt = omega (arith, ints)
+
+-- a speed without its sign
+pub record IsSpeed (v : ℤ) (speed : ℕ) : Type 0 where
+  pub is : speed ≡ nat_abs v
+  pub some : 0 < speed
+  pub fits : Fits w32 speed
+
+pub speed_of : (v : ℤ) (speed : ℕ) → nat_abs v ≤ 2 ^ 20 → ¬ (v ≡ pos 0) → speed ≡ nat_abs (sent v) → IsSpeed v speed
+speed_of v speed slow moves e =
+    let is : speed ≡ nat_abs v = e ∙ ap nat_abs (sent_same v (omega (arith, ints))) in
+    record { is = is; some = rw is (above v moves); fits = rw is (below v slow) }
+  where
+    above : (v : ℤ) → ¬ (v ≡ pos 0) → 0 < nat_abs v
+    above (pos n) moves = elim (cases_lt 0 n) [
+      | inl lt ↦ lt
+      | inr le ↦ absurd (moves (let none : n ≡ 0 = omega arith in ap pos none))
+    ]
+    above (negsuc n) moves = omega (arith, ints)
+
+    below : (v : ℤ) → nat_abs v ≤ 2 ^ 20 → Fits w32 (nat_abs v)
+    below v slow = omega (arith, ints)
+
+pub soon : (ahead : ℤ) (speed ticks : ℕ) → nat_abs ahead ≤ 2 ^ 31 → 0 < speed →
+    ticks ≡ nat_abs (sent ahead) / speed → ticks + 1 ≤ 2 ^ 33
+soon ahead speed ticks size some e =
+    let is : ticks ≡ nat_abs ahead / speed = e ∙ ap (λ (z : ℤ). nat_abs z / speed) (sent_same ahead (omega (arith, ints))) in
+    let q = le-div_iff_mul-le {k = speed} {x = nat_abs ahead / speed} {y = nat_abs ahead} some in
+    let whole : (nat_abs ahead / speed) * speed ≤ nat_abs ahead = q.0 (omega arith) in
+    let each : (nat_abs ahead / speed) * 1 ≤ (nat_abs ahead / speed) * speed = mul-le-mul_left (nat_abs ahead / speed) some in
+    omega arith
+
 -- one that stands still is always within, or never
 pub ends_never : (b : Bounds) (c : Course) → c.velocity ≡ pos 0 → EndsAt (IsWithinAfter b c) None
 ends_never b c still = record {
@@ -210,7 +294,7 @@ ends_ahead b c ahead is moves near =
     falling least x (negsuc k) n down le = reaches_falling least x k (nat_abs (negsuc k)) n (omega (arith, ints)) le
 
 -- where a disk is between two sides of the box
-pub room_small : (radius r side : ℤ) → pos 1 ≤ℤ radius → (radius +ℤ radius) ≤ℤ side → side ≤ℤ pos 1073741824 →
+room_small : (radius r side : ℤ) → pos 1 ≤ℤ radius → (radius +ℤ radius) ≤ℤ side → side ≤ℤ pos 1073741824 →
     r ≡ radius →
     AreSmall (bounds (sent r) (sent (sent side -ℤ sent r)))
 room_small radius r side least two most e =
@@ -218,6 +302,27 @@ room_small radius r side least two most e =
     let whole : sent side ≡ side = sent_same side (omega (arith, ints)) in
     let room : sent (side -ℤ radius) ≡ side -ℤ radius = sent_same (side -ℤ radius) (omega (arith, ints)) in
     rw (e, whole, part, room) (record { least = omega (arith, ints); greatest = omega (arith, ints) })
+
+-- the room between a disk's places at two sides of the box
+pub record IsBoxRoom (radius r side : ℤ) : Type 0 where
+  pub least : sent r ≡ radius
+  pub fits : FitsSigned w64 (sent side -ℤ sent r)
+  pub value : sent (sent side -ℤ sent r) ≡ side -ℤ radius
+  pub small : AreSmall (bounds (sent r) (sent (sent side -ℤ sent r)))
+
+pub box_room : (rules : Rules) (a : Disk) (r side : ℤ) → IsSize rules a.size → rules.diameter ≤ℤ side →
+    side ≤ℤ pos 1073741824 → r ≡ radius_of a → IsBoxRoom (radius_of a) r side
+box_room rules a r side size fits most e =
+    let least = radius_least rules a size in
+    let two = two_radii rules a size in
+    let whole : nat_abs side ≤ 2 ^ 30 = omega (arith, ints) in
+    let part : nat_abs (radius_of a) ≤ 2 ^ 30 = omega (arith, ints) in
+    record {
+      least = rw e (small_sent (radius_of a) part);
+      fits = rw e (difference_fits side (radius_of a) whole part);
+      value = rw e (difference_sent side (radius_of a) whole part);
+      small = room_small (radius_of a) r side least (omega (arith, ints)) most e;
+    }
 
 -- a coordinate is within the bounds of the box and of a column exactly where it is inside and in that column
 pub within_axis : (radius length : ℤ) (side count index : ℕ) (outer column both : Bounds) (p : ℤ) → pos 1 ≤ℤ radius →

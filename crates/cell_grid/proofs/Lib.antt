@@ -1,5 +1,6 @@
 mod Along
 pub mod Cells
+mod Columns
 mod Courses
 mod Ends
 pub mod Leaving

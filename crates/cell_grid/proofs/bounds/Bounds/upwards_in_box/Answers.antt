@@ -1,17 +1,23 @@
 -- Two radii fit in the side.
-use Rattle.std.proofs.Common.{arith}
-use Rattle.std.proofs.lemmas.Int.{ints}
-use Rattle.fixed_motion.specs.Motion.{radius_of}
-use Rattle.fixed_motion.proofs.Sizes.{radius_least, two_radii}
-use Rattle.cell_grid.proofs.Courses.{room_small}
+use Rattle.cell_grid.proofs.Courses.{box_room}
 use Rattle.cell_grid.proofs.bounds.Bounds.upwards_in_box.Goals as goal
+
+pub overflow_sub-result : goal.overflow_sub-result
+overflow_sub-result c =
+    (box_room c.args.rules.now c.args.a.now c.radius-radius.result c.args.rules.now.height c.requires.valid.size
+    c.requires.checked.diameter_in_height c.requires.checked.height.1 c.radius-radius.ensures.value).fits
+
+pub returns-clause-least : goal.returns-clause-least
+returns-clause-least c =
+    (box_room c.args.rules.now c.args.a.now c.radius-radius.result c.args.rules.now.height c.requires.valid.size
+    c.requires.checked.diameter_in_height c.requires.checked.height.1 c.radius-radius.ensures.value).least
+
+pub returns-clause-greatest : goal.returns-clause-greatest
+returns-clause-greatest c =
+    (box_room c.args.rules.now c.args.a.now c.radius-radius.result c.args.rules.now.height c.requires.valid.size
+    c.requires.checked.diameter_in_height c.requires.checked.height.1 c.radius-radius.ensures.value).value
 
 pub returns-clause-small : goal.returns-clause-small
 returns-clause-small c =
-    let rules = c.args.rules.now in
-    let a = c.args.a.now in
-    let size = c.requires.valid.size in
-    let two = two_radii rules a size in
-    let fits = c.requires.checked.diameter_in_height in
-    room_small (radius_of a) c.radius-radius.result rules.height (radius_least rules a size) (omega (arith, ints)) c.requires.checked.height.1
-    c.radius-radius.ensures.value
+    (box_room c.args.rules.now c.args.a.now c.radius-radius.result c.args.rules.now.height c.requires.valid.size
+    c.requires.checked.diameter_in_height c.requires.checked.height.1 c.radius-radius.ensures.value).small

@@ -1,10 +1,13 @@
-use Rattle.std.proofs.Common.{◌≡◌, arith}
-use Rattle.std.proofs.lemmas.Int.{ints}
-use Rattle.plane_vectors.proofs.Sizes.{sent, sent_same}
+use Rattle.std.proofs.Common.{◌≡◌, ◌^◌, ◌≤◌, ℤ, nat_abs, arith}
+use Rattle.plane_vectors.proofs.Sizes.{sent}
 use Rattle.contact_predictor.specs.Contact.{coordinate_after}
 use Rattle.cell_grid.specs.Leaving.{IsWithin, EndsAt}
+use Rattle.cell_grid.proofs.Courses.{small_sent}
 use Rattle.cell_grid.proofs.Ends.{both_end, lesser_within}
 use Rattle.cell_grid.proofs.room.Room.ticks_until_past.Goals as goal
+
+slow_sent : (v : ℤ) → nat_abs v ≤ 2 ^ 20 → sent v ≡ v
+slow_sent v slow = small_sent v (omega arith)
 
 pub returns-clause-ends : goal.returns-clause-ends
 returns-clause-ends c =
@@ -12,14 +15,10 @@ returns-clause-ends c =
     let a = c.args.a.now in
     let near = c.requires.slow.centre in
     let slow = c.requires.slow.velocity in
-    let near_x = near.x in
-    let near_y = near.y in
-    let slow_x = slow.x in
-    let slow_y = slow.y in
-    let x : sent a.x ≡ a.x = sent_same a.x (omega (arith, ints)) in
-    let y : sent a.y ≡ a.y = sent_same a.y (omega (arith, ints)) in
-    let vx : sent a.vx ≡ a.vx = sent_same a.vx (omega (arith, ints)) in
-    let vy : sent a.vy ≡ a.vy = sent_same a.vy (omega (arith, ints)) in
+    let x : sent a.x ≡ a.x = small_sent a.x near.x in
+    let y : sent a.y ≡ a.y = small_sent a.y near.y in
+    let vx : sent a.vx ≡ a.vx = slow_sent a.vx slow.x in
+    let vy : sent a.vy ≡ a.vy = slow_sent a.vy slow.y in
     let across : EndsAt (λ n. IsWithin room.across (coordinate_after a.x a.vx n)) c.ticks_until_past.result =
     rw (x, vx) at c.ticks_until_past.ensures.ends in
     let upwards : EndsAt (λ n. IsWithin room.upwards (coordinate_after a.y a.vy n)) c.ticks_until_past-2.result =
