@@ -1,6 +1,6 @@
-use Rattle.std.proofs.Common.{sym, subst}
+use Rattle.std.proofs.Common.{ap, sym, subst}
 use Rattle.event_stamps.specs.Order.{Before, end_stamp}
-use Rattle.cell_sequence.specs.State.{CellStateData, HasNoneBelow}
+use Rattle.cell_sequence.specs.State.{CellStateData, HasNoneBelow, raised}
 use Rattle.cell_sequence.proofs.Followed.{raised_is}
 use Rattle.cell_sequence.specs.contracts.state.CellState.{the_view}
 use Rattle.cell_sequence.proofs.state.CellState.raise_floor.Goals as goal
@@ -15,3 +15,6 @@ invariant_of-self c =
     (sym c.self.view_is) c.requires.in_time)
     (subst (λ (state : CellStateData). HasNoneBelow state to) (sym c.self.view_is)
     c.requires.none_below)
+
+pub returns : goal.returns
+returns c = ap (raised c.args.to) c.self.view_is
