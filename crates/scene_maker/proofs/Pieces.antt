@@ -16,6 +16,15 @@ pub then_added : {T E : Type 0} (r : Result T E) (before between after xs ys : L
 then_added r before between after xs ys first =
     on_ok_weaker r (λ second. second ∙ ap (λ (v : List ℕ). v ++ ys) first ∙ append_assoc before xs ys)
 
+-- three pieces, one after another, and the end of their line
+pub line_of_pieces : {T E : Type 0} (r : Result T E) (start a b c d x y z w : List ℕ) → a ≡ start ++ x → b ≡ a ++ y → c ≡ b ++ z →
+    OnOk r (d ≡ c ++ w) → OnOk r (d ≡ start ++ ((x ++ (y ++ z)) ++ w))
+line_of_pieces r start a b c d x y z w first second third =
+    let all : c ≡ start ++ (x ++ (y ++ z)) =
+    third ∙ ap (λ (v : List ℕ). v ++ z) second ∙ append_assoc a y z ∙ ap (λ (v : List ℕ). v ++ (y ++ z)) first
+    ∙ append_assoc start x (y ++ z) in
+    on_ok_weaker r (λ last. last ∙ ap (λ (v : List ℕ). v ++ w) all ∙ append_assoc start (x ++ (y ++ z)) w)
+
 -- the line of a number that was passed as its bits
 pub signed_line : (before after key : List ℕ) (value : ℤ) → SFits w64 value →
     after ≡ before ++ key_line key (to_z w64 (of_z w64 value)) → after ≡ before ++ key_line key value

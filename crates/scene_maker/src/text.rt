@@ -104,25 +104,21 @@ fn push_rows(bytes: &mut Vec<u8>, rules: &Rules, disks: &[Disk]) -> Result<(), A
 fn push_row(bytes: &mut Vec<u8>, rules: &Rules, disk: &Disk) -> Result<(), AllocError>
     ensures { OnOk result (bytes.new.items ≡ bytes.old.items ++ row_line rules.now disk.now) }
 {
-    push_text(bytes, "  [")?;
-    push_number(bytes, disk.x)?;
-    push_text(bytes, ", ")?;
-    push_number(bytes, disk.y)?;
-    push_text(bytes, ", ")?;
-    push_velocity(bytes, rules, disk)
-}
-
-// The end of a disk's row, from the velocity on.
-fn push_velocity(bytes: &mut Vec<u8>, rules: &Rules, disk: &Disk) -> Result<(), AllocError>
-    ensures { OnOk result (bytes.new.items ≡ bytes.old.items
-        ++ ended (signed_decimal disk.now.vx ++ (codes ", "
-        ++ (signed_decimal disk.now.vy ++ (size_text rules.now disk.now ++ codes "],"))))) }
-{
-    push_number(bytes, disk.vx)?;
-    push_text(bytes, ", ")?;
-    push_number(bytes, disk.vy)?;
+    push_pair(bytes, "  [", disk.x, disk.y)?;
+    push_pair(bytes, ", ", disk.vx, disk.vy)?;
     push_size(bytes, rules, disk)?;
     push_text(bytes, "],\n")
+}
+
+// Two numbers of a row after some text, in a function of their own to keep the row's chain short.
+fn push_pair(bytes: &mut Vec<u8>, before: &str, first: i64, second: i64) -> Result<(), AllocError>
+    ensures { OnOk result (bytes.new.items ≡ bytes.old.items
+        ++ (before.now ++ (signed_decimal first ++ (codes ", " ++ signed_decimal second)))) }
+{
+    push_text(bytes, before)?;
+    push_number(bytes, first)?;
+    push_text(bytes, ", ")?;
+    push_number(bytes, second)
 }
 
 fn push_size(bytes: &mut Vec<u8>, rules: &Rules, disk: &Disk) -> Result<(), AllocError>
