@@ -37,3 +37,6 @@ returns-clause-gap c =
     sent_same c.wrapping_line.result fits ∙ told
     ∙ wrapped_gap q.gap q.closing (closing_after q c.args.ticks) (to_z w64 ((of_z w64 q.closing + of_z w64 closing) % 18446744073709551616)) c.args.ticks
     (slope ∙ ap (λ (n : ℤ). int_wrap w64 (q.closing +ℤ n)) is)
+
+pub returns-clause-square : goal.returns-clause-square
+returns-clause-square c = to_z-of_z w64 c.args.self.square (search rules)
