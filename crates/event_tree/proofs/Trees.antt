@@ -1,5 +1,5 @@
 -- The least of the topmost keys of a tree is the least of its leaves.
-use Rattle.std.proofs.Common.{◌≡◌, ◌≢◌, ◌⊎◌, ℕ, zero, suc, ◌+◌, ◌-◌, ◌*◌, ◌/◌, ◌^◌, ◌<◌, ◌≤◌, List, length, take, drop, set, get_or, replicate, below_more, arith, refl, sym, ap, subst, ◌∙◌, inl, inr}
+use Rattle.std.proofs.Common.{◌≡◌, ◌≢◌, ◌⊎◌, ℕ, zero, suc, ◌+◌, ◌-◌, ◌*◌, ◌/◌, ◌^◌, ◌<◌, ◌≤◌, List, [], ◌∷◌, length, take, drop, set, get_or, replicate, below_more, arith, refl, sym, ap, subst, ◌∙◌, inl, inr}
 use Rattle.std.specs.Prelude.{Some, None, is_some, false, if◌then◌else◌}
 use Rattle.std.specs.Ordering.{is_lt}
 use Rattle.std.specs.declared.cmp.Ordering.{Ordering}
@@ -291,6 +291,18 @@ pub leaf_key : (first disk : ℕ) (nodes keys : List Key) (key : Key) → drop f
 leaf_key first disk nodes keys key view lt read =
     read ∙ get_or_default nodes (first + disk) key None (leaf_within first disk nodes keys view lt)
     ∙ sym (get_or-drop first nodes disk None) ∙ ap (λ (v : List Key). key_at v disk) view
+
+-- no key is the least of none
+pub none_least : (first : ℕ) (nodes keys : List Key) → drop first nodes ≡ keys → length nodes ≡ 0 → IsLeastKey keys None
+none_least first nodes keys view none =
+    empty keys (let len = ap length view in let left = length-drop first nodes in omega arith)
+  where
+    never : (s : Stamp) → ¬ (None ≡ Some s)
+    never s e = cc
+
+    empty : (keys : List Key) → length keys ≡ 0 → IsLeastKey keys None
+    empty [] e = record { one = λ s is. absurd (never s is); least = λ disk. tt }
+    empty (key ∷ keys) e = absurd (omega arith)
 
 -- one key more is copied
 pub copied_more : (old wider : List Key) (disk : ℕ) (key : Key) → disk < length wider → key ≡ key_at old disk →

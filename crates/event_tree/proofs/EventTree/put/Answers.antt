@@ -36,3 +36,13 @@ invariant_of-self c =
     let now = with_items_is (with_item nodes (c.self.inside.first + c.args.disk) c.args.key) c.replay.new.nodes
     (c.replay.auto.nodes ∙ c.deref_mut.ensures.len) in
     rw now c.replay.ensures.tree
+
+pub index_mut-requires : goal.index_mut-requires
+index_mut-requires c =
+    let inside = leaf_within c.self.inside.first c.args.disk c.self.inside.nodes.items c.args.self.now c.self.view_is c.requires in
+    omega (arith, inside, c.self.inside.nodes.ok.0)
+
+pub replay-requires-clause-len : goal.replay-requires-clause-len
+replay-requires-clause-len c =
+    let inside = leaf_within c.self.inside.first c.args.disk c.self.inside.nodes.items c.args.self.now c.self.view_is c.requires in
+    omega (arith, c.deref_mut.ensures.len, c.self.inside.nodes.ok.0, c.self.invariant.len (omega (arith, inside)))
