@@ -1,8 +1,8 @@
-use Rattle.std.proofs.Common.{◌≡◌, ◌∙◌, sym, w64, FitsSigned, rules, arith}
-use Rattle.std.proofs.lemmas.Int.{ints, to_z-of_z}
+use Rattle.std.proofs.Common.{◌≡◌, ◌∙◌, sym, w64, FitsSigned, rules}
+use Rattle.std.proofs.lemmas.Int.{to_z-of_z}
 use Rattle.std.specs.Prelude.{None}
 use Rattle.fixed_motion.specs.Rules.{numbers_of, rule_fault, is_in, sides, speed_limits}
-use Rattle.fixed_motion.proofs.Ranges.{no_fault_by_tests, in_range}
+use Rattle.fixed_motion.proofs.Ranges.{no_fault_by_tests, in_range, rounds_in, ends_in}
 use Rattle.fixed_motion.proofs.rules.Rules.check.Goals as goal
 
 pub returns : goal.returns
@@ -17,5 +17,6 @@ returns c =
     let none : rule_fault (numbers_of box) ≡ None = no_fault_by_tests (numbers_of box)
     (sym width ∙ c.if-not-is_in.false) (sym height ∙ c.if-not-is_in-2.false)
     (sym c.has_fitting_diameter.ensures ∙ c.if-not-has_fitting_diameter.false) (sym speed ∙ c.if-not-is_in-3.false)
-    (grind (arith, ints)) (grind (arith, ints)) in
+    (rounds_in box.round_limit c.if-self-lt1.false c.if-self-gt-MAX_ROUNDS.false)
+    (ends_in box.end c.if-self-gt-MAX_END.false) in
     (none, in_range (numbers_of box) none)
