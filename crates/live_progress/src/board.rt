@@ -1,7 +1,10 @@
 //! The board, its pen, and the glasses that look at it.
 
 ghost use Rattle.std.specs.Prelude.{◌≡◌, [], ◌∷◌, ◌++◌, IfOk};
+ghost use Rattle.crossbeam_utils.specs.Register.{Turns};
+ghost use Rattle.crossbeam_utils.specs.Seq.{cell_view};
 ghost use Rattle.live_progress.specs.Lists.{last_of, IsNoLess, StartsWith};
+ghost use Rattle.live_progress.specs.Rule.{IsShown, Publishing};
 
 use crate::rule::{Cell, Checks, Copies, Leaves, Looks, Publishes, Token};
 use crate::words::{pair_of, words_of};
@@ -80,6 +83,7 @@ impl Board {
     ///
     /// # Errors
     /// Out of memory.
+    #[tactic(auto, using(crate::proofs::Moves::begins))]
     pub fn open(alloc: Global) -> Result<(Board, Pen), AllocError>
         ensures { IfOk result (λ opened. opened.1 ≡ record { board = opened.0; list = [] }) }
     {
@@ -107,9 +111,18 @@ impl Board {
         ensures board { pen.new.board ≡ pen.old.board }
         ensures list { pen.new.list ≡ pen.old.list ++ to ∷ [] }
     {
-        self.cell
-            .swap_as::<Publishes, R>(rt, &mut pen.token, words_of(to));
+        self.put(rt, &mut pen.token, words_of(to));
         pen.last = to;
+    }
+
+    // Writes the words of a pair, as the rule has the pen do.
+    fn put<R: Wait>(&self, rt: &R, token: &mut Token, words: [u64; 2])
+        requires board { token.old.table_id ≡ self.now }
+        requires rule { Turns IsShown token.old.id (cell_view token.old) (λ _. words) Publishing }
+        ensures board { token.new.table_id ≡ token.old.table_id }
+        ensures rule { Publishing (cell_view token.old) [] words (cell_view token.new) }
+    {
+        self.cell.swap_as::<Publishes, R>(rt, token, words);
     }
 
     /// The pair that the board shows. Neither number is less than in any pair that the glass saw before.
