@@ -4,7 +4,7 @@ ghost use Rattle.std.specs.Prelude.{◌≡◌, [], ◌∷◌, ◌++◌, IfOk};
 ghost use Rattle.crossbeam_utils.specs.Register.{Turns};
 ghost use Rattle.crossbeam_utils.specs.Seq.{cell_view};
 ghost use Rattle.live_progress.specs.Lists.{last_of, IsNoLess, StartsWith};
-ghost use Rattle.live_progress.specs.Rule.{IsShown, Publishing};
+ghost use Rattle.live_progress.specs.Rule.{IsShown, Publishing, Checking};
 
 use crate::rule::{Cell, Checks, Copies, Leaves, Looks, Publishes, Token};
 use crate::words::{pair_of, words_of};
@@ -139,7 +139,7 @@ impl Board {
     }
 
     /// Takes a glass back: all that it saw was published by the pen, in this order.
-    #[tactic(auto, using(crate::proofs::Moves::leaves, crate::proofs::Moves::takes_in, crate::proofs::Moves::checks))]
+    #[tactic(auto, using(crate::proofs::Moves::leaves, crate::proofs::Moves::takes_in))]
     pub fn retire<R: Wait>(&self, rt: &R, pen: &mut Pen, glass: Glass)
         requires pen { pen.old.board ≡ self.now }
         requires glass { glass.board ≡ self.now }
@@ -149,7 +149,17 @@ impl Board {
         let Glass { token: mut left } = glass;
         let token = self.cell.split_pass::<Leaves>(&mut left);
         self.cell.join_pass::<Leaves>(&mut pen.token, token);
-        self.cell.load_as::<Checks, R>(rt, &mut pen.token);
+        self.check(rt, &mut pen.token);
+    }
+
+    // Looks, as the rule has the pen do that was told what a glass has seen.
+    fn check<R: Wait>(&self, rt: &R, token: &mut Token)
+        requires board { token.old.table_id ≡ self.now }
+        requires rule { Turns IsShown token.old.id (cell_view token.old) (λ x. x) Checking }
+        ensures board { token.new.table_id ≡ token.old.table_id }
+        ensures rule { Checking (cell_view token.old) [] [] (cell_view token.new) }
+    {
+        self.cell.load_as::<Checks, R>(rt, token);
     }
 }
 
