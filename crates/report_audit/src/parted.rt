@@ -18,7 +18,7 @@ use report_ports::{Source, Taken};
 pub struct Unread;
 
 /// How far a parted source has come.
-#[derive(Clone, Copy, Debug, PartialEq, Eq)]
+#[derive(Clone, Copy)]
 pub enum Stage {
     /// Before the parting line; tells whether a line starts with the next byte.
     Front(bool),
