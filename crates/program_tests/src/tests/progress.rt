@@ -3,7 +3,6 @@
 use live_progress::{Board, Progress};
 use std::alloc::{AllocError, Global};
 use std::sync::Wait;
-use std::test::Fail;
 
 const NONE: Progress = Progress { events: 0, tick: 0 };
 
@@ -12,13 +11,12 @@ const FIRST: Progress = Progress { events: 1, tick: 3 };
 const SECOND: Progress = Progress { events: 2, tick: 3 };
 
 #[test]
-fn a_glass_sees_what_was_published_last(rt: HostRuntime) -> Result<(), Fail> {
-    let seen = seen(&rt, rt.alloc())?;
+fn a_glass_sees_what_was_published_last(rt: HostRuntime) {
+    let seen = seen(&rt, rt.alloc()).ok();
     assert!(rt;
-        seen == (NONE, FIRST, SECOND, SECOND),
+        seen == Some((NONE, FIRST, SECOND, SECOND)),
         "{seen:?}, before any publishing, after the first pair and the second, and of the pen that took the glass back"
     );
-    Ok(())
 }
 
 fn seen<R: Wait>(
