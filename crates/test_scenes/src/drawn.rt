@@ -1,5 +1,7 @@
 //! Texts of scenes that are drawn. Some of the scenes are refused, since disks may overlap.
 
+ghost use Rattle.std.specs.Prelude.{◌<◌};
+
 use crate::numbers::Numbers;
 use crate::texts::scene;
 use std::alloc::{AllocError, Global};
@@ -55,29 +57,14 @@ fn across(numbers: &mut Numbers, length: i64) -> i64 {
 pub fn wide(alloc: Global, numbers: &mut Numbers) -> Result<String, AllocError> {
     let width = numbers.next(200, 20);
     let height = numbers.next(20, 21);
-    let mut rows = String::new(alloc);
-    for column in 0u32..8 {
-        rows.push_str(wide_row(alloc, numbers, column)?.as_str())?;
-    }
+    let rows = field_rows(alloc, numbers, 8, 17)?;
     let sizes = format!(in alloc; "width = {width}\nheight = {height}\ndiameter = 4\n")?;
     scene(alloc, sizes.as_str(), 8, 60, rows.as_str())
 }
 
-fn wide_row(alloc: Global, numbers: &mut Numbers, column: u32) -> Result<String, AllocError> {
-    let x = i64::from(column)
-        .wrapping_mul(25)
-        .wrapping_add(numbers.next(2, 20));
-    let y = numbers.next(2, 17);
-    let (vx, vy) = (numbers.next(-4, 9), numbers.next(-4, 9));
-    format!(in alloc; "[{x}, {y}, {vx}, {vy}],")
-}
-
 /// The text of a scene of three rows of 24 disks in a box of 30 columns, up to tick 400; none is refused.
 pub fn crowd(alloc: Global, numbers: &mut Numbers) -> Result<String, AllocError> {
-    let mut rows = String::new(alloc);
-    for place in 0u32..72 {
-        rows.push_str(crowd_row(alloc, numbers, place)?.as_str())?;
-    }
+    let rows = field_rows(alloc, numbers, 72, 15)?;
     scene(
         alloc,
         "width = 600\nheight = 60\ndiameter = 4\n",
@@ -87,14 +74,38 @@ pub fn crowd(alloc: Global, numbers: &mut Numbers) -> Result<String, AllocError>
     )
 }
 
-// The row of the disk at a place, from 0 on: each has a field of 25 units by 20 of its own.
-fn crowd_row(alloc: Global, numbers: &mut Numbers, place: u32) -> Result<String, AllocError> {
+// Rows of disks, each of which has a field of its own, 25 units wide.
+fn field_rows(
+    alloc: Global,
+    numbers: &mut Numbers,
+    places: u32,
+    heights: u64,
+) -> Result<String, AllocError>
+    requires { 0 < heights }
+{
+    let mut rows = String::new(alloc);
+    for place in 0..places {
+        rows.push_str(field_row(alloc, numbers, place, heights)?.as_str())?;
+    }
+    Ok(rows)
+}
+
+// The row of the disk at a place, from 0 on: 24 fields side by side, and the next ones 20 units above them. In its field
+// the disk is at one of so many heights.
+fn field_row(
+    alloc: Global,
+    numbers: &mut Numbers,
+    place: u32,
+    heights: u64,
+) -> Result<String, AllocError>
+    requires { 0 < heights }
+{
     let x = i64::from(place % 24)
         .wrapping_mul(25)
         .wrapping_add(numbers.next(2, 20));
     let y = i64::from(place / 24)
         .wrapping_mul(20)
-        .wrapping_add(numbers.next(2, 15));
+        .wrapping_add(numbers.next(2, heights));
     let (vx, vy) = (numbers.next(-4, 9), numbers.next(-4, 9));
     format!(in alloc; "[{x}, {y}, {vx}, {vy}],")
 }
