@@ -1,0 +1,10 @@
+-- One that is spent is none, and another place isn't the next. That is said here, so that others are refused as soon as
+-- this fails.
+use Rattle.std.proofs.Common.{rules}
+use Rattle.region_locks.proofs.locks.is_next.Goals as goal
+
+pub returns-then-is_spent-clause-alive : goal.returns-then-is_spent-clause-alive
+returns-then-is_spent-clause-alive c = search rules
+
+pub returns-clause-place : goal.returns-clause-place
+returns-clause-place c = search rules
