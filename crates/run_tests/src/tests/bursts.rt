@@ -7,7 +7,7 @@ ghost use Rattle.local_run.specs.RunOn.{AreRunOn};
 
 use super::cases::{Case, expect};
 use super::scenes::valid_scene;
-use super::told::{Keeping, Told, expect_plain};
+use super::told::{Summing, Told, expect_plain, told_of};
 use cell_grid::MAX_REGIONS;
 use cell_sequence::CellState;
 use fixed_motion::Scene;
@@ -24,154 +24,83 @@ use test_scenes::{
     BOUNCING, FOUR_IN_A_ROW, LONG, MISLED, Numbers, ROLLED_BACK, USUAL, generated, scene_of,
 };
 
-// What is done to the regions in a burst.
+// What is done to the regions in a burst. What names a place where there is no region does nothing.
 #[derive(Clone, Copy)]
 enum Deed {
-    // Nothing.
-    Rest,
-    // The first two change places.
-    Swap,
-    // They are given back in the other order.
-    Reverse,
-    // All run on as far as workers let them, and then the first two change places.
-    RunAndSwap,
-    // All are spent.
-    Spend,
-    // The last one makes as many steps as a log has entries.
-    OneAhead,
-    // The regions of another state come in their place.
-    Replace,
-    // Steps and hearings in an order of no meaning; now and then some are swapped, spent or replaced.
-    Hostile,
+    // This call is made so many times.
+    Repeat(u32, CoreStep),
+    // Two regions change places.
+    Swap(u32, u32),
+    // A region is spent.
+    Spend(u32),
+    // The region of another state with its number comes in the place of one.
+    Replace(u32),
 }
 
-// Does a deed in each burst.
+// Does the same deeds in each burst.
 #[derive(Drop)]
-struct Tampering {
-    deed: Deed,
-    numbers: Numbers,
-    other: CellState,
+struct Tampering<'a> {
+    deeds: &'a [Deed],
+    other: &'a CellState,
 }
 
-impl Burst for Tampering {
+impl<'a> Burst for Tampering<'a> {
     fn burst<R: Threads + Wait + Sync>(
         &mut self,
         _rt: &R,
         alloc: Global,
         mut regions: Vec<Region>,
     ) -> Result<Vec<Region>, AllocError> {
-        self.tamper(alloc, &mut regions)?;
+        tamper(alloc, &mut regions, self.deeds, self.other)?;
         Ok(regions)
     }
 }
 
-// How many calls a hostile burst makes.
-const CALLS: u32 = 100;
-
-impl Tampering {
-    // Does a deed with the regions with which the run of the other scene begins.
-    fn new(alloc: Global, deed: Deed, other: &Scene, regions: u32) -> Result<Tampering, AllocError>
-        requires { IsAsked regions }
-    {
-        Ok(Tampering {
-            deed,
-            numbers: Numbers { state: 0 },
-            other: CellState::open(alloc, other, regions)?,
-        })
+fn tamper(
+    alloc: Global,
+    regions: &mut [Region],
+    deeds: &[Deed],
+    other: &CellState,
+) -> Result<(), AllocError> {
+    for &deed in deeds {
+        act(alloc, regions, deed, other)?;
     }
-
-    fn tamper(&mut self, alloc: Global, regions: &mut [Region]) -> Result<(), AllocError> {
-        match self.deed {
-            Deed::Rest => Ok(()),
-            Deed::Swap => Ok(swap(regions, 0, 1)),
-            Deed::Reverse => Ok(regions.reverse()),
-            Deed::RunAndSwap => run_and_swap(alloc, regions),
-            Deed::Spend => Ok(spend_all(regions)),
-            Deed::OneAhead => run_last(alloc, regions),
-            Deed::Replace => replace_all(alloc, regions, &self.other),
-            Deed::Hostile => self.make_calls(alloc, regions),
-        }
-    }
-
-    fn make_calls(&mut self, alloc: Global, regions: &mut [Region]) -> Result<(), AllocError> {
-        for _ in 0..CALLS {
-            let number = self.place_below(regions.len());
-            let from = self.place_below(regions.len());
-            self.make_call(alloc, regions, number, from)?;
-        }
-        Ok(())
-    }
-
-    // One of so many places; 0 where there is none.
-    fn place_below(&mut self, count: usize) -> usize {
-        let number = self.numbers.next(0, 1_024).unsigned_abs() as usize;
-        number.checked_rem(count).unwrap_or(0)
-    }
-
-    fn make_call(
-        &mut self,
-        alloc: Global,
-        regions: &mut [Region],
-        number: usize,
-        from: usize,
-    ) -> Result<(), AllocError> {
-        match self.numbers.next(0, 40) {
-            0 => Ok(swap(regions, number, from)),
-            1 => Ok(spend_one(regions.get_mut(number))),
-            2 => replace(alloc, regions.get_mut(number), &self.other),
-            draw => play_one(alloc, regions, core_step(draw, number, from)),
-        }
-    }
-}
-
-// A hearing in a third of the cases, and else a step.
-fn core_step(draw: i64, number: usize, from: usize) -> CoreStep {
-    let (number, from) = (number_of(number), number_of(from));
-    if draw < 16 {
-        CoreStep::Hear {
-            hearer: number,
-            from,
-        }
-    } else {
-        CoreStep::Turn(number)
-    }
-}
-
-// The number of a place; all places of tests are small.
-fn number_of(place: usize) -> u32 {
-    u32::try_from(place).unwrap_or(u32::MAX)
-}
-
-fn play_one(alloc: Global, regions: &mut [Region], step: CoreStep) -> Result<(), AllocError> {
-    play(alloc, regions, &[step])?;
     Ok(())
 }
 
-// Two of the regions change places, if there are so many.
+fn act(
+    alloc: Global,
+    regions: &mut [Region],
+    deed: Deed,
+    other: &CellState,
+) -> Result<(), AllocError> {
+    match deed {
+        Deed::Repeat(times, step) => repeat(alloc, regions, times, step),
+        Deed::Swap(first, second) => Ok(swap(regions, first as usize, second as usize)),
+        Deed::Spend(number) => Ok(spend(regions.get_mut(number as usize))),
+        Deed::Replace(number) => replace(alloc, regions.get_mut(number as usize), other),
+    }
+}
+
+fn repeat(
+    alloc: Global,
+    regions: &mut [Region],
+    times: u32,
+    step: CoreStep,
+) -> Result<(), AllocError> {
+    for _ in 0..times {
+        play(alloc, regions, &[step])?;
+    }
+    Ok(())
+}
+
 fn swap(regions: &mut [Region], first: usize, second: usize) {
     if first < regions.len() && second < regions.len() {
         regions.swap(first, second);
     }
 }
 
-// How many steps a region runs in a burst of the workers, and of those who swap two of them afterwards.
-const STEPS: u32 = 8;
-
-fn run_and_swap(alloc: Global, regions: &mut [Region]) -> Result<(), AllocError> {
-    for region in regions.iter_mut() {
-        region.run(alloc, STEPS)?;
-    }
-    swap(regions, 0, 1);
-    Ok(())
-}
-
-fn spend_all(regions: &mut [Region]) {
-    for region in regions {
-        spend_one(Some(region));
-    }
-}
-
-fn spend_one(region: Option<&mut Region>) {
+fn spend(region: Option<&mut Region>) {
     if let Some(region) = region {
         let (rules, grid) = (region.rules(), region.grid());
         let spent = Region::spent(region.number(), rules, grid, region.floor());
@@ -183,23 +112,6 @@ fn put(place: &mut Region, region: Region) {
     drop(mem::replace(place, region));
 }
 
-fn run_last(alloc: Global, regions: &mut [Region]) -> Result<(), AllocError> {
-    if let Some(region) = regions.last_mut() {
-        for _ in 0..4_096 {
-            region.step(alloc)?;
-        }
-    }
-    Ok(())
-}
-
-fn replace_all(alloc: Global, regions: &mut [Region], other: &CellState) -> Result<(), AllocError> {
-    for region in regions {
-        replace(alloc, Some(region), other)?;
-    }
-    Ok(())
-}
-
-// Puts the region with this number that is opened in the other state in the place of one.
 fn replace(
     alloc: Global,
     region: Option<&mut Region>,
@@ -215,21 +127,6 @@ fn replace(
     Ok(())
 }
 
-// What the run over so many regions tells, on which a burst works.
-fn told_over<B: Burst>(
-    rt: &(impl Threads + Wait + Sync),
-    alloc: Global,
-    scene: &Scene,
-    regions: u32,
-    burst: &mut B,
-) -> Result<Told, AllocError>
-    requires asked { IsAsked regions }
-{
-    let mut kept = Keeping::new(alloc);
-    let outcome = simulate(rt, alloc, scene, regions, burst, &mut kept);
-    Told::new(alloc, kept, outcome)
-}
-
 // What the run over so many regions tells, on which a burst works. Stops a test where the engine that looks at all
 // pairs tells something else.
 fn run_beside<B: Burst>(
@@ -243,64 +140,93 @@ fn run_beside<B: Burst>(
     requires asked { IsAsked regions }
 {
     let found = told_over(rt, alloc, scene, regions, burst)?;
-    expect_plain(rt, alloc, case, scene, &found)?;
+    expect_plain(rt, alloc, case, scene, found)?;
     Ok(found)
 }
 
+fn told_over<B: Burst>(
+    rt: &(impl Threads + Wait + Sync),
+    alloc: Global,
+    scene: &Scene,
+    regions: u32,
+    burst: &mut B,
+) -> Result<Told, AllocError>
+    requires asked { IsAsked regions }
+{
+    let mut listener = Summing::new();
+    let outcome = simulate(rt, alloc, scene, regions, burst, &mut listener);
+    told_of(&listener, &outcome)
+}
+
+// The sizes, the end and the disks of a scene.
+type Sketch = (&'static str, u32, &'static str);
+
+// How many changes the run of a scene over so many regions tells, to which this is done in each burst, and whether who
+// does it says that it keeps them. Stops a test where the run tells something else than the plain one.
+fn run_under(
+    rt: &(impl Threads + Wait + Sync + Abort),
+    alloc: Global,
+    case: Case<'_>,
+    scene: &Scene,
+    other: &CellState,
+    regions: u32,
+    deeds: &[Deed],
+) -> Result<(usize, bool), AllocError>
+    requires { IsAsked regions }
+{
+    let mut burst = Tampering { deeds, other };
+    let told = run_beside(rt, alloc, case, scene, regions, &mut burst)?;
+    Ok((told.0.0, burst.keeps()))
+}
+
+// The same of a scene that is opened; the other state is the start of the same disks with a later end.
+fn count_under(
+    rt: &(impl Threads + Wait + Sync + Abort),
+    alloc: Global,
+    number: usize,
+    sketch: Sketch,
+    regions: u32,
+    deeds: &[Deed],
+) -> Result<(usize, bool), AllocError>
+    requires { IsAsked regions }
+{
+    let (sizes, end, disks) = sketch;
+    let other = state_of(rt, alloc, (sizes, end.wrapping_add(1), disks), regions)?;
+    let scene = valid_scene(rt, alloc, sizes, 8, end, disks)?;
+    run_under(rt, alloc, (number, disks), &scene, &other, regions, deeds)
+}
+
+fn state_of(
+    rt: &impl Abort,
+    alloc: Global,
+    sketch: Sketch,
+    regions: u32,
+) -> Result<CellState, AllocError>
+    requires { IsAsked regions }
+{
+    let (sizes, end, disks) = sketch;
+    let scene = valid_scene(rt, alloc, sizes, 8, end, disks)?;
+    CellState::open(alloc, &scene, regions)
+}
+
+const FOUR: Sketch = (LONG, 40, FOUR_IN_A_ROW);
+
 // How many regions there are of the four disks' scene, and what is done to them.
-type DeedRow = (u32, Deed);
+type DeedRow = (u32, &'static [Deed]);
 
 fn expect_rows(
     rt: &(impl Threads + Wait + Sync + Abort),
     alloc: Global,
     rows: &[DeedRow],
 ) -> Result<(), AllocError> {
-    let scene = valid_scene(rt, alloc, LONG, 8, 40, FOUR_IN_A_ROW)?;
-    for (number, &row) in rows.iter().enumerate() {
-        expect_row(rt, alloc, number, row, &scene)?;
+    for (number, &(regions, deeds)) in rows.iter().enumerate() {
+        assert!(rt; 1 <= regions && regions <= MAX_REGIONS, "{regions} regions");
+        count_under(rt, alloc, number, FOUR, regions, deeds)?;
     }
     Ok(())
 }
 
-fn expect_row(
-    rt: &(impl Threads + Wait + Sync + Abort),
-    alloc: Global,
-    number: usize,
-    (regions, deed): DeedRow,
-    scene: &Scene,
-) -> Result<(), AllocError> {
-    assert!(rt; 1 <= regions && regions <= MAX_REGIONS, "{regions} regions");
-    let mut burst = tampering_of(rt, alloc, deed, regions)?;
-    run_beside(
-        rt,
-        alloc,
-        (number, FOUR_IN_A_ROW),
-        scene,
-        regions,
-        &mut burst,
-    )?;
-    Ok(())
-}
-
-// Does this deed; the other scene is that of the four disks with a later end.
-fn tampering_of(
-    rt: &impl Abort,
-    alloc: Global,
-    deed: Deed,
-    regions: u32,
-) -> Result<Tampering, AllocError>
-    requires { IsAsked regions }
-{
-    let other = valid_scene(rt, alloc, LONG, 8, 41, FOUR_IN_A_ROW)?;
-    Tampering::new(alloc, deed, &other, regions)
-}
-
-const RESTING: &[DeedRow] = &[
-    (1, Deed::Rest),
-    (2, Deed::Rest),
-    (4, Deed::Rest),
-    (20, Deed::Rest),
-];
+const RESTING: &[DeedRow] = &[(1, &[]), (2, &[]), (4, &[]), (20, &[])];
 
 #[test]
 fn regions_that_rest_tell_the_plain_run(rt: HostRuntime) -> Result<(), Fail> {
@@ -309,10 +235,19 @@ fn regions_that_rest_tell_the_plain_run(rt: HostRuntime) -> Result<(), Fail> {
 }
 
 const MOVED_OR_LOST: &[DeedRow] = &[
-    (4, Deed::Swap),
-    (4, Deed::Reverse),
-    (4, Deed::Spend),
-    (4, Deed::OneAhead),
+    (4, &[Deed::Swap(0, 1)]),
+    (4, &[Deed::Swap(0, 3), Deed::Swap(1, 2)]),
+    (
+        4,
+        &[
+            Deed::Spend(0),
+            Deed::Spend(1),
+            Deed::Spend(2),
+            Deed::Spend(3),
+        ],
+    ),
+    // As many steps as a log has entries.
+    (4, &[Deed::Repeat(4_096, CoreStep::Turn(3))]),
 ];
 
 #[test]
@@ -321,19 +256,41 @@ fn regions_that_are_moved_or_lost_tell_the_plain_run(rt: HostRuntime) -> Result<
     Ok(())
 }
 
+const REPLACED: &[DeedRow] = &[(
+    4,
+    &[
+        Deed::Replace(0),
+        Deed::Replace(1),
+        Deed::Replace(2),
+        Deed::Replace(3),
+    ],
+)];
+
 #[test]
 fn regions_of_another_scene_tell_the_plain_run(rt: HostRuntime) -> Result<(), Fail> {
-    expect_rows(&rt, rt.alloc(), &[(4, Deed::Replace)])?;
+    expect_rows(&rt, rt.alloc(), REPLACED)?;
     Ok(())
 }
+
+// How many steps a region runs in a burst of the workers, and of those who swap two of them afterwards.
+const STEPS: u32 = 8;
+
+const RUN_AND_SWAPPED: &[Deed] = &[
+    Deed::Repeat(STEPS, CoreStep::Turn(0)),
+    Deed::Repeat(STEPS, CoreStep::Turn(1)),
+    Deed::Repeat(STEPS, CoreStep::Turn(2)),
+    Deed::Repeat(STEPS, CoreStep::Turn(3)),
+    Deed::Swap(0, 1),
+];
 
 // Whether workers say that they keep the four regions over which a run tells what the plain one does.
 fn workers_keep<R: Threads + Wait + Sync + Abort>(
     rt: &R,
     alloc: Global,
-    case: Case<'_>,
-    scene: &Scene,
+    number: usize,
+    (sizes, end, disks): Sketch,
 ) -> Result<bool, AllocError> {
+    let scene = valid_scene(rt, alloc, sizes, 8, end, disks)?;
     let workers = Workers {
         workers: 2,
         turns: 1,
@@ -343,8 +300,8 @@ fn workers_keep<R: Threads + Wait + Sync + Abort>(
     call_keeps(
         rt,
         alloc,
-        case,
-        scene,
+        (number, disks),
+        &scene,
         |regions: Vec<Region>| -> Result<Vec<Region>, AllocError>
             requires { AreTogether regions.items }
             ensures { IfOk result (λ worked. (length worked.items ≡ length regions.items)
@@ -367,22 +324,7 @@ fn call_keeps<C: Call + Drop>(
     Ok(burst.keeps())
 }
 
-// The same of those who run the regions in one thread and then swap two of them.
-fn swapping_keeps(
-    rt: &(impl Threads + Wait + Sync + Abort),
-    alloc: Global,
-    case: Case<'_>,
-    scene: &Scene,
-) -> Result<bool, AllocError> {
-    let mut burst = Tampering::new(alloc, Deed::RunAndSwap, scene, 4)?;
-    run_beside(rt, alloc, case, scene, 4, &mut burst)?;
-    Ok(burst.keeps())
-}
-
-// The end and the disks of scenes.
-type KeptRow = (u32, &'static str);
-
-const KEPT_OR_SWAPPED: &[KeptRow] = &[(40, FOUR_IN_A_ROW), (20, ROLLED_BACK)];
+const KEPT_OR_SWAPPED: &[Sketch] = &[FOUR, (LONG, 20, ROLLED_BACK)];
 
 // Of workers the regions are taken over as they come, and of those who swap them only where they stand; nobody who
 // is told of the run sees a difference.
@@ -400,39 +342,19 @@ fn keep_and_swap<R: Threads + Wait + Sync + Abort>(
     rt: &R,
     alloc: Global,
     number: usize,
-    (end, disks): KeptRow,
+    sketch: Sketch,
 ) -> Result<(bool, bool), AllocError> {
-    let scene = valid_scene(rt, alloc, LONG, 8, end, disks)?;
-    let workers = workers_keep(rt, alloc, (number, disks), &scene)?;
-    let swapping = swapping_keeps(rt, alloc, (number, disks), &scene)?;
+    let workers = workers_keep(rt, alloc, number, sketch)?;
+    let (_, swapping) = count_under(rt, alloc, number, sketch, 4, RUN_AND_SWAPPED)?;
     Ok((workers, swapping))
 }
 
 // It hits a side at every other tick.
 #[test]
 fn a_long_run_of_one_region_tells_the_plain_run(rt: HostRuntime) -> Result<(), Fail> {
-    let found = count_of_bouncing(&rt, rt.alloc())?;
+    let (found, _) = count_under(&rt, rt.alloc(), 0, (USUAL, 10_000, BOUNCING), 1, &[])?;
     expect(&rt, BOUNCING, found, 5_000);
     Ok(())
-}
-
-fn count_of_bouncing(
-    rt: &(impl Threads + Wait + Sync + Abort),
-    alloc: Global,
-) -> Result<usize, AllocError> {
-    let scene = valid_scene(rt, alloc, USUAL, 8, 10_000, BOUNCING)?;
-    let told = told_at_rest(rt, alloc, &scene)?;
-    Ok(told.changes.len())
-}
-
-// What the run over one region tells with which nothing is done.
-fn told_at_rest(
-    rt: &(impl Threads + Wait + Sync + Abort),
-    alloc: Global,
-    scene: &Scene,
-) -> Result<Told, AllocError> {
-    let mut burst = Tampering::new(alloc, Deed::Rest, scene, 1)?;
-    run_beside(rt, alloc, (0, BOUNCING), scene, 1, &mut burst)
 }
 
 // The calls of a script: how often each one is made, one after the other.
@@ -490,8 +412,7 @@ fn count_of_script(
     &(disks, end, calls, _): &ScriptRow,
 ) -> Result<usize, AllocError> {
     let scene = valid_scene(rt, alloc, LONG, 8, end, disks)?;
-    let told = told_by_script(rt, alloc, (number, disks), &scene, calls)?;
-    Ok(told.changes.len())
+    told_by_script(rt, alloc, (number, disks), &scene, calls)
 }
 
 fn told_by_script(
@@ -500,10 +421,26 @@ fn told_by_script(
     case: Case<'_>,
     scene: &Scene,
     calls: &[Calls],
-) -> Result<Told, AllocError> {
+) -> Result<usize, AllocError> {
     let mut burst = script(alloc, calls)?;
-    run_beside(rt, alloc, case, scene, 4, &mut burst)
+    Ok(run_beside(rt, alloc, case, scene, 4, &mut burst)?.0.0)
 }
+
+// Steps and hearings in an order of no meaning; some regions are swapped, spent or replaced.
+const HOSTILE: &[Deed] = &[
+    Deed::Repeat(3, CoreStep::Turn(2)),
+    Deed::Repeat(1, CoreStep::Hear { hearer: 1, from: 2 }),
+    Deed::Repeat(5, CoreStep::Turn(1)),
+    Deed::Spend(3),
+    Deed::Repeat(1, CoreStep::Hear { hearer: 0, from: 1 }),
+    Deed::Repeat(2, CoreStep::Turn(0)),
+    Deed::Swap(1, 2),
+    Deed::Repeat(4, CoreStep::Turn(1)),
+    Deed::Repeat(1, CoreStep::Hear { hearer: 2, from: 1 }),
+    Deed::Replace(0),
+    Deed::Repeat(9, CoreStep::Turn(0)),
+    Deed::Repeat(1, CoreStep::Hear { hearer: 3, from: 0 }),
+];
 
 // How many generated scenes are run; others are refused.
 const GENERATED: u64 = 20;
@@ -544,8 +481,8 @@ fn run_hostile(
     scene: &Scene,
     found: u64,
 ) -> Result<bool, AllocError> {
-    let mut burst = Tampering::new(alloc, Deed::Hostile, scene, 4)?;
-    burst.numbers.state = found.wrapping_add(1);
-    run_beside(rt, alloc, (found as usize, text), scene, 4, &mut burst)?;
+    let other = CellState::open(alloc, scene, 4)?;
+    let case = (found as usize, text);
+    run_under(rt, alloc, case, scene, &other, 4, HOSTILE)?;
     Ok(true)
 }

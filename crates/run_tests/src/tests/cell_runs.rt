@@ -4,11 +4,11 @@ ghost use Rattle.cell_grid.specs.Grid.{IsAsked};
 
 use super::cases::{Case, expect};
 use super::scenes::valid_scene;
-use super::told::{Told, expect_plain};
+use super::told::{Summing, Told, expect_plain, with_spot};
 use cell_sequence::CellState;
 use event_rules::{Limit, Spot};
 use fixed_motion::{Disk, Scene};
-use region_view::Action;
+use region_view::{Action, Placed};
 use std::alloc::{AllocError, Global};
 use std::process::Abort;
 use std::test::Fail;
@@ -18,37 +18,31 @@ use test_scenes::{FOUR_IN_A_ROW, LONG, ROLLED_BACK, USUAL};
 const MOST_ACTIONS: u32 = 10_000;
 
 // How many crossings a cell run has, and what else it comes to.
-#[derive(Drop)]
-struct CellRun {
-    crossings: u32,
-    told: Told,
-}
+type CellRun = (u32, Told);
 
 fn cell_run(alloc: Global, scene: &Scene, regions: u32) -> Result<CellRun, AllocError>
     requires { IsAsked regions }
 {
-    let mut crossings: u32 = 0;
-    let mut changes = Vec::new(alloc);
     let mut state = CellState::open(alloc, scene, regions)?;
-    let mut limit = None;
+    Ok(run_through(&mut state, scene.rules.end))
+}
+
+// Runs a state on to the end, or to the limit that the next event passes.
+fn run_through(state: &mut CellState, end: u64) -> CellRun {
+    let mut crossings: u32 = 0;
+    let mut hits = Summing::new();
     for _ in 0..MOST_ACTIONS {
-        match next_action(&mut state) {
+        match next_action(state) {
             None => break,
             Some(Ok(Action::Cross { .. })) => crossings = crossings.wrapping_add(1),
-            Some(Ok(Action::Hit(change))) => changes.push(change)?,
-            Some(Err(passed)) => {
-                limit = Some(passed);
-                break;
-            }
+            Some(Ok(Action::Hit(change))) => hits.add(&change),
+            Some(Err(passed)) => return (crossings, (hits.changes(), Some(passed), 0)),
         }
     }
-    let spots = spots_of(alloc, &state, limit, scene.rules.end)?;
-    let told = Told {
-        changes,
-        limit,
-        spots,
-    };
-    Ok(CellRun { crossings, told })
+    (
+        crossings,
+        (hits.changes(), None, sum_at(state.placed(), end)),
+    )
 }
 
 // The next action, or the limit that it passes; none where nothing is left to be done.
@@ -59,20 +53,13 @@ fn next_action(state: &mut CellState) -> Option<Result<Action, Limit>> {
     }
 }
 
-// Where all disks are in the end, of a run that came to it.
-fn spots_of(
-    alloc: Global,
-    state: &CellState,
-    limit: Option<Limit>,
-    end: u64,
-) -> Result<Vec<Spot>, AllocError> {
-    let mut spots = Vec::new(alloc);
-    if limit.is_none() {
-        for row in state.placed() {
-            spots.push(spot_at(&row.disk, end))?;
-        }
+// The sum of where all disks are at a tick.
+fn sum_at(rows: &[Placed], tick: u64) -> i64 {
+    let mut sum = 0;
+    for row in rows {
+        sum = with_spot(sum, &spot_at(&row.disk, tick));
     }
-    Ok(spots)
+    sum
 }
 
 // The numbers are small, so nothing wraps, and nothing has to be proved of it.
@@ -118,8 +105,8 @@ fn counts_of(
     &(sizes, rounds, end, disks, _): &RunRow,
 ) -> Result<(u32, usize), AllocError> {
     let scene = valid_scene(rt, alloc, sizes, rounds, end, disks)?;
-    let run = run_beside(rt, alloc, (number, disks), &scene, 4)?;
-    Ok((run.crossings, run.told.changes.len()))
+    let (crossings, told) = run_beside(rt, alloc, (number, disks), &scene, 4)?;
+    Ok((crossings, told.0.0))
 }
 
 // The cell run of a scene, which has to come to what the engine that looks at all pairs tells.
@@ -133,6 +120,6 @@ fn run_beside(
     requires { IsAsked regions }
 {
     let run = cell_run(alloc, scene, regions)?;
-    expect_plain(rt, alloc, case, scene, &run.told)?;
+    expect_plain(rt, alloc, case, scene, run.1)?;
     Ok(run)
 }

@@ -4,7 +4,7 @@ use super::cases::expect;
 use super::scenes::valid_scene;
 use event_rules::{Change, Deaf, Listener, RunFault};
 use fixed_motion::Scene;
-use region_core::{Burst, Region, Step};
+use region_core::{Burst, Region};
 use run_core::simulate;
 use std::alloc::{AllocError, Global};
 use std::process::Abort;
@@ -144,11 +144,7 @@ impl Burst for Counting {
     ) -> Result<Vec<Region>, AllocError> {
         self.calls = self.calls.wrapping_add(1);
         if let Some(region) = regions.first_mut() {
-            for _ in 0..4_096 {
-                if region.step(alloc)? == Step::Idle {
-                    break;
-                }
-            }
+            region.run(alloc, 4_096)?;
         }
         Ok(regions)
     }

@@ -1,33 +1,54 @@
 //! What a run tells, and how it ends.
 //!
 //! A report is a function of the scene, of the changes of its run and of how that ends: runs that come to the same
-//! have the same report.
+//! have the same report. Changes and disks are summed up as they come, in order, so that none has to be kept.
 
 use super::cases::{Case, expect};
 use all_pairs::simulate_plain;
 use event_rules::{Change, Deaf, Limit, Listener, Outcome, RunFault, Spot};
-use fixed_motion::Scene;
+use fixed_motion::{Disk, Scene};
 use std::alloc::{AllocError, Global};
 use std::process::Abort;
 
-/// Keeps the changes that it is told.
+/// How many changes a run told, the last of them, and the sum of all.
+pub type Changes = (usize, Option<Change>, i64);
+
+/// The changes of a run, the limit at which it ended, if it did at one, and else the sum of where all disks are in the
+/// end.
+pub type Told = (Changes, Option<Limit>, i64);
+
+/// Sums up the changes that it is told.
 #[derive(Drop)]
-pub struct Keeping {
-    changes: Vec<Change>,
-    faults: u64,
+pub struct Summing {
+    count: usize,
+    last: Option<Change>,
+    sum: i64,
 }
 
-impl Keeping {
+impl Summing {
     /// A listener that was told nothing.
-    pub fn new(alloc: Global) -> Keeping {
-        Keeping {
-            changes: Vec::new(alloc),
-            faults: 0,
+    pub fn new() -> Summing {
+        Summing {
+            count: 0,
+            last: None,
+            sum: 0,
         }
+    }
+
+    /// One change more.
+    pub fn add(&mut self, change: &Change) {
+        self.count = self.count.wrapping_add(1);
+        self.last = Some(*change);
+        self.sum = with_change(self.sum, change);
+    }
+
+    /// What it was told.
+    pub fn changes(&self) -> Changes {
+        (self.count, self.last, self.sum)
     }
 }
 
-impl Listener for Keeping {
+impl Listener for Summing {
     ghost use Rattle.std.specs.Prelude.{None};
 
     ghost Meaning = { Unit {0} };
@@ -38,52 +59,75 @@ impl Listener for Keeping {
 
     ghost meaning = { λ _. None };
 
-    ghost faults = { λ keeping. keeping.faults };
+    ghost faults = { λ _. 0 };
 
     fn faults(&self) -> u64 {
-        self.faults
+        0
     }
 
     fn event(&mut self, change: &Change) -> Result<(), Deaf> {
-        if self.changes.push(*change).is_err() {
-            self.faults = self.faults.saturating_add(1);
-            return Err(Deaf);
-        }
+        self.add(change);
         Ok(())
     }
 }
 
-/// The changes of a run, the limit at which it ended, if it did at one, and else where all disks are in the end.
-#[derive(Drop)]
-pub struct Told {
-    pub changes: Vec<Change>,
-    pub limit: Option<Limit>,
-    pub spots: Vec<Spot>,
+fn with_change(sum: i64, change: &Change) -> i64 {
+    let stamp = &change.stamp;
+    let numbers = [
+        stamp.tick.cast_signed(),
+        i64::from(stamp.round),
+        i64::from(stamp.first),
+        i64::from(stamp.second),
+    ];
+    let sum = with_disk(with_all(sum, &numbers), &change.first);
+    match &change.second {
+        Some(disk) => with_disk(sum, disk),
+        None => sum,
+    }
 }
 
-impl Told {
-    /// What a listener was told in a run that came to this.
-    pub fn new(
-        alloc: Global,
-        kept: Keeping,
-        outcome: Result<Outcome, RunFault>,
-    ) -> Result<Told, AllocError> {
-        let changes = kept.changes;
-        match outcome {
-            Ok(Outcome::Done(state)) => Ok(Told {
-                changes,
-                limit: None,
-                spots: Vec::from_slice(alloc, state.as_slice())?,
-            }),
-            Ok(Outcome::Limit(limit)) => Ok(Told {
-                changes,
-                limit: Some(limit),
-                spots: Vec::new(alloc),
-            }),
-            // Only for want of memory does `Keeping` refuse a change.
-            Err(_) => Err(AllocError),
-        }
+fn with_disk(sum: i64, disk: &Disk) -> i64 {
+    let base = disk.base.cast_signed();
+    let mark = i64::from(disk.mark);
+    with_all(
+        sum,
+        &[disk.x, disk.y, disk.vx, disk.vy, disk.size, base, mark],
+    )
+}
+
+/// The sum where a disk more is in the end.
+pub fn with_spot(sum: i64, spot: &Spot) -> i64 {
+    with_all(sum, &[spot.x, spot.y, spot.vx, spot.vy])
+}
+
+// The sum with numbers more, of which the order counts.
+fn with_all(sum: i64, numbers: &[i64]) -> i64 {
+    let mut sum = sum;
+    for number in numbers {
+        sum = sum.wrapping_mul(1_099_511_628_211).wrapping_add(*number);
     }
+    sum
+}
+
+/// What a listener was told in a run that came to this.
+pub fn told_of(
+    listener: &Summing,
+    outcome: &Result<Outcome, RunFault>,
+) -> Result<Told, AllocError> {
+    match outcome {
+        Ok(Outcome::Done(state)) => Ok((listener.changes(), None, sum_of(state.as_slice()))),
+        Ok(Outcome::Limit(limit)) => Ok((listener.changes(), Some(*limit), 0)),
+        // Only for want of memory is a run cut short to which `Summing` listens.
+        Err(_) => Err(AllocError),
+    }
+}
+
+fn sum_of(spots: &[Spot]) -> i64 {
+    let mut sum = 0;
+    for spot in spots {
+        sum = with_spot(sum, spot);
+    }
+    sum
 }
 
 /// Stops a test where a run of a scene told something else than the engine that looks at all pairs tells.
@@ -92,41 +136,15 @@ pub fn expect_plain(
     alloc: Global,
     case: Case<'_>,
     scene: &Scene,
-    found: &Told,
+    found: Told,
 ) -> Result<(), AllocError> {
     let want = told_plainly(alloc, scene)?;
-    expect_same(rt, case, found, &want);
+    expect(rt, case, found, want);
     Ok(())
 }
 
 fn told_plainly(alloc: Global, scene: &Scene) -> Result<Told, AllocError> {
-    let mut kept = Keeping::new(alloc);
-    let outcome = simulate_plain(alloc, scene, &mut kept);
-    Told::new(alloc, kept, outcome)
-}
-
-// Stops a test at the first change that differs or that one of the two has alone, or where the ends differ.
-fn expect_same(rt: &impl Abort, case: Case<'_>, found: &Told, want: &Told) {
-    let place = first_difference(&found.changes, &want.changes);
-    let (found, want) = (seen_at(found, place), seen_at(want, place));
-    expect(rt, (case, "change", place), found, want);
-}
-
-// How many changes two runs have in common from the first one on.
-fn first_difference(found: &[Change], want: &[Change]) -> usize {
-    let mut place: usize = 0;
-    for (found, want) in found.iter().zip(want) {
-        if found != want {
-            break;
-        }
-        place = place.wrapping_add(1);
-    }
-    place
-}
-
-// The change of a run at a place, the limit at which it ended, and where the disks are in the end.
-type Seen<'a> = (Option<&'a Change>, Option<Limit>, &'a [Spot]);
-
-fn seen_at(told: &Told, place: usize) -> Seen<'_> {
-    (told.changes.get(place), told.limit, told.spots.as_slice())
+    let mut listener = Summing::new();
+    let outcome = simulate_plain(alloc, scene, &mut listener);
+    told_of(&listener, &outcome)
 }
