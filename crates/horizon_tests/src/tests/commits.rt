@@ -3,12 +3,11 @@
 ghost use Rattle.std.specs.Prelude.{◌<◌};
 ghost use Rattle.cell_grid.specs.Grid.{IsAsked};
 
-use super::opened::{act, expect};
+use super::opened::{Call, expect, regions_after};
 use cell_grid::MAX_REGIONS;
 use cell_sequence::CellState;
 use commit_horizon::{Batch, Committed};
 use fixed_motion::Scene;
-use region_core::Region;
 use region_view::Action;
 use std::alloc::{AllocError, Global};
 use std::test::Fail;
@@ -18,7 +17,7 @@ use test_scenes::{Numbers, scene_of, wide};
 // the columns of a scene.
 const DRAWN: &[(u64, u32)] = &[(1, 1), (2, 2), (3, 4), (4, MAX_REGIONS), (7, MAX_REGIONS)];
 
-const COMMITS: u32 = 6;
+const COMMITS: u32 = 24;
 
 // How many calls are made before each commit.
 const CALLS: u32 = 300;
@@ -100,57 +99,46 @@ fn commits_beside(
         same: 0,
         other: None,
     };
-    let mut regions = committed.open_all(alloc)?;
     for _ in 0..COMMITS {
-        make_calls(alloc, &mut regions, numbers)?;
-        regions = commit(alloc, committed, regions, sequence, &mut commits)?;
+        let batch = batch_drawn(alloc, committed, numbers)?;
+        commits.add(sequence, &batch);
     }
     Ok((commits.same.min(LEAST_COMMITTED), commits.other))
 }
 
-// Lets the regions step, and hear others near them, in an order of no meaning; two of three calls are steps.
-fn make_calls(
+// What a commit makes final after calls that are drawn.
+fn batch_drawn(
     alloc: Global,
-    regions: &mut [Region],
+    committed: &mut Committed,
     numbers: &mut Numbers,
-) -> Result<(), AllocError> {
+) -> Result<Batch, AllocError> {
+    let calls = drawn(alloc, numbers, committed.state().grid().regions() as usize)?;
+    let mut regions = regions_after(alloc, committed, &calls)?;
+    committed.commit(alloc, &mut regions)
+}
+
+// Steps and hearings of regions near each other, in an order of no meaning; two of three calls are steps.
+fn drawn(alloc: Global, numbers: &mut Numbers, regions: usize) -> Result<Vec<Call>, AllocError> {
+    let mut calls = Vec::new(alloc);
     for _ in 0..CALLS {
-        let place = place_below(numbers, regions.len());
-        let from = place
-            .saturating_add(place_below(numbers, 5))
-            .saturating_sub(2);
-        let is_step = numbers.next(0, 3) > 0;
-        act(
-            alloc,
-            regions,
-            place,
-            if is_step { None } else { Some(from) },
-        )?;
+        calls.push(drawn_call(numbers, regions))?;
     }
-    Ok(())
+    Ok(calls)
+}
+
+fn drawn_call(numbers: &mut Numbers, regions: usize) -> Call {
+    let place = place_below(numbers, regions);
+    let from = place
+        .saturating_add(place_below(numbers, 5))
+        .saturating_sub(2);
+    let is_step = numbers.next(0, 3) > 0;
+    (1, place, if is_step { None } else { Some(from) })
 }
 
 // One of so many places; 0 where there is none.
 fn place_below(numbers: &mut Numbers, count: usize) -> usize {
     let number = numbers.next(0, 1_024).unsigned_abs() as usize;
     number.checked_rem(count).unwrap_or(0)
-}
-
-// The regions after a commit; what it made final is compared.
-fn commit(
-    alloc: Global,
-    committed: &mut Committed,
-    given: Vec<Region>,
-    sequence: &mut CellState,
-    commits: &mut Commits,
-) -> Result<Vec<Region>, AllocError> {
-    if given.len() != committed.state().grid().regions() as usize {
-        return Ok(given);
-    }
-    let mut regions = committed.adopt_all(alloc, given)?;
-    let batch = committed.commit(alloc, regions.as_mut_slice())?;
-    commits.add(sequence, &batch);
-    Ok(regions)
 }
 
 #[test]

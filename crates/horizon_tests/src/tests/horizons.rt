@@ -2,7 +2,7 @@
 
 ghost use Rattle.commit_horizon.specs.Horizon.{AllStand};
 
-use super::opened::{act, committed_of, expect};
+use super::opened::{Call, committed_of, expect, regions_after};
 use commit_horizon::Committed;
 use event_stamps::{Kind, Stamp};
 use region_core::Region;
@@ -13,9 +13,6 @@ use test_scenes::ROLLED_BACK;
 
 // A tick, a round, a kind and two numbers.
 type Key = (u64, u32, Kind, u32, u32);
-
-// How often a region, by number, steps or hears another one.
-type Call = (u32, usize, Option<usize>);
 
 // Disk 1 hits ten sides in region 1, region 2 hears of it, and disk 0 comes into region 0's last column.
 const UNHEARD: &[Call] = &[(10, 1, None), (1, 2, Some(1)), (10, 2, None), (1, 0, None)];
@@ -70,19 +67,8 @@ fn found_after(alloc: Global, calls: &[Call]) -> Result<Option<Found>, AllocErro
 }
 
 fn found_by(alloc: Global, committed: &mut Committed, calls: &[Call]) -> Result<Found, AllocError> {
-    let mut regions = committed.open_all(alloc)?;
-    make_calls(alloc, &mut regions, calls)?;
-    let mut regions = committed.adopt_all(alloc, regions)?;
+    let mut regions = regions_after(alloc, committed, calls)?;
     found_in(alloc, committed, &mut regions)
-}
-
-fn make_calls(alloc: Global, regions: &mut [Region], calls: &[Call]) -> Result<(), AllocError> {
-    for &(times, place, from) in calls {
-        for _ in 0..times {
-            act(alloc, regions, place, from)?;
-        }
-    }
-    Ok(())
 }
 
 fn found_in(

@@ -1,6 +1,8 @@
 //! Committed states at the start, calls on regions, and how what is found is compared.
 
+ghost use Rattle.std.specs.Prelude.{IfOk};
 ghost use Rattle.cell_grid.specs.Grid.{IsAsked};
+ghost use Rattle.commit_horizon.specs.Horizon.{AllStand};
 
 use commit_horizon::Committed;
 use region_core::Region;
@@ -35,8 +37,33 @@ pub fn committed_of(
     }
 }
 
-/// Lets the region at a place hear the one at another, or step where there is no other.
-pub fn act(
+/// How often a region, by number, steps or hears another one.
+pub type Call = (u32, usize, Option<usize>);
+
+/// The regions of a committed state after some calls; they still stand on it.
+pub fn regions_after(
+    alloc: Global,
+    committed: &Committed,
+    calls: &[Call],
+) -> Result<Vec<Region>, AllocError>
+    ensures { IfOk result (λ regions. AllStand committed.now regions.items) }
+{
+    let mut regions = committed.open_all(alloc)?;
+    make_calls(alloc, &mut regions, calls)?;
+    committed.adopt_all(alloc, regions)
+}
+
+fn make_calls(alloc: Global, regions: &mut [Region], calls: &[Call]) -> Result<(), AllocError> {
+    for &(times, place, from) in calls {
+        for _ in 0..times {
+            act(alloc, regions, place, from)?;
+        }
+    }
+    Ok(())
+}
+
+// Lets the region at a place hear the one at another, or step where there is no other.
+fn act(
     alloc: Global,
     regions: &mut [Region],
     place: usize,

@@ -4,6 +4,7 @@ ghost use Rattle.cell_grid.specs.Grid.{IsRegion};
 
 use super::opened::{committed_of, expect};
 use cell_grid::MAX_REGIONS;
+use cell_sequence::CellState;
 use commit_horizon::{Adopted, Committed};
 use event_stamps::{Kind, Stamp};
 use region_core::{Differs, Region};
@@ -39,7 +40,7 @@ const TOP: Stamp = Stamp {
 enum Form {
     Opened,
     Spent,
-    // A commit raised its floor.
+    // A commit raised the floor of the state in which it was opened.
     Raised,
 }
 
@@ -115,36 +116,48 @@ fn given_region(
     let Some(mut committed) = committed_of(alloc, disks, end, asked)? else {
         return Ok(None);
     };
-    let regions = regions_of(alloc, &mut committed, matches!(form, Form::Raised))?;
-    Ok(picked(regions, number, form))
-}
-
-// The regions of a committed state, after a commit where their floors are to be raised.
-fn regions_of(
-    alloc: Global,
-    committed: &mut Committed,
-    are_raised: bool,
-) -> Result<Vec<Region>, AllocError> {
-    let mut regions = committed.open_all(alloc)?;
-    if are_raised {
-        committed.commit(alloc, regions.as_mut_slice())?;
+    if matches!(form, Form::Raised) {
+        raise(alloc, &mut committed)?;
     }
-    Ok(regions)
+    region_of(alloc, committed.state(), number, form)
 }
 
-// The region of a number, in a form.
-fn picked(regions: Vec<Region>, number: u32, form: Form) -> Option<Region> {
+// A commit of what regions did that did nothing: the floor is raised to what is due first.
+fn raise(alloc: Global, committed: &mut Committed) -> Result<(), AllocError> {
+    let mut regions = committed.open_all(alloc)?;
+    committed.commit(alloc, &mut regions)?;
+    Ok(())
+}
+
+// The region of a number that is opened in a state, in a form; none where there is no such one.
+fn region_of(
+    alloc: Global,
+    state: &CellState,
+    number: u32,
+    form: Form,
+) -> Result<Option<Region>, AllocError> {
+    if number >= state.grid().regions() {
+        return Ok(None);
+    }
+    let region = Region::open(alloc, state, number)?;
+    Ok(Some(formed(region, form)))
+}
+
+fn formed(region: Region, form: Form) -> Region {
     match form {
-        Form::Spent => spent(regions.get(number as usize)),
-        Form::Opened | Form::Raised => regions.into_iter().nth(number as usize),
+        Form::Spent => {
+            let spent = spent(&region);
+            drop(region);
+            spent
+        }
+        Form::Opened | Form::Raised => region,
     }
 }
 
 // The same region, spent.
-fn spent(region: Option<&Region>) -> Option<Region> {
-    let region = region?;
+fn spent(region: &Region) -> Region {
     let (rules, grid) = (region.rules(), region.grid());
-    Some(Region::spent(region.number(), rules, grid, region.floor()))
+    Region::spent(region.number(), rules, grid, region.floor())
 }
 
 // What is found where a region is to be adopted; none where there is no region or no such place.
