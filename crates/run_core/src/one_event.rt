@@ -2,7 +2,6 @@
 
 ghost use Rattle.std.specs.Prelude.{◌≡◌, ◌<◌, length, map, IfOk, OnOk};
 ghost use Rattle.cell_grid.specs.Grid.{IsRegion};
-ghost use Rattle.region_messages.specs.Trails.{is_before};
 ghost use Rattle.local_run.specs.Hearing.{rewound};
 ghost use Rattle.cell_sequence.specs.State.{CellStateData};
 ghost use Rattle.commit_horizon.specs.Horizon.{AllStand, AllKept};
@@ -118,18 +117,12 @@ fn least_due(regions: &[Region]) -> usize
     let mut least = regions[0].due();
     for k in 1..regions.len() {
         let due = regions[k].due();
-        if comes_before(&due, &least) {
+        if due < least {
             home = k;
             least = due;
         }
     }
     home
-}
-
-fn comes_before(stamp: &Stamp, other: &Stamp) -> bool
-    ensures { result ≡ is_before stamp.now other.now }
-{
-    stamp < other
 }
 
 // The regions of a grid that are linked with the one at a place take in what it sent.

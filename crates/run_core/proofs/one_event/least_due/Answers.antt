@@ -1,9 +1,10 @@
 use Rattle.std.proofs.Common.{◌≡◌, ◌+◌, ℕ, length, refl, sym, ◌∙◌, subst, arith}
 use Rattle.std.proofs.lemmas.Option.{slice_get_read}
 use Rattle.region_messages.proofs.Order.{before_from_true, not_before_from_false}
+use Rattle.commit_horizon.proofs.Order.{lt_is_before}
 use Rattle.run_core.specs.Taking.{IsFirstDue}
 use Rattle.run_core.proofs.Dues.{due_as, due_first, due_there, due_before}
-use Rattle.run_core.proofs.one_event.least_due.Goals.{then-comes_before, else-comes_before}
+use Rattle.run_core.proofs.one_event.least_due.Goals.{then-lt, else-lt}
 use Rattle.run_core.proofs.one_event.least_due.Goals as goal
 
 pub loop-k-init : goal.loop-k-init
@@ -17,19 +18,19 @@ loop-k-preserved c =
     let regions = c.args.regions.now in
     let here = slice_get_read regions (length regions) c.loop-k.k c.index-regions-k.result refl c.loop-k-test.true
     c.index-regions-k.is in
-    elim c.if-comes_before.branch [
-      | then-comes_before w ↦
-          due_as regions (c.loop-k.k + 1) c.loop-k.k c.due-due.result c.if-comes_before.home
-          c.if-comes_before.least w.home-is w.least-is (due_there regions c.loop-k.k c.loop-k.home c.loop-k.least
+    elim c.if-lt.branch [
+      | then-lt w ↦
+          due_as regions (c.loop-k.k + 1) c.loop-k.k c.due-due.result c.if-lt.home
+          c.if-lt.least w.home-is w.least-is (due_there regions c.loop-k.k c.loop-k.home c.loop-k.least
           c.due-due.result c.index-regions-k.result c.loop-k.invariant here c.due-due.ensures.value
           (before_from_true c.due-due.result c.loop-k.least
-          (sym c.comes_before.ensures ∙ w.if-comes_before.true)))
-      | else-comes_before w ↦
-          due_as regions (c.loop-k.k + 1) c.loop-k.home c.loop-k.least c.if-comes_before.home
-          c.if-comes_before.least w.home-is w.least-is (due_before regions c.loop-k.k c.loop-k.home c.loop-k.least
+          (sym (c.lt.ensures ∙ lt_is_before c.due-due.result c.loop-k.least) ∙ w.if-lt.true)))
+      | else-lt w ↦
+          due_as regions (c.loop-k.k + 1) c.loop-k.home c.loop-k.least c.if-lt.home
+          c.if-lt.least w.home-is w.least-is (due_before regions c.loop-k.k c.loop-k.home c.loop-k.least
           c.due-due.result c.index-regions-k.result c.loop-k.invariant here c.due-due.ensures.value
           (not_before_from_false c.due-due.result c.loop-k.least
-          (sym c.comes_before.ensures ∙ w.if-comes_before.false)))
+          (sym (c.lt.ensures ∙ lt_is_before c.due-due.result c.loop-k.least) ∙ w.if-lt.false)))
     ]
 
 pub returns : goal.returns
