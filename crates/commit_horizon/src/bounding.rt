@@ -1,8 +1,7 @@
 //! What bounds the commit horizon.
 
-ghost use Rattle.std.specs.Prelude.{◌≡◌};
 ghost use Rattle.commit_horizon.specs.Horizon.{AllKept};
-ghost use Rattle.commit_horizon.specs.Bounds.{HoldsUpTo, OfAll, IsUpToDue, AgreeOn, AllAgreeWith, AllAgree, IsWithin, later_of};
+ghost use Rattle.commit_horizon.specs.Bounds.{HoldsUpTo, OfAll, IsUpToDue, AgreeOn, AllAgreeWith, AllAgree, IsWithin};
 ghost use Rattle.local_run.specs.Keeping.{IsKept};
 
 use event_stamps::{Stamp, earlier};
@@ -37,13 +36,8 @@ fn due_bound(region: &Region) -> Stamp
     ensures kept { IsKept region.now }
 {
     let floor = region.floor();
-    later(region.due(), floor)
-}
-
-fn later(s: Stamp, t: Stamp) -> Stamp
-    ensures { result ≡ later_of s t }
-{
-    if s < t { t } else { s }
+    let due = region.due();
+    if due < floor { floor } else { due }
 }
 
 // The first disagreement of all regions that are linked.

@@ -44,7 +44,7 @@ pub(crate) fn merge(
 {
     let _floor = state.floor();
     let mut heads = first_heads(alloc, regions, horizon)?;
-    let mut actions = Vec::with_capacity(alloc, entries_of_all(regions))?;
+    let mut actions = Vec::new(alloc);
     let mut first = find_leader(&heads);
     'actions: while let Some(_) = first.stamp.key() {
         let region = &regions[first.number];
@@ -55,15 +55,6 @@ pub(crate) fn merge(
         first = leader_after(&heads, &first);
     }
     Ok(actions)
-}
-
-// How many entries the logs have, of which no more come to actions.
-fn entries_of_all(regions: &[Region]) -> usize {
-    let mut count: usize = 0;
-    for region in regions {
-        count = count.saturating_add(region.entries());
-    }
-    count
 }
 
 /// The action at a place of a region's log, which has one there.

@@ -19,7 +19,7 @@ actions-init c =
       leads = subst (λ v. IsLeader (heads_in v) c.find_leader-first.result) c.deref.ensures.value
           c.find_leader-first.ensures;
       keeps = subst (λ (xs : List Action). KeepsMerging state regions c.args.horizon heads xs state)
-          (sym c.in_ok-actions.ensures.items)
+          (sym c.new-actions.ensures.items)
           (keeps_begin state regions c.args.horizon heads c.floor-floor.ensures.kept
           c.requires.stand c.requires.kept c.requires.bound c.in_ok-heads.ensures);
     }
