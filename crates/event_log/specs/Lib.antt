@@ -1,6 +1,5 @@
 pub mod Logged
 pub mod Heads
-pub mod Narrow
 pub mod Nearness
 pub mod Undoing
 pub mod Running

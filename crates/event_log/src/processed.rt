@@ -7,8 +7,9 @@ use std::marker::Model;
 
 /// What a region did, oldest first: entries, and the rows that lead back over each of them.
 ///
-/// An entry takes 40 bytes, and beside them 32 (a crossing), 64 (a collision of one disk) or 128 (of two), if
-/// its numbers are small, as those of valid disks are. A message takes 40 and the size of an entry and its rows.
+/// An action that was run takes 40 bytes, and beside them 32 (a crossing), 64 (a collision of one disk) or 128 (of
+/// two), if its numbers are small, as those of valid disks are. What is only put in, as a message is, takes 40 and the
+/// size of an entry and its rows.
 #[derive(Drop)]
 pub struct EventLog {
     heads: Vec<Head>,
@@ -41,15 +42,13 @@ ghost use Rattle.std.specs.Prelude.{◌≡◌, ◌-◌, ◌<◌, ◌≤◌, [], 
 ghost use Rattle.std.specs.List.{insert};
 ghost use Rattle.event_stamps.specs.declared.Stamp.{Stamp};
 ghost use Rattle.region_view.specs.Acting.{stamp_of};
-ghost use Rattle.region_view.specs.declared.action.Action.TheVariants.{Cross, Hit};
-ghost use Rattle.local_run.specs.declared.entry.Entry.TheVariants.{Native};
 ghost use Rattle.local_run.specs.Entries.{native_of, RiseFrom, entries_below, entries_from};
 ghost use Rattle.event_log.specs.Logged.{entries_in, backs_in, stamps_in, senders_in, setters_in, sets, native_at};
 ghost use Rattle.event_log.specs.Heads.{row_count, whole_count, logged, IsOrdered};
 ghost use Rattle.event_log.specs.Nearness.{IsFar, AllUpTo};
 
 use crate::heads::{Form, count_earlier, edge, lower, raise_from};
-use crate::narrow::{both_rows, disk_in, narrow_disk, only_row, row_in};
+use crate::narrow::{disk_in, row_in};
 use crate::nearness::first_near;
 use cell_grid::Grid;
 use event_rules::Change;
@@ -225,7 +224,7 @@ impl EventLog {
         first_near(&self.heads, &self.rows, from, rows, grid)
     }
 
-    /// Appends an entry with the rows that lead back over it.
+    /// Appends an entry as it is, with the rows that lead back over it.
     ///
     /// # Errors
     /// Out of memory: nothing changes.
@@ -235,36 +234,8 @@ impl EventLog {
         ensures pushed { OnOk result (self.new ≡ self.old ++ (entry.now, back.now) ∷ []) }
         ensures unchanged { OnErr result (self.new ≡ self.old) }
     {
-        match entry {
-            Entry::Native(Action::Cross { stamp, cell }) => self.push_crossing(*stamp, *cell, back),
-            Entry::Native(Action::Hit(change)) => self.push_collision(change, back),
-            Entry::Heard { .. } => self.push_whole(entry, back),
-        }
-    }
-
-    #[inline(always)]
-    fn push_crossing(&mut self, stamp: Stamp, cell: u32, back: &Rows) -> Result<(), AllocError>
-        requires room { length self.old < MAX_ENTRIES }
-        ensures pushed { OnOk result (self.new ≡ self.old ++ (Native (Cross stamp cell), back.now) ∷ []) }
-        ensures unchanged { OnErr result (self.new ≡ self.old) }
-    {
-        match only_row(back, stamp.first) {
-            Some(before) => self.keep(stamp, cell, Form::Crossing, &[before]),
-            None => self.push_whole(&Entry::Native(Action::Cross { stamp, cell }), back),
-        }
-    }
-
-    #[inline(always)]
-    fn push_collision(&mut self, change: &Change, back: &Rows) -> Result<(), AllocError>
-        requires room { length self.old < MAX_ENTRIES }
-        ensures pushed { OnOk result (self.new ≡ self.old ++ (Native (Hit change.now), back.now) ∷ []) }
-        ensures unchanged { OnErr result (self.new ≡ self.old) }
-    {
-        match narrow_collision(change, back) {
-            Some(Collision::Single(rows)) => self.keep(change.stamp, 0, Form::Single, &rows),
-            Some(Collision::Double(rows)) => self.keep(change.stamp, 0, Form::Double, &rows),
-            None => self.push_whole(&Entry::Native(Action::Hit(*change)), back),
-        }
+        let end = self.len();
+        self.insert(end, entry, back)
     }
 
     // Appends an entry that has narrow rows.
@@ -299,20 +270,8 @@ impl EventLog {
         // There is room before anything changes.
         self.heads.reserve(1)?;
         self.rows.extend_from_slice(rows)?;
-        self.heads.push(head)?;
+        self.heads.push(head).unwrap();
         Ok(())
-    }
-
-    // Appends an entry as it is.
-    #[cold]
-    #[inline(never)]
-    fn push_whole(&mut self, entry: &Entry, back: &Rows) -> Result<(), AllocError>
-        requires room { length self.old < MAX_ENTRIES }
-        ensures pushed { OnOk result (self.new ≡ self.old ++ (entry.now, back.now) ∷ []) }
-        ensures unchanged { OnErr result (self.new ≡ self.old) }
-    {
-        let end = self.len();
-        self.insert(end, entry, back)
     }
 
     /// Puts an entry at a place, before those from there on, with the rows that lead back over it.
@@ -337,7 +296,7 @@ impl EventLog {
         self.heads.reserve(1)?;
         self.wholes.insert(whole, (*entry, *back))?;
         raise_from(&mut self.heads, at);
-        self.heads.insert(at, head)?;
+        self.heads.insert(at, head).unwrap();
         Ok(())
     }
 
@@ -377,36 +336,6 @@ impl EventLog {
         drop_front(&mut self.rows, row);
         drop_front(&mut self.wholes, whole);
         lower(&mut self.heads, row as u32, whole as u32);
-    }
-}
-
-// The rows of a collision, in narrow form: those before it, and then those after it, in any cell.
-enum Collision {
-    Single([Compact; 2]),
-    Double([Compact; 4]),
-}
-
-ghost use Rattle.event_log.specs.Narrow.{IsNarrowFor};
-
-// The narrow rows of a collision; none where it can't be kept so.
-#[inline(always)]
-fn narrow_collision(change: &Change, back: &Rows) -> Option<Collision>
-    ensures { IfSome result (IsNarrowFor change.now back.now) }
-{
-    match &change.second {
-        None => {
-            let before = only_row(back, change.stamp.first)?;
-            Some(Collision::Single([before, narrow_disk(&change.first)?]))
-        }
-        Some(second) => {
-            let (before, other) = both_rows(back, change.stamp.first, change.stamp.second)?;
-            Some(Collision::Double([
-                before,
-                other,
-                narrow_disk(&change.first)?,
-                narrow_disk(second)?,
-            ]))
-        }
     }
 }
 

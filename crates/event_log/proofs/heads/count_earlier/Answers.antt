@@ -1,4 +1,4 @@
-use Rattle.std.proofs.Common.{◌≡◌, sym, subst, arith}
+use Rattle.std.proofs.Common.{◌≡◌, ◌∙◌, sym, subst, arith}
 use Rattle.event_stamps.proofs.Counted.{IsPlace}
 use Rattle.region_messages.proofs.Sought.{NoneFrom, none_from_end, none_from_less, found_from_end, found_at_front}
 use Rattle.event_log.proofs.Laid.{head_stamp}
@@ -11,14 +11,14 @@ pub loop-count-preserved : goal.loop-count-preserved
 loop-count-preserved c = (
   omega arith,
   none_from_less head_stamp c.args.at c.args.heads.now c.loop-count.count c.loop-count.invariant.1
-      (λ x. let is = c.is_earlier.ensures x in let not = c.if-not-is_earlier.true in cc),
+      (λ x. sym (c.is_earlier.ensures x) ∙ c.if-not-is_earlier.true),
 )
 
 pub returns-else-not-is_earlier : goal.returns-else-not-is_earlier
 returns-else-not-is_earlier c = record {
   within = c.loop-count.invariant.0;
   place = found_from_end head_stamp c.args.at c.args.heads.now c.loop-count.count c.requires c.loop-count.invariant.1 c.loop-count-test.true c.loop-count.invariant.0
-      (λ x. let is = c.is_earlier.ensures x in let not = c.if-not-is_earlier.false in cc);
+      (λ x. sym (c.is_earlier.ensures x) ∙ c.if-not-is_earlier.false);
 }
 
 pub returns-after-loop-count : goal.returns-after-loop-count

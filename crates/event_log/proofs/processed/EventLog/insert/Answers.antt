@@ -63,7 +63,7 @@ invariant_of-self-2 c =
     ∙ c.raise_from.ensures ∙ ap (λ (hs : List Head). take c.args.at hs ++ map raised (drop c.args.at hs)) before in
     let heads : c.insert-2.new.self.items
     ≡ with_whole a.rows.items a.wholes.items a.heads.items c.args.at c.stamp.result =
-    c.in_ok-insert-2.ensures.items ∙ (λ i. insert (raised_heads i) c.args.at (record {
+    rw (c.insert-2.ensures.items, c.unwrap.ensures) (λ i. insert (raised_heads i) c.args.at (record {
       stamp = c.stamp.result;
       cell = 0;
       row = row i;
@@ -93,7 +93,7 @@ returns-clause-inserted c =
     ∙ c.raise_from.ensures ∙ ap (λ (hs : List Head). take c.args.at hs ++ map raised (drop c.args.at hs)) before in
     let heads : c.insert-2.new.self.items
     ≡ with_whole a.rows.items a.wholes.items a.heads.items c.args.at c.stamp.result =
-    c.in_ok-insert-2.ensures.items ∙ (λ i. insert (raised_heads i) c.args.at (record {
+    rw (c.insert-2.ensures.items, c.unwrap.ensures) (λ i. insert (raised_heads i) c.args.at (record {
       stamp = c.stamp.result;
       cell = 0;
       row = row i;

@@ -41,7 +41,9 @@ invariant_of-self-2 c =
     } in
     let count = count_is a.rows.items a.wholes.items a.heads.items c.args.self.now c.self.view_is in
     let room : length a.heads.items < MAX_ENTRIES = let most = c.requires.room in omega arith in
-    rw (c.in_ok-extend_from_slice.ensures.items, c.in_ok-push.ensures.items, c.in_ok-reserve.ensures.items)
+    let pushed : c.push.new.self.items ≡ c.reserve.new.self.items ++ head ∷ [] =
+    rw (c.push.ensures.items, c.unwrap.ensures) refl in
+    rw (c.in_ok-extend_from_slice.ensures.items, pushed, c.in_ok-reserve.ensures.items)
     (pushed_laid a.rows.items a.wholes.items a.heads.items c.args.rows.now head c.self.invariant next room)
 
 pub returns-clause-pushed : goal.returns-clause-pushed
@@ -61,8 +63,9 @@ returns-clause-pushed c =
       narrow = c.requires.narrow;
       order = c.requires.order;
     } in
-    let heads = c.in_ok-push.ensures.items
-    ∙ ap (λ (hs : List Head). hs ++ head ∷ []) c.in_ok-reserve.ensures.items in
+    let pushed : c.push.new.self.items ≡ c.reserve.new.self.items ++ head ∷ [] =
+    rw (c.push.ensures.items, c.unwrap.ensures) refl in
+    let heads = pushed ∙ ap (λ (hs : List Head). hs ++ head ∷ []) c.in_ok-reserve.ensures.items in
     (λ i. log_of (c.in_ok-extend_from_slice.ensures.items i) a.wholes.items (heads i))
     ∙ pushed_log a.rows.items a.wholes.items a.heads.items c.args.rows.now head c.self.invariant next
     ∙ ap (λ (l : List Logged). l ++ logged c.args.rows.now [] (placed_at 0 0 head) ∷ []) c.self.view_is
