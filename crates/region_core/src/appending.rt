@@ -1,11 +1,11 @@
 //! One more entry of a log, and what it changes beside the log.
 
-ghost use Rattle.std.specs.Prelude.{◌≡◌, ◌<◌, ◌++◌, ◌∷◌, [], ℕ, length, OnOk, IfSome, IsTrue};
+ghost use Rattle.std.specs.Prelude.{◌≡◌, ◌<◌, ◌++◌, [], ℕ, length, OnOk, IfSome, IsTrue};
 ghost use Rattle.region_view.specs.Placing.{IsValidPlacing};
 ghost use Rattle.region_view.specs.Views.{ViewData, rows_in};
 ghost use Rattle.region_view.specs.Acting.{stamp_of};
 ghost use Rattle.region_view.specs.Laws.{HasCells};
-ghost use Rattle.region_view.specs.Setting.{set_rows, after_action, rows_at, numbers_of, IsInOrder};
+ghost use Rattle.region_view.specs.Setting.{after_action, numbers_of, IsInOrder};
 ghost use Rattle.region_view.specs.Messages.{message_of, RecordsCell};
 ghost use Rattle.region_messages.specs.Trails.{IsAfterAll};
 ghost use Rattle.cell_grid.specs.Grid.{IsRegion};
@@ -15,7 +15,6 @@ ghost use Rattle.local_run.specs.declared.entry.Entry.TheVariants.{Native, Heard
 ghost use Rattle.local_run.specs.declared.moves.Move.TheVariants.{Run, TakeIn};
 ghost use Rattle.local_run.specs.LocalRun.{IsInPlace, trail_of, told};
 ghost use Rattle.local_run.specs.Answers.{with_entry};
-ghost use Rattle.event_log.specs.Running.{acted};
 ghost use Rattle.region_core.specs.Border.{IsBorderOf, IsUntold};
 ghost use Rattle.region_core.specs.Live.{run_in, IsLive};
 ghost use Rattle.local_run.specs.Keeping.{SendsTo};
@@ -23,7 +22,7 @@ ghost use Rattle.local_run.specs.Moves.{Fits};
 
 use crate::border::Border;
 use crate::live::Live;
-use crate::{Entry, Home, MAX_ENTRIES};
+use crate::{Entry, Home};
 use event_stamps::Stamp;
 use region_messages::Trail;
 use region_queue::Queue;
@@ -31,33 +30,6 @@ use region_view::{Action, Message, Rows, View, message_for};
 use std::alloc::{AllocError, Global};
 
 impl Live {
-    // Sets the rows of a message in the view after the whole log, and appends it.
-    #[inline(always)]
-    fn append(&mut self, alloc: Global, from: u32, message: &Message) -> Result<(), AllocError>
-        requires room { length self.old.log < MAX_ENTRIES }
-        requires stands { StandsFor self.old.queue self.old.view }
-        requires valid { IsValidPlacing self.old.queue.rules self.old.queue.grid
-            (rows_in (set_rows self.old.view message.now.rows)) }
-        ensures log { OnOk result (self.new.log ≡ self.old.log ++ (
-          Heard from message.now,
-          rows_at (rows_in self.old.view) message.now.rows,
-        ) ∷ []) }
-        ensures view { OnOk result (self.new.view ≡ set_rows self.old.view message.now.rows) }
-        ensures queue { OnOk result (IsOf self.new.queue self.old.queue.rules self.old.queue.grid
-            self.old.queue.region) }
-        ensures stands { OnOk result (StandsFor self.new.queue self.new.view) }
-        ensures inbox { self.new.inbox ≡ self.old.inbox }
-        ensures sent { self.new.sent ≡ self.old.sent }
-    {
-        let entry = Entry::Heard {
-            from,
-            message: *message,
-        };
-        self.log.append(&mut self.view, &entry, &message.rows)?;
-        touch(alloc, &mut self.queue, &self.view, &message.rows)?;
-        Ok(())
-    }
-
     /// Takes in the first message of a region, which is what comes next.
     ///
     /// # Errors
@@ -79,7 +51,9 @@ impl Live {
     {
         let _home = home;
         let _floor = floor;
-        self.append(alloc, from, &message)?;
+        let entry = Entry::Heard { from, message };
+        self.log.append(&mut self.view, &entry, &message.rows)?;
+        touch(alloc, &mut self.queue, &self.view, &message.rows)?;
         self.inbox.take(from);
         Ok(())
     }
@@ -109,28 +83,8 @@ impl Live {
         let _floor = floor;
         let is_untold = border.is_untold(home, &self.view, &action);
         send_if_told(&mut self.sent, home, &self.view, &action, is_untold)?;
-        self.act(alloc, &action)?;
-        Ok(())
-    }
-
-    // Runs an action in the view after the whole log, and appends it.
-    #[inline(always)]
-    fn act(&mut self, alloc: Global, action: &Action) -> Result<(), AllocError>
-        requires room { length self.old.log < MAX_ENTRIES }
-        requires order { IsInOrder action.now }
-        requires stands { StandsFor self.old.queue self.old.view }
-        requires valid { IsValidPlacing self.old.queue.rules self.old.queue.grid
-            (rows_in (after_action self.old.view action.now)) }
-        ensures log { OnOk result (self.new.log ≡ self.old.log ++ acted self.old.view action.now ∷ []) }
-        ensures view { OnOk result (self.new.view ≡ after_action self.old.view action.now) }
-        ensures queue { OnOk result (IsOf self.new.queue self.old.queue.rules self.old.queue.grid
-            self.old.queue.region) }
-        ensures stands { OnOk result (StandsFor self.new.queue self.new.view) }
-        ensures inbox { self.new.inbox ≡ self.old.inbox }
-        ensures sent { self.new.sent ≡ self.old.sent }
-    {
-        self.log.act(&mut self.view, action)?;
-        tell(alloc, &mut self.queue, &self.view, action)?;
+        self.log.act(&mut self.view, &action)?;
+        tell(alloc, &mut self.queue, &self.view, &action)?;
         Ok(())
     }
 }

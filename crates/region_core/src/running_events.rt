@@ -1,31 +1,28 @@
 //! Events of a region's own columns, those of each kind run in a function of its own, on narrow rows.
 
-ghost use Rattle.std.specs.Prelude.{◌≡◌, ◌<◌, ◌++◌, ◌∷◌, [], length, IfOk, IfSome, OnOk, IsTrue, is_some};
+ghost use Rattle.std.specs.Prelude.{◌≡◌, IfOk, IfSome, OnOk, IsTrue, is_some};
 ghost use Rattle.std.specs.FinMap as map;
 ghost use Rattle.event_stamps.specs.declared.Kind.TheVariants.{Cross as Crossing, Pair};
 ghost use Rattle.region_view.specs.declared.action.Action.TheVariants.{Cross, Hit};
-ghost use Rattle.region_view.specs.Placing.{IsValidPlacing};
 ghost use Rattle.region_view.specs.Views.{rows_in};
 ghost use Rattle.region_view.specs.Compact.{IsRowThere, IsSmall};
-ghost use Rattle.region_view.specs.Setting.{after_action};
-ghost use Rattle.region_queue.specs.Queue.{IsOf, StandsFor};
 ghost use Rattle.local_run.specs.LocalRun.{IsInPlace};
 ghost use Rattle.local_run.specs.declared.entry.Entry.TheVariants.{Native};
 ghost use Rattle.local_run.specs.declared.moves.Move.TheVariants.{Run};
 ghost use Rattle.local_run.specs.Answers.{with_entry};
 ghost use Rattle.local_run.specs.Moves.{Fits};
 ghost use Rattle.event_log.specs.Heads.{disk_or};
-ghost use Rattle.event_log.specs.Running.{acted, collision, IsMoved};
+ghost use Rattle.event_log.specs.Running.{collision, IsMoved};
 ghost use Rattle.region_core.specs.Border.{IsBorderOf, IsUntold};
 ghost use Rattle.region_core.specs.Choices.{IsAtTurn};
 ghost use Rattle.region_core.specs.Live.{run_in, IsLive};
 ghost use Rattle.region_core.specs.RunsOn.{RunsOrFails};
 
+use crate::Home;
 use crate::appending::{send_if_told, tell};
 use crate::border::Border;
 use crate::live::Live;
 use crate::moves::outcome;
-use crate::{Home, MAX_ENTRIES};
 use event_log::HitRows;
 use event_rules::{Change, Limit, apply};
 use event_stamps::{Kind, Stamp};
@@ -187,7 +184,8 @@ impl Live {
             cell,
         };
         send_if_told(&mut self.sent, home, &self.view, &action, is_untold)?;
-        self.cross(alloc, stamp, before, cell)?;
+        self.log.cross(&mut self.view, stamp, before, cell)?;
+        tell(alloc, &mut self.queue, &self.view, &action)?;
         Ok(())
     }
 
@@ -222,73 +220,8 @@ impl Live {
             &Action::Hit(*change),
             is_untold,
         )?;
-        self.collide(alloc, &change.stamp, first, second)?;
-        Ok(())
-    }
-
-    // Runs a crossing in the view after the whole log, in which this is the row of its disk, and appends it.
-    #[inline(always)]
-    fn cross(
-        &mut self,
-        alloc: Global,
-        stamp: &Stamp,
-        before: &Compact,
-        cell: u32,
-    ) -> Result<(), AllocError>
-        requires room { length self.old.log < MAX_ENTRIES }
-        requires before { IsRowThere (map.get self.old.view stamp.now.first) before.now }
-        requires stands { StandsFor self.old.queue self.old.view }
-        requires valid { IsValidPlacing self.old.queue.rules self.old.queue.grid
-            (rows_in (after_action self.old.view (Cross stamp.now cell))) }
-        ensures log { OnOk result
-            (self.new.log ≡ self.old.log ++ acted self.old.view (Cross stamp.now cell) ∷ []) }
-        ensures view { OnOk result (self.new.view ≡ after_action self.old.view (Cross stamp.now cell)) }
-        ensures queue { OnOk result (IsOf self.new.queue self.old.queue.rules self.old.queue.grid
-            self.old.queue.region) }
-        ensures stands { OnOk result (StandsFor self.new.queue self.new.view) }
-        ensures inbox { self.new.inbox ≡ self.old.inbox }
-        ensures sent { self.new.sent ≡ self.old.sent }
-    {
-        self.log.cross(&mut self.view, stamp, before, cell)?;
-        tell(
-            alloc,
-            &mut self.queue,
-            &self.view,
-            &Action::Cross {
-                stamp: *stamp,
-                cell,
-            },
-        )?;
-        Ok(())
-    }
-
-    // The same of a collision of two disks, given by their rows before it and after it.
-    #[inline(always)]
-    fn collide(
-        &mut self,
-        alloc: Global,
-        stamp: &Stamp,
-        first: &HitRows,
-        second: &HitRows,
-    ) -> Result<(), AllocError>
-        requires room { length self.old.log < MAX_ENTRIES }
-        requires order { stamp.now.first < stamp.now.second }
-        requires first { IsMoved (map.get self.old.view stamp.now.first) (disk_or first.now.after) first.now }
-        requires second { IsMoved (map.get self.old.view stamp.now.second) (disk_or second.now.after) second.now }
-        requires stands { StandsFor self.old.queue self.old.view }
-        requires valid { IsValidPlacing self.old.queue.rules self.old.queue.grid
-            (rows_in (after_action self.old.view (Hit (collision stamp.now first.now second.now)))) }
-        ensures log { OnOk result (self.new.log
-            ≡ self.old.log ++ acted self.old.view (Hit (collision stamp.now first.now second.now)) ∷ []) }
-        ensures view { OnOk result
-            (self.new.view ≡ after_action self.old.view (Hit (collision stamp.now first.now second.now))) }
-        ensures queue { OnOk result (IsOf self.new.queue self.old.queue.rules self.old.queue.grid
-            self.old.queue.region) }
-        ensures stands { OnOk result (StandsFor self.new.queue self.new.view) }
-        ensures inbox { self.new.inbox ≡ self.old.inbox }
-        ensures sent { self.new.sent ≡ self.old.sent }
-    {
-        self.log.collide(&mut self.view, stamp, first, second)?;
+        let stamp = change.stamp;
+        self.log.collide(&mut self.view, &stamp, first, second)?;
         self.queue
             .touched(alloc, &self.view, &[stamp.first, stamp.second])?;
         Ok(())

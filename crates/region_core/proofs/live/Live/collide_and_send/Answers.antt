@@ -1,14 +1,14 @@
-use Rattle.std.proofs.Common.{◌++◌, ◌∷◌, [], ap, ◌∙◌, sym, subst, arith}
-use Rattle.std.specs.Prelude.{length}
+use Rattle.std.proofs.Common.{◌++◌, ◌∷◌, [], ap, ◌∙◌, sym, subst, refl, arith}
 use Rattle.event_rules.specs.declared.change.Change.{Change}
 use Rattle.region_view.specs.declared.action.Action.TheVariants.{Hit}
 use Rattle.region_view.specs.Placing.{IsValidPlacing}
 use Rattle.region_view.specs.Setting.{IsInOrder, after_action}
-use Rattle.region_view.specs.Views.{rows_in}
+use Rattle.region_view.specs.Views.{ViewData, rows_in}
 use Rattle.local_run.specs.declared.entry.Entry.TheVariants.{Native}
-use Rattle.local_run.specs.LocalRun.{trail_of}
-use Rattle.event_log.specs.Running.{acted}
-use Rattle.region_core.specs.Inbox.{InboxData}
+use Rattle.region_view.specs.Naming.{IsSameBut}
+use Rattle.event_log.specs.Running.{acted, collision}
+use Rattle.local_run.proofs.Aside.{here_first, later_still}
+use Rattle.region_core.proofs.Told.{hit_leaves}
 use Rattle.region_core.proofs.Traced.{stands_newest, as_many}
 use Rattle.region_core.proofs.Appended.{cells_are, acted_is_live, further_run, native_action, native_valid, after_what_was_sent}
 use Rattle.region_core.proofs.live.Live.collide_and_send.Goals as goal
@@ -31,40 +31,45 @@ collide-requires-clause-order c =
     (native_action c.args.home.now c.args.floor c.args.self.now
     (Hit c.args.change.now) c.requires.place c.requires.live c.requires.fits).order
 
-pub collide-requires-clause-stands : goal.collide-requires-clause-stands
-collide-requires-clause-stands c = stands_newest c.args.home.now c.args.floor c.args.self.now c.requires.live
-
-pub collide-requires-clause-valid : goal.collide-requires-clause-valid
-collide-requires-clause-valid c =
+pub touched-requires : goal.touched-requires
+touched-requires c =
     let live = c.args.self.now in
-    subst (λ (x : Change). IsValidPlacing live.queue.rules live.queue.grid (rows_in (after_action live.view (Hit x))))
-    c.requires.change
-    (native_valid c.args.home.now c.args.floor live (Hit c.args.change.now) c.requires.place c.requires.live
-    c.requires.fits)
+    record {
+      valid = subst (λ (v : ViewData). IsValidPlacing live.queue.rules live.queue.grid (rows_in v))
+          (sym (c.in_ok-collide.ensures.view ∙ ap (λ (x : Change). after_action live.view (Hit x))
+          (sym c.requires.change)))
+          (native_valid c.args.home.now c.args.floor live (Hit c.args.change.now) c.requires.place c.requires.live
+          c.requires.fits);
+    }
 
 pub returns-clause-live : goal.returns-clause-live
 returns-clause-live c =
+    let home = c.args.home.now in
     let live = c.args.self.now in
-    acted_is_live c.args.home.now c.args.floor live c.collide.new.self (Hit c.args.change.now)
-    c.requires.live c.requires.fits
+    let stamp = c.args.change.now.stamp in
+    let ids = stamp.first ∷ stamp.second ∷ [] in
+    acted_is_live home c.args.floor live _ (Hit c.args.change.now) c.requires.live c.requires.fits
     record {
-      inbox = c.collide.ensures.inbox;
+      inbox = refl;
       log = c.in_ok-collide.ensures.log
           ∙ ap (λ (x : Change). live.log ++ acted live.view (Hit x) ∷ []) (sym c.requires.change);
       view = c.in_ok-collide.ensures.view
           ∙ ap (λ (x : Change). after_action live.view (Hit x)) (sym c.requires.change);
-      queue = c.in_ok-collide.ensures.queue;
-      stands = c.in_ok-collide.ensures.stands;
-      size = (λ i. length (c.collide.ensures.sent i).items) ∙ c.in_ok-send_if_told.ensures.size;
-      told = λ to sends. (λ i. trail_of (c.collide.ensures.sent i).items to)
-          ∙ c.in_ok-send_if_told.ensures.told to sends;
+      queue = c.touched.ensures.same;
+      stands = c.in_ok-touched.ensures.stands live.view (stands_newest home c.args.floor live c.requires.live)
+          (subst (IsSameBut ids live.view) (sym c.in_ok-collide.ensures.view)
+          (hit_leaves live.view (collision stamp c.args.first.now c.args.second.now) ids
+          (here_first stamp.first (stamp.second ∷ []))
+          (later_still stamp.first (stamp.second ∷ []) stamp.second (here_first stamp.second []))));
+      size = c.in_ok-send_if_told.ensures.size;
+      told = c.in_ok-send_if_told.ensures.told;
     }
 
 pub returns-clause-run : goal.returns-clause-run
 returns-clause-run c =
     let live = c.args.self.now in
-    further_run c.args.floor live c.collide.new.self (Native (Hit c.args.change.now))
-    c.requires.live.traced (ap (λ (x : InboxData). x.heard) c.collide.ensures.inbox)
+    further_run c.args.floor live (record live { view = c.collide.new.view; log = c.collide.new.self })
+    (Native (Hit c.args.change.now)) c.requires.live.traced refl
     (c.in_ok-collide.ensures.log
     ∙ ap (λ (x : Change). live.log ++ acted live.view (Hit x) ∷ []) (sym c.requires.change))
     (c.in_ok-collide.ensures.view ∙ ap (λ (x : Change). after_action live.view (Hit x)) (sym c.requires.change))

@@ -1,9 +1,8 @@
-use Rattle.std.proofs.Common.{ap, ◌∙◌, arith}
-use Rattle.std.specs.Prelude.{length}
+use Rattle.std.proofs.Common.{sym, subst, refl, arith}
 use Rattle.region_view.specs.declared.action.Action.TheVariants.{Cross}
+use Rattle.region_view.specs.Placing.{IsValidPlacing}
+use Rattle.region_view.specs.Views.{ViewData, rows_in}
 use Rattle.local_run.specs.declared.entry.Entry.TheVariants.{Native}
-use Rattle.local_run.specs.LocalRun.{trail_of}
-use Rattle.region_core.specs.Inbox.{InboxData}
 use Rattle.region_core.proofs.Traced.{stands_newest, as_many}
 use Rattle.region_core.proofs.Appended.{cells_are, acted_is_live, further_run, native_action, native_valid, after_what_was_sent}
 use Rattle.region_core.proofs.live.Live.cross_and_send.Goals as goal
@@ -24,29 +23,36 @@ send_if_told-requires c =
       after = after_what_was_sent home c.args.floor live (Cross c.args.stamp.now c.args.cell) c.requires.live c.requires.fits;
     }
 
-pub cross-requires-clause-stands : goal.cross-requires-clause-stands
-cross-requires-clause-stands c = stands_newest c.args.home.now c.args.floor c.args.self.now c.requires.live
-
-pub cross-requires-clause-valid : goal.cross-requires-clause-valid
-cross-requires-clause-valid c = native_valid c.args.home.now c.args.floor c.args.self.now
-    (Cross c.args.stamp.now c.args.cell) c.requires.place c.requires.live c.requires.fits
+pub tell-requires : goal.tell-requires
+tell-requires c =
+    let queue = c.args.self.now.queue in
+    record {
+      valid = subst (λ (view : ViewData). IsValidPlacing queue.rules queue.grid (rows_in view))
+          (sym c.in_ok-cross.ensures.view) (native_valid c.args.home.now c.args.floor c.args.self.now
+          (Cross c.args.stamp.now c.args.cell) c.requires.place c.requires.live c.requires.fits);
+    }
 
 pub returns-clause-live : goal.returns-clause-live
-returns-clause-live c = acted_is_live c.args.home.now c.args.floor c.args.self.now c.cross.new.self (Cross c.args.stamp.now c.args.cell)
-    c.requires.live c.requires.fits
+returns-clause-live c =
+    let home = c.args.home.now in
+    let live = c.args.self.now in
+    acted_is_live home c.args.floor live _ (Cross c.args.stamp.now c.args.cell) c.requires.live c.requires.fits
     record {
-      inbox = c.cross.ensures.inbox;
+      inbox = refl;
       log = c.in_ok-cross.ensures.log;
       view = c.in_ok-cross.ensures.view;
-      queue = c.in_ok-cross.ensures.queue;
-      stands = c.in_ok-cross.ensures.stands;
-      size = (λ i. length (c.cross.ensures.sent i).items) ∙ c.in_ok-send_if_told.ensures.size;
-      told = λ to sends. (λ i. trail_of (c.cross.ensures.sent i).items to) ∙ c.in_ok-send_if_told.ensures.told to sends;
+      queue = c.tell.ensures.queue;
+      stands = c.in_ok-tell.ensures.stands live.view (stands_newest home c.args.floor live c.requires.live)
+          c.in_ok-cross.ensures.view;
+      size = c.in_ok-send_if_told.ensures.size;
+      told = c.in_ok-send_if_told.ensures.told;
     }
 
 pub returns-clause-run : goal.returns-clause-run
-returns-clause-run c = further_run c.args.floor c.args.self.now c.cross.new.self (Native (Cross c.args.stamp.now c.args.cell))
-    c.requires.live.traced (ap (λ (x : InboxData). x.heard) c.cross.ensures.inbox) c.in_ok-cross.ensures.log
+returns-clause-run c =
+    let live = c.args.self.now in
+    further_run c.args.floor live (record live { view = c.cross.new.view; log = c.cross.new.self })
+    (Native (Cross c.args.stamp.now c.args.cell)) c.requires.live.traced refl c.in_ok-cross.ensures.log
     c.in_ok-cross.ensures.view
 
 pub cross-requires-clause-room : goal.cross-requires-clause-room
