@@ -88,30 +88,15 @@ fn plain(answer: Answer) -> Plain {
     }
 }
 
-// Where a script goes wrong: what it shows, the number of the row, from 0 on, and what was answered.
-type Wrong = (&'static str, usize, Plain);
-
 /// Plays some scripts: each row has to be answered as it says.
 pub fn play(rt: &impl Abort, alloc: Global, scripts: &[Script]) -> Result<(), Fail> {
-    expect(
-        rt,
-        "the first wrong row",
-        first_wrong(alloc, scripts)?,
-        None,
-    );
+    for &(shows, members, rows) in scripts {
+        expect(rt, shows, first_wrong_row(alloc, members, rows)?, None);
+    }
     Ok(())
 }
 
-// The first row of some scripts that is answered otherwise.
-fn first_wrong(alloc: Global, scripts: &[Script]) -> Result<Option<Wrong>, AllocError> {
-    for &(shows, members, rows) in scripts {
-        if let Some((row, answer)) = first_wrong_row(alloc, members, rows)? {
-            return Ok(Some((shows, row, answer)));
-        }
-    }
-    Ok(None)
-}
-
+// The first row of a script that is answered otherwise: its number, from 0 on, and what was answered.
 fn first_wrong_row(
     alloc: Global,
     members: &[Member],
