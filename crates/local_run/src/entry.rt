@@ -9,7 +9,7 @@ use region_view::{Action, Message};
 pub const MAX_ENTRIES: usize = 4096;
 
 /// One move of a region, in its log of processed events.
-#[derive(Clone, Copy, Debug, PartialEq, Eq)]
+#[derive(Clone, Copy, PartialEq, Eq)]
 pub enum Entry {
     /// An event of its own columns, which it ran.
     Native(Action),

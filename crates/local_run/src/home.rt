@@ -7,7 +7,7 @@ use cell_grid::Grid;
 use fixed_motion::Rules;
 
 /// A region of a grid: the logical process that runs the events of its own columns.
-#[derive(Clone, Copy, Debug, PartialEq, Eq)]
+#[derive(Clone, Copy, PartialEq, Eq)]
 pub struct Home {
     /// The number of the region, below the number of regions of the grid.
     pub number: u32,
