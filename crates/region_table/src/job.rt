@@ -125,20 +125,12 @@ impl<'a, G: Gate> Job<'a, G> {
         ensures idle { slots_of seat.new.view.held ≡ [] }
     {
         if hearer < from {
-            let Some(hears) = take(self.table, seat, hearer) else {
-                return Ok(false);
-            };
-            let Some(tells) = take(self.table, seat, from) else {
-                put(self.table, seat, hearer, hears);
+            let Some((hears, tells)) = take_both(self.table, seat, hearer, from) else {
                 return Ok(false);
             };
             self.hear_out(seat, hearer, from, hears, tells)?;
         } else {
-            let Some(tells) = take(self.table, seat, from) else {
-                return Ok(false);
-            };
-            let Some(hears) = take(self.table, seat, hearer) else {
-                put(self.table, seat, from, tells);
+            let Some((tells, hears)) = take_both(self.table, seat, from, hearer) else {
                 return Ok(false);
             };
             self.hear_out(seat, hearer, from, hears, tells)?;
@@ -169,6 +161,33 @@ impl<'a, G: Gate> Job<'a, G> {
         put(self.table, seat, from, tells);
         done
     }
+}
+
+// Takes two regions out, one after the other, if both are at home and neither is worn.
+fn take_both(
+    table: &RegionTable,
+    seat: &mut TableSeat,
+    first: u32,
+    second: u32,
+) -> Option<(Region, Region)>
+    requires first { first < length table.now.opened }
+    requires second { second < length table.now.opened }
+    requires apart { first ≢ second }
+    requires seat { IsSeatOf table.now seat.old }
+    requires idle { slots_of seat.old.view.held ≡ [] }
+    ensures seat { IsSeatOf table.now seat.new }
+    ensures out { IfSome result (λ both. MayLieIn table.now.opened first both.0
+        × MayLieIn table.now.opened second both.1 × (slots_of seat.new.view.held ≡ second ∷ first ∷ [])) }
+    ensures left { IfNone result (slots_of seat.new.view.held ≡ []) }
+{
+    let Some(one) = take(table, seat, first) else {
+        return None;
+    };
+    let Some(other) = take(table, seat, second) else {
+        put(table, seat, first, one);
+        return None;
+    };
+    Some((one, other))
 }
 
 // Takes a region out, if it is at home and isn't worn.
