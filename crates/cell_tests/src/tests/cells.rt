@@ -278,6 +278,7 @@ type Listed = (Option<u32>, usize, Option<u32>, bool, Option<u32>);
 fn a_disk_is_listed_and_gathered_and_taken_off(rt: HostRuntime) {
     let want = (Some(ONE), 1, Some(ONE), true, None);
     expect(&rt, 0, found_of_one(rt.alloc()).ok(), Some(want));
+    expect(&rt, 1, near_one(rt.alloc()).ok(), Some((1, Some(ONE))));
 }
 
 const ONE: u32 = 7;
@@ -299,6 +300,16 @@ fn found_of_one(alloc: Global) -> Result<Listed, AllocError> {
         done,
         lists.first_in(cell),
     ))
+}
+
+// How many disks there are near the cell of the only one, and the first of them.
+fn near_one(alloc: Global) -> Result<(usize, Option<u32>), AllocError> {
+    let grid = Grid::new(&BLOCK, 1);
+    let cell = grid.cell_of(30, 30);
+    let mut lists = Lists::new(alloc, &grid)?;
+    lists.put(alloc, ONE, cell)?;
+    let near = lists.near(alloc, cell)?;
+    Ok((near.len(), near.first().copied()))
 }
 
 // A box of 10 columns and 5 rows of 10 units.
