@@ -1,6 +1,6 @@
 -- What runs conserve.
 use Rattle.std.proofs.Common.{◌≡◌, ◌⊎◌, inl, inr, ℕ, zero, suc, ◌+◌, ◌*◌, ◌<◌, ◌≤◌, Bool, true, false, cond, List, [], ◌∷◌, map, sym, ap, ◌∙◌, subst, refl, arith, ℤ, pos, nat_abs, ◌+ℤ◌, ◌-ℤ◌, ◌*ℤ◌, Some, None, slice_get, slice_set, get_or}
-use Rattle.std.specs.Prelude.{fold, neg_ℤ, nat_lt, is_some, if◌then◌else◌}
+use Rattle.std.specs.Prelude.{fold, sum_by, neg_ℤ, nat_lt, is_some, if◌then◌else◌}
 use Rattle.std.proofs.lemmas.Int.{ints}
 use Rattle.std.proofs.lemmas.Option.{none-some, same_Some, slice_get_within, get_or_from_slice_get}
 use Rattle.std.proofs.lemmas.List.Sums.{sum_by-cons, sum_by-set}
@@ -68,7 +68,7 @@ replaced f (a ∷ disks) (suc i) old new at =
     omega (arith, ints)
 
 -- a write leaves what stands at another place
-other_place : (disks : List Disk) (i j : ℕ) (new a : Disk) → i < j → slice_get disks j ≡ Some a →
+pub other_place : (disks : List Disk) (i j : ℕ) (new a : Disk) → i < j → slice_get disks j ≡ Some a →
     slice_get (slice_set disks i new) j ≡ Some a
 other_place [] i j new a lt at = absurd (none-some a at)
 other_place (b ∷ disks) i zero new a lt at = absurd (omega arith)
@@ -168,14 +168,17 @@ momentum_turns_at_sides rules disks later changes h =
     ]
 
 -- ---- energy
+pub part_replaced : (f : Disk → ℕ) (disks : List Disk) (i : ℕ) (old new : Disk) → slice_get disks i ≡ Some old →
+    sum_by f (slice_set disks i new) + f old ≡ sum_by f disks + f new
+part_replaced f disks i old new at =
+    let same : f (get_or disks i old) ≡ f old = ap f (get_or_from_slice_get disks i old old at) in
+    let set = sum_by-set f disks i new old (slice_get_within disks i old at) in
+    omega arith
+
 energy_replaced : (disks : List Disk) (i : ℕ) (old new : Disk) → slice_get disks i ≡ Some old →
     energy (slice_set disks i new) + square_of (velocity_of old)
     ≡ energy disks + square_of (velocity_of new)
-energy_replaced disks i old new at =
-    let square = λ (a : Disk). square_of (velocity_of a) in
-    let same : square (get_or disks i old) ≡ square old = ap square (get_or_from_slice_get disks i old old at) in
-    let set = sum_by-set square disks i new old (slice_get_within disks i old at) in
-    omega arith
+energy_replaced disks i old new at = part_replaced (λ a. square_of (velocity_of a)) disks i old new at
 
 -- a side keeps a disk's speed
 turned_square : (side : ℕ) (v : Vector) → square_of (turned side v) ≡ square_of v

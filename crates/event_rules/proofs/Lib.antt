@@ -1,4 +1,5 @@
 pub mod Apart
+pub mod Between
 pub mod Conserved
 pub mod Courses
 pub mod Decided
@@ -6,6 +7,7 @@ pub mod Effects
 pub mod Exists
 pub mod Fits
 pub mod Leads
+pub mod Levels
 pub mod MayHit
 pub mod OneRun
 pub mod OneTick
@@ -21,3 +23,4 @@ pub mod Telling
 pub mod Together
 pub mod Valid
 pub mod Walls
+mod Within

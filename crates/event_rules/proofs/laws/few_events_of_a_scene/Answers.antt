@@ -1,0 +1,5 @@
+use Rattle.event_rules.proofs.Levels.{few_events_of_a_scene}
+use Rattle.event_rules.proofs.laws.few_events_of_a_scene.Goals as goal
+
+pub returns : goal.returns
+returns c = few_events_of_a_scene
