@@ -6,6 +6,7 @@ pub mod Decided
 pub mod Effects
 pub mod Exists
 pub mod Fits
+pub mod Joins
 pub mod Leads
 pub mod Levels
 pub mod MayHit

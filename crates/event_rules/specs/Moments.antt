@@ -58,3 +58,9 @@ KeepsApartBetween scene changes outcome = (m : Moment) → IsWithinTick m → m.
 abbrev pub NeverOverlapsBetween : Type 0
 NeverOverlapsBetween = (scene : SceneData) (changes : List Change) (outcome : Outcome) → IsValidScene scene →
     IsRun scene changes outcome → KeepsApartBetween scene changes outcome
+
+-- no disk jumps: after the events of a tick it is where it was before them, and as large
+abbrev pub NeverJumps : Type 0
+NeverJumps = (scene : SceneData) (changes : List Change) (outcome : Outcome) → IsValidScene scene → IsRun scene changes outcome →
+    (tick i : ℕ) (a b : Disk) → slice_get (state_at scene.disks changes tick) i ≡ Some a →
+    slice_get (state_at scene.disks changes (tick + 1)) i ≡ Some b → (place_of b tick ≡ place_of a tick) × (b.size ≡ a.size)
