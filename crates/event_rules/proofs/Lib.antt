@@ -10,6 +10,8 @@ pub mod Joins
 pub mod Leads
 pub mod Levels
 pub mod MayHit
+mod Mirrored
+pub mod MirroredRuns
 pub mod OneRun
 pub mod OneTick
 pub mod Ran

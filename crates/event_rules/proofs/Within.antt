@@ -74,7 +74,7 @@ minus_times a b c =
     omega (arith, ints)
 
 -- the two sides of a product
-product_sides : (a b : ℤ) (x y z w : ℕ) → up a ≡ x → down a ≡ y → up b ≡ z → down b ≡ w →
+pub product_sides : (a b : ℤ) (x y z w : ℕ) → up a ≡ x → down a ≡ y → up b ≡ z → down b ≡ w →
     (up (a *ℤ b) ≡ x * z + y * w) × (down (a *ℤ b) ≡ x * w + y * z)
 product_sides a b x y z w e f g h = rw (← e, ← f, ← g, ← h) (product_is a b)
 
