@@ -1,5 +1,5 @@
 -- At each moment of a run, also between ticks, all disks are inside and no two overlap.
-use Rattle.std.proofs.Common.{◌≡◌, inl, inr, ℕ, ◌+◌, ◌-◌, ◌<◌, ◌≤◌, List, sym, ap, ◌∙◌, subst, refl, arith, Some, slice_get}
+use Rattle.std.proofs.Common.{◌≡◌, inl, inr, ℕ, ◌+◌, ◌-◌, ◌<◌, ◌≤◌, List, subst, refl, arith}
 use Rattle.std.specs.Prelude.{ℤ, pos, negsuc, ◌+ℤ◌, ◌-ℤ◌, ◌*ℤ◌, ◌≤ℤ◌, ◌<ℤ◌}
 use Rattle.std.proofs.lemmas.Int.{ints}
 use native.Mathlib.Nat.{le_refl}
@@ -8,13 +8,11 @@ use Rattle.plane_vectors.specs.Vectors.{vector, difference, dot, after}
 use Rattle.plane_vectors.proofs.Products.{distributes}
 use Rattle.fixed_motion.specs.declared.rules.Rules.{Rules}
 use Rattle.fixed_motion.specs.declared.disk.Disk.{Disk}
-use Rattle.fixed_motion.specs.Motion.{IsInside, FitsAt, Overlaps, place_of, centre_of, velocity_of, radius_of, contact_distance}
+use Rattle.fixed_motion.specs.Motion.{IsInside, FitsAt, place_of, centre_of, velocity_of, radius_of, contact_distance}
 use Rattle.contact_predictor.proofs.Approaching.{place_next}
-use Rattle.event_stamps.specs.declared.Stamp.{Stamp}
-use Rattle.event_rules.specs.Events.{IsWallTick, wall_stamp, pair_stamp}
-use Rattle.event_rules.specs.Run.{IsCandidate, state_at}
-use Rattle.event_rules.specs.Moments.{Moment, IsWithinTick, in_parts, place_at, IsInsideAt, OverlapAt, AreApartAt, NeverOverlapsBetween}
-use Rattle.event_rules.specs.Laws.{last_tick}
+use Rattle.event_rules.specs.Events.{wall_stamp, pair_stamp}
+use Rattle.event_rules.specs.Run.{state_at}
+use Rattle.event_rules.specs.Moments.{Moment, IsWithinTick, place_at, IsInsideAt, AreApartAt, NeverOverlapsBetween}
 use Rattle.event_rules.proofs.Apart.{Rests, inside_next, scene_rests}
 use Rattle.event_rules.proofs.Within.{scaled, minus_times, contact_within}
 
@@ -105,13 +103,28 @@ rests_between rules disks m within rests =
           within.most (stands.apart.apart i j a b lt at other)
           (subst (λ (r : Vector). dot r r <ℤ ((distance *ℤ pos m.whole) *ℤ (distance *ℤ pos m.whole))) (separation_between a b m) overlap) in
           let never : tick + 1 ≤ tick =
-          none (pair_stamp i a j b tick) (inr (lt, (a, at, (b, other, (record {
-            first_base = stands.begun i a at;
-            second_base = stands.begun j b other;
-            first_inside = stands.apart.inside i a at;
-            second_inside = stands.apart.inside j b other;
-            contact = contact;
-          }, before, refl))))) in
+          none (pair_stamp i a j b tick) (inr (
+            lt,
+            (
+              a,
+              at,
+              (
+                b,
+                other,
+                (
+                  record {
+                    first_base = stands.begun i a at;
+                    second_base = stands.begun j b other;
+                    first_inside = stands.apart.inside i a at;
+                    second_inside = stands.apart.inside j b other;
+                    contact = contact;
+                  },
+                  before,
+                  refl,
+                ),
+              ),
+            ),
+          )) in
           omega arith;
     }
 

@@ -1,5 +1,5 @@
 -- The events of a tick leave all disks where they are.
-use Rattle.std.proofs.Common.{◌≡◌, ◌⊎◌, inl, inr, ℕ, ◌+◌, ◌<◌, ◌≤◌, List, [], ◌∷◌, length, sym, ap, ◌∙◌, subst, refl, arith, Option, Some, None, Ok, slice_get, slice_set, get_or}
+use Rattle.std.proofs.Common.{◌≡◌, inl, inr, ℕ, ◌+◌, ◌<◌, ◌≤◌, List, [], ◌∷◌, length, sym, ap, ◌∙◌, subst, refl, arith, Option, Some, None, Ok, slice_get, slice_set, get_or}
 use Rattle.std.proofs.lemmas.Option.{same_Some, slice_get_within, slice_get-get_or}
 use Rattle.fixed_motion.specs.declared.rules.Rules.{Rules}
 use Rattle.fixed_motion.specs.declared.disk.Disk.{Disk}
@@ -7,7 +7,7 @@ use Rattle.fixed_motion.specs.Motion.{place_of}
 use Rattle.event_stamps.specs.declared.Stamp.{Stamp}
 use Rattle.event_rules.specs.declared.change.Change.{Change}
 use Rattle.event_rules.specs.declared.outcome.Outcome.{Outcome}
-use Rattle.event_rules.specs.Run.{Runs, IsCandidate, IsNext, ComesTo, effect, set_some, state_at}
+use Rattle.event_rules.specs.Run.{Runs, IsCandidate, ComesTo, effect, set_some, state_at}
 use Rattle.event_rules.specs.Moments.{NeverJumps}
 use Rattle.event_rules.proofs.Apart.{KeepsPlace, KeepPlaces, wall_keeps, pair_keeps, none_before_after, state_before, state_after, after_or_not}
 use Rattle.event_rules.proofs.Ran.{ran, length-effect}

@@ -3,7 +3,7 @@
 use Rattle.std.proofs.Common.{◌≡◌, ◌≢◌, ◌⊎◌, inl, inr, ℕ, zero, suc, ◌+◌, ◌-◌, ◌*◌, ◌<◌, ◌≤◌, min, max, Bool, true, false, cond, List, [], ◌∷◌, length, sym, ap, ◌∙◌, subst, refl, arith, Option, Some, None, Ok, slice_get, slice_set}
 use Rattle.std.specs.Prelude.{◌==◌, ◌&&◌, ◌||◌, sum_by, is_some}
 use Rattle.std.proofs.Math.Nat.{mul-le-mul}
-use Rattle.std.proofs.lemmas.Option.{none-some, same_Some}
+use Rattle.std.proofs.lemmas.Option.{none-some}
 use Rattle.std.proofs.lemmas.List.Sums.{sum_by-cons}
 use native.Mathlib.Nat.{le_refl}
 use Rattle.fixed_motion.specs.declared.rules.Rules.{Rules}
@@ -13,7 +13,7 @@ use Rattle.event_stamps.specs.declared.Stamp.{Stamp}
 use Rattle.event_rules.specs.declared.change.Change.{Change}
 use Rattle.event_rules.specs.declared.outcome.Outcome.{Outcome}
 use Rattle.event_rules.specs.Effect.{change_of, bounced}
-use Rattle.event_rules.specs.Run.{Runs, IsNext, ComesTo, IsCandidate, IsValidState, effect}
+use Rattle.event_rules.specs.Run.{Runs, IsNext, ComesTo, IsValidState, effect}
 use Rattle.event_rules.specs.Conservation.{pairs}
 use Rattle.event_rules.specs.Counts.{takes_part, events_of, FewEventsOfADisk, FewEventsOfAScene}
 use Rattle.event_rules.proofs.Valid.{mark_within}

@@ -1,17 +1,17 @@
 -- Disks mirrored left to right: their places, contacts and sides.
-use Rattle.std.proofs.Common.{◌≡◌, ◌⊎◌, inl, inr, ℕ, zero, suc, ◌+◌, ◌-◌, ◌*◌, ◌/◌, ◌<◌, ◌≤◌, Bool, true, false, List, sym, ap, ◌∙◌, subst, refl, arith}
-use Rattle.std.specs.Prelude.{ℤ, pos, negsuc, neg_ℤ, nat_abs, ◌+ℤ◌, ◌-ℤ◌, ◌*ℤ◌, ◌≤ℤ◌, ◌<ℤ◌, int_lt, nat_lt, if◌then◌else◌}
+use Rattle.std.proofs.Common.{◌≡◌, inl, inr, ℕ, zero, suc, ◌+◌, ◌-◌, ◌*◌, Bool, true, false, sym, ap, ◌∙◌, subst, refl, arith}
+use Rattle.std.specs.Prelude.{ℤ, pos, negsuc, neg_ℤ, nat_abs, ◌+ℤ◌, ◌-ℤ◌, ◌*ℤ◌, ◌≤ℤ◌, ◌<ℤ◌, int_lt, if◌then◌else◌}
 use Rattle.std.proofs.lemmas.Int.{ints}
 use Rattle.std.proofs.lemmas.Nat.{div_below}
 use borrow.Author.Differences.{up, down, product_is, neg_is, same_in}
 use Rattle.plane_vectors.specs.declared.Vector.{Vector}
-use Rattle.plane_vectors.specs.Vectors.{vector, sum, difference, dot, after}
+use Rattle.plane_vectors.specs.Vectors.{vector, sum, difference, dot}
 use Rattle.fixed_motion.specs.declared.rules.Rules.{Rules}
 use Rattle.fixed_motion.specs.declared.disk.Disk.{Disk}
-use Rattle.fixed_motion.specs.Motion.{IsInside, place_of, centre_of, velocity_of, radius_of, contact_distance}
-use Rattle.contact_predictor.specs.Contact.{IsApproaching, IsCollisionCourse, IsContact, gap}
+use Rattle.fixed_motion.specs.Motion.{IsInside, place_of, velocity_of, radius_of, contact_distance}
+use Rattle.contact_predictor.specs.Contact.{IsApproaching, IsContact}
 use Rattle.impulse_rounding.specs.Impulse.{nearest, ceiling, signed, with_signs, rounded_impulse, parting, impulse_of}
-use Rattle.event_rules.specs.Events.{TouchAt, IsContactTick, IsWallTick, IsPast}
+use Rattle.event_rules.specs.Events.{IsContactTick, IsWallTick, IsPast}
 use Rattle.event_rules.proofs.Within.{product_sides}
 use Rattle.event_rules.specs.Mirror.{mirrored, mirrored_place, mirrored_vector, mirrored_side}
 
@@ -165,7 +165,7 @@ contact_mirrored r u distance h =
       approaching = (approaching_mirrored r u distance).0 h.approaching;
       crossing = crosses _ _ _ _ _ _ (distance *ℤ distance) a b c h.crossing;
       last = λ next. h.last ((approaching_mirrored (sum r u) u distance).1
-      (subst (λ (p : Vector). IsApproaching p (mirrored_vector u) distance) (sum_mirrored r u) next));
+          (subst (λ (p : Vector). IsApproaching p (mirrored_vector u) distance) (sum_mirrored r u) next));
     }
   where
     crosses : (a b c a' b' c' d : ℤ) → a' ≡ a → b' ≡ b → c' ≡ c → (a *ℤ (c -ℤ d)) <ℤ (b *ℤ b) → (a' *ℤ (c' -ℤ d)) <ℤ (b' *ℤ b')

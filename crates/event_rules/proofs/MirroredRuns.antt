@@ -1,10 +1,10 @@
 -- Runs mirrored left to right: candidates, their order, what they come to, and states.
-use Rattle.std.proofs.Common.{◌≡◌, ◌≢◌, ◌⊎◌, inl, inr, ℕ, zero, suc, ◌+◌, ◌<◌, ◌≤◌, Bool, true, false, List, [], ◌∷◌, length, map, sym, ap, ◌∙◌, subst, refl, arith, Option, Some, None, Result, Ok, Err, slice_get, slice_set}
-use Rattle.std.specs.Prelude.{ℤ, pos, neg_ℤ, nat_abs, ◌+ℤ◌, ◌-ℤ◌, ◌*ℤ◌, ◌<ℤ◌, ◌==◌, ◌&&◌, nat_lt, nat_le, if◌then◌else◌}
+use Rattle.std.proofs.Common.{◌≡◌, ◌⊎◌, inl, inr, ℕ, zero, suc, ◌+◌, ◌<◌, Bool, true, false, List, [], ◌∷◌, map, sym, ap, ◌∙◌, subst, refl, arith, Option, Some, None, Result, Ok, Err, slice_get, slice_set}
+use Rattle.std.specs.Prelude.{ℤ, neg_ℤ, nat_abs, ◌-ℤ◌, ◌*ℤ◌, ◌<ℤ◌, ◌==◌, ◌&&◌, nat_lt, nat_le, if◌then◌else◌}
 use Rattle.std.specs.Option.{option_map}
 use Rattle.std.specs.Ordering.{nat_cmp, ordering_then}
 use Rattle.std.specs.declared.cmp.Ordering.{Ordering}
-use Rattle.std.specs.declared.cmp.Ordering.TheVariants.{Less, Equal, Greater}
+use Rattle.std.specs.declared.cmp.Ordering.TheVariants.{Less}
 use Rattle.std.proofs.lemmas.Int.{ints}
 use Rattle.std.proofs.lemmas.Bool.Decides.{nat_tests}
 use Rattle.std.proofs.lemmas.Option.{none-some, same_Some, slice_get-map}
@@ -14,7 +14,7 @@ use Rattle.plane_vectors.specs.Vectors.{vector, sum, difference, dot}
 use Rattle.fixed_motion.specs.declared.rules.Rules.{Rules}
 use Rattle.fixed_motion.specs.declared.disk.Disk.{Disk}
 use Rattle.fixed_motion.specs.Motion.{place_of, centre_of, velocity_of, contact_distance, Overlaps, IsValidDisk}
-use Rattle.fixed_motion.specs.Scene.{IsValidScene, IsAtStart}
+use Rattle.fixed_motion.specs.Scene.{IsAtStart}
 use Rattle.event_stamps.specs.declared.Stamp.{Stamp}
 use Rattle.event_stamps.specs.declared.Kind.{Kind}
 use Rattle.event_stamps.specs.declared.Kind.TheVariants.{Cross, Wall, Pair}
@@ -22,15 +22,14 @@ use Rattle.event_stamps.specs.Order.{Before, kind_number}
 use Rattle.event_rules.specs.declared.change.Change.{Change}
 use Rattle.event_rules.specs.declared.change.Limit.{Limit}
 use Rattle.event_rules.specs.declared.change.Limit.TheVariants.{Rounds, Speed}
-use Rattle.event_rules.specs.declared.outcome.Spot.{Spot}
 use Rattle.event_rules.specs.declared.outcome.Outcome.{Outcome}
 use Rattle.event_rules.specs.declared.outcome.Outcome.TheVariants.{Done, Limit as Passes}
 use Rattle.impulse_rounding.specs.Impulse.{impulse_of}
-use Rattle.event_rules.specs.Events.{IsWallTick, wall_stamp, pair_stamp}
-use Rattle.event_rules.specs.Effect.{applied, change_of, keeps_speed, is_slow_disk, turned, bounced, impulse_at, pushed, pushed_back}
+use Rattle.event_rules.specs.Events.{IsWallTick}
+use Rattle.event_rules.specs.Effect.{applied, change_of, keeps_speed, is_slow_disk, turned, bounced, impulse_at}
 use Rattle.event_rules.specs.Told.{HasDisksOf}
 use Rattle.event_rules.specs.Run.{Runs, IsCandidate, IsWallCandidate, IsPairCandidate, IsNext, ComesTo, partner_of, set_some, effect, spot_of, spots_of}
-use Rattle.event_rules.specs.Mirror.{mirrored_scene, mirrored, mirrored_place, mirrored_vector, mirrored_side, mirrored_second, mirrored_stamp, mirrored_if, mirrored_change, mirrored_limit, mirrored_spot, mirrored_outcome, RunsMirror, MirrorsAreValid}
+use Rattle.event_rules.specs.Mirror.{mirrored, mirrored_vector, mirrored_side, mirrored_second, mirrored_stamp, mirrored_if, mirrored_change, mirrored_limit, mirrored_spot, mirrored_outcome, RunsMirror, MirrorsAreValid}
 use Rattle.event_rules.proofs.Mirrored.{place_mirrored, mirrored_twice, wall_mirrored, not_left_and_right, contact_tick_mirrored, separation_mirrored, relative_mirrored, sum_mirrored, abs_neg, impulse_mirrored, inside_mirrored, places_mirrored, dot_mirrored}
 use Rattle.event_rules.proofs.Ran.{ran, ran_tellable}
 
@@ -175,12 +174,11 @@ partner_mirrored rules Pair disks n = disk_mirrored rules disks n
 comes_mirrored : (rules : Rules) (disks : List Disk) (s : Stamp) (r : Result Change Limit) → ComesTo rules disks s r →
     ComesTo rules (mirrored_disks rules disks) (mirrored_stamp s) (mirrored_result rules r)
 comes_mirrored rules disks s r h =
-    let partner = partner_mirrored rules s.kind disks s.second in
-    (
+    let partner = partner_mirrored rules s.kind disks s.second in (
       mirrored rules h.0,
       disk_at rules disks s.first h.0 h.1,
       ap (mirrored_result rules) h.2 ∙ sym (applied_mirrored rules s h.0 (partner_of s.kind disks s.second))
-      ∙ ap (applied rules (mirrored_stamp s) (mirrored rules h.0)) (sym partner),
+          ∙ ap (applied rules (mirrored_stamp s) (mirrored rules h.0)) (sym partner),
     )
 
 set_some_mirrored : (rules : Rules) (k : Kind) (n : ℕ) (disks : List Disk) (o : Option Disk) → HasDisksOf k o →
@@ -211,9 +209,14 @@ pair_candidate rules disks s h =
     let a = h.1.0 in
     let b = h.1.2.0 in
     let event = h.1.2.2 in
-    subst (λ (t : Stamp). IsPairCandidate rules (mirrored_disks rules disks) (mirrored_stamp t)) (sym event.2)
-    (h.0, (mirrored rules a, disk_at rules disks s.first a h.1.1,
-      (mirrored rules b, disk_at rules disks s.second b h.1.2.1, (contact_tick_mirrored rules a b s.tick event.0, event.1, refl))))
+    subst (λ (t : Stamp). IsPairCandidate rules (mirrored_disks rules disks) (mirrored_stamp t)) (sym event.2) (
+      h.0,
+      (
+        mirrored rules a,
+        disk_at rules disks s.first a h.1.1,
+        (mirrored rules b, disk_at rules disks s.second b h.1.2.1, (contact_tick_mirrored rules a b s.tick event.0, event.1, refl)),
+      ),
+    )
 
 candidate_mirrored : (rules : Rules) (disks : List Disk) (s : Stamp) → IsCandidate rules disks s →
     IsCandidate rules (mirrored_disks rules disks) (mirrored_stamp s)
@@ -315,10 +318,10 @@ next_mirrored : (rules : Rules) (disks : List Disk) (s : Stamp) → IsNext rules
 next_mirrored rules disks s next = (
   candidate_mirrored rules disks s next.0,
   λ t h before.
-  let back = candidate_back rules disks t h in
-  next.1 (mirrored_stamp t) back
-  (candidates_order rules disks (mirrored_stamp t) s back next.0
-  (subst (λ (u : Stamp). Before u (mirrored_stamp s)) (sym (stamp_twice t)) before)),
+      let back = candidate_back rules disks t h in
+      next.1 (mirrored_stamp t) back
+      (candidates_order rules disks (mirrored_stamp t) s back next.0
+      (subst (λ (u : Stamp). Before u (mirrored_stamp s)) (sym (stamp_twice t)) before)),
 )
 
 -- ---- runs
@@ -346,8 +349,8 @@ run_mirrored rules disks (c ∷ cs) outcome run = (
   next_mirrored rules disks c.stamp run.0,
   comes_mirrored rules disks c.stamp (Ok c) run.1,
   subst (λ (xs : List Disk). Runs rules xs (map (mirrored_change rules) cs) (mirrored_outcome rules outcome))
-  (sym (effect_mirrored rules disks c (ran_tellable rules disks c (ran rules disks c run.0.0 run.1))))
-  (run_mirrored rules (effect disks c) cs outcome run.2),
+      (sym (effect_mirrored rules disks c (ran_tellable rules disks c (ran rules disks c run.0.0 run.1))))
+      (run_mirrored rules (effect disks c) cs outcome run.2),
 )
 
 pub runs_mirror : RunsMirror

@@ -3,12 +3,12 @@ use Rattle.std.proofs.Common.{◌≡◌, ℕ, suc, ◌+◌, ◌-◌, ◌*◌, �
 use Rattle.std.specs.Prelude.{ℤ, pos, negsuc, ◌+ℤ◌, ◌-ℤ◌, ◌*ℤ◌, ◌≤ℤ◌, ◌<ℤ◌}
 use Rattle.std.proofs.lemmas.Int.{ints, by_lt_z}
 use Rattle.std.proofs.lemmas.Bool.{cases_lt}
-use Rattle.std.proofs.Math.Nat.{mul-le-mul, mul-le-mul_left}
+use Rattle.std.proofs.Math.Nat.{mul-le-mul_left}
 use Rattle.plane_vectors.specs.declared.Vector.{Vector}
-use Rattle.plane_vectors.specs.Vectors.{vector, sum, difference, dot, after}
+use Rattle.plane_vectors.specs.Vectors.{vector, dot, after}
 use borrow.Author.Differences.{up, down, product_is, same_in}
 use Rattle.plane_vectors.proofs.Products.{distributes, square_of_sum}
-use Rattle.contact_predictor.specs.Contact.{gap, IsApproaching, IsContact}
+use Rattle.contact_predictor.specs.Contact.{gap, IsContact}
 use Rattle.contact_predictor.proofs.Approaching.{gap_next, dot_next, speed_not_negative}
 use Rattle.event_rules.proofs.OneTick.{below_either}
 

@@ -6,21 +6,21 @@ use Rattle.event_rules.specs.declared.outcome.Outcome.{Outcome}
 use Rattle.event_rules.specs.Run.{IsRun}
 use Rattle.event_rules.specs.Conservation.{pairs}
 
--- the event of the change is one of disk i
+-- disk i takes part in the event of the change
 abbrev pub takes_part : ℕ → Change → Bool
 takes_part i c = (c.stamp.first == i) || (is_some c.second && (c.stamp.second == i))
 
--- how many events disk i has at a tick
+-- in how many events of a tick it does
 abbrev pub events_of : ℕ → ℕ → List Change → ℕ
 events_of i tick changes = count_by (λ c. (c.stamp.tick == tick) && takes_part i c) changes
 
--- at one tick a disk has at most as many events as the round limit
+-- a disk takes part in no more events of a tick than the round limit
 abbrev pub FewEventsOfADisk : Type 0
 FewEventsOfADisk = (scene : SceneData) (changes : List Change) (outcome : Outcome) → IsValidScene scene →
     IsRun scene changes outcome → (i tick : ℕ) → events_of i tick changes ≤ scene.rules.round_limit
 
--- a run has at most as many as there are ticks, times the round limit, times the number of disks, with the hits of two disks
--- counted twice, once for each
+-- a run has no more events than its ticks times the round limit times the number of disks, with an event of two disks counted
+-- as two
 abbrev pub FewEventsOfAScene : Type 0
 FewEventsOfAScene = (scene : SceneData) (changes : List Change) (outcome : Outcome) → IsValidScene scene →
     IsRun scene changes outcome → length changes + pairs changes ≤ scene.rules.end * scene.rules.round_limit * length scene.disks

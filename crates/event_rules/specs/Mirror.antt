@@ -1,5 +1,6 @@
--- Runs mirrored left to right.
-use Rattle.std.specs.Prelude.{ℕ, ◌==◌, if◌then◌else◌, ◌-ℤ◌, neg_ℤ, List, map, Option, Some, None, Result, Ok, Err}
+-- Scenes and runs mirrored left to right: what was at the left side is as far from the right one, and velocities to the right are to
+-- the left.
+use Rattle.std.specs.Prelude.{ℕ, ◌==◌, if◌then◌else◌, ◌-ℤ◌, neg_ℤ, List, map, Option, Some, None}
 use Rattle.plane_vectors.specs.declared.Vector.{Vector}
 use Rattle.plane_vectors.specs.Vectors.{vector}
 use Rattle.fixed_motion.specs.declared.rules.Rules.{Rules}
@@ -16,7 +17,6 @@ use Rattle.event_rules.specs.declared.outcome.Outcome.{Outcome}
 use Rattle.event_rules.specs.declared.outcome.Outcome.TheVariants.{Done, Limit as Passes}
 use Rattle.event_rules.specs.Run.{IsRun}
 
--- as far from the right side as the place was from the left one
 abbrev pub mirrored_place : Rules → Vector → Vector
 mirrored_place rules p = vector (rules.width -ℤ p.x) p.y
 
@@ -37,11 +37,11 @@ mirrored rules a = record {
 abbrev pub mirrored_scene : SceneData → SceneData
 mirrored_scene scene = record { rules = scene.rules; disks = map (mirrored scene.rules) scene.disks; every = scene.every }
 
--- the right side for the left one, and the left one for the right one
+-- the right side for the left one, and the other way about
 abbrev pub mirrored_side : ℕ → ℕ
 mirrored_side side = if side == 0 then 1 else if side == 1 then 0 else side
 
--- the second number of a stamp is a side's where a disk hits one
+-- the last number of a stamp, which is a side where a disk hits one
 abbrev pub mirrored_second : Kind → ℕ → ℕ
 mirrored_second Cross second = second
 mirrored_second Wall second = mirrored_side second

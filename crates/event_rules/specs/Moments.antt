@@ -1,4 +1,4 @@
--- Where disks are between ticks, and the law that they are inside and apart there too.
+-- Where disks are between ticks, and that they are inside and apart there too.
 use Rattle.std.specs.Prelude.{◌≡◌, ℕ, ◌+◌, ◌<◌, ◌≤◌, ℤ, pos, ◌-ℤ◌, ◌*ℤ◌, ◌≤ℤ◌, List, slice_get, Some}
 use Rattle.plane_vectors.specs.declared.Vector.{Vector}
 use Rattle.plane_vectors.specs.Vectors.{vector, after}
@@ -11,24 +11,24 @@ use Rattle.event_rules.specs.declared.outcome.Outcome.{Outcome}
 use Rattle.event_rules.specs.Run.{IsRun, state_at}
 use Rattle.event_rules.specs.Laws.{last_tick}
 
--- The moment that is part / whole of a tick after the tick. Lengths are told in parts of a unit there, as many as the
--- whole, so that places are whole numbers: all are times the whole.
+-- The moment that comes part / whole of a tick after a tick. So that places are whole numbers, lengths are told in parts of a
+-- unit there, of which as many as the whole make a unit.
 pub record Moment : Type 0 where
   pub tick : ℕ
   pub part : ℕ
   pub whole : ℕ
 
--- not before the tick, and not after the next
+-- from the tick to the next, with both
 pub record IsWithinTick (m : Moment) : Type 0 where
   pub some : 0 < m.whole
   pub most : m.part ≤ m.whole
 
--- so many units of length, in parts
+-- a length in units, told in parts
 abbrev pub in_parts : Moment → ℤ → ℤ
 in_parts m length = length *ℤ pos m.whole
 
--- where a disk that keeps its velocity is at a moment, in parts: from its place at the tick its velocity is a part an
--- instant, of which there are as many as parts
+-- Where a disk is at the moment, in parts. Since the tick it has moved its velocity times part / whole, in units; in parts that is
+-- its velocity times the part.
 abbrev pub place_at : Moment → Disk → Vector
 place_at m a =
     after (vector (in_parts m (place_of a m.tick).x) (in_parts m (place_of a m.tick).y)) (velocity_of a) m.part
@@ -40,7 +40,7 @@ pub record IsInsideAt (rules : Rules) (a : Disk) (m : Moment) : Type 0 where
   pub bottom : in_parts m (radius_of a) ≤ℤ (place_at m a).y
   pub top : (place_at m a).y ≤ℤ in_parts m (rules.height -ℤ radius_of a)
 
--- two disks are nearer to each other at the moment than where they touch
+-- at the moment two disks are nearer than the distance at which they touch
 abbrev pub OverlapAt : Moment → Disk → Disk → Type 0
 OverlapAt m a b = Overlaps (in_parts m (contact_distance a b)) (place_at m a) (place_at m b)
 
@@ -49,8 +49,8 @@ pub record AreApartAt (rules : Rules) (disks : List Disk) (m : Moment) : Type 0 
   pub inside : (i : ℕ) (a : Disk) → slice_get disks i ≡ Some a → IsInsideAt rules a m
   pub apart : (i j : ℕ) (a b : Disk) → i < j → slice_get disks i ≡ Some a → slice_get disks j ≡ Some b → ¬ OverlapAt m a b
 
--- at each moment of a run, at whole ticks or between them, all disks are inside and no two overlap; they move by the
--- velocities that they have after the last event of the tick
+-- At each moment of a run, at whole ticks or between them, up to the last tick, all disks are inside and no two overlap. They move
+-- from a tick to the next as the tick's events leave them.
 abbrev pub KeepsApartBetween : SceneData → List Change → Outcome → Type 0
 KeepsApartBetween scene changes outcome = (m : Moment) → IsWithinTick m → m.tick < last_tick scene outcome →
     AreApartAt scene.rules (state_at scene.disks changes (m.tick + 1)) m
@@ -59,7 +59,7 @@ abbrev pub NeverOverlapsBetween : Type 0
 NeverOverlapsBetween = (scene : SceneData) (changes : List Change) (outcome : Outcome) → IsValidScene scene →
     IsRun scene changes outcome → KeepsApartBetween scene changes outcome
 
--- no disk jumps: after the events of a tick it is where it was before them, and as large
+-- no disk jumps: after the events of a tick it is where it was before them, and of the same size
 abbrev pub NeverJumps : Type 0
 NeverJumps = (scene : SceneData) (changes : List Change) (outcome : Outcome) → IsValidScene scene → IsRun scene changes outcome →
     (tick i : ℕ) (a b : Disk) → slice_get (state_at scene.disks changes tick) i ≡ Some a →
