@@ -1,5 +1,6 @@
 -- The lemmas of the crate.
 pub mod OneOutput
+pub mod Accepted
 pub mod Wrote
 pub mod Answered
 pub mod Reported

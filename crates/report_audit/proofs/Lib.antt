@@ -8,3 +8,4 @@ pub mod Marks
 pub mod Upcoming
 pub mod Short
 pub mod Verdicts
+pub mod Joined

@@ -19,7 +19,9 @@ mod verdict;
 
 pub use comparison::compare;
 pub use kept::Kept;
-pub use laws::{each_has_a_verdict, one_verdict, parts_are_lines, turned_leaves_nothing};
+pub use laws::{
+    each_has_a_verdict, joins_part, one_verdict, parts_are_lines, turned_leaves_nothing,
+};
 pub use lines::{EQUALS, NEWLINE};
 pub use parted::{Parted, Unread};
 pub use verdict::{Line, Verdict};
