@@ -1,0 +1,4 @@
+-- The lemmas of the crate.
+mod Rows
+mod Bodies
+mod ReadBack

@@ -1,0 +1,6 @@
+//! What a report in lines says, read from its text alone.
+#![tactic(auto)]
+
+mod laws;
+
+pub use laws::{reports_read_back, reports_say_runs};
