@@ -1,0 +1,4 @@
+-- The lemmas of the crate.
+mod Readable
+mod Small
+mod Stated
