@@ -1,4 +1,4 @@
 -- The lemmas of the crate.
 mod Readable
 mod Small
-mod Stated
+pub mod Stated

@@ -1,6 +1,7 @@
 -- The lemmas of the crate.
 pub mod OneOutput
 pub mod Accepted
+pub mod Reread
 pub mod Wrote
 pub mod Answered
 pub mod Reported

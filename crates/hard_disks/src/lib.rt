@@ -21,7 +21,9 @@ mod time_sharing;
 mod verdicts;
 
 pub use calls::{refuse_words, top, top_watched};
-pub use laws::{audits_accept, audits_refuse, one_output, output_depends_on_alone};
+pub use laws::{
+    audits_accept, audits_refuse, checks_stay, cuts_resume, one_output, output_depends_on_alone,
+};
 pub use process::{Terminals, run_process};
 pub use status::Status;
 pub use time_sharing::TimeSharing;
