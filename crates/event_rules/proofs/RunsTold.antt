@@ -11,6 +11,7 @@ use Rattle.event_rules.proofs.Telling.{whole_longer, prefix_longer}
 use Rattle.event_rules.proofs.OneRun.{steps_begin}
 use Rattle.event_rules.proofs.Exists.{each_scene_runs}
 use Rattle.event_rules.proofs.Apart.{never_overlaps}
+use Rattle.event_rules.proofs.Between.{never_overlaps_between}
 
 -- what was told on the way from a scene is a prefix of its run
 pub cut_short : {M : Type 0} (after : M → Change → M) (torn : M → Change → M → Type 0)
@@ -42,4 +43,10 @@ pub run_told : {M : Type 0} (after : M → Change → M) (scene : SceneData) (ou
     RunDone after (scene_of scene.rules scene.disks) outcome old new →
     RunTold after scene outcome old new
 run_told after scene outcome old new valid h =
-    (h.0, h.1, h.2, never_overlaps scene h.0 outcome valid h.1)
+    (
+      h.0,
+      h.1,
+      h.2,
+      never_overlaps scene h.0 outcome valid h.1,
+      never_overlaps_between scene h.0 outcome valid h.1,
+    )

@@ -11,12 +11,14 @@ use Rattle.event_rules.specs.declared.outcome.RunFault.TheVariants.{Listener, No
 use Rattle.event_rules.specs.Run.{IsRun, Steps}
 use Rattle.event_rules.specs.Told.{Told, PrefixTold}
 use Rattle.event_rules.specs.Laws.{KeepsApart}
+use Rattle.event_rules.specs.Moments.{KeepsApartBetween}
 
--- the changes of the scene's run were told, in order, and this is how it ends; at each of its ticks all disks are inside
--- the box and no two overlap
+-- the changes of the scene's run were told, in order, and this is how it ends; at each of its ticks, and at each moment
+-- between them, all disks are inside the box and no two overlap
 abbrev pub RunTold : {M : Type 0} → (M → Change → M) → SceneData → Outcome → Option M → Option M → Type 0
 RunTold after scene outcome old new =
-    (changes : List Change) × IsRun scene changes outcome × Told after old changes new × KeepsApart scene changes outcome
+    (changes : List Change) × IsRun scene changes outcome × Told after old changes new
+    × KeepsApart scene changes outcome × KeepsApartBetween scene changes outcome
 
 -- a prefix of the changes of the scene's run was told, and perhaps the change that follows it was refused
 abbrev pub RunBegun : {M : Type 0} → (M → Change → M) → (M → Change → M → Type 0) → SceneData → Option M → Option M → Type 0
