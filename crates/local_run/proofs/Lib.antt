@@ -26,3 +26,4 @@ pub mod Aside
 pub mod Staying
 pub mod Inserted
 pub mod Woven
+pub mod Stands

@@ -15,3 +15,4 @@ pub mod Bursts
 pub mod Running
 pub mod RunOn
 pub mod Weaving
+pub mod Begun

@@ -2,6 +2,7 @@
 
 ghost use Rattle.local_run.specs.Laws.{EntriesWereDue, WaitsIfNotTaken, MessagesAreInTurn, LogsGoOneWay, StepsGoOneWay, HearingsHaveOneAnswer, StepsKeepRight, HearingsKeepRight, RollbacksKeepRight, ViewsAreValid, SentMayBeHeard, RaisingKeepsRight};
 ghost use Rattle.local_run.specs.Weaving.{WeavingKeepsRight};
+ghost use Rattle.local_run.specs.Begun.{BegunStillStand};
 
 /// Each entry of a right log was due at its place: nothing that was offered there came before it.
 pub fn entries_were_due()
@@ -72,4 +73,9 @@ pub fn raising_keeps_right()
 /// disks, the log stays right with it in the middle, comes to the same view with its rows set, and sends the same.
 pub fn weaving_keeps_right()
     ensures { WeavingKeepsRight }
+{}
+
+/// Where a region stands on a state, each one that begins as it did stands on it too, unless it is spent.
+pub fn begun_still_stand()
+    ensures { BegunStillStand }
 {}
