@@ -10,8 +10,6 @@ pub mod Joins
 pub mod Leads
 pub mod Levels
 pub mod MayHit
-mod Mirrored
-pub mod MirroredRuns
 pub mod OneRun
 pub mod OneTick
 pub mod Ran
@@ -26,4 +24,4 @@ pub mod Telling
 pub mod Together
 pub mod Valid
 pub mod Walls
-mod Within
+pub mod Within
