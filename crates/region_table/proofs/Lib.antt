@@ -7,3 +7,4 @@ pub mod Calls
 pub mod Ends
 pub mod Staying
 pub mod Slots
+mod Standing

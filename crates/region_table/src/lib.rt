@@ -6,6 +6,7 @@
 mod calm;
 mod closing;
 mod job;
+mod laws;
 mod order;
 mod rule;
 mod seat;
@@ -13,6 +14,7 @@ mod table;
 mod take_out;
 mod workers;
 
+pub use laws::{homes_still_stand, taken_still_stand};
 pub use seat::TableSeat;
 pub use table::RegionTable;
 pub use take_out::TakeOut;
