@@ -1,4 +1,4 @@
--- Disks mirrored left to right: their places, contacts and sides.
+-- Disks mirrored: their places, contacts and sides.
 use Rattle.std.proofs.Common.{◌≡◌, inl, inr, ℕ, zero, suc, ◌+◌, ◌-◌, ◌*◌, Bool, true, false, sym, ap, ◌∙◌, subst, refl, arith}
 use Rattle.std.specs.Prelude.{ℤ, pos, negsuc, neg_ℤ, nat_abs, ◌+ℤ◌, ◌-ℤ◌, ◌*ℤ◌, ◌≤ℤ◌, ◌<ℤ◌, int_lt, if◌then◌else◌}
 use Rattle.std.proofs.lemmas.Int.{ints}
@@ -8,12 +8,12 @@ use Rattle.plane_vectors.specs.declared.Vector.{Vector}
 use Rattle.plane_vectors.specs.Vectors.{vector, sum, difference, dot}
 use Rattle.fixed_motion.specs.declared.rules.Rules.{Rules}
 use Rattle.fixed_motion.specs.declared.disk.Disk.{Disk}
-use Rattle.fixed_motion.specs.Motion.{IsInside, place_of, velocity_of, radius_of, contact_distance}
+use Rattle.fixed_motion.specs.Motion.{IsInside, IsSlow, place_of, velocity_of, radius_of, contact_distance}
 use Rattle.contact_predictor.specs.Contact.{IsApproaching, IsContact}
 use Rattle.impulse_rounding.specs.Impulse.{nearest, ceiling, signed, with_signs, rounded_impulse, parting, impulse_of}
 use Rattle.event_rules.specs.Events.{IsContactTick, IsWallTick, IsPast}
 use Rattle.event_rules.proofs.Within.{product_sides}
-use Rattle.mirrored_runs.specs.Mirror.{mirrored, mirrored_place, mirrored_vector, mirrored_side}
+use Rattle.mirrored_runs.specs.Mirror.{Axis, LeftRight, BottomTop, mirrored, mirrored_place, mirrored_vector, mirrored_side}
 
 -- ---- numbers
 neg_times : (a b : ℤ) → neg_ℤ a *ℤ b ≡ neg_ℤ (a *ℤ b)
@@ -24,214 +24,246 @@ neg_times a b =
     let third = neg_is (a *ℤ b) in
     same_in (neg_ℤ a *ℤ b) (neg_ℤ (a *ℤ b)) (omega arith)
 
-neg_neg : (a : ℤ) → neg_ℤ (neg_ℤ a) ≡ a
-neg_neg a = omega (arith, ints)
+neg_twice : (a : ℤ) → neg_ℤ (neg_ℤ a) ≡ a
+neg_twice a = omega (arith, ints)
+
+neg_product : (x y : ℤ) → neg_ℤ x *ℤ neg_ℤ y ≡ x *ℤ y
+neg_product (pos zero) (pos zero) = refl
+neg_product (pos zero) (pos (suc n)) = omega (arith, ints)
+neg_product (pos zero) (negsuc n) = omega (arith, ints)
+neg_product (pos (suc m)) (pos zero) = omega (arith, ints)
+neg_product (pos (suc m)) (pos (suc n)) = refl
+neg_product (pos (suc m)) (negsuc n) = refl
+neg_product (negsuc m) (pos zero) = omega (arith, ints)
+neg_product (negsuc m) (pos (suc n)) = refl
+neg_product (negsuc m) (negsuc n) = refl
+
+neg_sum : (x y : ℤ) → neg_ℤ x +ℤ neg_ℤ y ≡ neg_ℤ (x +ℤ y)
+neg_sum x y = omega (arith, ints)
+
+neg_difference : (x y : ℤ) → (neg_ℤ x -ℤ neg_ℤ y) ≡ neg_ℤ (x -ℤ y)
+neg_difference x y = omega (arith, ints)
+
+pub neg_size : (x : ℤ) → nat_abs (neg_ℤ x) ≡ nat_abs x
+neg_size x = grind (arith, ints)
+
+-- a coordinate as far from the side across, in a box of width or height w
+across_twice : (w x : ℤ) → w -ℤ (w -ℤ x) ≡ x
+across_twice w x = omega (arith, ints)
+
+across_after : (w x v : ℤ) (n : ℕ) → (w -ℤ x) +ℤ (neg_ℤ v *ℤ pos n) ≡ w -ℤ (x +ℤ (v *ℤ pos n))
+across_after w x v n = let turn = neg_times v (pos n) in omega (arith, ints)
+
+across_apart : (w x y : ℤ) → (w -ℤ x) -ℤ (w -ℤ y) ≡ neg_ℤ (x -ℤ y)
+across_apart w x y = omega (arith, ints)
+
+across_least : (w r x : ℤ) → x ≤ℤ (w -ℤ r) → r ≤ℤ (w -ℤ x)
+across_least w r x h = omega (arith, ints)
+
+across_most : (w r x : ℤ) → r ≤ℤ x → (w -ℤ x) ≤ℤ (w -ℤ r)
+across_most w r x h = omega (arith, ints)
+
+across_over : (w r x : ℤ) → x <ℤ r → (w -ℤ r) <ℤ (w -ℤ x)
+across_over w r x h = omega (arith, ints)
+
+across_under : (w r x : ℤ) → (w -ℤ r) <ℤ x → (w -ℤ x) <ℤ r
+across_under w r x h = omega (arith, ints)
+
+-- ---- vectors
+pub dot_mirrored : (axis : Axis) (a b : Vector) → dot (mirrored_vector axis a) (mirrored_vector axis b) ≡ dot a b
+dot_mirrored LeftRight a b = ap (λ (n : ℤ). n +ℤ (a.y *ℤ b.y)) (neg_product a.x b.x)
+dot_mirrored BottomTop a b = ap (λ (n : ℤ). (a.x *ℤ b.x) +ℤ n) (neg_product a.y b.y)
+
+pub sum_mirrored : (axis : Axis) (a b : Vector) → sum (mirrored_vector axis a) (mirrored_vector axis b) ≡ mirrored_vector axis (sum a b)
+sum_mirrored LeftRight a b = let x = neg_sum a.x b.x in λ i. vector (x i) (a.y +ℤ b.y)
+sum_mirrored BottomTop a b = let y = neg_sum a.y b.y in λ i. vector (a.x +ℤ b.x) (y i)
+
+pub difference_mirrored : (axis : Axis) (a b : Vector) →
+    difference (mirrored_vector axis a) (mirrored_vector axis b) ≡ mirrored_vector axis (difference a b)
+difference_mirrored LeftRight a b = let x = neg_difference a.x b.x in λ i. vector (x i) (a.y -ℤ b.y)
+difference_mirrored BottomTop a b = let y = neg_difference a.y b.y in λ i. vector (a.x -ℤ b.x) (y i)
+
+pub slow_mirrored : (axis : Axis) (rules : Rules) (v : Vector) → IsSlow rules v → IsSlow rules (mirrored_vector axis v)
+slow_mirrored LeftRight rules v h = let size = neg_size v.x in let x = h.x in record { x = omega arith; y = h.y }
+slow_mirrored BottomTop rules v h = let size = neg_size v.y in let y = h.y in record { x = h.x; y = omega arith }
 
 -- ---- places
-coordinate_mirrored : (w x v : ℤ) (n : ℕ) → (w -ℤ x) +ℤ (neg_ℤ v *ℤ pos n) ≡ w -ℤ (x +ℤ (v *ℤ pos n))
-coordinate_mirrored w x v n = let turn = neg_times v (pos n) in omega (arith, ints)
-
-pub place_mirrored : (rules : Rules) (a : Disk) (tick : ℕ) → place_of (mirrored rules a) tick ≡ mirrored_place rules (place_of a tick)
-place_mirrored rules a tick =
-    let x = coordinate_mirrored rules.width a.x a.vx (tick - a.base) in
+pub place_mirrored : (axis : Axis) (rules : Rules) (a : Disk) (tick : ℕ) →
+    place_of (mirrored axis rules a) tick ≡ mirrored_place axis rules (place_of a tick)
+place_mirrored LeftRight rules a tick =
+    let x = across_after rules.width a.x a.vx (tick - a.base) in
     λ i. vector (x i) (place_of a tick).y
+place_mirrored BottomTop rules a tick =
+    let y = across_after rules.height a.y a.vy (tick - a.base) in
+    λ i. vector (place_of a tick).x (y i)
 
-pub mirrored_twice : (rules : Rules) (a : Disk) → mirrored rules (mirrored rules a) ≡ a
-mirrored_twice rules a =
-    let x = back rules.width a.x in
-    let vx = neg_neg a.vx in
+pub places_mirrored : (axis : Axis) (rules : Rules) (p q : Vector) →
+    difference (mirrored_place axis rules p) (mirrored_place axis rules q) ≡ mirrored_vector axis (difference p q)
+places_mirrored LeftRight rules p q = let x = across_apart rules.width p.x q.x in λ i. vector (x i) (p.y -ℤ q.y)
+places_mirrored BottomTop rules p q = let y = across_apart rules.height p.y q.y in λ i. vector (p.x -ℤ q.x) (y i)
+
+pub mirrored_twice : (axis : Axis) (rules : Rules) (a : Disk) → mirrored axis rules (mirrored axis rules a) ≡ a
+mirrored_twice LeftRight rules a =
+    let x = across_twice rules.width a.x in
+    let vx = neg_twice a.vx in
     λ i. record { x = x i; y = a.y; vx = vx i; vy = a.vy; size = a.size; base = a.base; mark = a.mark }
-  where
-    back : (w x : ℤ) → w -ℤ (w -ℤ x) ≡ x
-    back w x = omega (arith, ints)
+mirrored_twice BottomTop rules a =
+    let y = across_twice rules.height a.y in
+    let vy = neg_twice a.vy in
+    λ i. record { x = a.x; y = y i; vx = a.vx; vy = vy i; size = a.size; base = a.base; mark = a.mark }
 
 -- ---- sides
-pub inside_mirrored : (rules : Rules) (a : Disk) (p : Vector) → IsInside rules a p → IsInside rules (mirrored rules a) (mirrored_place rules p)
-inside_mirrored rules a p h = record { left = other _ _ _ h.right; right = same _ _ _ h.left; bottom = h.bottom; top = h.top }
-  where
-    other : (w r x : ℤ) → x ≤ℤ (w -ℤ r) → r ≤ℤ (w -ℤ x)
-    other w r x h = omega (arith, ints)
+pub inside_mirrored : (axis : Axis) (rules : Rules) (a : Disk) (p : Vector) → IsInside rules a p →
+    IsInside rules (mirrored axis rules a) (mirrored_place axis rules p)
+inside_mirrored LeftRight rules a p h =
+    record { left = across_least _ _ _ h.right; right = across_most _ _ _ h.left; bottom = h.bottom; top = h.top }
+inside_mirrored BottomTop rules a p h =
+    record { left = h.left; right = h.right; bottom = across_least _ _ _ h.top; top = across_most _ _ _ h.bottom }
 
-    same : (w r x : ℤ) → r ≤ℤ x → (w -ℤ x) ≤ℤ (w -ℤ r)
-    same w r x h = omega (arith, ints)
+pub inside_at_mirrored : (axis : Axis) (rules : Rules) (a : Disk) (tick : ℕ) → IsInside rules a (place_of a tick) →
+    IsInside rules (mirrored axis rules a) (place_of (mirrored axis rules a) tick)
+inside_at_mirrored axis rules a tick h =
+    subst (IsInside rules (mirrored axis rules a)) (sym (place_mirrored axis rules a tick)) (inside_mirrored axis rules a (place_of a tick) h)
 
-pub inside_at_mirrored : (rules : Rules) (a : Disk) (tick : ℕ) → IsInside rules a (place_of a tick) →
-    IsInside rules (mirrored rules a) (place_of (mirrored rules a) tick)
-inside_at_mirrored rules a tick h =
-    subst (IsInside rules (mirrored rules a)) (sym (place_mirrored rules a tick)) (inside_mirrored rules a (place_of a tick) h)
+past_mirrored : (axis : Axis) (rules : Rules) (a : Disk) (side : ℕ) (p : Vector) → IsPast rules a side p →
+    IsPast rules (mirrored axis rules a) (mirrored_side axis side) (mirrored_place axis rules p)
+past_mirrored LeftRight rules a side p (inl left) = inr (inl (ap (mirrored_side LeftRight) left.0, across_over _ _ _ left.1))
+past_mirrored LeftRight rules a side p (inr (inl right)) = inl (ap (mirrored_side LeftRight) right.0, across_under _ _ _ right.1)
+past_mirrored LeftRight rules a side p (inr (inr (inl bottom))) = inr (inr (inl (ap (mirrored_side LeftRight) bottom.0, bottom.1)))
+past_mirrored LeftRight rules a side p (inr (inr (inr top))) = inr (inr (inr (ap (mirrored_side LeftRight) top.0, top.1)))
+past_mirrored BottomTop rules a side p (inl left) = inl (ap (mirrored_side BottomTop) left.0, left.1)
+past_mirrored BottomTop rules a side p (inr (inl right)) = inr (inl (ap (mirrored_side BottomTop) right.0, right.1))
+past_mirrored BottomTop rules a side p (inr (inr (inl bottom))) =
+    inr (inr (inr (ap (mirrored_side BottomTop) bottom.0, across_over _ _ _ bottom.1)))
+past_mirrored BottomTop rules a side p (inr (inr (inr top))) =
+    inr (inr (inl (ap (mirrored_side BottomTop) top.0, across_under _ _ _ top.1)))
 
-past_mirrored : (rules : Rules) (a : Disk) (side : ℕ) (p : Vector) → IsPast rules a side p →
-    IsPast rules (mirrored rules a) (mirrored_side side) (mirrored_place rules p)
-past_mirrored rules a side p h = elim h [
-  | inl left ↦ inr (inl (ap mirrored_side left.0, over _ _ _ left.1))
-  | inr more ↦ elim more [
-    | inl right ↦ inl (ap mirrored_side right.0, under _ _ _ right.1)
-    | inr most ↦ elim most [
-      | inl bottom ↦ inr (inr (inl (ap mirrored_side bottom.0, bottom.1)))
-      | inr top ↦ inr (inr (inr (ap mirrored_side top.0, top.1)))
-    ]
-  ]
-]
-  where
-    over : (w r x : ℤ) → x <ℤ r → (w -ℤ r) <ℤ (w -ℤ x)
-    over w r x h = omega (arith, ints)
-
-    under : (w r x : ℤ) → (w -ℤ r) <ℤ x → (w -ℤ x) <ℤ r
-    under w r x h = omega (arith, ints)
-
-pub wall_mirrored : (rules : Rules) (a : Disk) (side tick : ℕ) → IsWallTick rules a side tick →
-    IsWallTick rules (mirrored rules a) (mirrored_side side) tick
-wall_mirrored rules a side tick h = record {
+pub wall_mirrored : (axis : Axis) (rules : Rules) (a : Disk) (side tick : ℕ) → IsWallTick rules a side tick →
+    IsWallTick rules (mirrored axis rules a) (mirrored_side axis side) tick
+wall_mirrored axis rules a side tick h = record {
   base = h.base;
-  inside = inside_at_mirrored rules a tick h.inside;
-  past = subst (IsPast rules (mirrored rules a) (mirrored_side side)) (sym (place_mirrored rules a (tick + 1)))
-      (past_mirrored rules a side (place_of a (tick + 1)) h.past);
+  inside = inside_at_mirrored axis rules a tick h.inside;
+  past = subst (IsPast rules (mirrored axis rules a) (mirrored_side axis side)) (sym (place_mirrored axis rules a (tick + 1)))
+      (past_mirrored axis rules a side (place_of a (tick + 1)) h.past);
 }
 
-past_left : (rules : Rules) (a : Disk) (side : ℕ) (p : Vector) → IsPast rules a side p → side ≡ 0 → p.x <ℤ radius_of a
-past_left rules a side p h e = elim h [
-  | inl left ↦ left.1
-  | inr more ↦ elim more [
-    | inl right ↦ absurd (let f = right.0 in omega arith)
-    | inr most ↦ elim most [
-      | inl bottom ↦ absurd (let f = bottom.0 in omega arith)
-      | inr top ↦ absurd (let f = top.0 in omega arith)
-    ]
-  ]
-]
+-- what a disk that is past a side is past, by the side's number
+record IsPastBy (rules : Rules) (a : Disk) (side : ℕ) (p : Vector) : Type 0 where
+  pub left : side ≡ 0 → p.x <ℤ radius_of a
+  pub right : side ≡ 1 → (rules.width -ℤ radius_of a) <ℤ p.x
+  pub bottom : side ≡ 2 → p.y <ℤ radius_of a
+  pub top : side ≡ 3 → (rules.height -ℤ radius_of a) <ℤ p.y
 
-past_right : (rules : Rules) (a : Disk) (side : ℕ) (p : Vector) → IsPast rules a side p → side ≡ 1 → (rules.width -ℤ radius_of a) <ℤ p.x
-past_right rules a side p h e = elim h [
-  | inl left ↦ absurd (let f = left.0 in omega arith)
-  | inr more ↦ elim more [
-    | inl right ↦ right.1
-    | inr most ↦ elim most [
-      | inl bottom ↦ absurd (let f = bottom.0 in omega arith)
-      | inr top ↦ absurd (let f = top.0 in omega arith)
-    ]
-  ]
-]
+past_by : (rules : Rules) (a : Disk) (side : ℕ) (p : Vector) → IsPast rules a side p → IsPastBy rules a side p
+past_by rules a side p (inl left) =
+    record { left = λ e. left.1; right = λ e. absurd (omega arith); bottom = λ e. absurd (omega arith); top = λ e. absurd (omega arith) }
+past_by rules a side p (inr (inl right)) =
+    record { left = λ e. absurd (omega arith); right = λ e. right.1; bottom = λ e. absurd (omega arith); top = λ e. absurd (omega arith) }
+past_by rules a side p (inr (inr (inl bottom))) =
+    record { left = λ e. absurd (omega arith); right = λ e. absurd (omega arith); bottom = λ e. bottom.1; top = λ e. absurd (omega arith) }
+past_by rules a side p (inr (inr (inr top))) =
+    record { left = λ e. absurd (omega arith); right = λ e. absurd (omega arith); bottom = λ e. absurd (omega arith); top = λ e. top.1 }
 
--- no disk is past the left side and the right one, as it was inside
-pub not_left_and_right : (rules : Rules) (a : Disk) (side other : ℕ) (p q : Vector) → IsInside rules a p → IsPast rules a side q →
-    IsPast rules a other q → side ≡ 0 → other ≡ 1 → ⊥
-not_left_and_right rules a side other p q inside h k e f =
-    neither _ _ _ _ inside.left inside.right (past_left rules a side q h e) (past_right rules a other q k f)
+-- two sides that change places, the lower number first
+abbrev pub AreAcross : Axis → ℕ → ℕ → Type 0
+AreAcross LeftRight low high = (low ≡ 0) × (high ≡ 1)
+AreAcross BottomTop low high = (low ≡ 2) × (high ≡ 3)
+
+-- no disk is past both, as it was inside
+pub not_past_both : (axis : Axis) (rules : Rules) (a : Disk) (low high : ℕ) (p q : Vector) → IsInside rules a p → IsPast rules a low q →
+    IsPast rules a high q → AreAcross axis low high → ⊥
+not_past_both axis rules a low high p q inside h k across = by_axis axis (past_by rules a low q h) (past_by rules a high q k) across
   where
     neither : (w r x y : ℤ) → r ≤ℤ x → x ≤ℤ (w -ℤ r) → y <ℤ r → (w -ℤ r) <ℤ y → ⊥
     neither w r x y h k l m = omega (arith, ints)
 
+    by_axis : (axis : Axis) → IsPastBy rules a low q → IsPastBy rules a high q → AreAcross axis low high → ⊥
+    by_axis LeftRight h k across = neither _ _ _ _ inside.left inside.right (h.left across.0) (k.right across.1)
+    by_axis BottomTop h k across = neither _ _ _ _ inside.bottom inside.top (h.bottom across.0) (k.top across.1)
+
 -- ---- contacts
-pub dot_mirrored : (a b : Vector) → dot (mirrored_vector a) (mirrored_vector b) ≡ dot a b
-dot_mirrored a b = ap (λ (n : ℤ). n +ℤ (a.y *ℤ b.y)) (product_turned a.x b.x)
-  where
-    product_turned : (x y : ℤ) → neg_ℤ x *ℤ neg_ℤ y ≡ x *ℤ y
-    product_turned (pos zero) (pos zero) = refl
-    product_turned (pos zero) (pos (suc n)) = omega (arith, ints)
-    product_turned (pos zero) (negsuc n) = omega (arith, ints)
-    product_turned (pos (suc m)) (pos zero) = omega (arith, ints)
-    product_turned (pos (suc m)) (pos (suc n)) = refl
-    product_turned (pos (suc m)) (negsuc n) = refl
-    product_turned (negsuc m) (pos zero) = omega (arith, ints)
-    product_turned (negsuc m) (pos (suc n)) = refl
-    product_turned (negsuc m) (negsuc n) = refl
-
-pub sum_mirrored : (a b : Vector) → sum (mirrored_vector a) (mirrored_vector b) ≡ mirrored_vector (sum a b)
-sum_mirrored a b = let x = together a.x b.x in λ i. vector (x i) (a.y +ℤ b.y)
-  where
-    together : (x y : ℤ) → neg_ℤ x +ℤ neg_ℤ y ≡ neg_ℤ (x +ℤ y)
-    together x y = omega (arith, ints)
-
-approaching_mirrored : (r u : Vector) (distance : ℤ) →
-    (IsApproaching r u distance → IsApproaching (mirrored_vector r) (mirrored_vector u) distance)
-    × (IsApproaching (mirrored_vector r) (mirrored_vector u) distance → IsApproaching r u distance)
-approaching_mirrored r u distance = (
+approaching_mirrored : (axis : Axis) (r u : Vector) (distance : ℤ) →
+    (IsApproaching r u distance → IsApproaching (mirrored_vector axis r) (mirrored_vector axis u) distance)
+    × (IsApproaching (mirrored_vector axis r) (mirrored_vector axis u) distance → IsApproaching r u distance)
+approaching_mirrored axis r u distance = (
   λ h. record {
-    apart = subst (λ (n : ℤ). pos 0 ≤ℤ (n -ℤ (distance *ℤ distance))) (sym (dot_mirrored r r)) h.apart;
-    approaching = subst (λ (n : ℤ). n <ℤ pos 0) (sym (dot_mirrored r u)) h.approaching;
+    apart = subst (λ (n : ℤ). pos 0 ≤ℤ (n -ℤ (distance *ℤ distance))) (sym (dot_mirrored axis r r)) h.apart;
+    approaching = subst (λ (n : ℤ). n <ℤ pos 0) (sym (dot_mirrored axis r u)) h.approaching;
   },
   λ h. record {
-    apart = subst (λ (n : ℤ). pos 0 ≤ℤ (n -ℤ (distance *ℤ distance))) (dot_mirrored r r) h.apart;
-    approaching = subst (λ (n : ℤ). n <ℤ pos 0) (dot_mirrored r u) h.approaching;
+    apart = subst (λ (n : ℤ). pos 0 ≤ℤ (n -ℤ (distance *ℤ distance))) (dot_mirrored axis r r) h.apart;
+    approaching = subst (λ (n : ℤ). n <ℤ pos 0) (dot_mirrored axis r u) h.approaching;
   },
 )
 
-pub contact_mirrored : (r u : Vector) (distance : ℤ) → IsContact r u distance → IsContact (mirrored_vector r) (mirrored_vector u) distance
-contact_mirrored r u distance h =
-    let a = dot_mirrored u u in
-    let b = dot_mirrored r u in
-    let c = dot_mirrored r r in
+contact_mirrored : (axis : Axis) (r u : Vector) (distance : ℤ) → IsContact r u distance →
+    IsContact (mirrored_vector axis r) (mirrored_vector axis u) distance
+contact_mirrored axis r u distance h =
+    let a = dot_mirrored axis u u in
+    let b = dot_mirrored axis r u in
+    let c = dot_mirrored axis r r in
     record {
-      approaching = (approaching_mirrored r u distance).0 h.approaching;
+      approaching = (approaching_mirrored axis r u distance).0 h.approaching;
       crossing = crosses _ _ _ _ _ _ (distance *ℤ distance) a b c h.crossing;
-      last = λ next. h.last ((approaching_mirrored (sum r u) u distance).1
-          (subst (λ (p : Vector). IsApproaching p (mirrored_vector u) distance) (sum_mirrored r u) next));
+      last = λ next. h.last ((approaching_mirrored axis (sum r u) u distance).1
+          (subst (λ (p : Vector). IsApproaching p (mirrored_vector axis u) distance) (sum_mirrored axis r u) next));
     }
   where
     crosses : (a b c a' b' c' d : ℤ) → a' ≡ a → b' ≡ b → c' ≡ c → (a *ℤ (c -ℤ d)) <ℤ (b *ℤ b) → (a' *ℤ (c' -ℤ d)) <ℤ (b' *ℤ b')
     crosses a b c a' b' c' d p q t h = rw (p, q, t) h
 
-pub places_mirrored : (rules : Rules) (p q : Vector) → difference (mirrored_place rules p) (mirrored_place rules q) ≡ mirrored_vector (difference p q)
-places_mirrored rules p q = let x = apart rules.width p.x q.x in λ i. vector (x i) (p.y -ℤ q.y)
-  where
-    apart : (w x y : ℤ) → (w -ℤ x) -ℤ (w -ℤ y) ≡ neg_ℤ (x -ℤ y)
-    apart w x y = omega (arith, ints)
+pub separation_mirrored : (axis : Axis) (rules : Rules) (a b : Disk) (tick : ℕ) →
+    difference (place_of (mirrored axis rules a) tick) (place_of (mirrored axis rules b) tick)
+    ≡ mirrored_vector axis (difference (place_of a tick) (place_of b tick))
+separation_mirrored axis rules a b tick =
+    let p = place_mirrored axis rules a tick in
+    let q = place_mirrored axis rules b tick in
+    (λ i. difference (p i) (q i)) ∙ places_mirrored axis rules (place_of a tick) (place_of b tick)
 
-pub separation_mirrored : (rules : Rules) (a b : Disk) (tick : ℕ) →
-    difference (place_of (mirrored rules a) tick) (place_of (mirrored rules b) tick) ≡ mirrored_vector (difference (place_of a tick) (place_of b tick))
-separation_mirrored rules a b tick =
-    let p = place_mirrored rules a tick in
-    let q = place_mirrored rules b tick in
-    (λ i. difference (p i) (q i)) ∙ places_mirrored rules (place_of a tick) (place_of b tick)
-
-pub relative_mirrored : (rules : Rules) (a b : Disk) →
-    difference (velocity_of (mirrored rules a)) (velocity_of (mirrored rules b)) ≡ mirrored_vector (difference (velocity_of a) (velocity_of b))
-relative_mirrored rules a b = let x = apart a.vx b.vx in λ i. vector (x i) (a.vy -ℤ b.vy)
-  where
-    apart : (x y : ℤ) → (neg_ℤ x -ℤ neg_ℤ y) ≡ neg_ℤ (x -ℤ y)
-    apart x y = omega (arith, ints)
-
-pub contact_tick_mirrored : (rules : Rules) (a b : Disk) (tick : ℕ) → IsContactTick rules a b tick →
-    IsContactTick rules (mirrored rules a) (mirrored rules b) tick
-contact_tick_mirrored rules a b tick h =
-    let r = separation_mirrored rules a b tick in
-    let u = relative_mirrored rules a b in
+pub contact_tick_mirrored : (axis : Axis) (rules : Rules) (a b : Disk) (tick : ℕ) → IsContactTick rules a b tick →
+    IsContactTick rules (mirrored axis rules a) (mirrored axis rules b) tick
+contact_tick_mirrored axis rules a b tick h =
+    let r = separation_mirrored axis rules a b tick in
+    let u = difference_mirrored axis (velocity_of a) (velocity_of b) in
     record {
       first_base = h.first_base;
       second_base = h.second_base;
-      first_inside = inside_at_mirrored rules a tick h.first_inside;
-      second_inside = inside_at_mirrored rules b tick h.second_inside;
-      contact = in_place _ _ _ _ (contact_distance a b) r u (contact_mirrored _ _ (contact_distance a b) h.contact);
+      first_inside = inside_at_mirrored axis rules a tick h.first_inside;
+      second_inside = inside_at_mirrored axis rules b tick h.second_inside;
+      contact = in_place _ _ _ _ (contact_distance a b) r u (contact_mirrored axis _ _ (contact_distance a b) h.contact);
     }
   where
     in_place : (r u s v : Vector) (distance : ℤ) → s ≡ r → v ≡ u → IsContact r u distance → IsContact s v distance
     in_place r u s v distance p q h = rw (p, q) h
 
 -- ---- impulses
-pub abs_neg : (x : ℤ) → nat_abs (neg_ℤ x) ≡ nat_abs x
-abs_neg x = grind (arith, ints)
-
 signed_mirrored : (x : ℤ) (n : ℕ) → (x ≡ pos 0 → n ≡ 0) → signed (neg_ℤ x) n ≡ neg_ℤ (signed x n)
 signed_mirrored (pos zero) n none = rw (none refl) refl
 signed_mirrored (pos (suc m)) n none = refl
-signed_mirrored (negsuc m) n none = sym (neg_neg (pos n))
+signed_mirrored (negsuc m) n none = sym (neg_twice (pos n))
 
-rounded_mirrored : (round : ℕ → ℕ → ℕ) (r u : Vector) → ((d : ℕ) → round 0 d ≡ 0) →
-    rounded_impulse round (mirrored_vector r) (mirrored_vector u) ≡ mirrored_vector (rounded_impulse round r u)
-rounded_mirrored round r u none =
-    (λ i. by_parts (nat_abs (dot_mirrored r u i)) (nat_abs (dot_mirrored r r i)))
-    ∙ (λ i. vector (size (nat_abs (dot r u)) (nat_abs (dot r r)) i) (signed r.y (round (nat_abs (dot r u) * nat_abs r.y) (nat_abs (dot r r)))))
+-- one component of an impulse whose exact size is b |x| / n
+component_mirrored : (round : ℕ → ℕ → ℕ) (b n : ℕ) (x : ℤ) → ((d : ℕ) → round 0 d ≡ 0) →
+    signed (neg_ℤ x) (round (b * nat_abs (neg_ℤ x)) n) ≡ neg_ℤ (signed x (round (b * nat_abs x) n))
+component_mirrored round b n x none =
+    ap (λ (m : ℕ). signed (neg_ℤ x) (round (b * m) n)) (neg_size x)
+    ∙ signed_mirrored x (round (b * nat_abs x) n) (λ e. ap (λ (m : ℕ). round m n) (nothing e) ∙ none n)
   where
-    by_parts : ℕ → ℕ → Vector
-    by_parts b n = with_signs (mirrored_vector r) (round (b * nat_abs (neg_ℤ r.x)) n) (round (b * nat_abs r.y) n)
+    nothing : x ≡ pos 0 → b * nat_abs x ≡ 0
+    nothing e = rw e (omega arith)
 
-    nothing : (b : ℕ) (x : ℤ) → x ≡ pos 0 → b * nat_abs x ≡ 0
-    nothing b x e = rw e (omega arith)
+rounded_mirrored : (axis : Axis) (round : ℕ → ℕ → ℕ) (r u : Vector) → ((d : ℕ) → round 0 d ≡ 0) →
+    rounded_impulse round (mirrored_vector axis r) (mirrored_vector axis u) ≡ mirrored_vector axis (rounded_impulse round r u)
+rounded_mirrored axis round r u none =
+    (λ i. by_parts (mirrored_vector axis r) (nat_abs (dot_mirrored axis r u i)) (nat_abs (dot_mirrored axis r r i)))
+    ∙ parts axis (nat_abs (dot r u)) (nat_abs (dot r r))
+  where
+    by_parts : Vector → ℕ → ℕ → Vector
+    by_parts s b n = with_signs s (round (b * nat_abs s.x) n) (round (b * nat_abs s.y) n)
 
-    size : (b n : ℕ) → signed (neg_ℤ r.x) (round (b * nat_abs (neg_ℤ r.x)) n) ≡ neg_ℤ (signed r.x (round (b * nat_abs r.x) n))
-    size b n =
-        ap (λ (m : ℕ). signed (neg_ℤ r.x) (round (b * m) n)) (abs_neg r.x)
-        ∙ signed_mirrored r.x (round (b * nat_abs r.x) n) (λ e. ap (λ (m : ℕ). round m n) (nothing b r.x e) ∙ none n)
+    parts : (axis : Axis) (b n : ℕ) → by_parts (mirrored_vector axis r) b n ≡ mirrored_vector axis (by_parts r b n)
+    parts LeftRight b n = let x = component_mirrored round b n r.x none in λ i. vector (x i) (signed r.y (round (b * nat_abs r.y) n))
+    parts BottomTop b n = let y = component_mirrored round b n r.y none in λ i. vector (signed r.x (round (b * nat_abs r.x) n)) (y i)
 
 nearest_none : (d : ℕ) → nearest 0 d ≡ 0
 nearest_none zero = refl
@@ -241,16 +273,19 @@ ceiling_none : (d : ℕ) → ceiling 0 d ≡ 0
 ceiling_none zero = refl
 ceiling_none (suc k) = let below = div_below (0 + (suc k - 1)) (suc k) 1 (omega arith) (omega arith) in omega arith
 
-pub impulse_mirrored : (r u : Vector) → impulse_of (mirrored_vector r) (mirrored_vector u) ≡ mirrored_vector (impulse_of r u)
-impulse_mirrored r u =
-    let near = rounded_mirrored nearest r u nearest_none in
-    let more = rounded_mirrored ceiling r u ceiling_none in
+pub impulse_mirrored : (axis : Axis) (r u : Vector) →
+    impulse_of (mirrored_vector axis r) (mirrored_vector axis u) ≡ mirrored_vector axis (impulse_of r u)
+impulse_mirrored axis r u =
+    let near = rounded_mirrored axis nearest r u nearest_none in
+    let more = rounded_mirrored axis ceiling r u ceiling_none in
     let n = rounded_impulse nearest r u in
-    let test : parting (mirrored_vector r) (mirrored_vector u) (rounded_impulse nearest (mirrored_vector r) (mirrored_vector u)) ≡ parting r u n =
-    ap (parting (mirrored_vector r) (mirrored_vector u)) near ∙ (λ i. dot_mirrored r u i +ℤ (pos 2 *ℤ dot_mirrored r n i)) in
+    let test : parting (mirrored_vector axis r) (mirrored_vector axis u) (rounded_impulse nearest (mirrored_vector axis r) (mirrored_vector axis u))
+    ≡ parting r u n =
+    ap (parting (mirrored_vector axis r) (mirrored_vector axis u)) near
+    ∙ (λ i. dot_mirrored axis r u i +ℤ (pos 2 *ℤ dot_mirrored axis r n i)) in
     (λ i. if int_lt (pos 0) (test i) then near i else more i)
     ∙ chosen (int_lt (pos 0) (parting r u n)) n (rounded_impulse ceiling r u)
   where
-    chosen : (p : Bool) (m n : Vector) → (if p then mirrored_vector m else mirrored_vector n) ≡ mirrored_vector (if p then m else n)
+    chosen : (p : Bool) (m n : Vector) → (if p then mirrored_vector axis m else mirrored_vector axis n) ≡ mirrored_vector axis (if p then m else n)
     chosen true m n = refl
     chosen false m n = refl

@@ -1,10 +1,11 @@
--- Scenes and runs mirrored left to right: what was at the left side is as far from the right one, and velocities to the right are to
--- the left.
+-- Scenes and runs mirrored, left to right or bottom to top: what was at one side is as far from the one across, and velocities
+-- to one side are to the one across.
 use Rattle.std.specs.Prelude.{ℕ, ◌==◌, if◌then◌else◌, ◌-ℤ◌, neg_ℤ, List, map, Option, Some, None}
 use Rattle.plane_vectors.specs.declared.Vector.{Vector}
 use Rattle.plane_vectors.specs.Vectors.{vector}
 use Rattle.fixed_motion.specs.declared.rules.Rules.{Rules}
 use Rattle.fixed_motion.specs.declared.disk.Disk.{Disk}
+use Rattle.fixed_motion.specs.Motion.{centre_of, velocity_of}
 use Rattle.fixed_motion.specs.Scene.{SceneData, IsValidScene}
 use Rattle.event_stamps.specs.declared.Stamp.{Stamp}
 use Rattle.event_stamps.specs.declared.Kind.{Kind}
@@ -15,74 +16,89 @@ use Rattle.event_rules.specs.declared.change.Limit.TheVariants.{Rounds, Speed}
 use Rattle.event_rules.specs.declared.outcome.Spot.{Spot}
 use Rattle.event_rules.specs.declared.outcome.Outcome.{Outcome}
 use Rattle.event_rules.specs.declared.outcome.Outcome.TheVariants.{Done, Limit as Passes}
+use Rattle.event_rules.specs.Conservation.{spot_velocity}
 use Rattle.event_rules.specs.Run.{IsRun}
 
-abbrev pub mirrored_place : Rules → Vector → Vector
-mirrored_place rules p = vector (rules.width -ℤ p.x) p.y
+-- which sides change places
+pub data Axis : Type 0 where
+  LeftRight : Axis
+  BottomTop : Axis
 
-abbrev pub mirrored_vector : Vector → Vector
-mirrored_vector v = vector (neg_ℤ v.x) v.y
+abbrev pub mirrored_place : Axis → Rules → Vector → Vector
+mirrored_place LeftRight rules p = vector (rules.width -ℤ p.x) p.y
+mirrored_place BottomTop rules p = vector p.x (rules.height -ℤ p.y)
 
-abbrev pub mirrored : Rules → Disk → Disk
-mirrored rules a = record {
-  x = rules.width -ℤ a.x;
-  y = a.y;
-  vx = neg_ℤ a.vx;
-  vy = a.vy;
+abbrev pub mirrored_vector : Axis → Vector → Vector
+mirrored_vector LeftRight v = vector (neg_ℤ v.x) v.y
+mirrored_vector BottomTop v = vector v.x (neg_ℤ v.y)
+
+abbrev pub mirrored : Axis → Rules → Disk → Disk
+mirrored axis rules a = record {
+  x = (mirrored_place axis rules (centre_of a)).x;
+  y = (mirrored_place axis rules (centre_of a)).y;
+  vx = (mirrored_vector axis (velocity_of a)).x;
+  vy = (mirrored_vector axis (velocity_of a)).y;
   size = a.size;
   base = a.base;
   mark = a.mark;
 }
 
-abbrev pub mirrored_scene : SceneData → SceneData
-mirrored_scene scene = record { rules = scene.rules; disks = map (mirrored scene.rules) scene.disks; every = scene.every }
+abbrev pub mirrored_scene : Axis → SceneData → SceneData
+mirrored_scene axis scene =
+    record { rules = scene.rules; disks = map (mirrored axis scene.rules) scene.disks; every = scene.every }
 
--- the right side for the left one, and the other way about
-abbrev pub mirrored_side : ℕ → ℕ
-mirrored_side side = if side == 0 then 1 else if side == 1 then 0 else side
+-- the right side for the left one, or the top for the bottom, and the other way about
+abbrev pub mirrored_side : Axis → ℕ → ℕ
+mirrored_side LeftRight side = if side == 0 then 1 else if side == 1 then 0 else side
+mirrored_side BottomTop side = if side == 2 then 3 else if side == 3 then 2 else side
 
 -- the last number of a stamp, which is a side where a disk hits one
-abbrev pub mirrored_second : Kind → ℕ → ℕ
-mirrored_second Cross second = second
-mirrored_second Wall second = mirrored_side second
-mirrored_second Pair second = second
+abbrev pub mirrored_second : Axis → Kind → ℕ → ℕ
+mirrored_second axis Cross second = second
+mirrored_second axis Wall second = mirrored_side axis second
+mirrored_second axis Pair second = second
 
-abbrev pub mirrored_stamp : Stamp → Stamp
-mirrored_stamp s = record {
+abbrev pub mirrored_stamp : Axis → Stamp → Stamp
+mirrored_stamp axis s = record {
   tick = s.tick;
   round = s.round;
   kind = s.kind;
   first = s.first;
-  second = mirrored_second s.kind s.second;
+  second = mirrored_second axis s.kind s.second;
 }
 
-abbrev pub mirrored_if : Rules → Option Disk → Option Disk
-mirrored_if rules None = None
-mirrored_if rules (Some a) = Some (mirrored rules a)
+abbrev pub mirrored_if : Axis → Rules → Option Disk → Option Disk
+mirrored_if axis rules None = None
+mirrored_if axis rules (Some a) = Some (mirrored axis rules a)
 
-abbrev pub mirrored_change : Rules → Change → Change
-mirrored_change rules c = record {
-  stamp = mirrored_stamp c.stamp;
-  first = mirrored rules c.first;
-  second = mirrored_if rules c.second;
+abbrev pub mirrored_change : Axis → Rules → Change → Change
+mirrored_change axis rules c = record {
+  stamp = mirrored_stamp axis c.stamp;
+  first = mirrored axis rules c.first;
+  second = mirrored_if axis rules c.second;
 }
 
-abbrev pub mirrored_limit : Limit → Limit
-mirrored_limit (Rounds s) = Rounds (mirrored_stamp s)
-mirrored_limit (Speed s) = Speed (mirrored_stamp s)
+abbrev pub mirrored_limit : Axis → Limit → Limit
+mirrored_limit axis (Rounds s) = Rounds (mirrored_stamp axis s)
+mirrored_limit axis (Speed s) = Speed (mirrored_stamp axis s)
 
-abbrev pub mirrored_spot : Rules → Spot → Spot
-mirrored_spot rules spot = record { x = rules.width -ℤ spot.x; y = spot.y; vx = neg_ℤ spot.vx; vy = spot.vy }
+abbrev pub mirrored_spot : Axis → Rules → Spot → Spot
+mirrored_spot axis rules spot = record {
+  x = (mirrored_place axis rules (vector spot.x spot.y)).x;
+  y = (mirrored_place axis rules (vector spot.x spot.y)).y;
+  vx = (mirrored_vector axis (spot_velocity spot)).x;
+  vy = (mirrored_vector axis (spot_velocity spot)).y;
+}
 
-abbrev pub mirrored_outcome : Rules → Outcome → Outcome
-mirrored_outcome rules (Done spots) = Done (map (mirrored_spot rules) spots)
-mirrored_outcome rules (Passes limit) = Passes (mirrored_limit limit)
+abbrev pub mirrored_outcome : Axis → Rules → Outcome → Outcome
+mirrored_outcome axis rules (Done spots) = Done (map (mirrored_spot axis rules) spots)
+mirrored_outcome axis rules (Passes limit) = Passes (mirrored_limit axis limit)
 
 -- a mirrored scene is valid where the scene is
 abbrev pub MirrorsAreValid : Type 0
-MirrorsAreValid = (scene : SceneData) → IsValidScene scene → IsValidScene (mirrored_scene scene)
+MirrorsAreValid = (axis : Axis) (scene : SceneData) → IsValidScene scene → IsValidScene (mirrored_scene axis scene)
 
 -- the run of a mirrored scene is the scene's run, mirrored
 abbrev pub RunsMirror : Type 0
-RunsMirror = (scene : SceneData) (changes : List Change) (outcome : Outcome) → IsRun scene changes outcome →
-    IsRun (mirrored_scene scene) (map (mirrored_change scene.rules) changes) (mirrored_outcome scene.rules outcome)
+RunsMirror = (axis : Axis) (scene : SceneData) (changes : List Change) (outcome : Outcome) → IsRun scene changes outcome →
+    IsRun (mirrored_scene axis scene) (map (mirrored_change axis scene.rules) changes) (mirrored_outcome axis scene.rules outcome)
