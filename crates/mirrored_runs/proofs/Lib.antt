@@ -1,3 +1,4 @@
 -- The lemmas of the crate.
 mod Mirrored
 mod MirroredRuns
+mod MirroredReports

@@ -223,7 +223,7 @@ module _ (axis : Axis) (rules : Rules) where
   set_some_mirrored Pair n disks None h = absurd h
   set_some_mirrored Pair n disks (Some a) h = sym (map-set (mirrored axis rules) disks n a)
 
-  effect_mirrored : (disks : List Disk) (c : Change) → HasDisksOf c.stamp.kind c.second →
+  pub effect_mirrored : (disks : List Disk) (c : Change) → HasDisksOf c.stamp.kind c.second →
       effect (mirrored_disks disks) (mirrored_change axis rules c) ≡ mirrored_disks (effect disks c)
   effect_mirrored disks c h =
       ap (λ (xs : List Disk). set_some xs (mirrored_second axis c.stamp.kind c.stamp.second) (mirrored_if axis rules c.second))
@@ -329,7 +329,7 @@ module _ (axis : Axis) (rules : Rules) where
   spot_mirrored tick a = let p = place_mirrored axis rules a tick in
       λ i. record { x = (p i).x; y = (p i).y; vx = (mirrored_vector axis (velocity_of a)).x; vy = (mirrored_vector axis (velocity_of a)).y }
 
-  spots_mirrored : (tick : ℕ) (disks : List Disk) →
+  pub spots_mirrored : (tick : ℕ) (disks : List Disk) →
       map (mirrored_spot axis rules) (spots_of tick disks) ≡ spots_of tick (mirrored_disks disks)
   spots_mirrored tick [] = refl
   spots_mirrored tick (a ∷ disks) = λ i. sym (spot_mirrored tick a) i ∷ spots_mirrored tick disks i

@@ -24,14 +24,17 @@ pub data Axis : Type 0 where
   LeftRight : Axis
   BottomTop : Axis
 
+-- the place that is as far from the side across
 abbrev pub mirrored_place : Axis → Rules → Vector → Vector
 mirrored_place LeftRight rules p = vector (rules.width -ℤ p.x) p.y
 mirrored_place BottomTop rules p = vector p.x (rules.height -ℤ p.y)
 
+-- one component turned round
 abbrev pub mirrored_vector : Axis → Vector → Vector
 mirrored_vector LeftRight v = vector (neg_ℤ v.x) v.y
 mirrored_vector BottomTop v = vector v.x (neg_ℤ v.y)
 
+-- the record of a disk at the mirrored place, with the mirrored velocity
 abbrev pub mirrored : Axis → Rules → Disk → Disk
 mirrored axis rules a = record {
   x = (mirrored_place axis rules (centre_of a)).x;
@@ -43,6 +46,7 @@ mirrored axis rules a = record {
   mark = a.mark;
 }
 
+-- the same rules, and each disk mirrored
 abbrev pub mirrored_scene : Axis → SceneData → SceneData
 mirrored_scene axis scene =
     record { rules = scene.rules; disks = map (mirrored axis scene.rules) scene.disks; every = scene.every }
@@ -58,6 +62,7 @@ mirrored_second axis Cross second = second
 mirrored_second axis Wall second = mirrored_side axis second
 mirrored_second axis Pair second = second
 
+-- the same tick, round, kind and first disk
 abbrev pub mirrored_stamp : Axis → Stamp → Stamp
 mirrored_stamp axis s = record {
   tick = s.tick;
@@ -67,10 +72,12 @@ mirrored_stamp axis s = record {
   second = mirrored_second axis s.kind s.second;
 }
 
+-- the disk, where there is one
 abbrev pub mirrored_if : Axis → Rules → Option Disk → Option Disk
 mirrored_if axis rules None = None
 mirrored_if axis rules (Some a) = Some (mirrored axis rules a)
 
+-- what the mirrored event changes
 abbrev pub mirrored_change : Axis → Rules → Change → Change
 mirrored_change axis rules c = record {
   stamp = mirrored_stamp axis c.stamp;
@@ -78,10 +85,12 @@ mirrored_change axis rules c = record {
   second = mirrored_if axis rules c.second;
 }
 
+-- the same limit, failed by the mirrored event
 abbrev pub mirrored_limit : Axis → Limit → Limit
 mirrored_limit axis (Rounds s) = Rounds (mirrored_stamp axis s)
 mirrored_limit axis (Speed s) = Speed (mirrored_stamp axis s)
 
+-- the mirrored place and velocity of a disk in the end
 abbrev pub mirrored_spot : Axis → Rules → Spot → Spot
 mirrored_spot axis rules spot = record {
   x = (mirrored_place axis rules (vector spot.x spot.y)).x;
@@ -90,6 +99,7 @@ mirrored_spot axis rules spot = record {
   vy = (mirrored_vector axis (spot_velocity spot)).y;
 }
 
+-- the mirrored end of a run
 abbrev pub mirrored_outcome : Axis → Rules → Outcome → Outcome
 mirrored_outcome axis rules (Done spots) = Done (map (mirrored_spot axis rules) spots)
 mirrored_outcome axis rules (Passes limit) = Passes (mirrored_limit axis limit)

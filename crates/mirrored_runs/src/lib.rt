@@ -1,6 +1,9 @@
-//! A mirrored scene has the mirrored run, and the mirrored report.
+//! A scene mirrored left to right, or bottom to top, has the mirrored run and the mirrored report.
+//!
+//! With x and y exchanged it isn't so: where a disk comes into the corner at the left and the bottom,
+//! the event at the left side comes first in both scenes.
 #![tactic(auto)]
 
 mod laws;
 
-pub use laws::{mirrors_are_valid, runs_mirror};
+pub use laws::{mirrors_are_valid, reports_mirror, runs_mirror};
