@@ -1,0 +1,40 @@
+-- How near the impulse of two disks is to the exact one.
+use Rattle.std.specs.Prelude.{◌*◌, ◌<◌, ◌≤◌, pos, nat_abs, ◌+ℤ◌, ◌*ℤ◌, ◌≤ℤ◌, ◌<ℤ◌}
+use Rattle.plane_vectors.specs.declared.Vector.{Vector}
+use Rattle.plane_vectors.specs.Vectors.{vector, dot}
+use Rattle.impulse_rounding.specs.Impulse.{nearest, rounded_impulse, impulse_of, parting}
+
+-- Two equal smooth disks that collide, with the separation r and the relative velocity u, give each other exactly the impulse
+-- -(r·u / r·r) r. This is what is between an impulse j and that one, told r·r times as large, so that it is whole.
+abbrev pub difference_from_exact : Vector → Vector → Vector → Vector
+difference_from_exact r u j =
+    vector ((dot r r *ℤ j.x) +ℤ (dot r u *ℤ r.x)) ((dot r r *ℤ j.y) +ℤ (dot r u *ℤ r.y))
+
+-- each component is less than one unit per tick from the exact one
+abbrev pub IsWithinOne : Vector → Vector → Vector → Type 0
+IsWithinOne r u j =
+    let d = difference_from_exact r u j in
+    (nat_abs d.x < nat_abs (dot r r)) × (nat_abs d.y < nat_abs (dot r r))
+
+-- each is at most half a unit from it
+abbrev pub IsWithinHalf : Vector → Vector → Vector → Type 0
+IsWithinHalf r u j =
+    let d = difference_from_exact r u j in
+    (2 * nat_abs d.x ≤ nat_abs (dot r r)) × (2 * nat_abs d.y ≤ nat_abs (dot r r))
+
+-- neither is smaller in size than the exact one
+abbrev pub IsNotSmaller : Vector → Vector → Vector → Type 0
+IsNotSmaller r u j =
+    (nat_abs (dot r u) * nat_abs r.x ≤ nat_abs (dot r r) * nat_abs j.x)
+    × (nat_abs (dot r u) * nat_abs r.y ≤ nat_abs (dot r r) * nat_abs j.y)
+
+-- An impulse of whole numbers after which two disks recede. It is the nearest to the exact one where they recede after that;
+-- else its sizes are rounded up.
+pub record IsNearlyElastic (r u j : Vector) : Type 0 where
+  pub one : IsWithinOne r u j
+  pub half : pos 0 <ℤ parting r u (rounded_impulse nearest r u) → IsWithinHalf r u j
+  pub up : parting r u (rounded_impulse nearest r u) ≤ℤ pos 0 → IsNotSmaller r u j
+  pub recedes : pos 0 <ℤ parting r u j
+
+abbrev pub ImpulsesAreElastic : Type 0
+ImpulsesAreElastic = (r u : Vector) → dot r u <ℤ pos 0 → IsNearlyElastic r u (impulse_of r u)

@@ -1,0 +1,4 @@
+-- The definitions that the laws cite.
+pub mod Touching
+pub mod Elastic
+pub mod Laws
