@@ -1,16 +1,16 @@
 -- Two disks in contact overlap within the tick that follows: at its end, or where they are nearest to each other. There the
 -- discriminant, which stays what it is, is positive with r·u = 0.
-use Rattle.std.proofs.Common.{◌≡◌, ℕ, zero, suc, ◌+◌, ◌*◌, ◌<◌, ◌≤◌, subst, sym, ap, ◌∙◌, refl, arith}
+use Rattle.std.proofs.Common.{◌≡◌, ℕ, zero, suc, ◌+◌, ◌*◌, ◌<◌, ◌≤◌, subst, sym, ap, ◌∙◌, arith}
 use Rattle.std.specs.Prelude.{ℤ, pos, negsuc, nat_abs, ◌+ℤ◌, ◌*ℤ◌, ◌≤ℤ◌, ◌<ℤ◌}
 use Rattle.std.proofs.lemmas.Int.{ints, by_lt_z}
 use Rattle.std.proofs.Math.Nat.{mul-le-mul, mul-le-mul_right}
-use borrow.Author.Differences.{up, down, product_is, same_in}
 use Rattle.plane_vectors.specs.declared.Vector.{Vector}
 use Rattle.plane_vectors.specs.Vectors.{vector, sum, dot, after}
 use Rattle.plane_vectors.proofs.Products.{distributes}
 use Rattle.contact_predictor.specs.Contact.{gap, IsContact, IsCollisionCourse}
 use Rattle.contact_predictor.proofs.Approaching.{after_next, after_none, dot_next, speed_not_negative, crossing_always}
-use Rattle.event_rules.proofs.Within.{scaled, minus_times, product_sides}
+use Rattle.event_rules.proofs.Within.{scaled, minus_times}
+use Rattle.real_collisions.proofs.Numbers.{times_across, times_both}
 
 -- at this part of the tick two disks overlap, with lengths told in parts
 abbrev pub OverlapAfter : Vector → Vector → ℤ → ℕ → ℕ → Type 0
@@ -25,35 +25,18 @@ pub record OverlapSoon (r u : Vector) (distance : ℤ) : Type 0 where
   pub overlap : OverlapAfter r u distance part whole
 
 -- ---- lengths in parts
-times_parts : (x v : ℤ) (p q : ℕ) → (x *ℤ pos p) *ℤ (v *ℤ pos q) ≡ (x *ℤ v) *ℤ pos (p * q)
-times_parts x v p q =
-    let factors =
-    product_sides (x *ℤ pos p) (v *ℤ pos q) (up x * p) (down x * p) (up v * q) (down v * q)
-    (omega (arith, ints)) (omega (arith, ints)) (omega (arith, ints)) (omega (arith, ints)) in
-    let both = product_is x v in
-    let whole =
-    product_sides (x *ℤ v) (pos (p * q)) (up x * up v + down x * down v) (up x * down v + down x * up v) (p * q) 0
-    both.0 both.1 refl refl in
-    same_in ((x *ℤ pos p) *ℤ (v *ℤ pos q)) ((x *ℤ v) *ℤ pos (p * q)) (omega arith)
-
 closing_in_parts : (r u : Vector) (q : ℕ) → dot (scaled r q) u ≡ dot r u *ℤ pos q
 closing_in_parts r u q =
-    let x = across r.x u.x in
-    let y = across r.y u.y in
+    let x = times_across r.x (pos q) u.x in
+    let y = times_across r.y (pos q) u.y in
     let whole = distributes (r.x *ℤ u.x) (r.y *ℤ u.y) (pos q) in
     omega (arith, ints)
-  where
-    across : (x v : ℤ) → (x *ℤ pos q) *ℤ v ≡ (x *ℤ v) *ℤ pos q
-    across x v =
-        let one : v ≡ v *ℤ pos 1 = omega (arith, ints) in
-        let q_is : q * 1 ≡ q = omega arith in
-        ap (λ (z : ℤ). (x *ℤ pos q) *ℤ z) one ∙ times_parts x v q 1 ∙ ap (λ (n : ℕ). (x *ℤ v) *ℤ pos n) q_is
 
 gap_in_parts : (r : Vector) (distance : ℤ) (q : ℕ) → gap (scaled r q) (distance *ℤ pos q) ≡ gap r distance *ℤ pos (q * q)
 gap_in_parts r distance q =
-    let x = times_parts r.x r.x q q in
-    let y = times_parts r.y r.y q q in
-    let square = times_parts distance distance q q in
+    let x = times_both r.x (pos q) r.x (pos q) in
+    let y = times_both r.y (pos q) r.y (pos q) in
+    let square = times_both distance (pos q) distance (pos q) in
     let sum = distributes (r.x *ℤ r.x) (r.y *ℤ r.y) (pos (q * q)) in
     let whole = minus_times (dot r r) (distance *ℤ distance) (pos (q * q)) in
     omega (arith, ints)
@@ -61,7 +44,7 @@ gap_in_parts r distance q =
 -- the discriminant stays positive
 crosses_in_parts : (a b c : ℤ) (q : ℕ) → 0 < q → pos 0 ≤ℤ a → pos 0 ≤ℤ c → (a *ℤ c) <ℤ (b *ℤ b) →
     (a *ℤ (c *ℤ pos (q * q))) <ℤ ((b *ℤ pos q) *ℤ (b *ℤ pos q))
-crosses_in_parts a b c q some ha hc crosses = rw (times_parts b b q q) (by_signs a c (b *ℤ b) ha hc crosses)
+crosses_in_parts a b c q some ha hc crosses = rw (times_both b (pos q) b (pos q)) (by_signs a c (b *ℤ b) ha hc crosses)
   where
     more : (m n k : ℕ) → m < n → 0 < k → m * k < n * k
     more m n k lt some = let whole : (m + 1) * k ≤ n * k = mul-le-mul_right k (omega arith) in omega arith

@@ -1,5 +1,7 @@
 -- The lemmas of the crate.
+mod Numbers
 mod Closest
 mod Touch
+mod Elastic
 mod Rounding
 mod Events

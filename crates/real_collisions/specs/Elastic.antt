@@ -1,14 +1,30 @@
 -- How near the impulse of two disks is to the exact one.
-use Rattle.std.specs.Prelude.{◌*◌, ◌<◌, ◌≤◌, pos, nat_abs, ◌+ℤ◌, ◌*ℤ◌, ◌≤ℤ◌, ◌<ℤ◌}
+use Rattle.std.specs.Prelude.{◌≡◌, ◌*◌, ◌<◌, ◌≤◌, ℤ, pos, neg_ℤ, nat_abs, ◌*ℤ◌, ◌≤ℤ◌, ◌<ℤ◌}
 use Rattle.plane_vectors.specs.declared.Vector.{Vector}
-use Rattle.plane_vectors.specs.Vectors.{vector, dot}
+use Rattle.plane_vectors.specs.Vectors.{vector, sum, difference, dot}
 use Rattle.impulse_rounding.specs.Impulse.{nearest, rounded_impulse, impulse_of, parting}
 
+-- a vector so many times as long
+abbrev pub times : ℤ → Vector → Vector
+times k v = vector (k *ℤ v.x) (k *ℤ v.y)
+
 -- Two equal smooth disks that collide, with the separation r and the relative velocity u, give each other exactly the impulse
--- -(r·u / r·r) r. This is what is between an impulse j and that one, told r·r times as large, so that it is whole.
+-- -(r·u / r·r) r. This is the relative velocity after it, told r·r times as large, so that it is whole: (r·r) u - 2 (r·u) r.
+abbrev pub after_exact : Vector → Vector → Vector
+after_exact r u = difference (times (dot r r) u) (times (pos 2 *ℤ dot r u) r)
+
+-- the exact impulse turns the speed along r round, and keeps the size of the relative velocity, and so the energy
+pub record IsElastic (r u : Vector) : Type 0 where
+  pub turned : dot r (after_exact r u) ≡ neg_ℤ (dot r r *ℤ dot r u)
+  pub energy : dot (after_exact r u) (after_exact r u) ≡ (dot r r *ℤ dot r r) *ℤ dot u u
+
+-- so it is of all separations and velocities
+abbrev pub ExactImpulsesAreElastic : Type 0
+ExactImpulsesAreElastic = (r u : Vector) → IsElastic r u
+
+-- an impulse less the exact one, told r·r times as large
 abbrev pub difference_from_exact : Vector → Vector → Vector → Vector
-difference_from_exact r u j =
-    vector ((dot r r *ℤ j.x) +ℤ (dot r u *ℤ r.x)) ((dot r r *ℤ j.y) +ℤ (dot r u *ℤ r.y))
+difference_from_exact r u j = sum (times (dot r r) j) (times (dot r u) r)
 
 -- each component is less than one unit per tick from the exact one
 abbrev pub IsWithinOne : Vector → Vector → Vector → Type 0
@@ -36,5 +52,6 @@ pub record IsNearlyElastic (r u j : Vector) : Type 0 where
   pub up : parting r u (rounded_impulse nearest r u) ≤ℤ pos 0 → IsNotSmaller r u j
   pub recedes : pos 0 <ℤ parting r u j
 
+-- the impulse of two disks that come nearer is such a one
 abbrev pub ImpulsesAreElastic : Type 0
 ImpulsesAreElastic = (r u : Vector) → dot r u <ℤ pos 0 → IsNearlyElastic r u (impulse_of r u)

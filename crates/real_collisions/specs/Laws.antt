@@ -36,6 +36,7 @@ pub record IsRealCollision (disks : List Disk) (s : Stamp) : Type 0 where
   pub second_at : slice_get disks s.second ≡ Some second
   pub touch : TouchFrom first second s.tick
 
+-- the event is a real one of this state, of one disk or of two
 abbrev pub IsReal : Rules → List Disk → Stamp → Type 0
 IsReal rules disks s = IsRealBounce rules disks s ⊎ IsRealCollision disks s
 
@@ -83,7 +84,7 @@ pub record IsElasticCollision (disks : List Disk) (c : Change) : Type 0 where
   pub second_later : c.second ≡ Some later
   pub second_goes_on : GoesOn second c.stamp.tick (difference (velocity_of second) impulse) later
 
--- each event of a run is elastic
+-- each event of a run is elastic: exactly at a side, and of two disks nearly
 abbrev pub EventsAreElastic : Type 0
 EventsAreElastic = (rules : Rules) (disks : List Disk) (before after : List Change) (c : Change) (outcome : Outcome) →
     Runs rules disks (before ++ (c ∷ after)) outcome →

@@ -1,12 +1,17 @@
 //! Laws of one event, for those who read the definitions alone.
 
 ghost use Rattle.real_collisions.specs.Touching.{ContactTicksAreReal};
-ghost use Rattle.real_collisions.specs.Elastic.{ImpulsesAreElastic};
+ghost use Rattle.real_collisions.specs.Elastic.{ExactImpulsesAreElastic, ImpulsesAreElastic};
 ghost use Rattle.real_collisions.specs.Laws.{EventsAreReal, FailingEventsAreReal, EventsAreElastic};
 
 /// The contact tick of two disks is the last whole tick before they really touch on their straight ways.
 pub fn contact_ticks_are_real()
     ensures { ContactTicksAreReal }
+{}
+
+/// The exact impulse of two disks turns the speed at which they come nearer round, and keeps their energy.
+pub fn exact_impulses_are_elastic()
+    ensures { ExactImpulsesAreElastic }
 {}
 
 /// The impulse of two disks that come nearer is the exact elastic one but for less than a unit per tick in each

@@ -4,6 +4,6 @@
 mod laws;
 
 pub use laws::{
-    contact_ticks_are_real, events_are_elastic, events_are_real, failing_events_are_real,
-    impulses_are_elastic,
+    contact_ticks_are_real, events_are_elastic, events_are_real, exact_impulses_are_elastic,
+    failing_events_are_real, impulses_are_elastic,
 };
