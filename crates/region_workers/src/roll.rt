@@ -26,7 +26,7 @@ pub struct Roll {
     pub phase: u32,
     /// Of how many regions it is done.
     pub done: u32,
-    /// Whether any of these could go on.
+    /// Whether any of these could go on, or found something new; in a hearing, or in the slice before it.
     pub moved: bool,
     /// Whether any of them has news for another.
     pub news: bool,
@@ -39,7 +39,7 @@ pub struct Roll {
 pub struct Share {
     /// Of how many regions it did the phase's work.
     pub regions: u32,
-    /// Whether any of them could go on.
+    /// Whether any of them could go on, or found something new.
     pub moved: bool,
     /// Whether any of them has news for another.
     pub news: bool,
@@ -102,8 +102,9 @@ impl Roll {
         }
     }
 
-    /// The next phase, where this one is done of all regions: a hearing if there are news. Where none could go on
-    /// nor has news, the burst is over: nothing would ever change.
+    /// The next phase, where this one is done of all regions: a hearing if there are news. If none could go on, and
+    /// none has news or found any in the hearing that followed, the burst is over: nothing would ever change. (A
+    /// region may have news for ever: a message that it took back, and that the other keeps until it is past it.)
     pub fn next(self) -> Roll {
         if self.is_over() || !self.moved && !self.news {
             return Roll::over();
@@ -111,7 +112,7 @@ impl Roll {
         Roll {
             phase: self.phase.saturating_add(1),
             done: 0,
-            moved: false,
+            moved: self.news && self.moved,
             news: false,
             hears: self.news,
         }

@@ -16,19 +16,35 @@ type ShareRow = (u32, bool, bool);
 type RollRow = (u32, u32, bool);
 
 // Shares of the work on four regions, and what the roll says after each.
-const SHARES: &[(ShareRow, RollRow)] = &[
-    // One worker does all.
-    ((4, true, false), (1, 0, false)),
-    // There are news.
-    ((1, true, true), (1, 1, false)),
-    ((2, true, false), (1, 3, false)),
-    ((1, false, false), (2, 0, true)),
-    // Regions that heard may go on.
-    ((4, true, false), (3, 0, false)),
-    // None has anything to do.
-    ((3, false, false), (3, 3, false)),
-    ((1, false, false), (u32::MAX, 0, false)),
-    ((1, true, true), (u32::MAX, 0, false)),
+type Course = &'static [(ShareRow, RollRow)];
+
+const COURSES: &[Course] = &[
+    &[
+        // One worker does all.
+        ((4, true, false), (1, 0, false)),
+        // There are news.
+        ((1, true, true), (1, 1, false)),
+        ((2, true, false), (1, 3, false)),
+        ((1, false, false), (2, 0, true)),
+        // Regions that heard may go on.
+        ((4, true, false), (3, 0, false)),
+        // None has anything to do.
+        ((3, false, false), (3, 3, false)),
+        ((1, false, false), (u32::MAX, 0, false)),
+        ((1, true, true), (u32::MAX, 0, false)),
+    ],
+    &[
+        // One could go on, and no hearing finds anything new: it may go on still.
+        ((4, true, true), (1, 0, true)),
+        ((4, false, false), (2, 0, false)),
+        // None could go on, and a hearing finds something new.
+        ((4, false, true), (3, 0, true)),
+        ((3, false, false), (3, 3, true)),
+        ((1, true, false), (4, 0, false)),
+        // None could go on, and no hearing finds anything new.
+        ((4, false, true), (5, 0, true)),
+        ((4, false, false), (u32::MAX, 0, false)),
+    ],
 ];
 
 // What a word keeps of a roll after a share of the work on four regions.
@@ -43,10 +59,12 @@ fn kept(roll: Roll, &(regions, moved, news): &ShareRow) -> Roll {
 
 #[test]
 fn a_phase_ends_when_it_is_done_of_all_regions(rt: HostRuntime) {
-    let mut roll = Roll::of(0);
-    for (row, (share, want)) in SHARES.iter().enumerate() {
-        roll = kept(roll, share);
-        expect(&rt, row, (roll.phase, roll.done, roll.hears), *want);
+    for course in COURSES {
+        let mut roll = Roll::of(0);
+        for (row, (share, want)) in course.iter().enumerate() {
+            roll = kept(roll, share);
+            expect(&rt, row, (roll.phase, roll.done, roll.hears), *want);
+        }
     }
 }
 
