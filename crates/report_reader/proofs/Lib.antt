@@ -2,3 +2,4 @@
 mod Rows
 mod Bodies
 mod ReadBack
+mod Parts

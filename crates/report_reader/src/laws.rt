@@ -1,6 +1,7 @@
 //! A report says its run, for those who read the definitions alone.
 
 ghost use Rattle.report_reader.specs.Reader.{ReportsReadBack, ReportsSayRuns};
+ghost use Rattle.report_reader.specs.Parts.{PartsReadAsOne};
 
 /// The stamps and velocities of a run and how it ends are read back from the text of its report.
 pub fn reports_read_back()
@@ -10,4 +11,10 @@ pub fn reports_read_back()
 /// Two runs with the same report, of whatever scenes, have the same stamps and velocities and the same end.
 pub fn reports_say_runs()
     ensures { ReportsSayRuns }
+{}
+
+/// What is read of the report of a run up to a tick, and then of that of the rest with its ticks raised, is what
+/// is read of the report of the whole run.
+pub fn parts_read_as_one()
+    ensures { PartsReadAsOne }
 {}

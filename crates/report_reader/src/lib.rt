@@ -3,4 +3,4 @@
 
 mod laws;
 
-pub use laws::{reports_read_back, reports_say_runs};
+pub use laws::{parts_read_as_one, reports_read_back, reports_say_runs};
