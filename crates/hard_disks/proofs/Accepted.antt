@@ -1,7 +1,11 @@
 -- An audit accepts what a run wrote, and nothing else.
 use Rattle.std.proofs.Common.{◌≡◌, ◌≢◌, ◌⊎◌, inl, inr, ℕ, List, length, Some, Ok, Err, sym, ap, ◌∙◌, subst, refl}
 use Rattle.fixed_motion.specs.Scene.{SceneData}
+use Rattle.event_rules.specs.declared.change.Limit.TheVariants.{Rounds, Speed}
+use Rattle.event_rules.specs.declared.outcome.Outcome.{Outcome}
+use Rattle.event_rules.specs.declared.outcome.Outcome.TheVariants.{Done as DoneOutcome, Limit as Passes}
 use Rattle.event_rules.proofs.OneRun.{one_run}
+use Rattle.collision_report.specs.declared.format.Format.{Format}
 use Rattle.collision_report.specs.declared.format.Format.TheVariants.{Lines}
 use Rattle.collision_report.specs.Report.{report}
 use Rattle.scene_reader.specs.Says.{says}
@@ -19,9 +23,9 @@ use Rattle.hard_disks.specs.declared.status.Status.{Status}
 use Rattle.hard_disks.specs.declared.status.Status.TheVariants.{Done, SceneRefused, Wrong}
 use Rattle.hard_disks.specs.Output.{Input, OfMode, OfReading, format_of}
 use Rattle.hard_disks.specs.Answers.{IsInputIn}
-use Rattle.hard_disks.specs.Reports.{Reading, IsReport}
+use Rattle.hard_disks.specs.Reports.{Reading, IsReport, status_of}
 use Rattle.hard_disks.specs.Verdicts.{OfAudit, verdict_text, verdict_status}
-use Rattle.hard_disks.specs.Laws.{IsReportFor, AuditsAccept, AuditsRefuse}
+use Rattle.hard_disks.specs.Laws.{IsOutputFor, IsReportFor, AuditsAccept, AuditsRefuse, AuditsKeepRefusals}
 
 -- ---- what a run writes
 -- the bytes state a scene, and the text is its report
@@ -98,3 +102,50 @@ audits_refuse run audit bytes text status h mode claimed shown own other output 
     let claims : input.claimed ≡ claimed = reads.1 ∙ parts.1 in
     of_audit input.said is.scene input.claimed text shown status own (reads.0 ∙ ap says parts.0 ∙ is.says) is.report
     (λ e. other (sym claims ∙ e)) writes
+
+-- ---- refused scenes
+done_not_refused : (outcome : Outcome) → SceneRefused ≢ status_of outcome
+done_not_refused (DoneOutcome spots) e = cc
+done_not_refused (Passes (Speed s)) e = cc
+done_not_refused (Passes (Rounds s)) e = cc
+
+-- the audit of what is refused
+refused_audit : (said : Reading) (format : Format) (text claimed : List ℕ) → OfReading (IsReport format) said text SceneRefused →
+    OfAudit said claimed text SceneRefused
+refused_audit (Ok scene) format text claimed h = absurd (done_not_refused h.1 h.4)
+refused_audit (Err fault) format text claimed h = h
+
+-- what is read of the lines, and that it is refused
+record IsRefused (run : Settings) (bytes text : List ℕ) : Type 0 where
+  said : Reading
+  reads : said ≡ says bytes
+  refused : OfReading (IsReport (format_of run.format)) said text SceneRefused
+
+is_refused : (run : Settings) (bytes text : List ℕ) → (run.mode ≡ Run) ⊎ (run.mode ≡ Plain) → IsOutputFor run bytes text SceneRefused →
+    IsRefused run bytes text
+is_refused run bytes text modes output =
+    let input = output.0 in
+    elim modes [
+      | inl mode ↦ record {
+        said = input.said;
+        reads = subst (λ (m : Mode). IsInputIn m (Some bytes) input) mode output.1;
+        refused = subst (λ (m : Mode). OfMode m run input text SceneRefused) mode output.2;
+      }
+      | inr mode ↦ record {
+        said = input.said;
+        reads = subst (λ (m : Mode). IsInputIn m (Some bytes) input) mode output.1;
+        refused = subst (λ (m : Mode). OfMode m run input text SceneRefused) mode output.2;
+      }
+    ]
+
+pub audits_keep_refusals : AuditsKeepRefusals
+audits_keep_refusals run audit bytes text claimed modes ends no_mark output mode =
+    let is = is_refused run bytes text modes output in
+    let parts = joins_part bytes claimed ends no_mark in
+    let input : Input = record { said = is.said; claimed = claimed } in (
+      input,
+      subst (λ (m : Mode). IsInputIn m (Some (joined bytes claimed)) input) (sym mode)
+          (is.reads ∙ ap says (sym parts.0), sym parts.1),
+      subst (λ (m : Mode). OfMode m audit input text SceneRefused) (sym mode)
+          (refused_audit is.said (format_of run.format) text claimed is.refused),
+    )

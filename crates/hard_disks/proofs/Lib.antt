@@ -2,6 +2,7 @@
 pub mod OneOutput
 pub mod Accepted
 pub mod Reread
+pub mod Recut
 pub mod Wrote
 pub mod Answered
 pub mod Reported

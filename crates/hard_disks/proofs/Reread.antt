@@ -23,7 +23,7 @@ use Rattle.hard_disks.specs.Answers.{IsInputIn}
 use Rattle.hard_disks.specs.Reports.{Reading, status_of}
 use Rattle.hard_disks.specs.Laws.{ChecksStay, IsRest, CutsResume}
 
-said_valid : (bytes : List ℕ) (scene : SceneData) → says bytes ≡ Ok scene → IsValidScene scene
+pub said_valid : (bytes : List ℕ) (scene : SceneData) → says bytes ≡ Ok scene → IsValidScene scene
 said_valid bytes scene e = subst IsSceneOrRefusal e (scene_or_refusal bytes)
 
 -- ---- checks

@@ -22,7 +22,8 @@ mod verdicts;
 
 pub use calls::{refuse_words, top, top_watched};
 pub use laws::{
-    audits_accept, audits_refuse, checks_stay, cuts_resume, one_output, output_depends_on_alone,
+    audits_accept, audits_keep_refusals, audits_refuse, checks_stay, cuts_add_up, cuts_resume,
+    one_output, output_depends_on_alone,
 };
 pub use process::{Terminals, run_process};
 pub use status::Status;
