@@ -1,6 +1,7 @@
 //! One module for each part.
 
 mod contacts;
+mod gathering;
 mod impulses;
 mod motion;
 mod ports;

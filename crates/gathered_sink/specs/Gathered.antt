@@ -1,0 +1,55 @@
+-- What a sink that gathers knows, and what its calls leave.
+use Rattle.std.specs.Prelude.{◌≡◌, ℕ, ◌+◌, ◌≤◌, nat_le, if◌then◌else◌, List, [], ◌++◌, length, ⊤, Option, Some, None}
+use Rattle.std.specs.Io.{StartsWith}
+use Rattle.std.specs.Io.KnownBytes.{append_known}
+use Rattle.report_ports.specs.declared.sink.Given.{Given}
+use Rattle.report_ports.specs.declared.sink.Given.TheVariants.{All as AllGiven, Failed as GiveFailed}
+
+-- the bytes that it has taken, and those of them that the sink below has taken, where that one knows its bytes; the bytes
+-- that it holds, and how many it may hold; and how many calls failed of it and of the sink below
+pub record GatheredData : Type 0 where
+  pub told : Option (List ℕ)
+  pub passed : Option (List ℕ)
+  pub held : List ℕ
+  pub room : ℕ
+  pub faults : ℕ
+  pub faults_below : ℕ
+
+-- known bytes are the front of other known ones, or neither are known
+abbrev pub IsFront : Option (List ℕ) → Option (List ℕ) → Type 0
+IsFront None None = ⊤
+IsFront None (Some whole) = ⊥
+IsFront (Some front) None = ⊥
+IsFront (Some front) (Some whole) = StartsWith whole front
+
+-- where nothing failed, what was taken is what the sink below has taken and what is held
+abbrev pub IsWhole : GatheredData → Type 0
+IsWhole s = (s.faults ≡ 0) × (s.faults_below ≡ 0) × (s.told ≡ append_known s.passed s.held)
+
+-- after a failure of the sink below, that one has taken a front of it
+abbrev pub IsTorn : GatheredData → Type 0
+IsTorn s = (1 ≤ s.faults) × (1 ≤ s.faults_below) × IsFront s.passed s.told
+
+-- after a failure nothing more is given to the sink below
+abbrev pub StaysTorn : GatheredData → GatheredData → Type 0
+StaysTorn before after =
+    1 ≤ before.faults → (after.passed ≡ before.passed) × (after.faults_below ≡ before.faults_below)
+
+-- what is held after a piece was taken: it is put to what is held where it fits, and else what is held is passed on; then
+-- the piece alone is held where it fits, and else it is passed on too
+abbrev pub held_after : ℕ → List ℕ → List ℕ → List ℕ
+held_after room held piece =
+    if nat_le (length held + length piece) room then held ++ piece
+    else if nat_le (length piece) room then piece else []
+
+-- what a give of the piece leaves, by its answer
+abbrev pub LeavesGiven : GatheredData → GatheredData → Given → List ℕ → Type 0
+LeavesGiven before after AllGiven piece =
+    (before.faults ≡ 0) × IsWhole after × (after.held ≡ held_after before.room before.held piece)
+LeavesGiven before after GiveFailed piece = IsTorn after × StaysTorn before after
+
+-- what a flush leaves, by its answer
+abbrev pub LeavesFlushed : GatheredData → GatheredData → Given → Type 0
+LeavesFlushed before after AllGiven =
+    (before.faults ≡ 0) × IsWhole after × (after.held ≡ []) × (after.passed ≡ before.told)
+LeavesFlushed before after GiveFailed = IsTorn after × StaysTorn before after
