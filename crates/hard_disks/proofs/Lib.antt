@@ -13,3 +13,4 @@ pub mod Cuts
 pub mod Left
 pub mod Kept
 pub mod Audited
+pub mod PassedOn

@@ -10,7 +10,9 @@ mod calls;
 mod crew;
 mod cut;
 mod engines;
+mod gathering;
 mod laws;
+mod moments;
 mod process;
 mod progress_line;
 mod refusals;
@@ -18,9 +20,11 @@ mod rest;
 mod show;
 mod status;
 mod time_sharing;
+mod timely;
 mod verdicts;
 
 pub use calls::{refuse_words, top, top_watched};
+pub use gathering::top_gathered;
 pub use laws::{
     audits_accept, audits_keep_refusals, audits_refuse, checks_stay, cuts_add_up, cuts_resume,
     one_output, output_depends_on_alone,
@@ -28,3 +32,4 @@ pub use laws::{
 pub use process::{Terminals, run_process};
 pub use status::Status;
 pub use time_sharing::TimeSharing;
+pub use timely::Timely;

@@ -6,16 +6,22 @@ ghost use Rattle.std.specs.Prelude.{◌≡◌, [], map, None, string_bytes};
 ghost use Rattle.hard_disks.specs.Answers.{Answers};
 ghost use Rattle.command_words.specs.Words.{settings_of};
 
-use crate::calls::{top, top_watched};
+use crate::calls::top_watched;
+use crate::gathering::{finish, top_gathered};
 use crate::progress_line::{BesideLine, ProgressLine};
 use crate::status::Status;
 use crate::time_sharing::TimeSharing;
+use crate::timely::Timely;
+use gathered_sink::Gathered;
 use live_progress::{Board, Pen};
 use report_ports::{StdSink, StdSource};
 use std::sync::Wait;
 use std::thread::Threads;
 use std::time::Clock;
 use std::{io, thread};
+
+// How many bytes of output are written together, where it isn't a terminal: what a pipe holds.
+const ROOM: usize = 65_536;
 
 /// Which of the two streams that the process writes to are terminals.
 #[derive(Clone, Copy, Debug)]
@@ -57,20 +63,35 @@ fn run_words<R: AllocGlobal + Input + Print + Eprint + Threads + Wait + Clock + 
     if terminals.errors {
         run_shown(rt, words, terminals.output)
     } else {
-        run_unshown(rt, words)
+        run_unshown(rt, words, terminals.output)
     }
 }
 
 fn run_unshown<R: AllocGlobal + Input + Print + Threads + Wait + Clock + Sync>(
     rt: &R,
     words: &[&str],
+    is_terminal: bool,
 ) -> Status
     ensures { Answers (settings_of (map (λ w. w.now) words.now)) None None None result }
 {
     let mut source = StdSource::new(rt.reader());
-    let mut sink = StdSink::new(io::writer(rt));
     let gate = TimeSharing::new(rt, rt.alloc());
-    top(rt, rt.alloc(), words, &mut source, &mut sink, &gate)
+    let (status, _) = top_gathered(
+        rt,
+        rt.alloc(),
+        words,
+        &mut source,
+        StdSink::new(io::writer(rt)),
+        room_of(is_terminal),
+        &gate,
+        rt,
+    );
+    status
+}
+
+// How many bytes are gathered: on a terminal each line is shown at once.
+fn room_of(is_terminal: bool) -> usize {
+    if is_terminal { 0 } else { ROOM }
 }
 
 // Another thread shows the line while the run goes on.
@@ -82,7 +103,7 @@ fn run_shown<R: AllocGlobal + Input + Print + Eprint + Threads + Wait + Clock + 
     ensures { Answers (settings_of (map (λ w. w.now) words.now)) None None None result }
 {
     let Ok((board, mut pen)) = Board::open(rt.alloc()) else {
-        return run_unshown(rt, words);
+        return run_unshown(rt, words, is_shared);
     };
     let glass = board.glass(rt, &mut pen);
     let line = ProgressLine::new();
@@ -111,12 +132,13 @@ fn run_beside<R: AllocGlobal + Input + Print + Eprint + Threads + Wait + Clock +
     ensures { Answers (settings_of (map (λ w. w.now) words.now)) None None None result }
 {
     let mut source = StdSource::new(rt.reader());
-    let mut sink = BesideLine {
+    let beside = BesideLine {
         rt,
         line,
         is_shared,
         sink: StdSink::new(io::writer(rt)),
     };
+    let mut sink = Timely::new(rt, Gathered::new(rt.alloc(), beside, room_of(is_shared)));
     let gate = TimeSharing::new(rt, rt.alloc());
     let status = top_watched(
         rt,
@@ -128,6 +150,7 @@ fn run_beside<R: AllocGlobal + Input + Print + Eprint + Threads + Wait + Clock +
         board,
         &mut pen,
     );
+    let (status, _) = finish(sink.gathered, status);
     line.end(rt);
     status
 }

@@ -7,6 +7,7 @@
 //!
 //! Nothing is claimed of it: the regions are right whoever runs them, and when.
 
+use crate::moments::micros;
 use region_core::Gate;
 use region_workers::MAX_WORKERS;
 use std::alloc::Global;
@@ -55,14 +56,6 @@ impl<'r, R: Clock> TimeSharing<'r, R> {
         }
         TimeSharing { rt, workers }
     }
-
-    // The time since some moment; 0 where the clock can't be read.
-    fn micros(&self) -> u64 {
-        match self.rt.monotonic() {
-            Ok(time) => (time.as_micros() % (1 << 62)) as u64,
-            Err(_) => 0,
-        }
-    }
 }
 
 impl<'r, R: Clock + Sync> Gate for TimeSharing<'r, R> {
@@ -73,7 +66,7 @@ impl<'r, R: Clock + Sync> Gate for TimeSharing<'r, R> {
             return;
         }
         if let Some(stint) = self.workers.get(worker as usize) {
-            stint.come(self.micros(), worker > 0);
+            stint.come(micros(self.rt), worker > 0);
         }
     }
 
@@ -81,9 +74,9 @@ impl<'r, R: Clock + Sync> Gate for TimeSharing<'r, R> {
         let Some(stint) = self.workers.get(worker as usize) else {
             return;
         };
-        if stint.is_over(self.micros()) {
+        if stint.is_over(micros(self.rt)) {
             self.rt.sleep(Duration::from_micros(AWAY));
-            stint.come(self.micros(), true);
+            stint.come(micros(self.rt), true);
         }
     }
 }

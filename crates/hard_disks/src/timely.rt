@@ -1,0 +1,70 @@
+//! A sink that gathers, but holds nothing back for long from whoever waits for it.
+
+ghost use Rattle.std.specs.Prelude.{◌≡◌, is_some};
+ghost use Rattle.report_ports.specs.Ports.{Gives, CountsGive};
+
+use crate::moments::micros;
+use gathered_sink::Gathered;
+use report_ports::{Given, Sink};
+use std::time::Clock;
+
+// For how many microseconds pieces are held, where more of them come.
+const PATIENCE: u64 = 100_000;
+
+/// A sink that gathers pieces, and gives those that it holds to the sink below with the first that comes a tenth of a
+/// second or more after it last did so.
+///
+/// It looks at the clock when a piece comes, and at no other time.
+#[derive(Drop)]
+pub struct Timely<'c, C: Clock, K: Sink> {
+    /// What holds the pieces.
+    pub gathered: Gathered<K>,
+    /// The clock that it looks at.
+    pub clock: &'c C,
+    /// When it was flushed last, in microseconds.
+    pub flushed: u64,
+}
+
+impl<'c, C: Clock, K: Sink> Timely<'c, C, K> {
+    /// One that begins to count time now.
+    pub fn new(clock: &'c C, gathered: Gathered<K>) -> Timely<'c, C, K>
+        ensures { result.gathered ≡ gathered }
+    {
+        Timely {
+            gathered,
+            clock,
+            flushed: micros(clock),
+        }
+    }
+
+    // Whether it is time for a flush, which is taken to be done then.
+    fn is_due(&mut self) -> bool
+        ensures { self.new.gathered ≡ self.old.gathered }
+    {
+        let now = micros(self.clock);
+        let is_due = now.saturating_sub(self.flushed) >= PATIENCE;
+        if is_due {
+            self.flushed = now;
+        }
+        is_due
+    }
+}
+
+impl<C: Clock, K: Sink> Sink for Timely<'_, C, K> {
+    ghost taken = { λ t. t.gathered.told };
+
+    ghost faults = { λ t. t.gathered.faults };
+
+    fn faults(&self) -> u64 {
+        self.gathered.faults()
+    }
+
+    fn give(&mut self, piece: &[u8]) -> Given {
+        let given = self.gathered.give(piece);
+        if given == Given::All && self.is_due() {
+            self.gathered.flush()
+        } else {
+            given
+        }
+    }
+}
