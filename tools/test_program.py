@@ -5,8 +5,10 @@ its words must not change.
     python3 tools/test_program.py [PROGRAM]
 
 PROGRAM is the built one, crates/hard_disks_program/out/hard_disks_program, where none is named."""
+import contextlib
 import itertools
 import os
+import pty
 import random
 import resource
 import signal
@@ -26,8 +28,10 @@ LONG = 120
 DONE, SCENE_REFUSED, SPEED_LIMIT, ROUND_LIMIT, READ_FAULT, WRITE_FAULT, WRONG = 0, 3, 4, 5, 6, 7, 9
 # The most bytes that a text may have.
 MOST_BYTES = 67_108_864
+# How many bytes are read or written together.
+MANY = 65_536
 # Part of a line.
-HASHES = b"#" * 65_536
+HASHES = b"#" * MANY
 # How a scene may be run, which makes no difference to its report.
 WAYS = [
     "--mode plain",
@@ -75,6 +79,25 @@ def output_into(words, text, room):
         ran = subprocess.run([PROGRAM, *words.split()], **how)
         file.seek(0)
         return file.read().decode(), ran.returncode
+
+
+def status_into(words, text, **how):
+    """The status of the program where its output goes somewhere."""
+    return subprocess.run([PROGRAM, *words.split()], input=text.encode(), timeout=LONG, **how).returncode
+
+
+def output_at_terminal(words):
+    """What the program writes to a terminal, with no input, and its status."""
+    terminal, output_end = pty.openpty()
+    with subprocess.Popen([PROGRAM, *words.split()], stdin=subprocess.DEVNULL, stdout=output_end) as ran:
+        os.close(output_end)
+        text = b""
+        # A terminal whose other end is closed says so by a fault.
+        with contextlib.suppress(OSError):
+            while some := os.read(terminal, MANY):
+                text += some
+        os.close(terminal)
+        return text.decode().replace("\r\n", "\n"), ran.wait(LONG)
 
 
 def changed(scene, old, new):
@@ -176,6 +199,18 @@ class Outputs(unittest.TestCase):
                 with self.subTest(words, room=room):
                     self.assertEqual(output_into(words, scene, room), (want[:room], WRITE_FAULT))
             self.assertEqual(output_into(words, scene, len(want)), (want, DONE))
+
+    def test_an_output_that_takes_nothing_is_a_write_fault(self):
+        scene = OUTPUTS["refusals"]["scene"]
+        for words in ("--mode plain", "--mode check", "--mode cut --at 4", "--mode load --disks 100", "no words"):
+            with self.subTest(words), open("/dev/full", "wb") as full:
+                self.assertEqual(status_into(words, scene, stdout=full), WRITE_FAULT)
+            with self.subTest(words, output="closed"):
+                self.assertEqual(status_into(words, scene, preexec_fn=lambda: os.close(1)), WRITE_FAULT)
+
+    def test_a_terminal_gets_the_report(self):
+        want = output("--mode load --disks 100")[0]
+        self.assertEqual(output_at_terminal("--mode load --disks 100"), (want, DONE))
 
     def test_nothing_is_written_where_no_byte_can_be_read(self):
         for words in ("--mode plain", "--mode run", "--mode check", "--mode cut", "--mode audit"):

@@ -6,6 +6,7 @@
 PROGRAM is the built one, crates/hard_disks_program/out/hard_disks_program, where none is named."""
 import os
 import pty
+import random
 import signal
 import subprocess
 import sys
@@ -22,11 +23,29 @@ WORDS = ["--mode", "load", "--disks", "10000"]
 SOME = 200_000
 # How long, in seconds, a program may take to end that ends at once, on a busy machine.
 SOON = 5
-WRITE_FAULT = 7
+# How long a reader lets the program wait.
+LATE = 0.5
+# Writes less than is gathered before it is written.
+FEW = ["--mode", "load", "--disks", "36"]
+# In mode `plain` each event of so many disks takes some milliseconds, and the first 65,536 bytes many seconds.
+SLOW_DISKS = 1_600
+DONE, WRITE_FAULT = 0, 7
 
 
-def start(**streams):
-    return subprocess.Popen([PROGRAM, *WORDS], stdin=subprocess.DEVNULL, **streams)
+def start(words=WORDS, stdin=subprocess.DEVNULL, **streams):
+    return subprocess.Popen([PROGRAM, *words], stdin=stdin, **streams)
+
+
+def slow_scene():
+    """The text of a scene that mode `plain` is slow with."""
+    draw = random.Random(1)
+    side = int(SLOW_DISKS**0.5)
+    rows = [
+        [1024 + 2048 * (i % side), 1024 + 2048 * (i // side), draw.randint(-64, 64), draw.randint(-64, 64)]
+        for i in range(side * side)
+    ]
+    limits = "speed_limit = 512\nround_limit = 64\nend = 1000\n"
+    return f"width = {2048 * side}\nheight = {2048 * side}\ndiameter = 1024\n{limits}disks = {rows}\n".encode()
 
 
 def ended(child):
@@ -46,6 +65,9 @@ class Signals(unittest.TestCase):
 
     def assert_begun(self, text):
         self.assertGreaterEqual(len(text), SOME)
+        self.assert_front(text)
+
+    def assert_front(self, text):
         self.assertLess(len(text), len(self.report))
         self.assertTrue(self.report.startswith(text), "it is no prefix of the report")
 
@@ -79,6 +101,44 @@ class Signals(unittest.TestCase):
             child.stdout.close()
             self.assertEqual(ended(child), WRITE_FAULT)
             self.assert_begun(text)
+
+    def test_a_reader_that_wants_one_line_has_it_and_ends_the_run(self):
+        with start(stdout=subprocess.PIPE) as child:
+            line = child.stdout.readline()
+            child.stdout.close()
+            self.assertEqual(ended(child), WRITE_FAULT)
+            self.assert_front(line)
+
+    def test_a_reader_that_never_reads_is_a_write_fault(self):
+        for words in (WORDS, FEW):
+            with self.subTest(words), start(words, stdout=subprocess.PIPE) as child:
+                child.stdout.close()
+                self.assertEqual(ended(child), WRITE_FAULT)
+
+    def test_a_reader_that_goes_away_afterwards_makes_no_difference(self):
+        with start(FEW, stdout=subprocess.PIPE) as child:
+            text = child.stdout.read()
+            child.stdout.close()
+            self.assertEqual(ended(child), DONE)
+            self.assertTrue(text.endswith(b"\n"))
+
+    def test_a_reader_that_comes_late_gets_the_whole_report(self):
+        with start(stdout=subprocess.PIPE) as child:
+            time.sleep(LATE)
+            self.assertEqual(child.stdout.read(), self.report)
+            self.assertEqual(ended(child), DONE)
+
+    def test_a_reader_has_lines_while_the_run_goes_on(self):
+        with tempfile.TemporaryFile() as scene:
+            scene.write(slow_scene())
+            scene.seek(0)
+            with start(["--mode", "plain"], stdin=scene, stdout=subprocess.PIPE) as child:
+                begin = time.monotonic()
+                line = child.stdout.readline()
+                waited = time.monotonic() - begin
+                child.kill()
+        self.assertRegex(line, rb"^[0-9]+ 0 (pair|wall) .*\n$")
+        self.assertLess(waited, 4 * SOON)
 
     def test_two_interrupts_at_a_terminal_end_it(self):
         with tempfile.TemporaryFile() as file:

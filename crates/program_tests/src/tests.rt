@@ -1,6 +1,7 @@
 //! One module for each part.
 
 mod faults;
+mod gathering;
 mod helpers;
 mod live;
 mod made_scenes;

@@ -1,7 +1,8 @@
 //! Calls of the source and the sink that fail.
 
 use super::helpers::{
-    AMPLE_ROOM, BOTH_ENGINES, MEETING, MEETING_REPORT, PLAIN, RUN, expect, output_between,
+    AMPLE_ROOM, BOTH_ENGINES, MEETING, MEETING_REPORT, PLAIN, RUN, expect, first_lines,
+    output_between,
 };
 use hard_disks::Status;
 use report_ports::{MemorySink, MemorySource};
@@ -90,16 +91,6 @@ fn output_without_take(
     let source = MemorySource::in_steps(alloc, text.as_bytes(), &[call], 1)?;
     let sink = MemorySink::new(alloc, &[], AMPLE_ROOM)?;
     Ok(output_between(rt, alloc, words, source, sink))
-}
-
-// The first lines of a text.
-fn first_lines(alloc: Global, text: &str, count: usize) -> Result<String, AllocError> {
-    let mut lines = String::new(alloc);
-    for line in text.lines().take(count) {
-        lines.push_str(line)?;
-        lines.push_str("\n")?;
-    }
-    Ok(lines)
 }
 
 // The calls of the sink that fail, its room, the status, and how many lines it has taken.

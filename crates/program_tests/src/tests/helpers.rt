@@ -5,9 +5,12 @@ use region_core::{Gate, OpenGate};
 use report_ports::{MemorySink, MemorySource};
 use std::alloc::{AllocError, Global};
 use std::fmt::Debug;
+use std::io;
 use std::process::Abort;
 use std::sync::Wait;
+use std::sync::atomic::{AtomicU64, Ordering};
 use std::thread::Threads;
+use std::time::{Clock, Duration};
 use test_scenes::{FOUR_IN_A_ROW, LONG, scene};
 
 pub const RUN: &[&str] = &["--mode", "run"];
@@ -57,6 +60,39 @@ pub const FOUR_IN_A_ROW_REPORT: &str = "4 0 pair 0 1 0 0 8 0\n\
 /// More bytes than each report of a test has.
 pub const AMPLE_ROOM: usize = 65_536;
 
+// How many microseconds each sleep takes.
+const SLEEP: u64 = 50;
+
+/// A clock that stands still but while somebody sleeps.
+#[derive(Drop)]
+pub struct StandingClock {
+    /// What it shows.
+    pub micros: AtomicU64,
+}
+
+impl StandingClock {
+    /// One that shows 0.
+    pub fn new() -> StandingClock {
+        StandingClock {
+            micros: AtomicU64::new(0),
+        }
+    }
+}
+
+impl Clock for StandingClock {
+    fn monotonic(&self) -> io::Result<Duration> {
+        Ok(Duration::from_micros(self.micros.load(Ordering::SeqCst)))
+    }
+
+    fn since_1970(&self) -> io::Result<Duration> {
+        self.monotonic()
+    }
+
+    fn sleep(&self, _duration: Duration) {
+        self.micros.fetch_add(SLEEP, Ordering::SeqCst);
+    }
+}
+
 /// What gives the scene of four disks in a row.
 pub fn row_source(alloc: Global) -> Result<MemorySource, AllocError> {
     let text = scene(alloc, LONG, 8, 40, FOUR_IN_A_ROW)?;
@@ -85,6 +121,16 @@ pub fn output_through<G: Gate>(
 ) -> (MemorySink, Status) {
     let status = top(rt, alloc, words, &mut source, &mut sink, gate);
     (sink, status)
+}
+
+/// The first lines of a text.
+pub fn first_lines(alloc: Global, text: &str, count: usize) -> Result<String, AllocError> {
+    let mut lines = String::new(alloc);
+    for line in text.lines().take(count) {
+        lines.push_str(line)?;
+        lines.push_str("\n")?;
+    }
+    Ok(lines)
 }
 
 // What a call wrote.

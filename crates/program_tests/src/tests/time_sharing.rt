@@ -1,33 +1,10 @@
 //! When a worker gives its processor away, by a clock that stands still but while somebody sleeps.
 
+use super::helpers::StandingClock;
 use hard_disks::TimeSharing;
 use region_core::Gate;
 use std::alloc::Global;
-use std::io;
-use std::sync::atomic::{AtomicU64, Ordering};
-use std::time::{Clock, Duration};
-
-// How many microseconds each sleep takes.
-const SLEEP: u64 = 50;
-
-#[derive(Drop)]
-struct StandingClock {
-    micros: AtomicU64,
-}
-
-impl Clock for StandingClock {
-    fn monotonic(&self) -> io::Result<Duration> {
-        Ok(Duration::from_micros(self.micros.load(Ordering::SeqCst)))
-    }
-
-    fn since_1970(&self) -> io::Result<Duration> {
-        self.monotonic()
-    }
-
-    fn sleep(&self, _duration: Duration) {
-        self.micros.fetch_add(SLEEP, Ordering::SeqCst);
-    }
-}
+use std::sync::atomic::Ordering;
 
 // What a worker comes to the gate for: a turn, of this number, or a phase.
 #[derive(Clone, Copy, Debug, PartialEq, Eq)]
@@ -104,9 +81,7 @@ fn a_processor_is_given_away_in_time(rt: HostRuntime) {
 
 // The first row at which a worker sleeps that shouldn't, or the other way round.
 fn first_wrong(alloc: Global) -> Option<ComingRow> {
-    let clock = StandingClock {
-        micros: AtomicU64::new(0),
-    };
+    let clock = StandingClock::new();
     let gate = TimeSharing::new(&clock, alloc);
     wrong_at(&clock, &gate)
 }
