@@ -70,7 +70,7 @@ coordinates_between x y u v p q =
     let ways = minus_times u v (pos p) in
     omega (arith, ints)
 
-separation_between : (a b : Disk) (m : Moment) → difference (place_at m a) (place_at m b)
+pub separation_between : (a b : Disk) (m : Moment) → difference (place_at m a) (place_at m b)
     ≡ after (scaled (difference (place_of a m.tick) (place_of b m.tick)) m.whole) (difference (velocity_of a) (velocity_of b)) m.part
 separation_between a b m =
     let x = coordinates_between (place_of a m.tick).x (place_of b m.tick).x a.vx b.vx m.part m.whole in

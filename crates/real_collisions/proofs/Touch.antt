@@ -3,7 +3,7 @@ use Rattle.std.proofs.Common.{◌≡◌, ℕ, zero, suc, ◌+◌, ◌-◌, subst
 use Rattle.std.specs.Prelude.{ℤ, pos, ◌+ℤ◌, ◌-ℤ◌, ◌*ℤ◌, ◌≤ℤ◌, ◌<ℤ◌}
 use Rattle.std.proofs.lemmas.Int.{ints}
 use Rattle.plane_vectors.specs.declared.Vector.{Vector}
-use Rattle.plane_vectors.specs.Vectors.{vector, difference, dot, after}
+use Rattle.plane_vectors.specs.Vectors.{difference, dot}
 use Rattle.fixed_motion.specs.declared.rules.Rules.{Rules}
 use Rattle.fixed_motion.specs.declared.disk.Disk.{Disk}
 use Rattle.fixed_motion.specs.Motion.{Overlaps, contact_distance, place_of, velocity_of}
@@ -11,9 +11,10 @@ use Rattle.contact_predictor.specs.Contact.{IsApproaching, IsContact}
 use Rattle.contact_predictor.proofs.Approaching.{approaching_before}
 use Rattle.event_rules.specs.Events.{IsContactTick}
 use Rattle.event_rules.specs.Predict.{HaveBegun, AreInside}
-use Rattle.event_rules.specs.Moments.{Moment, IsWithinTick, OverlapAt, place_at}
+use Rattle.event_rules.specs.Moments.{Moment, IsWithinTick, OverlapAt}
 use Rattle.event_rules.proofs.OneTick.{separation_next}
-use Rattle.event_rules.proofs.Within.{scaled, minus_times, contact_within}
+use Rattle.event_rules.proofs.Within.{contact_within}
+use Rattle.event_rules.proofs.Between.{separation_between}
 use Rattle.real_collisions.specs.Touching.{TouchFrom, ContactTicksAreReal}
 use Rattle.real_collisions.proofs.Closest.{OverlapAfter, contact_overlaps}
 
@@ -31,20 +32,6 @@ apart_at a b tick h = not_below _ _ h.apart
     not_below : (m n : ℤ) → pos 0 ≤ℤ (m -ℤ n) → ¬ (m <ℤ n)
     not_below m n h lt = omega (arith, ints)
 
-separation_at : (a b : Disk) (m : Moment) →
-    difference (place_at m a) (place_at m b) ≡ after (scaled (separation a b m.tick) m.whole) (relative a b) m.part
-separation_at a b m =
-    let x = coordinate (place_of a m.tick).x (place_of b m.tick).x a.vx b.vx m.part m.whole in
-    let y = coordinate (place_of a m.tick).y (place_of b m.tick).y a.vy b.vy m.part m.whole in
-    λ i. vector (x i) (y i)
-  where
-    coordinate : (x y u v : ℤ) (p q : ℕ) →
-        (((x *ℤ pos q) +ℤ (u *ℤ pos p)) -ℤ ((y *ℤ pos q) +ℤ (v *ℤ pos p))) ≡ ((x -ℤ y) *ℤ pos q) +ℤ ((u -ℤ v) *ℤ pos p)
-    coordinate x y u v p q =
-        let places = minus_times x y (pos q) in
-        let ways = minus_times u v (pos p) in
-        omega (arith, ints)
-
 -- that two disks overlap at a moment, as a fact of their separation
 abbrev IsWithin : Vector → ℤ → Type 0
 IsWithin r length = dot r r <ℤ (length *ℤ length)
@@ -52,13 +39,13 @@ IsWithin r length = dot r r <ℤ (length *ℤ length)
 overlap_at : (a b : Disk) (m : Moment) →
     OverlapAfter (separation a b m.tick) (relative a b) (contact_distance a b) m.part m.whole → OverlapAt m a b
 overlap_at a b m h =
-    subst (λ (r : Vector). IsWithin r (contact_distance a b *ℤ pos m.whole)) (sym (separation_at a b m)) h
+    subst (λ (r : Vector). IsWithin r (contact_distance a b *ℤ pos m.whole)) (sym (separation_between a b m)) h
 
 contact_at : (a b : Disk) (m : Moment) → IsWithinTick m → ¬ Overlaps (contact_distance a b) (place_of a m.tick) (place_of b m.tick) →
     OverlapAt m a b → IsContact (separation a b m.tick) (relative a b) (contact_distance a b)
 contact_at a b m within apart overlap =
     contact_within (separation a b m.tick) (relative a b) (contact_distance a b) m.part m.whole within.most apart
-    (subst (λ (r : Vector). IsWithin r (contact_distance a b *ℤ pos m.whole)) (separation_at a b m) overlap)
+    (subst (λ (r : Vector). IsWithin r (contact_distance a b *ℤ pos m.whole)) (separation_between a b m) overlap)
 
 -- ---- before it
 Approach : Disk → Disk → ℕ → Type 0
