@@ -1,7 +1,7 @@
 -- What was told of some changes, and of more of them.
 use Rattle.std.proofs.Common.{◌≡◌, ℕ, zero, suc, List, [], ◌∷◌, ◌++◌, sym, ap, ◌∙◌, subst, refl, arith, Option, Some, None, inl, inr, length, take, drop}
 use Rattle.std.proofs.lemmas.Grind.{common_steps}
-use Rattle.event_rules.specs.Told.{told, Told, Torn, PrefixTold}
+use Rattle.event_rules.specs.Told.{told, Told, Torn, PrefixTold, IsAwaited, AreAwaited, AwaitsAll}
 
 -- ---- one telling after another
 pub told_append : {M C : Type 0} (after : M → C → M) (m : M) (xs : List C) (c : C) →
@@ -92,3 +92,35 @@ prefix_longer {M} {C} after torn old new xs ys h = elim h.1 [
     ),
   )
 ]
+
+-- ---- what is awaited
+rest_awaited : {M C : Type 0} (after : M → C → M) (awaits : M → C → Type 0) (m : M) (xs ys : List C) →
+    AreAwaited after awaits m (xs ++ ys) → AreAwaited after awaits (told after m xs) ys
+rest_awaited after awaits m [] ys each = each
+rest_awaited after awaits m (x ∷ xs) ys each = rest_awaited after awaits (after m x) xs ys each.1
+
+any_awaited : {M C : Type 0} (after : M → C → M) (awaits : M → C → Type 0) (m : M) (xs : List C) →
+    ((n : M) (c : C) → awaits n c) → AreAwaited after awaits m xs
+any_awaited after awaits m [] any = tt
+any_awaited after awaits m (x ∷ xs) any = (any m x, any_awaited after awaits (after m x) xs any)
+
+-- once some changes were told, those that follow are awaited
+pub awaits_rest : {M C : Type 0} (after : M → C → M) (awaits : M → C → Type 0) (old mid : Option M)
+    (xs ys : List C) → Told after old xs mid → AwaitsAll after awaits old (xs ++ ys) →
+    AwaitsAll after awaits mid ys
+awaits_rest after awaits None None xs ys h each = each
+awaits_rest after awaits None (Some n) xs ys h each = any_awaited after awaits n ys each
+awaits_rest after awaits (Some m) None xs ys h each = absurd h
+awaits_rest after awaits (Some m) (Some n) xs ys h each =
+    subst (λ v. AreAwaited after awaits v ys) (sym h) (rest_awaited after awaits m xs ys each)
+
+-- and the first of them may be told
+pub next_awaited : {M C : Type 0} (after : M → C → M) (awaits : M → C → Type 0) (old mid : Option M)
+    (xs : List C) (c : C) (ys : List C) → Told after old xs mid →
+    AwaitsAll after awaits old (xs ++ c ∷ ys) → IsAwaited awaits mid c
+next_awaited {M = M} after awaits old mid xs c ys h each =
+    first_awaited mid (awaits_rest after awaits old mid xs (c ∷ ys) h each)
+  where
+    first_awaited : (m : Option M) → AwaitsAll after awaits m (c ∷ ys) → IsAwaited awaits m c
+    first_awaited None any = tt
+    first_awaited (Some m) all = all.0

@@ -9,9 +9,15 @@ use Rattle.event_rules.specs.declared.outcome.Outcome.{Outcome}
 use Rattle.event_rules.specs.declared.outcome.RunFault.{RunFault}
 use Rattle.event_rules.specs.declared.outcome.RunFault.TheVariants.{Listener, NoMemory}
 use Rattle.event_rules.specs.Run.{IsRun, Steps}
-use Rattle.event_rules.specs.Told.{Told, PrefixTold}
+use Rattle.event_rules.specs.Told.{Told, PrefixTold, AwaitsAll}
 use Rattle.event_rules.specs.Laws.{KeepsApart}
 use Rattle.event_rules.specs.Moments.{KeepsApartBetween}
+
+-- of the changes that lead on from the scene, each is awaited once those before it were told
+abbrev pub AwaitsRun : {M : Type 0} → (M → Change → M) → (M → Change → Type 0) → SceneData → Option M → Type 0
+AwaitsRun after awaits scene old =
+    (changes : List Change) (later : List Disk) → Steps scene.rules scene.disks changes later
+    → AwaitsAll after awaits old changes
 
 -- the changes of the scene's run were told, in order, and this is how it ends; at each of its ticks, and at each moment
 -- between them, all disks are inside the box and no two overlap
