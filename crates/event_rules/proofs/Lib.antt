@@ -19,6 +19,7 @@ pub mod RunsTold
 pub mod Separations
 pub mod SmallProducts
 pub mod States
+pub mod Steps
 pub mod Swapped
 pub mod Telling
 pub mod Together

@@ -42,11 +42,10 @@ pub run_told : {M : Type 0} (after : M → Change → M) (scene : SceneData) (ou
     (old new : Option M) → IsValidScene scene →
     RunDone after (scene_of scene.rules scene.disks) outcome old new →
     RunTold after scene outcome old new
-run_told after scene outcome old new valid h =
-    (
-      h.0,
-      h.1,
-      h.2,
-      never_overlaps scene h.0 outcome valid h.1,
-      never_overlaps_between scene h.0 outcome valid h.1,
-    )
+run_told after scene outcome old new valid h = (
+  h.0,
+  h.1,
+  h.2,
+  never_overlaps scene h.0 outcome valid h.1,
+  never_overlaps_between scene h.0 outcome valid h.1,
+)
