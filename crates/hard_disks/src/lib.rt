@@ -1,8 +1,8 @@
 //! What `hard_disks` does, a simulator of hard disks of equal mass in a walled box: from the words that the program is
 //! called with and the bytes of a scene to the bytes of the output.
 //!
-//! The program itself, `hard_disks_program`, calls [`top`] or [`top_watched`] over standard input and output, and adds
-//! nothing to what is written.
+//! The program itself, `hard_disks_program`, calls [`top_gathered`] or [`top_watched`] over standard input and output,
+//! and adds nothing to what is written.
 #![tactic(auto)]
 
 mod audit;

@@ -33,7 +33,8 @@ pub struct Terminals {
 }
 
 /// Does what the words ask for, which follow the program's name: reads standard input, and writes standard output.
-/// Where standard error is a terminal, a line there says how far the run is.
+/// Where standard error is a terminal, a line there says how far the run is. Where standard output is none, the output
+/// is written in larger pieces, and no line is held for long while others follow.
 ///
 /// What is read and written is what [`top`] says.
 pub fn run_process<R: AllocGlobal + Input + Print + Eprint + Threads + Wait + Clock + Sync>(

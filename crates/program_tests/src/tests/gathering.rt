@@ -137,6 +137,9 @@ fn expect_end(
     Ok(())
 }
 
+// How many bytes are held at most where time goes by: five pieces.
+const ROOM: usize = 25;
+
 // When a piece of five bytes comes, in microseconds, and how many bytes the sink below has then.
 type TimeRow = (u64, usize);
 
@@ -155,7 +158,7 @@ const TIMES: &[TimeRow] = &[
     (1_000, 45),
     (549_999, 45),
     (550_000, 60),
-    // Six more would be greater than the room.
+    // The sixth of these doesn't fit beside the others.
     (550_001, 60),
     (550_002, 60),
     (550_003, 60),
@@ -175,23 +178,22 @@ fn nothing_is_held_for_long(rt: HostRuntime) -> Result<(), Fail> {
 
 // The first row after which the sink below has another number of bytes.
 fn first_wrong(alloc: Global) -> Result<Option<TimeRow>, AllocError> {
-    for count in 0..TIMES.len() {
-        let (_, want) = TIMES[count];
-        if given_until(alloc, count)? != want {
-            return Ok(Some(TIMES[count]));
+    for (last, &(now, want)) in TIMES.iter().enumerate() {
+        if given_until(alloc, last)? != want {
+            return Ok(Some((now, want)));
         }
     }
     Ok(None)
 }
 
-// How many bytes the sink below has after the piece of this number.
+// How many bytes the sink below has after the piece of this number, or more than it can have where a call failed.
 fn given_until(alloc: Global, last: usize) -> Result<usize, AllocError> {
     let clock = StandingClock::new();
     let below = MemorySink::new(alloc, &[], AMPLE_ROOM)?;
-    let mut sink = Timely::new(&clock, Gathered::new(alloc, below, 25));
-    for &(now, _) in TIMES.iter().take(last + 1) {
+    let mut sink = Timely::new(&clock, Gathered::new(alloc, below, ROOM));
+    for (number, &(now, _)) in TIMES.iter().enumerate() {
         clock.micros.store(now, Ordering::SeqCst);
-        if sink.give(b"five\n") == Given::Failed {
+        if number <= last && sink.give(b"five\n") == Given::Failed {
             return Ok(usize::MAX);
         }
     }

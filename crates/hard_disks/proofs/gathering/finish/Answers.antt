@@ -15,7 +15,7 @@ returns-in-Failed g c = let K = g.K.Sink in
     let below = c.into_sink-in-Failed.result in
     let torn : 1 ≤ K.faults below = c.into_sink-in-Failed.ensures.torn c.in-Failed.ensures.leaves.0.0 in
     let front : IsFront (K.taken below) c.args.gathered.told =
-        subst (λ (told : Option (List ℕ)). IsFront (K.taken below) told) c.flush.ensures.told c.into_sink-in-Failed.ensures.front in record {
+    subst (λ (told : Option (List ℕ)). IsFront (K.taken below) told) c.flush.ensures.told c.into_sink-in-Failed.ensures.front in record {
       answers = λ settings left taken fresh answers.
           answered_torn settings left taken c.args.gathered.told (K.taken below) c.args.status
           (writes c.args.status c.in_default.not-ReadFault) fresh front answers;
