@@ -28,7 +28,7 @@ DECLARED = re.compile(r"^(?:unfoldable |opaque )?(?:abbrev pub|pub record|pub da
 ITEM = re.compile(r"^\s*(?:pub(?:\([^)]*\))? )?(?:struct|enum|trait|type|const) (\w+)")
 IMPL = re.compile(r"^impl\b(?:.* for |(?:<[^<>]*(?:<[^<>]*>[^<>]*)*>)? )(\w+)")
 FUNCTION = re.compile(r"^\s*(?:pub(?:\([^)]*\))? )?(?:const )?fn (\w+)")
-CLAUSE = re.compile(r"^\s*ensures(?: checked)? (\w+) \{")
+CLAUSE = re.compile(r"^\s*(?:requires|ensures)(?: checked)? (\w+) \{")
 FIELD = re.compile(r"^\s*(?:pub )?ghost (\w+) ?[:=]")
 
 

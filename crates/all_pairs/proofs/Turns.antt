@@ -34,15 +34,6 @@ work_falls rules disks c (Some t) checked valid next comes h =
     let rises = rank_rises rules disks c t checked valid next comes h.0 in
     omega arith
 
-pub one_more : (rules : Rules) (state mid : List Disk) (cs : List Change) (c : Change) →
-    Steps rules state cs mid → IsNext rules mid c.stamp → ComesTo rules mid c.stamp (Ok c) →
-    Steps rules state (cs ++ c ∷ []) (effect mid c)
-one_more rules state mid [] c h n r =
-    let same : mid ≡ state = h in
-    subst (λ (v : List Disk). Steps rules v (c ∷ []) (effect mid c)) same (n, r, refl)
-one_more rules state mid (x ∷ xs) c h n r =
-    (h.0, h.1, one_more rules (effect state x) mid xs c h.2 n r)
-
 pub runs_from : (rules : Rules) (state mid : List Disk) (cs : List Change) (outcome : Outcome) →
     Steps rules state cs mid → Runs rules mid [] outcome → Runs rules state cs outcome
 runs_from rules state mid [] outcome h r = subst (λ (v : List Disk). Runs rules v [] outcome) h r

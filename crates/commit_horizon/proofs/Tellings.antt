@@ -1,6 +1,6 @@
 -- What was told of actions as they are merged.
 use Rattle.std.proofs.Common.{◌≡◌, ◌≢◌, Bool, true, false, Ok, Err, ℕ, ◌+◌, ◌<◌, ◌≤◌, List, [], ◌∷◌, ◌++◌, length, map, set}
-use Rattle.std.proofs.Common.{sym, ap, ◌∙◌, subst, refl, arith, Option, Some, None}
+use Rattle.std.proofs.Common.{sym, ap, ◌∙◌, subst, refl, arith, append_assoc, Option, Some, None}
 use Rattle.std.specs.Prelude.{slice_get, IfSome, ◌==◌, if◌then◌else◌}
 use Rattle.std.specs.Option.{IsSome}
 use Rattle.std.specs.List.{sum_by}
@@ -15,9 +15,9 @@ use Rattle.event_rules.specs.declared.change.Limit.{Limit}
 use Rattle.event_rules.specs.declared.change.Limit.TheVariants.{Rounds}
 use Rattle.event_rules.specs.declared.outcome.RunFault.{RunFault}
 use Rattle.event_rules.specs.declared.outcome.RunFault.TheVariants.{Listener, NoMemory}
-use Rattle.event_rules.specs.Told.{told, Told, PrefixTold}
+use Rattle.event_rules.specs.Told.{told, Told, PrefixTold, AwaitsAll}
 use Rattle.event_rules.proofs.Ran.{ran, ran_tellable}
-use Rattle.event_rules.proofs.Telling.{told_none, torn_next, all_told, prefix_longer}
+use Rattle.event_rules.proofs.Telling.{told_none, torn_next, all_told, prefix_longer, next_awaited}
 use Rattle.region_view.specs.declared.action.Action.{Action}
 use Rattle.region_view.specs.declared.action.Action.TheVariants.{Cross, Hit}
 use Rattle.cell_grid.specs.Grid.{cell_at}
@@ -38,7 +38,7 @@ use Rattle.commit_horizon.specs.Horizon.{runs_of, AllKept, IsHorizon}
 use Rattle.commit_horizon.specs.Bounds.{HoldsUpTo, IsWithin}
 use Rattle.commit_horizon.specs.Merging.{Head, IsHeadAfter, Heads, AreHeads, IsLeastHead, Merges}
 use Rattle.commit_horizon.specs.Raising.{AllMayRise}
-use Rattle.commit_horizon.specs.Telling.{IsStateOf, IsMergedFrom, MayBeTold, MayBeToldBy, HitRefused, MergeTold, MergeCutShort, FinalTold, CommitCutShort}
+use Rattle.commit_horizon.specs.Telling.{IsStateOf, IsMergedFrom, MayBeTold, MayBeToldBy, IsHitAwaited, AwaitsNext, HitRefused, MergeTold, MergeCutShort, FinalTold, CommitCutShort}
 use Rattle.commit_horizon.proofs.Commit.{commits, may_rise}
 use Rattle.commit_horizon.proofs.Merged.{merged_is_next}
 use Rattle.commit_horizon.proofs.Standing.{are_standing, horizon_is}
@@ -198,6 +198,27 @@ module _ {M : Type 0} (after : M → Change → M) (torn : M → Change → M �
           KeepsMerging old regions h (set heads k new) (so_far.done ++ x ∷ []) (followed so_far.now x)
       goes_on new next = keeps_on old regions h heads so_far.done so_far.now so_far.keeps from.stand kept k head
           least region at x found new next
+
+      -- it is awaited, as one of those that the cell run does next
+      awaited_next : (awaits : M → Change → Type 0) (y : Action) (rest : List Action) →
+          AwaitsAll after awaits before (hits ((so_far.done ++ y ∷ []) ++ rest)) → IsHitAwaited awaits mid y
+      awaited_next awaits (Cross s cell) rest each = tt
+      awaited_next awaits (Hit change) rest each =
+          let same : hits ((so_far.done ++ Hit change ∷ []) ++ rest) ≡ hits so_far.done ++ (change ∷ hits rest) =
+          hits_join (so_far.done ++ Hit change ∷ []) rest
+          ∙ ap (λ (v : List Change). v ++ hits rest) (hits_join so_far.done (Hit change ∷ []))
+          ∙ append_assoc (hits so_far.done) (change ∷ []) (hits rest) in
+          next_awaited after awaits before mid (hits so_far.done) change (hits rest) so_far.told
+          (subst (λ (v : List Change). AwaitsAll after awaits before v) same each)
+
+      pub hit_awaited : (awaits : M → Change → Type 0) → AwaitsNext after awaits old before →
+          IsHitAwaited awaits mid x
+      hit_awaited awaits each =
+          let next = some_head h (entries_of region) (head.place + 1) in
+          let done = so_far.done ++ x ∷ [] in
+          let rest = merge_ends old regions h from.is from.stand kept from.bound (set heads k next.0) done
+          (followed so_far.now x) (goes_on next.0 next.1) in
+          awaited_next awaits x rest.0 (each (done ++ rest.0) _ rest.2.next.steps)
 
       -- one more action was told
       pub telling_goes_on : (new : Option Head) (later : Option M) →

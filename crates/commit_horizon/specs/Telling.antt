@@ -7,7 +7,8 @@ use Rattle.event_stamps.specs.declared.Kind.TheVariants.{Cross as Crossing}
 use Rattle.event_rules.specs.declared.change.Change.{Change}
 use Rattle.event_rules.specs.declared.outcome.RunFault.{RunFault}
 use Rattle.event_rules.specs.declared.outcome.RunFault.TheVariants.{Listener, NoMemory}
-use Rattle.event_rules.specs.Told.{Told, Torn, PrefixTold, IsTellable}
+use Rattle.event_rules.specs.Told.{Told, Torn, PrefixTold, IsTellable, IsAwaited, AwaitsAll}
+use Rattle.region_view.specs.declared.action.Placed.{Placed}
 use Rattle.region_view.specs.declared.action.Action.{Action}
 use Rattle.region_view.specs.declared.action.Action.TheVariants.{Cross, Hit}
 use Rattle.cell_sequence.specs.Run.{CellSteps, hits}
@@ -28,6 +29,17 @@ MayBeTold (Hit change) = IsTellable change
 abbrev pub MayBeToldBy : Kind → Action → Type 0
 MayBeToldBy kind (Cross s cell) = ⊤
 MayBeToldBy kind (Hit change) = IsTellable change × (kind ≢ Crossing)
+
+-- a collision is awaited; a crossing isn't told
+abbrev pub IsHitAwaited : {M : Type 0} → (M → Change → Type 0) → Option M → Action → Type 0
+IsHitAwaited awaits m (Cross s cell) = ⊤
+IsHitAwaited awaits m (Hit change) = IsAwaited awaits m change
+
+-- of whatever the cell run does next, each collision is awaited once those before it were told
+abbrev pub AwaitsNext : {M : Type 0} → (M → Change → M) → (M → Change → Type 0) → CellStateData → Option M → Type 0
+AwaitsNext after awaits state old =
+    (actions : List Action) (later : List Placed) → CellSteps state.rules state.grid state.placed actions later
+    → AwaitsAll after awaits old (hits actions)
 
 -- a collision was refused
 abbrev pub HitRefused : {M : Type 0} → (M → Change → M → Type 0) → Option M → Action → Option M → Type 0

@@ -9,7 +9,7 @@ ghost use Rattle.cell_sequence.specs.State.{CellStateData};
 ghost use Rattle.local_run.specs.Entries.{native_in};
 ghost use Rattle.local_run.specs.Keeping.{entries_of};
 ghost use Rattle.commit_horizon.specs.Horizon.{AllKept};
-ghost use Rattle.commit_horizon.specs.Telling.{IsStateOf, IsMergedFrom, MayBeTold, MayBeToldBy, HitRefused, MergeTold, MergeCutShort, FinalTold, CommitCutShort};
+ghost use Rattle.commit_horizon.specs.Telling.{IsStateOf, IsMergedFrom, MayBeTold, MayBeToldBy, IsHitAwaited, AwaitsNext, HitRefused, MergeTold, MergeCutShort, FinalTold, CommitCutShort};
 
 use crate::bounding::least_bound;
 use crate::leading::{find_leader, leader_after};
@@ -34,7 +34,8 @@ pub struct Final {
 
 /// Makes final what regions, which stand by number on a cell state with these rules, did before the commit
 /// horizon: each collision is told while the logs are merged, in the order of stamps, and all floors are raised
-/// to the horizon. No list of the batch is made, and no rows are set.
+/// to the horizon. No list of the batch is made, and no rows are set. Whatever the cell run does next, the listener
+/// awaits it.
 ///
 /// # Errors
 /// The listener refused a collision, and its count of refusals rose; or out of memory. A prefix of the
@@ -45,7 +46,8 @@ pub fn commit_telling<L: Listener>(
     regions: &mut [Region],
     listener: &mut L,
 ) -> Result<Final, RunFault>
-    requires { (state : CellStateData) × IsStateOf rules.now regions.old state }
+    requires { (state : CellStateData) × IsStateOf rules.now regions.old state
+        × AwaitsNext L.after L.awaits state (L.meaning listener.old) }
     ensures told { IfOk result (λ made. (state : CellStateData) → IsStateOf rules.now regions.old state →
         FinalTold L.after state regions.old made regions.new
         (L.meaning listener.old) (L.meaning listener.new)) }
@@ -69,7 +71,8 @@ fn merge_telling<L: Listener>(
     listener: &mut L,
 ) -> Result<Option<Stamp>, RunFault>
     requires kept { AllKept regions.now }
-    requires state { (state : CellStateData) × IsMergedFrom regions.now horizon state }
+    requires state { (state : CellStateData) × IsMergedFrom regions.now horizon state
+        × AwaitsNext L.after L.awaits state (L.meaning listener.old) }
     ensures told { IfOk result (λ last. (state : CellStateData) → IsMergedFrom regions.now horizon state →
         MergeTold L.after state regions.now horizon last (L.meaning listener.old) (L.meaning listener.new)) }
     ensures cut_short { IfErr result (λ fault. (state : CellStateData) → IsMergedFrom regions.now horizon state →
@@ -101,6 +104,8 @@ fn tell_at<L: Listener>(
 ) -> Result<(), Deaf>
     requires there { IsSome (native_in (slice_get (entries_of region.now) place)) }
     requires kind { IfSome (native_in (slice_get (entries_of region.now) place)) (MayBeToldBy kind) }
+    requires awaited { IfSome (native_in (slice_get (entries_of region.now) place))
+        (IsHitAwaited L.awaits (L.meaning listener.old)) }
     ensures told { OnOk result (IfSome (native_in (slice_get (entries_of region.now) place))
         (λ x. Told L.after (L.meaning listener.old) (hits (x ∷ [])) (L.meaning listener.new))) }
     ensures refused { OnErr result (IfSome (native_in (slice_get (entries_of region.now) place))
@@ -116,7 +121,8 @@ fn tell_at<L: Listener>(
 // Tells a collision; a crossing isn't told.
 #[inline(always)]
 fn tell_hit<L: Listener>(action: &Action, listener: &mut L) -> Result<(), Deaf>
-    requires { MayBeTold action.now }
+    requires tellable { MayBeTold action.now }
+    requires awaited { IsHitAwaited L.awaits (L.meaning listener.old) action.now }
     ensures told { OnOk result
         (Told L.after (L.meaning listener.old) (hits (action.now ∷ [])) (L.meaning listener.new)) }
     ensures refused { OnErr result

@@ -1,7 +1,7 @@
 //! A run up to a tick, and what is left of it.
 
 ghost use Rattle.std.specs.Prelude.{◌≤◌, IfOk, IfErr};
-ghost use Rattle.event_rules.specs.Tellings.{RunTold, RunCutShort, CountsRun};
+ghost use Rattle.event_rules.specs.Tellings.{AwaitsRun, RunTold, RunCutShort, CountsRun};
 ghost use Rattle.resume.specs.Parts.{before_scene};
 ghost use Rattle.hard_disks.specs.Cut.{CutTold};
 
@@ -37,6 +37,7 @@ pub fn cut_at<R: Threads + Wait + Sync, G: Gate, L: Listener>(
     listener: &mut L,
 ) -> Result<Cut, RunFault>
     requires at { at ≤ scene.now.rules.end }
+    requires awaited { AwaitsRun L.after L.awaits (before_scene scene.now at) (L.meaning listener.old) }
     ensures cut { IfOk result (λ cut.
         CutTold L.after scene.now at cut (L.meaning listener.old) (L.meaning listener.new)) }
     ensures cut_short { IfErr result (λ fault.
@@ -62,6 +63,7 @@ fn run_before<R: Threads + Wait + Sync, G: Gate, L: Listener>(
     listener: &mut L,
 ) -> Result<Outcome, RunFault>
     requires at { at ≤ scene.now.rules.end }
+    requires awaited { AwaitsRun L.after L.awaits (before_scene scene.now at) (L.meaning listener.old) }
     ensures run { IfOk result (λ outcome.
         RunTold L.after (before_scene scene.now at) outcome (L.meaning listener.old) (L.meaning listener.new)) }
     ensures cut_short { IfErr result (λ fault.

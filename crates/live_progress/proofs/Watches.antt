@@ -1,6 +1,6 @@
 -- What a watched listener has published that was told a run.
 use Rattle.std.proofs.Common.{◌≡◌, inl, inr, ℕ, ◌+◌, ◌≤◌, max, List, [], ◌∷◌, ◌++◌, take, drop, Option, Some, None, sym, ap, subst, refl, ◌∙◌, append_assoc, append-nil, arith}
-use Rattle.std.specs.Prelude.{fold, ⊤}
+use Rattle.std.specs.Prelude.{fold, ⊤, option_map}
 use Rattle.std.proofs.lemmas.List.{take-append-drop}
 use Rattle.std.proofs.lemmas.List.Sums.{fold-append}
 use Rattle.fixed_motion.specs.Scene.{SceneData, IsValidScene}
@@ -11,11 +11,11 @@ use Rattle.event_rules.specs.declared.change.Change.{Change}
 use Rattle.event_rules.specs.declared.outcome.Outcome.{Outcome}
 use Rattle.event_rules.specs.Laws.{RisesAfter, stamps_of}
 use Rattle.event_rules.specs.Run.{IsRun}
-use Rattle.event_rules.specs.Told.{told, Told, Torn, PrefixTold}
+use Rattle.event_rules.specs.Told.{told, Told, Torn, PrefixTold, IsAwaited, AreAwaited}
 use Rattle.event_rules.proofs.Rise.{stamps_rise}
 use Rattle.live_progress.specs.declared.board.Progress.{Progress}
 use Rattle.live_progress.specs.Lists.{progress, last_of, StartsWith}
-use Rattle.live_progress.specs.Watching.{SoFar, counted, next_of, published, with_change, IsTorn, pairs_from, pairs_of}
+use Rattle.live_progress.specs.Watching.{SoFar, counted, next_of, published, with_change, IsTorn, IsAwaitedWithin, pairs_from, pairs_of}
 use Rattle.live_progress.proofs.Moves.{last_from-push}
 
 -- ---- the ticks of a run
@@ -159,3 +159,19 @@ cut_watched after torn scene changes outcome m n valid run none h =
           (run_so_far scene changes outcome xs cut.list.1 valid run cut.list.2);
       inner = cut.inner;
     }
+
+-- ---- what is awaited
+-- by a listener that is watched, and so by the one within
+pub awaited_within : {M : Type 0} (awaits : M → Change → Type 0) (so_far : M → SoFar M) (m : Option M)
+    (change : Change) → ((n : M) → (so_far n).inner ≡ n) →
+    IsAwaited (IsAwaitedWithin awaits) (option_map so_far m) change → IsAwaited awaits m change
+awaited_within awaits so_far None change same awaited = tt
+awaited_within {M} awaits so_far (Some n) change same awaited = subst (λ (v : M). awaits v change) (same n) awaited
+
+-- by the one within, and so by the one that is watched
+pub watched_awaits : {M : Type 0} (after : M → Change → M) (awaits : M → Change → Type 0) (m : SoFar M)
+    (changes : List Change) → AreAwaited after awaits m.inner changes →
+    AreAwaited (with_change after) (IsAwaitedWithin awaits) m changes
+watched_awaits after awaits m [] each = tt
+watched_awaits after awaits m (c ∷ cs) each =
+    (each.0, watched_awaits after awaits (with_change after m c) cs each.1)

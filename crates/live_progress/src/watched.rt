@@ -1,7 +1,7 @@
 //! A listener that publishes what it is told.
 
 ghost use Rattle.std.specs.Prelude.{◌≡◌, Option, option_map};
-ghost use Rattle.live_progress.specs.Watching.{SoFar, next_of, with_change, IsTorn};
+ghost use Rattle.live_progress.specs.Watching.{SoFar, next_of, with_change, IsTorn, IsAwaitedWithin};
 
 use crate::{Board, Pen, Progress};
 use event_rules::{Change, Deaf, Listener};
@@ -32,6 +32,8 @@ impl<'p, R: Wait, L: Listener> Listener for Watched<'p, R, L> {
     ghost after = { with_change L.after };
 
     ghost torn = { IsTorn L.torn };
+
+    ghost awaits = { IsAwaitedWithin L.awaits };
 
     ghost meaning = { λ w. option_map
         (λ m. record { loan = w.pen.ghost_name; board = w.pen.now.board; list = w.pen.now.list; inner = m })

@@ -16,7 +16,7 @@ use Rattle.event_rules.specs.declared.outcome.Spot.{Spot}
 use Rattle.event_rules.specs.declared.outcome.Outcome.{Outcome}
 use Rattle.event_rules.specs.declared.outcome.Outcome.TheVariants.{Done, Limit as Passes}
 use Rattle.event_rules.specs.Effect.{applied, change_of, keeps_speed}
-use Rattle.event_rules.specs.Run.{Runs, IsCandidate, IsNext, ComesTo, IsValidState, partner_of, effect, set_some, spots_of, state_at}
+use Rattle.event_rules.specs.Run.{Runs, Steps, IsCandidate, IsNext, ComesTo, IsValidState, partner_of, effect, set_some, spots_of, state_at}
 use Rattle.event_rules.proofs.Apart.{KeepsPlace, KeepPlaces, wall_keeps, pair_keeps}
 use Rattle.event_rules.proofs.Ran.{ran, event_valid}
 use Rattle.event_rules.proofs.Rise.{candidate_before_end}
@@ -103,6 +103,16 @@ comes_of_all rules e xs s r comes =
     λ i. if s.round == rules.round_limit then Err (Rounds s)
     else if speed_of_all rules e c i then Ok c else Err (Speed s) in
     (comes.0, comes.1, comes.2 ∙ same)
+
+-- the changes that lead on up to the tick lead on
+pub steps_of_all : (rules : Rules) (at : ℕ) (xs : List Disk) (changes : List Change) (later : List Disk) →
+    at ≤ rules.end → Steps (ending_at at rules) xs changes later → Steps rules xs changes later
+steps_of_all rules at xs [] later le steps = steps
+steps_of_all rules at xs (c ∷ cs) later le steps = (
+  next_of_all rules at xs c.stamp le steps.0,
+  comes_of_all rules at xs c.stamp (Ok c) steps.1,
+  steps_of_all rules at (effect xs c) cs later le steps.2,
+)
 
 -- ---- sizes
 abbrev pub sizes : List Disk → List ℤ

@@ -11,11 +11,12 @@ use Rattle.event_rules.specs.declared.outcome.Outcome.{Outcome}
 use Rattle.event_rules.specs.declared.outcome.Outcome.TheVariants.{Done, Limit as Passes}
 use Rattle.event_rules.specs.declared.outcome.RunFault.{RunFault}
 use Rattle.event_rules.specs.declared.outcome.RunFault.TheVariants.{Listener, NoMemory}
-use Rattle.event_rules.specs.Tellings.{StepsCutShort, scene_of}
+use Rattle.event_rules.specs.Tellings.{AwaitsRun, StepsCutShort, scene_of}
 use Rattle.event_rules.specs.Run.{IsRun, Steps, spots_of}
 use Rattle.event_rules.specs.Told.{told, Told}
-use Rattle.event_rules.proofs.Telling.{told_none}
+use Rattle.event_rules.proofs.Telling.{told_none, awaits_rest}
 use Rattle.cell_grid.specs.Grid.{GridData, grid_of, IsAsked}
+use Rattle.region_view.specs.declared.action.Placed.{Placed}
 use Rattle.region_view.specs.declared.action.Action.{Action}
 use Rattle.cell_sequence.specs.Run.{opened, disks_of, hits, CellSteps, CellRuns}
 use Rattle.cell_sequence.specs.State.{CellStateData, IsCandidateOf, followed, followed_by, start_of}
@@ -25,7 +26,7 @@ use Rattle.commit_horizon.specs.Horizon.{Runs}
 use Rattle.commit_horizon.proofs.Tellings.{told_in_turn}
 use Rattle.run_core.specs.declared.answers.Advance.{Advance}
 use Rattle.run_core.specs.declared.answers.Advance.TheVariants.{Raised, End, Limit}
-use Rattle.commit_horizon.specs.Telling.{HitsCutShort}
+use Rattle.commit_horizon.specs.Telling.{AwaitsNext, HitsCutShort}
 use Rattle.run_core.specs.Advances.{Leads, FailsNext, IsAdvance}
 use Rattle.run_core.specs.AdvancesTold.{NextCutShort}
 use Rattle.run_core.specs.Simulates.{batch_of}
@@ -115,6 +116,29 @@ module _ {M : Type 0} (after : M → Change → M) (torn : M → Change → M �
     is.told,
   )
 
+  -- the changes that were told, and then those of what the cell run does next
+  steps_on : (state : CellStateData) (old mid : Option M) (so_far : IsTold after scene asked state old mid)
+      (next : List Action) (later : List Placed) →
+      CellSteps state.rules state.grid state.placed next later →
+      Steps scene.rules scene.disks (hits so_far.actions ++ hits next) (disks_of later)
+  steps_on state old mid so_far next later steps =
+      subst (λ (v : List Change). Steps scene.rules scene.disks v (disks_of later))
+      (hits_join so_far.actions next)
+      (hits_are_steps scene asked (so_far.actions ++ next) later valid some
+      (steps_join scene.rules (grid_of scene.rules asked) (opened (grid_of scene.rules asked) scene.disks)
+      state.placed later so_far.actions next so_far.steps
+      (subst (λ (g : GridData). CellSteps scene.rules g state.placed next later) so_far.grid
+      (subst (λ (r : Rules). CellSteps r state.grid state.placed next later) so_far.rules steps))))
+
+  -- what the cell run does next is awaited
+  pub awaits_next : (awaits : M → Change → Type 0) (state : CellStateData) (old mid : Option M) →
+      IsTold after scene asked state old mid → AwaitsRun after awaits scene old →
+      AwaitsNext after awaits state mid
+  awaits_next awaits state old mid so_far each = λ next later steps.
+      awaits_rest after awaits old mid (hits so_far.actions) (hits next) so_far.told
+      (each (hits so_far.actions ++ hits next) (disks_of later)
+      (steps_on state old mid so_far next later steps))
+
   -- where the telling of what comes next breaks off
   pub next_cut : (state : CellStateData) (fault : RunFault) (old mid new : Option M) →
       IsTold after scene asked state old mid → NextCutShort after torn state fault mid new →
@@ -125,13 +149,7 @@ module _ {M : Type 0} (after : M → Change → M) (torn : M → Change → M �
       sooner = hits so_far.actions
 
       all : Steps scene.rules scene.disks (sooner ++ hits next) (disks_of later)
-      all = subst (λ (v : List Change). Steps scene.rules scene.disks v (disks_of later))
-          (hits_join so_far.actions next)
-          (hits_are_steps scene asked (so_far.actions ++ next) later valid some
-          (steps_join scene.rules (grid_of scene.rules asked) (opened (grid_of scene.rules asked) scene.disks)
-          state.placed later so_far.actions next so_far.steps
-          (subst (λ (g : GridData). CellSteps scene.rules g state.placed next later) so_far.grid
-          (subst (λ (r : Rules). CellSteps r state.grid state.placed next later) so_far.rules steps))))
+      all = steps_on state old mid so_far next later steps
 
       by_fault : (fault : RunFault) → HitsCutShort after torn next fault mid new →
           StepsCutShort after torn (scene_of scene.rules scene.disks) fault old new

@@ -11,7 +11,7 @@ use Rattle.event_rules.specs.declared.outcome.RunFault.{RunFault}
 use Rattle.event_rules.specs.declared.outcome.RunFault.TheVariants.{NoMemory}
 use Rattle.event_rules.specs.Run.{spots_of}
 use Rattle.event_rules.specs.Told.{Told}
-use Rattle.event_rules.specs.Tellings.{RunTold, RunCutShort}
+use Rattle.event_rules.specs.Tellings.{AwaitsRun, RunTold, RunCutShort}
 use Rattle.event_rules.proofs.Telling.{all_told}
 use Rattle.cell_grid.specs.Grid.{IsAsked}
 use Rattle.cell_sequence.specs.Run.{disks_of, hits}
@@ -21,12 +21,13 @@ use Rattle.cell_sequence.proofs.Followed.{start_is}
 use Rattle.local_run.specs.Opening.{RegionData}
 use Rattle.local_run.specs.Bursts.{AreTogether}
 use Rattle.commit_horizon.specs.Horizon.{AllStand}
+use Rattle.commit_horizon.specs.Telling.{AwaitsNext}
 use Rattle.run_core.specs.declared.answers.Advance.{Advance}
 use Rattle.run_core.specs.declared.answers.Advance.TheVariants.{Raised, End, Limit}
 use Rattle.run_core.specs.Simulates.{batch_of, Advances, work_left}
 use Rattle.run_core.specs.AdvancesTold.{NextCutShort}
 use Rattle.event_rules.proofs.RunsTold.{run_told, cut_short}
-use Rattle.run_core.proofs.Simulating.{IsTold, open_told, goes_on, so_far_told, next_cut}
+use Rattle.run_core.proofs.Simulating.{IsTold, awaits_next, open_told, goes_on, so_far_told, next_cut}
 use Rattle.run_core.proofs.Simulating.{done_told, limit_told, leads_of}
 use Rattle.run_core.proofs.Left.{advances_end}
 
@@ -41,6 +42,13 @@ module _ {M : Type 0} {after : M → Change → M} (torn : M → Change → M �
       IsTold after scene asked start old old
   at_start old start is = subst (λ (v : CellStateData). IsTold after scene asked v old old) (sym is)
       (open_told after torn scene asked valid some old)
+
+  -- what the cell run does next is awaited
+  pub awaits_now : (awaits : M → Change → Type 0) {state : CellStateData} {old mid : Option M} →
+      IsTold after scene asked state old mid → AwaitsRun after awaits scene old →
+      AwaitsNext after awaits state mid
+  awaits_now awaits {state} {old} {mid} told each =
+      awaits_next after torn scene asked valid some awaits state old mid told each
 
   -- where memory is wanting
   pub all_so_far : {state : CellStateData} {old new : Option M} → IsTold after scene asked state old new →

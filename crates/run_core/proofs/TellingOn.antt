@@ -11,7 +11,7 @@ use Rattle.event_rules.specs.declared.outcome.RunFault.{RunFault}
 use Rattle.event_rules.specs.declared.outcome.RunFault.TheVariants.{Listener, NoMemory}
 use Rattle.event_rules.specs.Told.{Told, PrefixTold}
 use Rattle.event_rules.specs.Tellings.{CountsRun}
-use Rattle.event_rules.proofs.Telling.{told_none}
+use Rattle.event_rules.proofs.Telling.{told_none, awaits_rest}
 use Rattle.cell_grid.specs.Grid.{GridData}
 use Rattle.region_view.specs.declared.action.Action.{Action}
 use Rattle.region_view.specs.Acting.{stamp_of}
@@ -23,7 +23,7 @@ use Rattle.local_run.specs.declared.answers.Step.TheVariants.{Ran, Halted}
 use Rattle.local_run.specs.Opening.{RegionData}
 use Rattle.commit_horizon.specs.declared.telling.Final.{Final}
 use Rattle.commit_horizon.specs.Horizon.{runs_of, AllStand, AllKept}
-use Rattle.commit_horizon.specs.Telling.{HitsCutShort, IsStateOf, FinalTold, CommitCutShort}
+use Rattle.commit_horizon.specs.Telling.{AwaitsNext, HitsCutShort, IsStateOf, FinalTold, CommitCutShort}
 use Rattle.commit_horizon.proofs.Tellings.{told_in_turn}
 use Rattle.run_core.specs.declared.answers.Advance.TheVariants.{Raised}
 use Rattle.run_core.specs.declared.answers.Course.{Course}
@@ -221,6 +221,15 @@ module _ {M : Type 0} (after : M → Change → M) (torn : M → Change → M �
       floor_is = final.floor;
       stand = final.told.commits.stand;
     }
+
+    -- nothing was told, and what the cell run does next is awaited still
+    pub mid_awaits : (awaits : M → Change → Type 0) → AwaitsNext after awaits old before →
+        AwaitsNext after awaits final.new between
+    mid_awaits awaits each = λ actions later steps.
+        awaits_rest after awaits before between [] (hits actions)
+        (subst (λ (v : List Action). Told after before (hits v) between) none final.told.told)
+        (each actions later
+        (subst (λ (v : CellStateData). CellSteps v.rules v.grid v.placed actions later) same steps))
 
     pub second_made : (course : Course) (then : Final) (last : List RegionData) (later : Option M) →
         EventMade after final.new left course then last between later →

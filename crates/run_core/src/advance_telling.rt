@@ -3,6 +3,7 @@
 ghost use Rattle.std.specs.Prelude.{IfOk, IfErr};
 ghost use Rattle.event_rules.specs.Tellings.{CountsRun};
 ghost use Rattle.cell_sequence.specs.State.{CellStateData};
+ghost use Rattle.commit_horizon.specs.Telling.{AwaitsNext};
 ghost use Rattle.run_core.specs.AdvancesTold.{AdvancesTold, AdvanceMade, EventMade, NextCutShort};
 ghost use Rattle.run_core.specs.Standing.{ComesOf};
 
@@ -28,6 +29,7 @@ pub(crate) fn advance_telling<L: Listener>(
     standing: Standing,
     listener: &mut L,
 ) -> Result<(Course, Standing), RunFault>
+    requires { AwaitsNext L.after L.awaits standing (L.meaning listener.old) }
     ensures told { IfOk result (λ advanced. AdvancesTold L.after standing advanced.0 advanced.1
         (L.meaning listener.old) (L.meaning listener.new)) }
     ensures cut_short { IfErr result (λ fault. NextCutShort L.after L.torn standing fault
@@ -52,7 +54,8 @@ fn make_final<L: Listener>(
     regions: &mut [Region],
     listener: &mut L,
 ) -> Result<(Course, Final), RunFault>
-    requires { (state : CellStateData) × ComesOf earlier.now state.floor regions.old state }
+    requires { (state : CellStateData) × ComesOf earlier.now state.floor regions.old state
+        × AwaitsNext L.after L.awaits state (L.meaning listener.old) }
     ensures told { IfOk result (λ advanced. (state : CellStateData) →
         ComesOf earlier.now state.floor regions.old state →
         AdvanceMade L.after state regions.old advanced.0 advanced.1 regions.new
@@ -80,7 +83,8 @@ fn event_telling<L: Listener>(
     regions: &mut [Region],
     listener: &mut L,
 ) -> Result<(Course, Final), RunFault>
-    requires { (state : CellStateData) × ComesOf earlier.now floor regions.old state }
+    requires { (state : CellStateData) × ComesOf earlier.now floor regions.old state
+        × AwaitsNext L.after L.awaits state (L.meaning listener.old) }
     ensures told { IfOk result (λ advanced. (state : CellStateData) → ComesOf earlier.now floor regions.old state →
         EventMade L.after state regions.old advanced.0 advanced.1 regions.new
         (L.meaning listener.old) (L.meaning listener.new)) }

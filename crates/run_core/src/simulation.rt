@@ -1,8 +1,9 @@
 //! The run of a scene over regions.
 
 ghost use Rattle.std.specs.Prelude.{IfOk, IfErr};
-ghost use Rattle.event_rules.specs.Tellings.{RunTold, RunCutShort, CountsRun};
+ghost use Rattle.event_rules.specs.Tellings.{AwaitsRun, RunTold, RunCutShort, CountsRun};
 ghost use Rattle.cell_grid.specs.Grid.{IsAsked};
+ghost use Rattle.commit_horizon.specs.Telling.{AwaitsNext};
 ghost use Rattle.run_core.specs.AdvancesTold.{AdvancesTold, NextCutShort};
 
 use crate::advance_telling::advance_telling;
@@ -29,6 +30,7 @@ pub fn simulate<B: Burst, R: Threads + Wait + Sync, L: Listener>(
     listener: &mut L,
 ) -> Result<Outcome, RunFault>
     requires asked { IsAsked regions }
+    requires awaited { AwaitsRun L.after L.awaits scene.now (L.meaning listener.old) }
     ensures run { IfOk result (λ outcome.
         RunTold L.after scene.now outcome (L.meaning listener.old) (L.meaning listener.new)) }
     ensures cut_short { IfErr result (λ fault.
@@ -60,6 +62,7 @@ fn work<R: Threads + Wait + Sync, B: Burst, L: Listener>(
     burst: &mut B,
     listener: &mut L,
 ) -> Result<(Course, Standing), RunFault>
+    requires { AwaitsNext L.after L.awaits standing (L.meaning listener.old) }
     ensures told { IfOk result (λ advanced. AdvancesTold L.after standing advanced.0 advanced.1
         (L.meaning listener.old) (L.meaning listener.new)) }
     ensures cut_short { IfErr result (λ fault. NextCutShort L.after L.torn standing fault

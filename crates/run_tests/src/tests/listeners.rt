@@ -41,6 +41,8 @@ impl<'a> Listener for Ear<'a> {
 
     ghost torn = { λ _ _ _. Unit {0} };
 
+    ghost awaits = { λ _ _. Unit {0} };
+
     ghost meaning = { λ _. None };
 
     ghost faults = { λ ear. ear.faults };

@@ -143,6 +143,8 @@ impl Listener for Counter {
 
     ghost torn = { λ _ _ _. Unit {0} };
 
+    ghost awaits = { λ _ _. Unit {0} };
+
     ghost meaning = { λ _. None };
 
     ghost faults = { λ _. 0 };

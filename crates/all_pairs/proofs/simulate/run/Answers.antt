@@ -6,9 +6,10 @@ use Rattle.event_stamps.specs.Least.{HasNone, IsLeastOf}
 use Rattle.event_rules.specs.declared.outcome.Outcome.TheVariants.{Done}
 use Rattle.event_rules.specs.Run.{IsCandidate, IsNext, ComesTo, effect, IsValidState, Steps}
 use Rattle.event_rules.specs.Run.{spots_of}
-use Rattle.event_rules.proofs.Telling.{told_more, told_none, torn_next, all_told}
+use Rattle.event_rules.proofs.Steps.{one_more}
+use Rattle.event_rules.proofs.Telling.{next_awaited, told_more, told_none, torn_next, all_told}
 use Rattle.all_pairs.proofs.Events.{found_turn}
-use Rattle.all_pairs.proofs.Turns.{one_more, runs_from, work_falls, work_left, none_left}
+use Rattle.all_pairs.proofs.Turns.{runs_from, work_falls, work_left, none_left}
 use Rattle.all_pairs.proofs.simulate.run.Goals as goal
 
 pub next-upcoming-requires-clause-valid : goal.next-upcoming-requires-clause-valid
@@ -76,12 +77,27 @@ returns-in_err-event-clause-cut_short g c =
           (L.meaning c.event.new.self) so_far.0 change so_far.2 c.in_err-event.ensures.torn,
     )
 
-pub event-requires : goal.event-requires
-event-requires g c =
+pub event-requires-clause-tellable : goal.event-requires-clause-tellable
+event-requires-clause-tellable g c =
     let known = c.loop-upcoming.invariant in
     (found_turn c.args.rules.now c.loop-upcoming.disks.items c.deref-in-Some.result.now
     c.loop-upcoming.upcoming c.in-Some.stamp c.in-Ok.change known.valid c.deref-in-Some.ensures.value
     c.in-Some.is known.upcoming c.in-Ok.ensures).tellable
+
+pub event-requires-clause-awaited : goal.event-requires-clause-awaited
+event-requires-clause-awaited g c =
+    let L = g.L.Listener in
+    let rules = c.args.rules.now in
+    let disks = c.loop-upcoming.disks.items in
+    let change = c.in-Ok.change in
+    let known = c.loop-upcoming.invariant in
+    let turn = found_turn rules disks c.deref-in-Some.result.now c.loop-upcoming.upcoming
+    c.in-Some.stamp change known.valid c.deref-in-Some.ensures.value c.in-Some.is known.upcoming
+    c.in-Ok.ensures in
+    let so_far = known.so_far in
+    next_awaited L.after L.awaits (L.meaning c.args.listener.now) (L.meaning c.loop-upcoming.listener)
+    so_far.0 change [] so_far.2 (c.requires.awaited (so_far.0 ++ change ∷ []) (effect disks change)
+    (one_more rules c.args.disks.now.items disks so_far.0 change so_far.1 turn.next turn.comes))
 
 pub put-requires-clause-first : goal.put-requires-clause-first
 put-requires-clause-first g c =

@@ -3,7 +3,7 @@ use Rattle.std.proofs.lemmas.Result.{err_from_is_err_and, IfOk-weaker, IfErr-wea
 use Rattle.fixed_motion.specs.Scene.{SceneData, IsValidScene}
 use Rattle.event_rules.specs.Run.{IsValidState}
 use Rattle.event_rules.proofs.Ranges.{starts_valid}
-use Rattle.event_rules.specs.Tellings.{RunDone, StepsCutShort, scene_of}
+use Rattle.event_rules.specs.Tellings.{AwaitsRun, RunDone, StepsCutShort, scene_of}
 use Rattle.event_rules.proofs.Telling.{told_none}
 use Rattle.event_rules.specs.declared.outcome.RunFault.TheVariants.{NoMemory}
 use Rattle.event_rules.proofs.RunsTold.{run_told, cut_short}
@@ -24,6 +24,16 @@ pub run-requires-clause-valid : goal.run-requires-clause-valid
 run-requires-clause-valid g c =
     subst (IsValidState c.scene.inside.rules)
     (sym (c.in_ok-disks.ensures.items ∙ c.deref.ensures.value)) (starts_valid _ c.scene.invariant)
+
+pub run-requires-clause-awaited : goal.run-requires-clause-awaited
+run-requires-clause-awaited g c =
+    let L = g.L.Listener in
+    let scene = c.args.scene.now in
+    let same : scene_of c.scene.inside.rules c.in_ok-disks.disks.items ≡ scene_of scene.rules scene.disks =
+    ap (scene_of c.scene.inside.rules) (c.in_ok-disks.ensures.items ∙ c.deref.ensures.value)
+    ∙ ap (λ (v : SceneData). scene_of v.rules v.disks) c.scene.view_is in
+    subst (λ (v : SceneData). AwaitsRun L.after L.awaits v (L.meaning c.args.listener.now)) (sym same)
+    c.requires.awaited
 
 pub returns-clause-run : goal.returns-clause-run
 returns-clause-run g c =

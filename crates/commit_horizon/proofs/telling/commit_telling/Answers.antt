@@ -17,6 +17,7 @@ merge_telling-requires-clause-state g c =
       state.0,
       merged_from c.args.rules.now regions c.least_bound-floor.result bound c.least_bound-floor.ensures.kept
           state.0 state.1,
+      state.2,
     )
 
 pub returns-in_err-last-clause-cut_short : goal.returns-in_err-last-clause-cut_short

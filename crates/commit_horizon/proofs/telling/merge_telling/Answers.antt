@@ -10,12 +10,12 @@ use Rattle.region_view.specs.declared.action.Action.{Action}
 use Rattle.cell_sequence.specs.Run.{hits}
 use Rattle.commit_horizon.specs.declared.merging.PackedHead.{PackedHead}
 use Rattle.commit_horizon.specs.Merging.{Head, Heads, head_in, heads_in}
-use Rattle.commit_horizon.specs.Telling.{MayBeToldBy, HitRefused, MergeTold}
+use Rattle.commit_horizon.specs.Telling.{MayBeToldBy, IsHitAwaited, HitRefused, MergeTold}
 use Rattle.commit_horizon.proofs.Heads.{cost_of}
 use Rattle.commit_horizon.specs.Leading.{IsLeader, NoOtherBefore}
 use Rattle.commit_horizon.proofs.Leaders.{leads_at, leader_within, none_leads, set_in, still_within, others_stay}
 use Rattle.commit_horizon.proofs.Tellings.{KeepsTelling, nothing_told, telling_begins, few_more, of_region}
-use Rattle.commit_horizon.proofs.Tellings.{reads_action, action_there, tells_less, may_be_told}
+use Rattle.commit_horizon.proofs.Tellings.{reads_action, action_there, tells_less, may_be_told, hit_awaited}
 use Rattle.commit_horizon.proofs.Tellings.{telling_refused, telling_goes_on, telling_ends}
 use Rattle.commit_horizon.proofs.telling.merge_telling.Goals as goal
 
@@ -111,6 +111,32 @@ tell_at-requires-clause-kind g c =
     let x = action_there L.after L.torn state regions h from kept before heads last mid so_far first.number head least region at in
     subst (λ (o : Option Action). IfSome o (MayBeToldBy c.in-Some.stamp.kind)) (sym x.1)
     (may_be_told L.after L.torn state regions h from kept before heads last mid so_far first.number head least region at x.0 x.1)
+
+pub tell_at-requires-clause-awaited : goal.tell_at-requires-clause-awaited
+tell_at-requires-clause-awaited g c =
+    let L = g.L.Listener in
+    let regions = c.args.regions.now in
+    let h = c.args.horizon in
+    let kept = c.requires.kept in
+    let before = L.meaning c.args.listener.now in
+    let mid = L.meaning c.actions.listener in
+    let state = c.requires.state.0 in
+    let from = c.requires.state.1 in
+    let so_far = c.actions.invariant.telling state from in
+    let packed = c.actions.heads.items in
+    let heads = heads_in packed in
+    let last = c.actions.last in
+    let first = c.actions.first in
+    let head : Head = record { stamp = c.in-Some.stamp; place = first.place } in
+    let least = leads_at heads first c.in-Some.stamp c.actions.invariant.leads c.in-Some.ensures.value in
+    let region = c.index-regions-first.result in
+    let lt : first.number < length regions = of_region L.after L.torn state regions h from kept before heads last
+    mid so_far first.number head least in
+    let at = slice_get_read regions (length regions) first.number region refl lt c.index-regions-first.is in
+    let x = action_there L.after L.torn state regions h from kept before heads last mid so_far first.number head least region at in
+    subst (λ (o : Option Action). IfSome o (IsHitAwaited L.awaits mid)) (sym x.1)
+    (hit_awaited L.after L.torn state regions h from kept before heads last mid so_far first.number head least region at
+    x.0 x.1 L.awaits c.requires.state.2)
 
 pub returns-in_err-tell_at-clause-cut_short : goal.returns-in_err-tell_at-clause-cut_short
 returns-in_err-tell_at-clause-cut_short g c =

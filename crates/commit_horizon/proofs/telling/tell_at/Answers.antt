@@ -3,7 +3,7 @@ use Rattle.std.specs.Prelude.{IfSome, OnOk, OnErr}
 use Rattle.region_view.specs.declared.action.Action.{Action}
 use Rattle.event_rules.specs.Told.{Told}
 use Rattle.cell_sequence.specs.Run.{hits}
-use Rattle.commit_horizon.specs.Telling.{MayBeToldBy, HitRefused}
+use Rattle.commit_horizon.specs.Telling.{MayBeToldBy, IsHitAwaited, HitRefused}
 use Rattle.commit_horizon.proofs.Tellings.{crossing_told, tellable}
 use Rattle.commit_horizon.proofs.telling.tell_at.Goals as goal
 
@@ -15,8 +15,14 @@ returns-in-Cross-clause-told g c =
 pub action_at-requires : goal.action_at-requires
 action_at-requires g c = c.requires.there
 
-pub tell_hit-requires : goal.tell_hit-requires
-tell_hit-requires g c = tellable c.args.kind c.action_at.result
+pub tell_hit-requires-clause-awaited : goal.tell_hit-requires-clause-awaited
+tell_hit-requires-clause-awaited g c =
+    let L = g.L.Listener in
+    subst (λ (o : Option Action). IfSome o (IsHitAwaited L.awaits (L.meaning c.args.listener.now)))
+    c.action_at.ensures c.requires.awaited
+
+pub tell_hit-requires-clause-tellable : goal.tell_hit-requires-clause-tellable
+tell_hit-requires-clause-tellable g c = tellable c.args.kind c.action_at.result
     (subst (λ (o : Option Action). IfSome o (MayBeToldBy c.args.kind)) c.action_at.ensures c.requires.kind)
 
 pub returns-in-Wall-clause-told : goal.returns-in-Wall-clause-told

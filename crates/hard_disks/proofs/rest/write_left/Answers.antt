@@ -1,6 +1,8 @@
 use Rattle.std.proofs.Common.{◌∙◌, ℕ, codes, ap, sym, subst}
 use Rattle.collision_report.specs.declared.format.Format.TheVariants.{Summary}
 use Rattle.collision_report.specs.Meaning.{TableData, so_far}
+use Rattle.collision_report.proofs.Awaited.{report_awaits}
+use Rattle.resume.proofs.Beginnings.{steps_of_all}
 use Rattle.hard_disks.specs.declared.status.Status.{Status}
 use Rattle.hard_disks.specs.declared.cut.Cut.{Cut}
 use Rattle.hard_disks.specs.Output.{IsSceneText, IsCutText}
@@ -10,6 +12,13 @@ use Rattle.hard_disks.proofs.Wrote.{broken_wrote}
 use Rattle.hard_disks.proofs.Watched.{broken_counts}
 use Rattle.hard_disks.proofs.Left.{cut_part, cut_rest, cut_limit}
 use Rattle.hard_disks.proofs.rest.write_left.Goals as goal
+
+pub cut_at-requires-clause-awaited : goal.cut_at-requires-clause-awaited
+cut_at-requires-clause-awaited g c κs within =
+    let K = g.K.Sink in let scene = c.args.scene.now in
+    let first = c.new-reporter.ensures.meaning ∙ ap (λ (t : TableData). so_far Summary t (K.taken c.args.sink.now) 0 0) c.requires.table in
+    λ changes later steps. report_awaits Summary scene (K.taken c.args.sink.now) _ changes later c.requires.valid first
+    (steps_of_all scene.rules c.args.at scene.disks changes later c.requires.at steps)
 
 pub returns-in-Ok-Rest-clause-wrote : goal.returns-in-Ok-Rest-clause-wrote
 returns-in-Ok-Rest-clause-wrote g c =

@@ -1,8 +1,11 @@
 use Rattle.std.proofs.Common.{◌∙◌, ℕ, ap, sym, subst, refl}
 use Rattle.event_rules.specs.declared.outcome.Outcome.{Outcome}
 use Rattle.event_rules.proofs.Fits.{outcomes_fit}
+use Rattle.collision_report.specs.Meaning.{told_on_loan, IsAwaitedOnLoan}
+use Rattle.collision_report.proofs.Awaited.{report_awaits}
 use Rattle.live_progress.specs.Lists.{Known}
 use Rattle.live_progress.specs.Watching.{pairs_of}
+use Rattle.live_progress.proofs.Watches.{watched_awaits}
 use Rattle.hard_disks.specs.declared.status.Status.{Status}
 use Rattle.hard_disks.specs.Reports.{IsReport}
 use Rattle.hard_disks.specs.Answers.{Wrote, CountsWrites}
@@ -11,6 +14,13 @@ use Rattle.hard_disks.proofs.Wrote.{broken_wrote}
 use Rattle.hard_disks.proofs.Published.{ended_published, broken_published}
 use Rattle.hard_disks.proofs.Watched.{told_all, told_part, broken_counts}
 use Rattle.hard_disks.proofs.show.report_run.Goals as goal
+
+pub run-requires-clause-awaited : goal.run-requires-clause-awaited
+run-requires-clause-awaited g c κs within =
+    let inner = c.args.watched.now.inner in let scene = c.args.scene.now in
+    λ changes later steps. watched_awaits told_on_loan IsAwaitedOnLoan _ changes
+    (report_awaits inner.format scene (g.K.Sink.taken inner.sink.now) _ changes later c.requires.valid
+    c.requires.first steps)
 
 pub end_watched-requires-clause-outcome : goal.end_watched-requires-clause-outcome
 end_watched-requires-clause-outcome g c =

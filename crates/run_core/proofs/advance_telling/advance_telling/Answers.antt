@@ -24,7 +24,7 @@ make_final-requires g c =
     let goes = subst (λ (v : List RegionData). GoesOnTo earlier last floor v state) (sym c.deref_mut.ensures.value)
     (subst (GoesOnTo earlier last floor c.standing.inside.regions.items) c.standing.view_is c.standing.invariant) in
     let of = comes_of earlier c.state.result.now last floor given state c.state.ensures.value goes in
-    (state, of)
+    (state, of, c.requires)
 
 pub returns-in_err-course-clause-cut_short : goal.returns-in_err-course-clause-cut_short
 returns-in_err-course-clause-cut_short g c =

@@ -43,6 +43,7 @@ commit_telling-requires g c =
       state,
       (state_with earlier c.rules.result.now floor regions left state c.rules.ensures.value of
           (c.in_ok-step.ensures state (stand_from earlier c.grid.result.now floor regions state c.grid.ensures.value of)).stand),
+      c.requires.2,
     )
 
 pub returns-in_err-made-in-Ran-clause-cut_short : goal.returns-in_err-made-in-Ran-clause-cut_short

@@ -9,7 +9,7 @@ use Rattle.commit_horizon.specs.declared.telling.Final.{Final}
 use Rattle.run_core.specs.declared.answers.Course.{Course}
 use Rattle.run_core.specs.AdvancesTold.{NextCutShort}
 use Rattle.run_core.specs.Standing.{ComesOf}
-use Rattle.run_core.proofs.TellingOn.{at_fault, counts_of_err, nothing_cut, commit_cut, state_with, first_made, mid_comes, second_made, second_cut, if_ok_goes, if_err_goes}
+use Rattle.run_core.proofs.TellingOn.{at_fault, counts_of_err, nothing_cut, commit_cut, state_with, first_made, mid_comes, mid_awaits, second_made, second_cut, if_ok_goes, if_err_goes}
 use Rattle.run_core.proofs.advance_telling.make_final.Goals as goal
 
 pub agree-requires : goal.agree-requires
@@ -38,6 +38,7 @@ commit_telling-requires g c =
       state,
       (state_with earlier c.rules.result.now state.floor given heard state c.rules.ensures.value of
           (c.in_ok-agree.ensures state (record { grid_is = of.grid_is ∙ sym c.grid.ensures.value; stand = of.stand })).stand),
+      c.requires.2,
     )
 
 pub returns-in_err-made-clause-cut_short : goal.returns-in_err-made-clause-cut_short
@@ -95,6 +96,10 @@ event_telling-requires g c =
           before c.in_ok-made.made c.commit_telling.new.regions between (c.in_ok-made.ensures.told state
           (state_with earlier c.rules.result.now state.floor given heard state c.rules.ensures.value of
           (c.in_ok-agree.ensures state (record { grid_is = of.grid_is ∙ sym c.grid.ensures.value; stand = of.stand })).stand)) (sym c.if-is_some.false ∙ c.is_some.ensures) earlier of,
+      mid_awaits L.after L.torn state given heard of.is of.stand c.know.ensures (c.in_ok-agree.ensures state (record { grid_is = of.grid_is ∙ sym c.grid.ensures.value; stand = of.stand })).agree
+          before c.in_ok-made.made c.commit_telling.new.regions between (c.in_ok-made.ensures.told state
+          (state_with earlier c.rules.result.now state.floor given heard state c.rules.ensures.value of
+          (c.in_ok-agree.ensures state (record { grid_is = of.grid_is ∙ sym c.grid.ensures.value; stand = of.stand })).stand)) (sym c.if-is_some.false ∙ c.is_some.ensures) L.awaits c.requires.2,
     )
 
 pub returns : goal.returns

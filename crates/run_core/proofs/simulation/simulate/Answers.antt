@@ -1,9 +1,9 @@
-use Rattle.std.proofs.Common.{◌∙◌, ℕ, Result, Err, ap, subst, refl}
+use Rattle.std.proofs.Common.{◌∙◌, ℕ, Result, Err, ap, subst, refl, rules}
 use Rattle.std.specs.Prelude.{IfErr}
 use Rattle.std.proofs.lemmas.Result.{err_from_is_err_and, IfOk-from_err}
 use Rattle.fixed_motion.specs.Scene.{IsValidScene}
 use Rattle.cell_sequence.specs.State.{CellStateData}
-use Rattle.run_core.proofs.SoFar.{at_start, all_so_far, cut_so_far, told_on}
+use Rattle.run_core.proofs.SoFar.{at_start, awaits_now, all_so_far, cut_so_far, told_on}
 use Rattle.run_core.proofs.SoFar.{ends, fails, cell_at_start, cell_after, less_left}
 use Rattle.run_core.specs.declared.answers.Course.{Course}
 use Rattle.run_core.specs.AdvancesTold.{answer_with}
@@ -44,6 +44,14 @@ bursts-init g c =
           c.in_ok-standing.ensures;
       count = refl;
     }
+
+pub work-requires : goal.work-requires
+work-requires g c =
+    let L = g.L.Listener in
+    let valid = subst IsValidScene c.scene.view_is c.scene.invariant in (
+      search rules,
+      awaits_now L.torn c.args.regions valid c.requires.asked L.awaits c.bursts.invariant.told c.requires.awaited,
+    )
 
 pub returns-in_err-course-clause-cut_short : goal.returns-in_err-course-clause-cut_short
 returns-in_err-course-clause-cut_short g c =

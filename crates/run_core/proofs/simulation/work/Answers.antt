@@ -1,10 +1,11 @@
-use Rattle.std.proofs.Common.{Result, refl, subst}
+use Rattle.std.proofs.Common.{Result, refl, sym, subst}
 use Rattle.std.specs.Prelude.{IfOk, IfErr}
 use Rattle.std.proofs.lemmas.Result.{err_from_is_err_and}
 use Rattle.event_rules.specs.declared.outcome.RunFault.{RunFault}
 use Rattle.event_rules.specs.declared.outcome.RunFault.TheVariants.{NoMemory}
 use Rattle.event_rules.specs.Tellings.{CountsRun}
 use Rattle.cell_sequence.specs.State.{CellStateData}
+use Rattle.commit_horizon.specs.Telling.{AwaitsNext}
 use Rattle.run_core.specs.declared.answers.Course.{Course}
 use Rattle.run_core.specs.AdvancesTold.{AdvancesTold, NextCutShort}
 use Rattle.run_core.proofs.TellingOn.{at_fault, nothing_cut}
@@ -25,6 +26,12 @@ returns-in_err-worked-clause-counts g c =
     let r = c.from_residual.result in
     let fault = err_from_is_err_and r c.from_residual.ensures.1 in
     at_fault (CountsRun {T = Course × CellStateData} faults faults) r fault.0 NoMemory fault.1 fault.2 refl
+
+pub advance_telling-requires : goal.advance_telling-requires
+advance_telling-requires g c =
+    let L = g.L.Listener in
+    subst (λ (v : CellStateData). AwaitsNext L.after L.awaits v (L.meaning c.args.listener.now))
+    (sym c.in_ok-worked.ensures) c.requires
 
 pub returns : goal.returns
 returns g c =
