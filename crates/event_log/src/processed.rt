@@ -361,11 +361,10 @@ fn has_row(rows: &Rows, disk: u32) -> bool
     }
 }
 
-// Takes the first items away, so many. Where all go, as they mostly do, none moves.
+// Takes the first items away, so many. Only those that stay move.
 fn drop_front<T: Copy>(items: &mut Vec<T>, gone: usize)
     requires { gone ≤ length items.old.items }
     ensures { items.new.items ≡ drop gone items.old.items }
 {
-    items.rotate_left(gone);
-    items.truncate(items.len() - gone);
+    items.drain(..gone);
 }
