@@ -1,21 +1,24 @@
 #!/usr/bin/env python3
-"""Tests of the scripts of this folder, on the scenes and reports of scenes/.
+"""Tests of what needs Python's standard library alone: the package's reports and conservation, and the documents' script.
+What needs numpy is tested by test_physics.py.
 
     python3 tools/test_tools.py"""
-import contextlib
 import io
 import os
+import re
+import subprocess
+import sys
 import tempfile
 import unittest
 from pathlib import Path
 from unittest import mock
 
-import check_conservation
 import check_docs
-import collisions_to_csv
-import pressure
-import report_to_xyz
-from reports import Event, Limit, State, Sums, Unreadable, parse_scene, read_report, read_scene
+from hard_disks import reports
+from hard_disks.conservation import check, check_drawn, draw
+from hard_disks.program import find_program
+from hard_disks.reports import Collision, Collisions, Limit, State, Sums, read_report
+from hard_disks.scenes import Refused, parse_scene, read_scene
 
 SCENES = os.path.join(os.path.dirname(os.path.abspath(__file__)), "..", "scenes")
 NAMES = sorted(it[: -len(".toml")] for it in os.listdir(SCENES) if it.endswith(".toml"))
@@ -31,126 +34,159 @@ def report_of(name):
         return file.read()
 
 
-def written(script, words, report):
-    """What a script writes of a report."""
-    out = io.StringIO()
-    with mock.patch("sys.argv", ["script", *words]), mock.patch("sys.stdin", io.StringIO(report)):
-        with contextlib.redirect_stdout(out):
-            script.main()
-    return out.getvalue()
+def read(text):
+    """What the parser makes of a text."""
+    return list(read_report(io.StringIO(text)))
+
+
+def checked(name, text):
+    return check(read_scene(scene_file(name)), read_report(io.StringIO(text)))
 
 
 class Reports(unittest.TestCase):
     def test_each_report_keeps_momentum_and_energy(self):
         for name in NAMES:
             with self.subTest(name):
-                self.assertIn("changed by", written(check_conservation, [scene_file(name)], report_of(name)))
+                self.assertIn("changed by", checked(name, report_of(name)))
 
     def test_a_changed_velocity_is_found(self):
-        wrong = report_of("row").replace("4 0 pair 0 1 0 0 8 0", "4 0 pair 0 1 0 0 7 0")
-        with self.assertRaisesRegex(Unreadable, "tick 4: momentum"):
-            written(check_conservation, [scene_file("row")], wrong)
+        with self.assertRaisesRegex(Refused, "tick 4: momentum"):
+            checked("row", report_of("row").replace("4 0 pair 0 1 0 0 8 0", "4 0 pair 0 1 0 0 7 0"))
 
     def test_a_changed_sum_is_found(self):
-        wrong = report_of("row").replace("energy 64 64", "energy 64 65")
-        with self.assertRaisesRegex(Unreadable, "energy"):
-            written(check_conservation, [scene_file("row")], wrong)
+        with self.assertRaisesRegex(Refused, "energy"):
+            checked("row", report_of("row").replace("energy 64 64", "energy 64 65"))
 
     def test_what_a_side_turned_is_in_the_momentum(self):
-        wrong = report_of("row").replace("momentum -8 0", "momentum 8 0")
-        with self.assertRaisesRegex(Unreadable, r"momentum \(8, 0\), and it is \(-8, 0\)"):
-            written(check_conservation, [scene_file("row")], wrong)
+        with self.assertRaisesRegex(Refused, r"momentum \(8, 0\), and it is \(-8, 0\)"):
+            checked("row", report_of("row").replace("momentum -8 0", "momentum 8 0"))
 
     def test_drawn_scenes_are_valid_and_move(self):
         for seed in range(20):
             with self.subTest(seed):
-                scene = parse_scene(check_conservation.draw(seed))
-                for i, a in enumerate(scene.disks):
-                    self.assertTrue(a.size // 2 <= a.x <= scene.width - a.size // 2)
-                    self.assertTrue(a.size // 2 <= a.y <= scene.height - a.size // 2)
-                    self.assertLessEqual(max(abs(a.vx), abs(a.vy)), scene.speed_limit)
-                    for b in scene.disks[:i]:
-                        self.assertGreaterEqual((a.x - b.x) ** 2 + (a.y - b.y) ** 2, (a.size + b.size) ** 2 // 4)
+                scene = parse_scene(draw(seed))
+                for i, (x, y, vx, vy, size) in enumerate(scene.disks):
+                    self.assertTrue(size // 2 <= x <= scene.width - size // 2)
+                    self.assertTrue(size // 2 <= y <= scene.height - size // 2)
+                    self.assertLessEqual(max(abs(vx), abs(vy)), scene.speed_limit)
+                    for other_x, other_y, _, _, other in scene.disks[:i]:
+                        self.assertGreaterEqual((x - other_x) ** 2 + (y - other_y) ** 2, (size + other) ** 2 // 4)
 
     def test_drawn_scenes_keep_momentum_and_energy(self):
-        program = os.path.join(SCENES, "..", "crates", "hard_disks_program", "out", "hard_disks_program")
-        if not os.access(program, os.X_OK):
-            self.skipTest("the program isn't built, so no drawn scene was run")
-        self.assertEqual(written(check_conservation, ["--drawn", "20", program], "").count("changed by"), 20)
-
-    def test_without_a_program_no_scene_is_run(self):
-        self.assertIn("weren't run", written(check_conservation, ["--drawn", "20"], ""))
+        try:
+            program = find_program()
+        except Refused as why:
+            self.skipTest(f"no drawn scene was run: {why}")
+        self.assertEqual(sum("changed by" in it for it in check_drawn(20, program)), 20)
 
     def test_a_report_that_breaks_off_is_refused(self):
-        with self.assertRaisesRegex(Unreadable, "breaks off"):
-            list(read_report(report_of("row").splitlines()[:3]))
+        for text in ("".join(report_of("row").splitlines(True)[:3]), report_of("row")[:-1], ""):
+            with self.subTest(text), self.assertRaisesRegex(Refused, "breaks off"):
+                read(text)
 
     def test_other_lines_are_refused(self):
-        with self.assertRaisesRegex(Unreadable, "no line of a report"):
-            list(read_report(["refused 2 not toml"]))
+        for text in ("refused 2 not toml\n", "1 0 pair 0 1 2 3 4\n", "1 0 wall 0 4 2 3\n", "1 0 pair 0 1 2 3 4 5 6\n", "\n"):
+            with self.subTest(text), self.assertRaisesRegex(Refused, "no line of a report"):
+                read(text)
+
+    def test_disks_stand_in_their_order(self):
+        with self.assertRaisesRegex(Refused, "disk 1 where disk 0 is wanted"):
+            read(report_of("pair").replace("disk 0", "disk 1"))
 
     def test_a_limit_is_told(self):
-        event, limit, sums = read_report(LIMIT.splitlines())
-        self.assertEqual(event, Event(0, 0, 0, [0], [(2, -2)]))
+        event, limit, sums = read(LIMIT)
+        self.assertEqual(list(event.rows()), [Collision(0, 0, 0, 0, -1, 2, -2, 0, 0)])
         self.assertEqual((limit, sums), (Limit("rounds", 0), Sums(1, 0)))
 
-
-class Xyz(unittest.TestCase):
-    def test_each_state_is_a_frame(self):
-        text = written(report_to_xyz, [scene_file("states")], report_of("states"))
-        self.assertEqual([it for it in text.splitlines() if it.startswith("Lattice")], [
-            f'Lattice="40 0 0 0 20 0 0 0 1" pbc="F F F" Properties=species:S:1:pos:R:3:velo:R:3:radius:R:1 Time={tick}'
-            for tick in (2, 4, 5)
-        ])
-        self.assertEqual(text.splitlines()[-1], "D 19 10 0 1 0 0 2")
-
-    def test_frames_have_all_disks_and_their_radii(self):
+    def test_small_pieces_and_large_ones_say_the_same(self):
         for name in NAMES:
-            with self.subTest(name):
-                scene = read_scene(scene_file(name))
-                states = [it for it in read_report(report_of(name).splitlines()) if isinstance(it, State)]
-                lines = written(report_to_xyz, [scene_file(name)], report_of(name)).splitlines()
-                self.assertEqual(len(lines), len(states) * (len(scene.disks) + 2))
-                last = [int(it.split()[-1]) for it in lines[-len(scene.disks):]]
-                self.assertEqual(last, [disk.size // 2 for disk in scene.disks])
+            with self.subTest(name), mock.patch.object(reports, "PIECE", 7):
+                self.assertEqual(rows(read(report_of(name))), lines_of(name))
 
-    def test_a_report_without_states_is_refused(self):
-        with self.assertRaisesRegex(Unreadable, "no state"):
-            written(report_to_xyz, [scene_file("corner")], LIMIT)
+    def test_numbers_are_the_same_without_numpy(self):
+        for name in NAMES:
+            with self.subTest(name), mock.patch.object(reports, "numpy", None):
+                self.assertEqual(rows(read(report_of(name))), lines_of(name))
 
-
-class Csv(unittest.TestCase):
-    def test_each_collision_is_a_row(self):
-        rows = written(collisions_to_csv, [], report_of("row")).splitlines()
-        self.assertEqual(rows, [
-            "tick,round,kind,first,second,side,vx1,vy1,vx2,vy2",
-            "4,0,pair,0,1,,0,0,8,0",
-            "18,0,pair,1,2,,0,0,8,0",
-            "30,0,pair,2,3,,0,0,8,0",
-            "37,0,wall,3,,1,-8,0,,",
-        ])
+    def test_a_scene_has_the_canonical_text_that_it_was_read_from(self):
+        for name in NAMES:
+            scene = read_scene(scene_file(name))
+            self.assertEqual(parse_scene(scene.text()), scene)
 
 
-class Pressure(unittest.TestCase):
-    def test_a_fluid_is_near_the_equation_of_state(self):
-        ratio = float(written(pressure, ["find", scene_file("fluid")], report_of("fluid")).split()[-1])
-        self.assertAlmostEqual(ratio, 1, delta=0.05)
+class Scenes(unittest.TestCase):
+    def test_what_no_measure_could_use_is_refused(self):
+        text = Path(scene_file("pair")).read_text()
+        for old, new, said in [
+            ("width = 40", "width = 0", "width from 2"), ("end = 5", "end = 5.0", "end from 0"),
+            ("end = 5", "end = 5\nevery = 0", "every"),
+            ("[10, 10, 1, 0]", "[10, 10, 1]", "row 0"), ("[10, 10, 1, 0]", "[10, 10, 9, 0]", "row 0"),
+            ("[10, 10, 1, 0]", "[10, 10, 1, 0, 0]", "row 0"), ("disks", "discs", "no list"), ("width", "width =", "no TOML"),
+        ]:
+            with self.subTest(new), self.assertRaisesRegex(Refused, said):
+                parse_scene(text.replace(old, new))
 
-    def test_several_sizes_have_no_theory(self):
-        self.assertNotIn("Henderson", written(pressure, ["find", scene_file("gas")], report_of("gas")))
 
-    def test_a_summary_is_refused(self):
-        summary = "".join(it for it in report_of("fluid").splitlines(True) if it.split()[0] in ("done", "walls", "pairs", "momentum", "energy"))
-        with self.assertRaisesRegex(Unreadable, "summary"):
-            written(pressure, ["find", scene_file("fluid")], summary)
+def rows(items):
+    """The collisions and the states' disks of a report, as lists of numbers."""
+    found = []
+    for item in items:
+        if isinstance(item, Collisions):
+            found += [list(row) for row in item.rows()]
+        if isinstance(item, State):
+            found += [list(row) for row in item.rows()]
+    return found
 
-    def test_a_limit_is_refused(self):
-        with self.assertRaisesRegex(Unreadable, "limit"):
-            written(pressure, ["find", scene_file("corner")], LIMIT)
 
-    def test_a_made_scene_is_one_of_this_program(self):
-        text = written(pressure, ["scene", "3", "0.2", "100"], "")
-        self.assertEqual(text.count("  ["), 9)
+def lines_of(name):
+    """The same, line by line."""
+    found = []
+    for line in report_of(name).splitlines():
+        words = line.split()
+        if words[0] == "disk":
+            found.append([int(it) for it in words[2:]])
+        elif words[2:3] == ["pair"]:
+            tick, round_, _, *others = words
+            found.append([int(tick), int(round_), -1, *map(int, others)])
+        elif words[2:3] == ["wall"]:
+            tick, round_, _, disk, side, vx, vy = words
+            found.append([int(it) for it in (tick, round_, side, disk, -1, vx, vy, 0, 0)])
+    return found
+
+
+class Commands(unittest.TestCase):
+    """What a Python without numpy does as well."""
+
+    def command(self, *words, text=""):
+        code = "import sys; sys.modules['numpy'] = None; from hard_disks.commands import main; main(sys.argv[1:])"
+        environment = {**os.environ, "PYTHONPATH": os.path.dirname(os.path.abspath(__file__))}
+        ran = subprocess.run([sys.executable, "-c", code, *words], input=text, capture_output=True, text=True, env=environment)
+        return ran.returncode, ran.stdout, ran.stderr
+
+    def test_a_report_is_checked(self):
+        status, out, _ = self.command("check", scene_file("row"), text=report_of("row"))
+        self.assertEqual((status, out), (0, "walls 1  pairs 3  energy 64 changed by 0, at most 84\n"))
+
+    def test_a_rest_goes_on(self):
+        status, out, _ = self.command("continue", scene_file("gas"), "--time", "3", "--every", "0.5")
+        before, after = read_scene(scene_file("gas")), parse_scene(out)
+        self.assertEqual((status, after.disks, after.end), (0, before.disks, 6 * after.every))
+
+    def test_what_cannot_be_done_is_one_line(self):
+        for words, text, said in [
+            (["measure", "pressure", scene_file("row")], report_of("row"), "no Python module numpy"),
+            (["check", scene_file("row")], report_of("pair"), "counts|momentum"),
+            (["check", scene_file("row")], "no report\n", "no line of a report"),
+            (["check", scene_file("gone")], "", "No such file"),
+            (["check"], "", "wants a scene's file"),
+            (["check", os.path.join(SCENES, "row.report")], "", "no TOML"),
+            (["frob"], "", "invalid choice"),
+            (["continue", scene_file("gas"), "--time", "1e30"], "", "ticks"),
+        ]:
+            with self.subTest(words):
+                status, out, error = self.command(*words, text=text)
+                self.assertEqual((status, out, error.count("\n")), (2, "", 1), error)
+                self.assertTrue(re.search(said, error), error)
 
 
 class Documents(unittest.TestCase):

@@ -1,0 +1,250 @@
+"""The words of `python3 -m hard_disks`."""
+import argparse
+import os
+import sys
+
+from .scenes import Refused, read_scene
+
+ABOUT = "From a packing fraction to a figure: scenes for the program hard_disks, and what its reports say."
+TIMES = "times are in sigma/v, with sigma the mean diameter and v the root mean square of a velocity component"
+# For each measure its module, its function, and the most and the width of a bin that it takes as options.
+MEASURES = {
+    "pressure": ("pressure", "pressure", "Z = P A / (N T) by the virial and by the walls"),
+    "rate": ("pressure", "rate", "how often a disk collides, and its mean free path"),
+    "gr": ("structure", "pair_distribution", "the pair distribution g(r), and Z by g at contact"),
+    "sk": ("structure", "structure_factor", "the structure factor S(k)"),
+    "psi6": ("structure", "hexatic_order", "the hexatic bond order psi6"),
+    "msd": ("dynamics", "displacement", "the mean squared displacement, and D by its slope"),
+    "vacf": ("dynamics", "velocity_correlation", "the velocity correlation, and D by its integral"),
+    "speeds": ("dynamics", "speeds", "the distribution of speeds beside Maxwell's"),
+}
+WITH_SERIES, WITH_MOST, WITH_WIDTH = {"pressure", "rate", "psi6"}, {"gr", "sk", "msd", "vacf", "speeds"}, {"gr", "sk", "speeds"}
+
+
+class Words(argparse.ArgumentParser):
+    """A parser that refuses in one line."""
+
+    def error(self, message):
+        self.exit(2, f"{self.prog}: {message}\n")
+
+
+def positive(text):
+    value = float(text)
+    if not 0 < value < float("inf"):
+        raise argparse.ArgumentTypeError(f"{text} isn't above 0")
+    return value
+
+
+def not_negative(text):
+    value = float(text)
+    if not 0 <= value < float("inf"):
+        raise argparse.ArgumentTypeError(f"{text} isn't 0 or more")
+    return value
+
+
+def sizes(text):
+    """1:0.7,1.4:0.3 as pairs of a relative diameter and a share."""
+    try:
+        return [tuple(map(float, part.split(":", 1))) if ":" in part else (float(part), 1.0) for part in text.split(",")]
+    except ValueError:
+        raise argparse.ArgumentTypeError(f"{text} isn't of the form 1:0.7,1.4:0.3") from None
+
+
+def fractions(text):
+    return [positive(part) for part in text.split(",")]
+
+
+def parser():
+    words = Words(prog="hard_disks", description=ABOUT)
+    commands = words.add_subparsers(dest="command", required=True, metavar="COMMAND", parser_class=Words)
+    add_scene(commands)
+    add_continue(commands)
+    add_measure(commands)
+    add_draw(commands)
+    add_convert(commands)
+    add_check(commands)
+    add_equation(commands)
+    return words
+
+
+def add_command(commands, name, call, about, more=""):
+    found = commands.add_parser(name, help=about, description=f"{about[0].upper()}{about[1:]}. {more}".strip())
+    found.set_defaults(call=call)
+    return found
+
+
+def add_times(words, time):
+    words.add_argument("--time", type=not_negative, default=time, help=f"how long the run is; {TIMES} (%(default)s)")
+    words.add_argument("--every", type=positive, help="after which time each a state is written (only the end is)")
+
+
+def add_report(words):
+    words.add_argument("scene", metavar="SCENE", help="the scene's file; the report is read from standard input")
+
+
+def add_scene(commands):
+    words = add_command(commands, "scene", scene, "writes a scene of a packing fraction", "Units are as fine as fits.")
+    words.add_argument("--disks", type=int, default=2000, help="(%(default)s)")
+    words.add_argument("--phi", type=positive, required=True, help="packing fraction over the whole box")
+    words.add_argument(
+        "--sizes", type=sizes, default=[(1.0, 1.0)], metavar="D:SHARE,..", help="relative diameters, as 1:0.7,1.4:0.3"
+    )
+    words.add_argument("--seed", type=int, default=1, help="(%(default)s)")
+    words.add_argument("--lattice", choices=["hex", "square", "random"], default="hex", help="where disks begin (%(default)s)")
+    add_times(words, 40.0)
+
+
+def scene(asked):
+    from .making import make
+
+    if asked.seed < 0:
+        raise Refused("a seed is 0 or more")
+    made = make(asked.disks, asked.phi, asked.sizes, asked.seed, asked.lattice, asked.time, asked.every)
+    sys.stdout.write(made.text())
+
+
+def add_continue(commands):
+    words = add_command(commands, "continue", go_on, "writes a scene that goes on from a rest",
+                        "The rest is what the program writes with --mode cut --at TICK.")
+    words.add_argument("rest", metavar="REST", help="the rest's file")
+    add_times(words, 40.0)
+
+
+def go_on(asked):
+    sys.stdout.write(read_scene(asked.rest).timed(asked.time, asked.every).text())
+
+
+def add_measure(commands):
+    words = add_command(commands, "measure", None, "writes a table of what a report says, with errors by blocks")
+    measures = words.add_subparsers(dest="measure", required=True, metavar="MEASURE", parser_class=Words)
+    for name, (_, _, about) in MEASURES.items():
+        own = add_command(measures, name, measure, about, f"The table is of comma-separated values in reduced units; {TIMES}.")
+        add_report(own)
+        own.add_argument("--from", dest="start", type=not_negative, help="when the measure begins (a fifth of the run)")
+        own.add_argument(
+            "--margin", type=not_negative, help="how much along the walls is left out, in sigma (10, or a quarter of the box)"
+        )
+        own.add_argument("--blocks", type=int, default=20, help="blocks of time for the errors (%(default)s)")
+        if name in WITH_SERIES:
+            own.add_argument("--series", action="store_true", help="a row for each block or frame in place of means")
+        if name in WITH_MOST:
+            own.add_argument("--most", type=positive, help="up to which distance, wave number, time or speed")
+        if name in WITH_WIDTH:
+            own.add_argument("--width", type=positive, help="of a bin")
+
+
+def measure(asked):
+    from importlib import import_module
+
+    from .runs import Run
+    from .sampling import sampling
+
+    module, function, _ = MEASURES[asked.measure]
+    call = getattr(import_module(f".{module}", __package__), function)
+    found = read_scene(asked.scene)
+    options = {name: value for name in ("series", "most", "width") if (value := getattr(asked, name, None)) is not None}
+    run = Run(found, sys.stdin, shows_progress=True)
+    call(run, sampling(found, asked.start, asked.margin, asked.blocks), **options).write(sys.stdout)
+
+
+def add_draw(commands):
+    words = add_command(commands, "draw", draw, "draws a frame, or all of them as a movie")
+    add_report(words)
+    what = words.add_mutually_exclusive_group()
+    what.add_argument("--tick", type=int, help="the first frame from this tick on (the last one)")
+    what.add_argument("--movie", action="store_true", help="all frames, as a page for a browser")
+    words.add_argument("--colour", choices=["speed", "psi6", "neighbours"], default="speed", help="(%(default)s)")
+    words.add_argument("-o", "--output", required=True, metavar="FILE", help="ends in .svg, .png or .pdf; a movie in .html")
+
+
+def draw(asked):
+    from .drawing import draw as picture
+    from .drawing import movie
+    from .runs import Run
+
+    endings = (".html",) if asked.movie else (".svg", ".png", ".pdf")
+    if not asked.output.endswith(endings):
+        raise Refused(f"{asked.output} doesn't end in {' or '.join(endings)}")
+    run = Run(read_scene(asked.scene), sys.stdin, shows_progress=True)
+    if asked.movie:
+        movie(run, asked.colour, asked.output)
+    else:
+        picture(run, asked.colour, asked.output, asked.tick)
+
+
+def add_convert(commands):
+    words = add_command(commands, "convert", convert, "writes frames or collisions for other programs",
+                        "xyz: frames as extended XYZ; ase: as a trajectory of ASE; csv: collisions.")
+    words.add_argument("format", choices=["xyz", "csv", "ase"])
+    add_report(words)
+    words.add_argument("-o", "--output", required=True, metavar="FILE")
+
+
+def convert(asked):
+    from .converting import FORMATS
+    from .runs import Run
+
+    FORMATS[asked.format](Run(read_scene(asked.scene), sys.stdin, shows_progress=True), asked.output)
+
+
+def add_check(commands):
+    words = add_command(commands, "check", check, "checks what a report says of momentum and energy",
+                        "These laws are proved of each run; docs/PHYSICS.md says them.")
+    words.add_argument("scene", metavar="SCENE", nargs="?", help="the scene's file; the report is read from standard input")
+    words.add_argument("--drawn", type=int, metavar="N", help="checks the reports of N drawn scenes by the program")
+    words.add_argument("--program", help="the program that runs them (that which is built here, or the variable HARD_DISKS)")
+
+
+def check(asked):
+    from .conservation import check as checked
+    from .conservation import check_drawn
+    from .program import find_program
+    from .reports import read_report
+
+    if (asked.scene is None) == (asked.drawn is None):
+        raise Refused("check wants a scene's file, or --drawn N")
+    if asked.drawn is None:
+        print(checked(read_scene(asked.scene), read_report(sys.stdin)))
+    else:
+        for found in check_drawn(asked.drawn, find_program(asked.program)):
+            print(found)
+
+
+def add_equation(commands):
+    words = add_command(commands, "equation", equation, "runs fluids and writes the pressure of each beside published values")
+    words.add_argument(
+        "--phi", type=fractions, default=[0.2, 0.35, 0.5, 0.6], metavar="PHI,..", help="packing fractions (0.2,0.35,0.5,0.6)"
+    )
+    words.add_argument("--disks", type=int, default=2000, help="(%(default)s)")
+    words.add_argument("--time", type=positive, default=100.0, help=f"of each run; {TIMES} (%(default)s)")
+    words.add_argument("--seed", type=int, default=1, help="(%(default)s)")
+    words.add_argument("--program", help="the program that runs them (that which is built here, or the variable HARD_DISKS)")
+
+
+def equation(asked):
+    from .equation import equation_of_state
+    from .program import find_program
+
+    equation_of_state(asked.phi, asked.disks, asked.time, asked.seed, find_program(asked.program)).write(sys.stdout)
+
+
+def main(words=None):
+    """Runs a command; what can't be done is said in one line, with status 2."""
+    asked = parser().parse_args(words)
+    try:
+        asked.call(asked)
+        sys.stdout.flush()
+    except BrokenPipeError:
+        # Whoever reads wants no more; nothing is left to be flushed.
+        os.dup2(os.open(os.devnull, os.O_WRONLY), sys.stdout.fileno())
+    except KeyboardInterrupt:
+        sys.exit(130)
+    except ModuleNotFoundError as why:
+        refuse(f"there is no Python module {why.name} here; tools/setup installs what the commands stand on")
+    except (Refused, OSError, UnicodeDecodeError, MemoryError) as why:
+        refuse(str(why) or type(why).__name__)
+
+
+def refuse(why):
+    print(f"hard_disks: {' '.join(why.split())}", file=sys.stderr)
+    sys.exit(2)

@@ -1,0 +1,147 @@
+"""The pressure of the fluid away from the walls, and how often its disks collide.
+
+With N disks in the area A inside and their temperature T, half their mean squared speed, the virial over all collisions
+of two disks inside in the time t gives
+
+    Z = P A / (N T) = 1 + sum of r · Δv / (2 N T t)
+
+where r is the place of the first disk less that of the second, and Δv the change of the first disk's velocity. The walls
+say it a second time: P is what disks hand over to a wall by its length and the time, away from the corners. A collision
+is inside where the middle between its two disks is."""
+import math
+from dataclasses import dataclass
+
+import numpy as np
+
+from .motion import Followed
+from .runs import Frame, Run
+from .sampling import Sampling, Table, block_error
+from .theory import collision_rate, henderson, virial
+
+# At how many ticks of each block the disks inside are counted.
+SAMPLES = 50
+
+
+@dataclass
+class Counts:
+    """What is summed up in each block: an array with a row for each. Places are in units, times in ticks."""
+
+    virial: np.ndarray
+    touching: np.ndarray  # the virial if each two disks touched
+    collisions: np.ndarray
+    wall: np.ndarray
+    disks: np.ndarray
+    covered: np.ndarray
+    squared: np.ndarray
+    samples: np.ndarray
+    blocks: np.ndarray
+
+    def whole(self) -> "Counts":
+        """The same of the whole time, in one row."""
+        return Counts(*(it.sum(axis=0, keepdims=True) for it in vars(self).values()))
+
+
+def count(run: Run, sampling: Sampling) -> Counts:
+    """Follows the run, and sums up what happens inside in each block."""
+    counts = Counts(*np.zeros((8, sampling.blocks)), np.ones(sampling.blocks))
+    sizes = np.array([row[4] for row in run.scene.disks], float)
+    ticks = np.linspace(sampling.start, run.scene.end, 2 * sampling.blocks * SAMPLES + 1)[1::2].astype(np.int64)
+    for item in run.followed(ticks.tolist()):
+        if isinstance(item, Frame):
+            add_frame(counts, sampling, item, sizes)
+        else:
+            add_pairs(counts, sampling, item, sizes)
+            add_walls(counts, sampling, item)
+    return counts
+
+
+def add_frame(counts: Counts, sampling: Sampling, frame: Frame, sizes: np.ndarray) -> None:
+    """Counts the disks inside, and their squared speeds.
+
+    A part of the fluid may be denser and cooler than the rest for long, at the same pressure; its own temperature counts."""
+    inside, block = sampling.inside(frame.rows[:, :2]), sampling.block(frame.tick)
+    counts.samples[block] += 1
+    counts.disks[block] += inside.sum()
+    counts.covered[block] += math.pi / 4 * (sizes[inside] ** 2).sum()
+    counts.squared[block] += (frame.rows[inside, 2:].astype(float) ** 2).sum()
+
+
+def add_pairs(counts: Counts, sampling: Sampling, found: Followed, sizes: np.ndarray) -> None:
+    """The virial of collisions of two disks."""
+    counted = found.is_pair & (found.tick >= sampling.start)
+    counted &= sampling.inside((found.place_first + found.place_second) / 2)
+    apart = (found.place_first - found.place_second)[counted].astype(float)
+    push = (found.after_first - found.before_first)[counted]
+    touching = (sizes[found.first[counted]] + sizes[found.second[counted]]) / 2
+    blocks = sampling.block(found.tick[counted])
+    counts.virial += np.bincount(blocks, (apart * push).sum(axis=1), sampling.blocks)
+    counts.touching += np.bincount(blocks, touching * np.hypot(*push.T), sampling.blocks)
+    counts.collisions += np.bincount(blocks, minlength=sampling.blocks)
+
+
+def add_walls(counts: Counts, sampling: Sampling, found: Followed) -> None:
+    """What disks hand over to the walls, away from corners."""
+    across = np.where(found.side < 2, 0, 1)
+    rows = np.arange(len(across))
+    along, length = found.place_first[rows, 1 - across], np.array([sampling.scene.height, sampling.scene.width])[across]
+    counted = ~found.is_pair & (found.tick >= sampling.start)
+    counted &= (along >= sampling.margin) & (along <= length - sampling.margin)
+    push = 2.0 * np.abs(found.before_first[rows, across][counted])
+    counts.wall += np.bincount(sampling.block(found.tick[counted]), push, sampling.blocks)
+
+
+def values(counts: Counts, sampling: Sampling) -> np.ndarray:
+    """For each row the packing fraction, Z by the virial, Z by the walls, and how often a disk collides in σ / v."""
+    scene, ticks = sampling.scene, sampling.block_time() * counts.blocks
+    wall_length = 2 * (scene.width + scene.height) - 8 * sampling.margin
+    with np.errstate(invalid="ignore", divide="ignore"):
+        disks, temperature = counts.disks / counts.samples, counts.squared / counts.disks / 2
+        factor = 1 + counts.virial / (2 * disks * temperature * ticks)
+        wall = counts.wall / (wall_length * ticks) / (disks / sampling.area() * temperature)
+        rate = 2 * counts.collisions / disks / ticks * scene.sigma / np.sqrt(temperature)
+        covered = counts.covered / counts.samples / sampling.area()
+    return np.array([covered, factor, wall, rate])
+
+
+def estimate(counts: Counts, sampling: Sampling) -> tuple[np.ndarray, np.ndarray]:
+    """The four values of the whole time, and their errors."""
+    whole = values(counts.whole(), sampling)[:, 0]
+    return whole, block_error(values(counts, sampling).T)
+
+
+def block_times(sampling: Sampling) -> np.ndarray:
+    """The middle of each block, in σ / v."""
+    return (sampling.start + (np.arange(sampling.blocks) + 0.5) * sampling.block_time()) / sampling.scene.time
+
+
+def pressure(run: Run, sampling: Sampling, series: bool = False) -> Table:
+    """Z by the virial and by the walls, beside what is published where disks have one size."""
+    counts = count(run, sampling)
+    if series:
+        table = values(counts, sampling)[:3]
+        return Table(["time", "phi", "Z", "Z_wall"], list(zip(block_times(sampling), *table)), sampling.notes())
+    (phi, factor, wall, _), errors = estimate(counts, sampling)
+    row = [phi, errors[0], int(counts.collisions.sum()), factor, errors[1], wall, errors[2]]
+    names = ["phi", "phi_error", "collisions", "Z", "Z_error", "Z_wall", "Z_wall_error"]
+    if run.scene.has_one_size:
+        names, row = [*names, "Z_Henderson", "Z_virial"], [*row, henderson(phi), virial(phi)]
+    notes = ["Z = P A / (N T): by the virial of collisions inside, and by the walls away from corners; phi is that inside"]
+    early = counts.virial.sum() / counts.touching.sum() - 1 if counts.collisions.any() else 0
+    notes.append(f"collisions come early, as if disks were larger by {early:.2g} of their diameter, so Z is of disks that large")
+    return Table(names, [row], [*notes, *sampling.notes()])
+
+
+def rate(run: Run, sampling: Sampling, series: bool = False) -> Table:
+    """How often a disk collides, and how far it goes between, beside Enskog's rate where disks have one size."""
+    counts = count(run, sampling)
+    if series:
+        table = values(counts, sampling)[[0, 3]]
+        return Table(["time", "phi", "rate"], list(zip(block_times(sampling), *table)), sampling.notes())
+    (phi, _, _, found), errors = estimate(counts, sampling)
+    path = math.sqrt(math.pi / 2) / found if found else math.inf
+    row = [phi, int(counts.collisions.sum()), found, errors[3], path, path * errors[3] / found if found else math.nan]
+    names = ["phi", "collisions", "rate", "rate_error", "free_path", "free_path_error"]
+    if run.scene.has_one_size:
+        names, row = [*names, "rate_Enskog"], [*row, collision_rate(phi)]
+    notes = ["collisions of a disk in the time sigma/v; free_path is the mean speed divided by that, in sigma"]
+    return Table(names, [row], [*notes, *sampling.notes()])

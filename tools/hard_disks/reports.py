@@ -1,0 +1,172 @@
+"""Reports of hard_disks, read block by block in one pass: the one parser that all of this package stands on.
+
+A report of a run has lines of collisions, state blocks where the scene asks for them, and an end, as
+docs/SPECIFICATION.md says. It is read in pieces of some thousand lines; the numbers of like lines that follow each other
+are turned over together, by numpy where it is there and by Python's own integers where it isn't."""
+import re
+from array import array
+from dataclasses import dataclass
+from typing import Iterator, NamedTuple, TextIO
+
+try:
+    import numpy
+except ImportError:
+    numpy = None
+
+from .scenes import Refused
+
+PIECE = 1 << 18  # characters that are read at once
+WHOLE, SIGNED = r"\d{1,18}", r"-?\d{1,18}"
+COLLISION = rf"{WHOLE} {WHOLE} (?:pair {WHOLE} {WHOLE} {SIGNED} {SIGNED}|wall {WHOLE} [0-3]) {SIGNED} {SIGNED}\n"
+DISK = rf"disk {WHOLE} {SIGNED} {SIGNED} {SIGNED} {SIGNED}\n"
+# As many like lines as follow each other; a line that is neither stands alone.
+SECTION = re.compile(rf"(?P<collisions>(?:{COLLISION})++)|(?P<disks>(?:{DISK})++)|(?P<line>.*\n)")
+WALL = re.compile(r" wall (\d+) (\d) (.*)")
+
+
+class Collision(NamedTuple):
+    """A collision with a side of the box (0 left, 1 right, 2 bottom, 3 top; `second` is -1), or of two disks (`side` is -1).
+
+    The velocities are those afterwards, in units per tick; a side has none, so vx2 and vy2 are 0 there."""
+
+    tick: int
+    round: int
+    side: int
+    first: int
+    second: int
+    vx1: int
+    vy1: int
+    vx2: int
+    vy2: int
+
+
+@dataclass
+class Collisions:
+    """Collisions that follow each other: the nine numbers of each, all in one row."""
+
+    numbers: array
+
+    def rows(self) -> Iterator[Collision]:
+        return map(Collision._make, zip(*[iter(self.numbers.tolist())] * len(Collision._fields)))
+
+
+@dataclass
+class State:
+    """All disks at a tick: of each its number, x, y, vx and vy, all in one row. The last one of a report is its end."""
+
+    tick: int
+    numbers: array
+    is_last: bool = False
+
+    def rows(self) -> list[tuple[int, ...]]:
+        """Tuples of x, y, vx and vy."""
+        return [row[1:] for row in zip(*[iter(self.numbers.tolist())] * 5)]
+
+
+@dataclass
+class Limit:
+    """A run that ends before the scene's end: which limit its last event would pass."""
+
+    name: str
+    tick: int
+
+
+@dataclass
+class Sums:
+    """The counts of the end of a report, and where the run was done its momentum and its energies."""
+
+    walls: int
+    pairs: int
+    momentum: tuple | None = None
+    energies: tuple | None = None
+
+
+def read_report(stream: TextIO) -> Iterator[Collisions | State | Limit | Sums]:
+    """What a report says, in its order: collisions and states, then a limit or the last state, and the sums."""
+    sections = Sections(stream)
+    while True:
+        kind, text = sections.next()
+        if kind == "collisions":
+            yield Collisions(collision_numbers(text))
+            continue
+        match text.split():
+            case ["state", tick] if tick.isdigit():
+                yield State(int(tick), sections.disks())
+            case ["done", end] if end.isdigit():
+                yield from done(int(end), sections)
+                return
+            case ["limit", name, tick, *_] if tick.isdigit():
+                yield Limit(name, int(tick))
+                yield Sums(*sections.numbers("walls", 1), *sections.numbers("pairs", 1))
+                return
+            case _:
+                raise Refused(f"no line of a report of a run: {text.splitlines()[0]}")
+
+
+def done(end: int, sections: "Sections") -> Iterator[State | Sums]:
+    """The end of a run that came to its end; a summary has no last state."""
+    counts = *sections.numbers("walls", 1), *sections.numbers("pairs", 1)
+    momentum, energies = sections.numbers("momentum", 2), sections.numbers("energy", 2)
+    disks = sections.disks()
+    if len(disks):
+        yield State(end, disks, is_last=True)
+    yield Sums(*counts, momentum, energies)
+
+
+def collision_numbers(text: str):
+    """The numbers of lines of collisions, in the order of `Collision`."""
+    return numbers(WALL.sub(r" \2 \1 -1 \3 0 0", text.replace("pair", "-1")))
+
+
+def numbers(text: str):
+    """All the numbers of a text that has nothing else, 64 bits wide."""
+    if numpy is None:
+        return array("q", map(int, text.split()))
+    return numpy.fromstring(text, dtype=numpy.int64, sep=" ")
+
+
+class Sections:
+    """Runs of like lines of a report, one of which can be put back."""
+
+    def __init__(self, stream: TextIO):
+        self.found, self.held = sections(stream), None
+
+    def next(self) -> tuple[str, str]:
+        section, self.held = self.held or next(self.found, None), None
+        if section is None:
+            raise Refused("the report breaks off before its end")
+        return section
+
+    def numbers(self, word: str, count: int) -> tuple[int, ...]:
+        """The numbers of a line that begins with a word."""
+        text = self.next()[1]
+        if not re.fullmatch(rf"{word}(?: {SIGNED}){{{count}}}\n", text):
+            raise Refused(f"{text.splitlines()[0]!r} where a line '{word}' is wanted")
+        return tuple(map(int, text.split()[1:]))
+
+    def disks(self):
+        """The numbers of the lines `disk` that follow, whose disks have to stand in their order."""
+        texts = []
+        for kind, text in self.found:
+            if kind != "disks":
+                self.held = kind, text
+                break
+            texts.append(text.replace("disk ", ""))
+        found = numbers("".join(texts))
+        for wanted, number in enumerate(found[::5].tolist()):
+            if number != wanted:
+                raise Refused(f"disk {number} where disk {wanted} is wanted")
+        return found
+
+
+def sections(stream: TextIO) -> Iterator[tuple[str, str]]:
+    """The runs of like lines of a stream, each with its kind; a long run comes in parts."""
+    rest = ""
+    while piece := stream.read(PIECE):
+        rest += piece
+        whole = rest.rfind("\n") + 1
+        for section in SECTION.finditer(rest, 0, whole):
+            yield section.lastgroup, section[0]
+        rest = rest[whole:]
+    if rest:
+        raise Refused("the report breaks off before its end")

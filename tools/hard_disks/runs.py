@@ -1,0 +1,131 @@
+"""A run as numpy sees it: frames, collisions, and the disks' places between collisions, streaming and in one pass."""
+from collections import deque
+from contextlib import nullcontext
+from itertools import takewhile
+from pathlib import Path
+from typing import Iterator, NamedTuple
+
+import numpy as np
+
+from .motion import Followed, Motion
+from .progress import Progress
+from .reports import Collision, Collisions, Limit, State, Sums, read_report
+from .scenes import Refused, Scene, parse_scene, read_scene
+
+FIELDS = len(Collision._fields)
+NO_EVENTS = np.zeros((0, FIELDS), np.int64)
+
+
+class Frame(NamedTuple):
+    """All disks at a tick: rows of x, y, vx and vy, in units and units per tick."""
+
+    tick: int
+    rows: np.ndarray
+
+
+class Run:
+    """A scene and the report of its run, a path or a stream of text. Each call reads it whole; a stream is read once."""
+
+    def __init__(self, scene: Scene, report, shows_progress: bool = False):
+        self.scene, self.shows_progress = scene, shows_progress
+        self.report = report
+
+    def frames(self, since: int = 0) -> Iterator[Frame]:
+        """The states from a tick on, the last of which is the end."""
+        for item in self.items():
+            if isinstance(item, State) and item.tick >= since:
+                yield Frame(item.tick, item.numbers.reshape(-1, 5)[:, 1:])
+
+    def collisions(self):
+        """All collisions, as a DataFrame of whole numbers."""
+        return frame_of(np.concatenate([NO_EVENTS, *self.events()]))
+
+    def collision_tables(self) -> Iterator:
+        """The same in parts, as they are read."""
+        return (frame_of(events) for events in self.events())
+
+    def events(self) -> Iterator[np.ndarray]:
+        """The collisions in parts: rows of the numbers of a `Collision`."""
+        for item in self.items():
+            if isinstance(item, Collisions):
+                yield item.numbers.reshape(-1, FIELDS)
+
+    def followed(self, samples: list[int]) -> Iterator[Frame | Followed]:
+        """Collisions with the disks' places and velocities, and a frame at each tick of the samples, in order."""
+        motion, waiting = Motion(self.scene), deque(samples)
+        for events in self.events():
+            while len(events):
+                due = np.searchsorted(events[:, 0], waiting[0]) if waiting else len(events)
+                if due:
+                    yield motion.follow(events[:due])
+                    events = events[due:]
+                if len(events) and waiting:
+                    yield Frame(waiting[0], motion.at(waiting.popleft()))
+        yield from (Frame(tick, motion.at(tick)) for tick in waiting)
+
+    def items(self) -> Iterator[Collisions | State | Sums]:
+        """What the report says, which has to be of this scene and to come to its end."""
+        counted = 0
+        with Progress(self.scene.end, self.shows_progress) as progress, self.opened() as stream:
+            for item in read_report(stream):
+                if isinstance(item, Limit):
+                    raise Refused(f"the run ends at a limit of {item.name} at tick {item.tick}, before its end")
+                if isinstance(item, State):
+                    self.check_state(item)
+                    progress.show(item.tick)
+                if isinstance(item, Collisions):
+                    counted += len(item.numbers) // FIELDS
+                    self.check_collisions(item.numbers.reshape(-1, FIELDS))
+                    progress.show(int(item.numbers[-FIELDS]))
+                if isinstance(item, Sums) and item.walls + item.pairs > counted:
+                    raise Refused("the report lacks collisions that it counts: it is a summary, or broken")
+                yield item
+
+    def opened(self):
+        """The report as a stream, which is closed afterwards where it is a file's."""
+        if isinstance(self.report, (str, Path)):
+            return open(self.report, encoding="ascii")
+        if self.report is None:
+            raise Refused("the report was read already")
+        stream, self.report = self.report, None
+        return nullcontext(stream)
+
+    def check_state(self, state: State) -> None:
+        found, wanted = len(state.numbers) // 5, len(self.scene.disks)
+        if found != wanted:
+            raise Refused(f"{found} disks at tick {state.tick}, and {wanted} in the scene: is it the report of this scene?")
+        if state.is_last and state.tick != self.scene.end:
+            raise Refused(f"the report ends at tick {state.tick}, and the scene at {self.scene.end}")
+
+    def check_collisions(self, events: np.ndarray) -> None:
+        named = int(events[:, 3:5].max())
+        if named >= len(self.scene.disks):
+            raise Refused(f"a collision of disk {named}, which the scene hasn't")
+
+
+def frame_of(rows: np.ndarray):
+    """Collisions as a DataFrame of nullable whole numbers; what a collision hasn't is missing."""
+    from pandas import DataFrame
+    from pandas.arrays import IntegerArray
+
+    is_wall = rows[:, 4] < 0
+    missing = {"side": ~is_wall, "second": is_wall, "vx2": is_wall, "vy2": is_wall}
+    numbers = {
+        name: IntegerArray(rows[:, place].copy(), missing.get(name, np.zeros(len(rows), bool)))
+        for place, name in enumerate(Collision._fields)
+    }
+    table = DataFrame({"kind": np.where(is_wall, "wall", "pair").astype(object), **numbers})
+    return table[["tick", "round", "kind", "first", "second", "side", "vx1", "vy1", "vx2", "vy2"]]
+
+
+def read(report, scene=None) -> Run:
+    """The run of a report, which is a path or a stream of text.
+
+    The scene is a `Scene` or its file's path. Where it is left out, the stream has it, then a line `===`, and then the
+    report, as the program's mode `audit` reads them."""
+    if scene is None:
+        report = open(report, encoding="utf-8") if isinstance(report, (str, Path)) else report
+        scene = parse_scene("".join(takewhile(lambda line: line.rstrip("\n") != "===", iter(report.readline, ""))))
+    elif not isinstance(scene, Scene):
+        scene = read_scene(scene)
+    return Run(scene, report)

@@ -1,0 +1,138 @@
+"""Scenes of hard_disks: what their files say, and the units that belong to them.
+
+A scene's own numbers are whole: units of length, ticks, units per tick. Reduced numbers are in the mean diameter σ, the
+thermal speed v (the root mean square of a velocity component) and the time σ / v; all disks have the mass 1."""
+import math
+import tomllib
+from dataclasses import dataclass, replace
+from functools import cached_property
+
+# The greatest numbers that a scene may have: docs/SPECIFICATION.md, section 1.
+MOST_WIDTH, MOST_SPEED, MOST_ROUNDS, MOST_TICK, MOST_DISKS = 2**30, 2**20, 65_536, 2**40, 65_536
+# The least and the greatest number of each key.
+RANGES = {
+    "width": (2, MOST_WIDTH),
+    "height": (2, MOST_WIDTH),
+    "diameter": (2, MOST_WIDTH),
+    "speed_limit": (1, MOST_SPEED),
+    "round_limit": (1, MOST_ROUNDS),
+    "end": (0, MOST_TICK),
+}
+
+
+class Refused(Exception):
+    """What was asked for, or what was read, can't be used; the message is one line."""
+
+
+@dataclass(frozen=True)
+class Scene:
+    """A scene; `disks` has rows of x, y, vx, vy and the disk's own diameter."""
+
+    width: int
+    height: int
+    diameter: int
+    speed_limit: int
+    round_limit: int
+    end: int
+    every: int | None
+    disks: tuple[tuple[int, int, int, int, int], ...]
+
+    @cached_property
+    def sigma(self) -> float:
+        """The mean diameter, in units: the unit of length of all reduced numbers."""
+        return sum(row[4] for row in self.disks) / len(self.disks) if self.disks else float(self.diameter)
+
+    @cached_property
+    def speed(self) -> float:
+        """The thermal speed at the start, in units per tick: the root mean square of a velocity component."""
+        squares = sum(row[2] ** 2 + row[3] ** 2 for row in self.disks)
+        if not squares:
+            raise Refused("no disk of the scene moves, so it has no unit of time")
+        return math.sqrt(squares / (2 * len(self.disks)))
+
+    @property
+    def time(self) -> float:
+        """The unit of reduced time σ / v, in ticks."""
+        return self.sigma / self.speed
+
+    @property
+    def has_one_size(self) -> bool:
+        return len({row[4] for row in self.disks}) <= 1
+
+    @property
+    def phi(self) -> float:
+        """The packing fraction over the whole box."""
+        return sum(math.pi * row[4] ** 2 / 4 for row in self.disks) / (self.width * self.height)
+
+    def ticks(self, time: float) -> int:
+        """A reduced time as the nearest number of ticks."""
+        return round(time * self.time)
+
+    def reduced(self, frame=None):
+        """The rows x, y, vx, vy of a frame, or of the start, as an array in σ and v."""
+        import numpy
+
+        rows = numpy.array([row[:4] for row in self.disks], float).reshape(-1, 4) if frame is None else frame
+        return rows / [self.sigma, self.sigma, self.speed, self.speed]
+
+    def text(self) -> str:
+        """The canonical text."""
+        lines = [f"{key} = {getattr(self, key)}" for key in RANGES]
+        if self.every is not None:
+            lines.append(f"every = {self.every}")
+        lines.append("disks = [")
+        for *numbers, size in self.disks:
+            row = numbers if size == self.diameter else [*numbers, size]
+            lines.append(f"  [{', '.join(map(str, row))}],")
+        return "\n".join([*lines, "]"]) + "\n"
+
+    def timed(self, time: float, every: float | None) -> "Scene":
+        """The same scene with an end, and states every so often, in reduced time; `every` may be None."""
+        between = None if every is None else self.ticks(every)
+        # As many whole spaces as are asked for, so that the end is the last of the evenly spaced states.
+        is_even = every is not None and abs(time / every - round(time / every)) < 1e-9
+        end = round(time / every) * between if is_even else self.ticks(time)
+        if not 0 <= end <= MOST_TICK:
+            raise Refused(f"a time of {time} is {end} ticks, and a scene has 0 to {MOST_TICK}")
+        if between is not None and not 1 <= between <= MOST_TICK:
+            raise Refused(f"every {every} is {between} ticks, and a scene has 1 to {MOST_TICK}")
+        return replace(self, end=end, every=between)
+
+
+def read_scene(path) -> Scene:
+    """The scene of a file."""
+    with open(path, encoding="utf-8") as file:
+        return parse_scene(file.read())
+
+
+def parse_scene(text: str) -> Scene:
+    """The scene that a text says. Whether it is valid in all the program says; here no two disks are compared."""
+    try:
+        said = tomllib.loads(text)
+    except tomllib.TOMLDecodeError as why:
+        raise Refused(f"the scene is no TOML: {why}") from why
+    for key, (least, most) in RANGES.items():
+        if not is_whole(said.get(key), least, most):
+            raise Refused(f"the scene has no whole number {key} from {least} to {most}")
+    if "every" in said and not is_whole(said["every"], 1, MOST_TICK):
+        raise Refused(f"the scene's every is no whole number from 1 to {MOST_TICK}")
+    if not isinstance(said.get("disks"), list) or len(said["disks"]) > MOST_DISKS:
+        raise Refused(f"the scene has no list of up to {MOST_DISKS} disks")
+    disks = tuple(disk(number, row, said) for number, row in enumerate(said["disks"]))
+    return Scene(*(said[key] for key in RANGES), said.get("every"), disks)
+
+
+def disk(number: int, row: object, said: dict) -> tuple[int, ...]:
+    """The five numbers of a disk's row, whose own diameter may be left out."""
+    if not isinstance(row, list) or len(row) not in (4, 5):
+        raise Refused(f"row {number} of the scene's disks hasn't four or five numbers")
+    x, y, vx, vy, size = row if len(row) == 5 else (*row, said["diameter"])
+    speed = said["speed_limit"]
+    ranges = [(x, 0, said["width"]), (y, 0, said["height"]), (vx, -speed, speed), (vy, -speed, speed), (size, 2, said["diameter"])]
+    if not all(is_whole(*it) for it in ranges):
+        raise Refused(f"row {number} of the scene's disks has a number that is out of its range")
+    return x, y, vx, vy, size
+
+
+def is_whole(value: object, least: int, most: int) -> bool:
+    return isinstance(value, int) and not isinstance(value, bool) and least <= value <= most

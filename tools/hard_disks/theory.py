@@ -1,0 +1,34 @@
+"""Equations of state of a fluid of hard disks of one size, by the packing fraction φ. Published:
+
+D. Henderson, Molecular Physics 30, 971 (1975), and with a correction 34, 301 (1977);
+N. Clisby and B. M. McCoy, Journal of Statistical Physics 122, 15 (2006): the virial coefficients up to the tenth."""
+import math
+
+from numpy.polynomial import Polynomial
+
+# B_n / B_2^(n - 1) for n from 1 on.
+REDUCED_VIRIAL = (1, 1, 0.7820044, 0.5322318, 0.3335560, 0.1988425, 0.1148728, 0.0649930, 0.0362193, 0.0199537)
+# The same by powers of φ, since B_2 φ / (π σ² / 4) is 2 φ.
+VIRIAL = Polynomial([b * 2**n for n, b in enumerate(REDUCED_VIRIAL)])
+# (1 - φ)² Z, whose coefficients fall quickly.
+SMOOTH = (VIRIAL * Polynomial([1, -2, 1])).truncate(len(REDUCED_VIRIAL))
+
+
+def henderson(phi: float) -> float:
+    """Z = P A / (N T) by Henderson's equation with its correction of 1977."""
+    return (1 + phi**2 / 8) / (1 - phi) ** 2 - 0.043 * phi**4 / (1 - phi) ** 3
+
+
+def virial(phi: float) -> float:
+    """Z by ten virial coefficients, as (1 - φ)⁻² times a polynomial."""
+    return SMOOTH(phi) / (1 - phi) ** 2
+
+
+def contact(factor: float, phi: float) -> float:
+    """g(r) at contact where Z is this factor: Z = 1 + 2 φ g."""
+    return (factor - 1) / (2 * phi)
+
+
+def collision_rate(phi: float) -> float:
+    """Collisions of a disk in the time σ / v, by Enskog's 2 √π ρ σ² g with Henderson's g."""
+    return 8 * phi * contact(henderson(phi), phi) / math.sqrt(math.pi)

@@ -1,0 +1,249 @@
+#!/usr/bin/env python3
+"""Tests of how the package hard_disks reads, makes, converts and draws, and of its commands.
+
+    python3 tools/test_package.py
+
+What can't be tested, without a library or the program, is said."""
+import contextlib
+import io
+import os
+import tempfile
+import time
+import unittest
+from pathlib import Path
+from unittest import mock
+
+from physics_scenes import NAMES, SCENES, end_of, fluid, main, needs, np, read_text, run_of, scene_of
+
+from hard_disks.commands import MEASURES
+from hard_disks.commands import main as command
+from hard_disks.converting import FORMATS, write_csv, write_xyz
+from hard_disks.making import make
+from hard_disks.runs import Frame, read
+from hard_disks.scenes import Refused, parse_scene, read_scene
+
+
+class Reading(unittest.TestCase):
+    def test_places_between_collisions_are_exact(self):
+        for name in NAMES:
+            with self.subTest(name):
+                frames = list(run_of(name).frames())
+                ticks = [it.tick for it in frames]
+                followed = [it for it in run_of(name).followed(ticks) if isinstance(it, Frame)]
+                # A state has the velocities from before the events of its tick, and so has a frame.
+                self.assertEqual([it.tick for it in followed], ticks)
+                for found, wanted in zip(followed, frames):
+                    self.assertTrue((found.rows == wanted.rows).all())
+
+    def test_scene_and_report_in_one_stream(self):
+        text = (SCENES / "pair.toml").read_text() + "===\n" + (SCENES / "pair.report").read_text()
+        run = read(io.StringIO(text))
+        self.assertEqual(run.scene, read_scene(SCENES / "pair.toml"))
+        (frame,) = run.frames()
+        self.assertEqual((frame.tick, frame.rows.tolist()), (5, [[11, 10, -1, 0], [19, 10, 1, 0]]))
+
+    def test_a_stream_is_read_once(self):
+        run = read_text((SCENES / "pair.report").read_text(), read_scene(SCENES / "pair.toml"))
+        list(run.frames())
+        with self.assertRaisesRegex(Refused, "read already"):
+            list(run.frames())
+
+    def test_what_is_no_report_of_the_scene_is_refused(self):
+        states, pair = [(SCENES / f"{it}.report").read_text() for it in ("states", "gas")]
+        scene = read_scene(SCENES / "states.toml")
+        summary = "done 5\nwalls 0\npairs 1\nmomentum 0 0\nenergy 2 2\n"
+        limit = "limit rounds 0 1 wall 0 2\nwalls 0\npairs 0\n"
+        falls = end_of(scene, ["4 0 wall 0 0 1 0", "3 0 wall 0 1 -1 0"])
+        for text, said in [(pair, "the scene hasn't"), (summary, "summary"), (limit, "limit of rounds"),
+                           (falls, "ticks fall"), (states.replace("done 5", "done 6"), "ends at tick 6")]:
+            with self.subTest(said), self.assertRaisesRegex(Refused, said):
+                list(read_text(text, scene).followed([]))
+
+    def test_a_line_takes_few_microseconds(self):
+        line = "123456 0 pair 123 99 -1234 5678 -9012 3456\n"
+        scene, lines = scene_of([(0, 0, 1, 1)] * 128, end=200_000), 200_000
+        text = end_of(scene, []).replace("pairs 0", f"pairs {lines}")
+        begun = time.process_time()
+        found = sum(len(it) for it in read_text(line * lines + text, scene).events())
+        self.assertEqual(found, lines)
+        # It takes 1 to 2; a machine where others run may need more.
+        self.assertLess((time.process_time() - begun) / lines, 6e-6)
+
+
+class Making(unittest.TestCase):
+    def test_each_scene_is_valid_and_as_asked_for(self):
+        mixture = ((1.0, 0.7), (1.4, 0.3))
+        for count, phi, sizes, lattice in [
+            (1, 0.3, ((1.0, 1.0),), "hex"), (2, 0.2, ((1.0, 1.0),), "hex"), (2_000, 0.5, ((1.0, 1.0),), "hex"),
+            (500, 0.8, ((1.0, 1.0),), "hex"), (500, 0.7, ((1.0, 1.0),), "square"), (300, 0.45, ((1.0, 1.0),), "random"),
+            (300, 0.45, mixture, "random"), (300, 0.4, mixture, "hex"), (10_000, 0.3, ((1.0, 1.0),), "square"),
+        ]:
+            with self.subTest((count, phi, lattice)):
+                scene = make(count, phi, sizes, lattice=lattice, every=0.5)
+                self.assertAlmostEqual(scene.phi / phi, 1, delta=0.01)
+                self.assertTrue(2**29 < max(scene.width, scene.height) <= 2**30)
+                self.assertEqual(scene.end, 80 * scene.every)
+                self.assertEqual(parse_scene(scene.text()), scene)
+                self.check_valid(np.array(scene.disks), scene)
+                if count > 1:
+                    self.assertEqual(np.sum(scene.disks, axis=0)[2:4].tolist(), [0, 0])
+
+    def check_valid(self, disks, scene):
+        """Inside, slow enough, of even sizes, and no two overlap."""
+        radii = disks[:, 4] // 2
+        self.assertTrue((disks[:, :2] >= radii[:, None]).all())
+        self.assertTrue((disks[:, :2] <= np.array([scene.width, scene.height]) - radii[:, None]).all())
+        self.assertLess(np.abs(disks[:, 2:4]).max(), scene.speed_limit / 4)
+        self.assertTrue((disks[:, 4] % 2 == 0).all() and disks[:, 4].max() == scene.diameter)
+        for i in range(min(len(disks), 300)):
+            squares = ((disks[i + 1:, :2] - disks[i, :2]) ** 2).sum(axis=1)
+            self.assertTrue((squares >= (radii[i + 1:] + radii[i]) ** 2).all())
+
+    def test_sizes_have_their_shares(self):
+        sizes = np.array(make(1_000, 0.3, ((1.0, 0.7), (1.4, 0.3))).disks)[:, 4]
+        small, great = np.unique(sizes)
+        self.assertEqual(((sizes == small).sum(), (sizes == great).sum()), (700, 300))
+        self.assertAlmostEqual(great / small, 1.4, delta=1e-6)
+
+    def test_what_does_not_fit_is_refused(self):
+        for words, said in [
+            ((1_000, 0.89), "hex lattice holds"), ((0, 0.5), "disks, not 0"), ((10, 1.5), "no packing fraction"),
+            ((10, 0.3, ((1.0, 1.0), (1.4, 0.001))), "too few"), ((10, 0.3, ((0.0, 1.0),)), "above 0"),
+            ((2, 0.1, ((1.0, 1.0), (1e-6, 1.0))), "too small"),
+        ]:
+            with self.subTest(said), self.assertRaisesRegex(Refused, said):
+                make(*words)
+
+    def test_the_program_takes_what_is_made(self):
+        for sizes in (((1.0, 1.0),), ((1.0, 0.7), (1.4, 0.3))):
+            scene, report = fluid(200, 0.4, 1.0, None, sizes)
+            self.assertIn(f"done {scene.end}\n", report)
+
+
+@needs("ase")
+class Ase(unittest.TestCase):
+    def written(self, name, form):
+        path = Path(self.enterContext(tempfile.TemporaryDirectory())) / f"frames.{'traj' if form == 'ase' else form}"
+        FORMATS[form](run_of(name), path)
+        return path
+
+    def test_frames_are_read_back_with_velocities(self):
+        from ase.io import read as ase_read
+
+        for name in NAMES:
+            for form in ("xyz", "ase"):
+                with self.subTest((name, form)):
+                    frames, scene = list(run_of(name).frames()), run_of(name).scene
+                    back = ase_read(self.written(name, form), index=":")
+                    self.assertEqual(len(back), len(frames))
+                    for atoms, frame in zip(back, frames):
+                        wanted = scene.reduced(frame.rows)
+                        np.testing.assert_allclose(atoms.positions[:, :2], wanted[:, :2], atol=1e-7)
+                        np.testing.assert_allclose(atoms.get_velocities()[:, :2], wanted[:, 2:], atol=1e-7)
+                    if form == "xyz":
+                        sizes = back[-1].arrays["radius"] * 2 * scene.sigma
+                        np.testing.assert_allclose(sizes, [it[4] for it in scene.disks], rtol=1e-6)
+
+    def test_a_summary_is_refused(self):
+        scene = scene_of([(400, 500, 3, 0)])
+        with self.assertRaisesRegex(Refused, "no frame"):
+            write_xyz(read_text("done 100\nwalls 0\npairs 0\nmomentum 3 0\nenergy 9 9\n", scene), os.devnull)
+
+
+@needs("pandas")
+class Pandas(unittest.TestCase):
+    def test_collisions_are_whole_numbers(self):
+        import pandas
+        for name in NAMES:
+            with self.subTest(name), tempfile.NamedTemporaryFile(suffix=".csv") as file:
+                write_csv(run_of(name), file.name)
+                back = pandas.read_csv(file.name, dtype=dict.fromkeys(
+                    ["tick", "round", "first", "second", "side", "vx1", "vy1", "vx2", "vy2"], "Int64"))
+                wanted = run_of(name).collisions()
+                pandas.testing.assert_frame_equal(back, wanted, check_dtype=len(wanted) > 0)
+
+    def test_rows_by_hand(self):
+        with tempfile.NamedTemporaryFile(suffix=".csv") as file:
+            write_csv(run_of("row"), file.name)
+            self.assertEqual(Path(file.name).read_text().splitlines(), [
+                "tick,round,kind,first,second,side,vx1,vy1,vx2,vy2",
+                "4,0,pair,0,1,,0,0,8,0",
+                "18,0,pair,1,2,,0,0,8,0",
+                "30,0,pair,2,3,,0,0,8,0",
+                "37,0,wall,3,,1,-8,0,,",
+            ])
+
+
+class Commands(unittest.TestCase):
+    def command(self, *words, report="states"):
+        """The status, the output, and what was said."""
+        out, error, status = io.StringIO(), io.StringIO(), 0
+        text = report if "\n" in report else (SCENES / f"{report}.report").read_text()
+        with mock.patch("sys.stdin", io.StringIO(text)), contextlib.redirect_stdout(out), contextlib.redirect_stderr(error):
+            try:
+                command([str(it) for it in words])
+            except SystemExit as end:
+                status = end.code or 0
+        return status, out.getvalue(), error.getvalue()
+
+    def test_each_command_has_help(self):
+        for words in [[], ["scene"], ["continue"], ["measure"], ["measure", "gr"], ["draw"], ["convert"], ["check"], ["equation"]]:
+            status, out, _ = self.command(*words, "--help")
+            self.assertEqual((status, out.startswith("usage: hard_disks")), (0, True), words)
+
+    def test_each_measure_writes_a_table(self):
+        scene = SCENES / "fluid.toml"
+        for name in set(MEASURES) - {"msd", "vacf"}:
+            with self.subTest(name):
+                status, out, error = self.command("measure", name, scene, "--margin", "4", report="fluid")
+                lines = [it for it in out.splitlines() if not it.startswith("#")]
+                self.assertEqual((status, error), (0, ""))
+                self.assertEqual({it.count(",") for it in lines}, {lines[0].count(",")})
+                self.assertIn("along the walls are left out", out)
+
+    @needs("matplotlib")
+    def test_pictures_are_drawn(self):
+        folder, scene = Path(self.enterContext(tempfile.TemporaryDirectory())), SCENES / "states.toml"
+        gas = SCENES / "gas.toml"
+        for words, name, begins in [
+            (["draw", scene, "--tick", "3"], "a.svg", b"<?xml"), (["draw", scene], "a.png", b"\x89PNG"),
+            (["draw", scene, "--movie"], "a.html", b""),
+        ]:
+            self.assertEqual(self.command(*words, "-o", folder / name), (0, "", ""))
+            self.assertTrue((folder / name).read_bytes().startswith(begins))
+        for colour in ("psi6", "neighbours"):
+            self.assertEqual(self.command("draw", gas, "--colour", colour, "-o", folder / "b.svg", report="gas"), (0, "", ""))
+        first = (folder / "b.svg").read_bytes()
+        self.command("draw", gas, "--colour", "neighbours", "-o", folder / "c.svg", report="gas")
+        self.assertEqual(first, (folder / "c.svg").read_bytes())
+
+    def test_what_cannot_be_done_is_one_line_with_status_2(self):
+        scene, fluid_scene = SCENES / "states.toml", SCENES / "fluid.toml"
+        for words, report, said in [
+            (["scene", "--phi", "0.95"], "states", "hex lattice holds"),
+            (["scene", "--phi", "nan"], "states", "above 0"),
+            (["scene", "--phi", "0.5", "--sizes", "a:b"], "states", "isn't of the form"),
+            (["scene", "--phi", "0.5", "--disks", "70000"], "states", "65536"),
+            (["scene", "--phi", "0.5", "--time", "1e12"], "states", "ticks"),
+            (["measure", "pressure", scene], "no report\n", "no line of a report"),
+            (["measure", "pressure", scene, "--margin", "99"], "states", "leaves nothing"),
+            (["measure", "pressure", scene, "--from", "1e6"], "states", "the run ends"),
+            (["measure", "pressure", scene, "--blocks", "1"], "states", "two blocks"),
+            (["measure", "speeds", scene, "--width", "9"], "states", "bins of 9"),
+            (["measure", "gr", scene], "states", "too small"),
+            (["measure", "psi6", scene], "states", "three disks"),
+            (["measure", "msd", fluid_scene], "fluid", "no every"),
+            (["measure", "gr", fluid_scene], "states", "in the scene|scene hasn't"),
+            (["measure", "gr", SCENES / "gone.toml"], "states", "No such file"),
+            (["draw", scene, "-o", "x.mp4"], "states", "doesn't end in"),
+            (["draw", scene, "-o", "x.svg", "--tick", "9999"], "states", "no frame from tick"),
+            (["equation", "--program", "/gone"], "states", "no program"),
+        ]:
+            with self.subTest(words):
+                status, out, error = self.command(*words, report=report)
+                self.assertEqual((status, out, error.count("\n")), (2, "", 1), error)
+                self.assertRegex(error, said)
+
+
+if __name__ == "__main__":
+    main()

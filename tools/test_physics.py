@@ -1,0 +1,177 @@
+#!/usr/bin/env python3
+"""Tests of what the measures of the package hard_disks say: of scenes that are worked out by hand, and of fluids.
+
+    python3 tools/test_physics.py
+
+Fluids are run by the built program, or by the one that the environment variable HARD_DISKS names. What can't be tested,
+without numpy or a program, is said."""
+import math
+import subprocess
+import unittest
+
+from physics_scenes import column, end_of, fluid, main, noted, np, read_text, scene_of, value
+
+from hard_disks import theory
+from hard_disks.dynamics import displacement, speeds, velocity_correlation
+from hard_disks.pressure import pressure, rate
+from hard_disks.program import find_program
+from hard_disks.sampling import block_error, sampling
+from hard_disks.scenes import Refused, parse_scene
+from hard_disks.structure import bond_order, pair_distribution, structure_factor
+
+
+class ByHand(unittest.TestCase):
+    """Scenes of two or three disks of the diameter 100."""
+
+    def test_pressure_of_two_disks(self):
+        # They meet head on with velocities 3 and -3, so r · Δv is 100 · 6; 2 N T t is 2 · 9 · 100.
+        scene = scene_of([(400, 500, 3, 0), (600, 500, -3, 0)])
+        report = end_of(scene, ["16 0 pair 0 1 -3 0 3 0"])
+        table = pressure(read_text(report, scene), sampling(scene, start=0, margin=1, blocks=2))
+        # At the tick 16 they are 104 apart.
+        self.assertAlmostEqual(value(table, "Z"), 1 + 104 * 6 / (2 * 9 * 100))
+        self.assertAlmostEqual(value(table, "phi"), 2 * math.pi / 4 * 100**2 / 800**2)
+        self.assertEqual(value(table, "collisions"), 1)
+        found = rate(read_text(report, scene), sampling(scene, start=0, margin=1, blocks=2))
+        # Each of them collides once in 100 ticks, and v is 3 / √2, so σ / v is 100 √2 / 3 ticks.
+        self.assertAlmostEqual(value(found, "rate"), 100 * math.sqrt(2) / 3 / 100)
+
+    def test_pressure_of_a_disk_on_a_wall(self):
+        # It hands over 2 · 10 once in 100 ticks to walls of 4 · 800; N T / A is 50 / 800².
+        scene = scene_of([(900, 500, 10, 0)])
+        table = pressure(read_text(end_of(scene, ["5 0 wall 0 1 -10 0"]), scene), sampling(scene, 0, 1, 2))
+        # How often it was counted inside, from where it is from the tick 6 on.
+        counted = value(table, "phi") * 800**2 / (math.pi / 4 * 100**2)
+        self.assertAlmostEqual(value(table, "Z_wall"), 20 / (3200 * 100) / (counted * 50 / 800**2))
+
+    def test_pair_distribution_of_three_disks(self):
+        # One in the middle, one at 2.1 and one at 2.5 diameters from it.
+        scene = scene_of([(500, 500, 1, 0), (710, 500, 0, 0), (500, 750, 0, 0)])
+        table = pair_distribution(read_text(end_of(scene), scene), sampling(scene, 0, 1, 2), most=3.0, width=0.1)
+        g, r = column(table, "g"), column(table, "r")
+        np.testing.assert_allclose(r[g > 0], [2.15, 2.55])
+        # Only the one in the middle is looked at; three disks lie inside, on 8 times 8 diameters.
+        np.testing.assert_allclose(g[g > 0], [1 / (3 / 64 * math.pi * (b**2 - a**2)) for a, b in [(2.1, 2.2), (2.5, 2.6)]])
+
+    def test_structure_factor_of_two_disks(self):
+        # At the same distance from the middle both count alike: S = 1 + cos k_x d, whose mean over directions is 1 + J0(k d).
+        from scipy.special import j0
+
+        scene = scene_of([(7_900, 8_000, 1, 0), (8_100, 8_000, 0, 0)], width=16_000, height=16_000)
+        table = structure_factor(read_text(end_of(scene), scene), sampling(scene, 0, 1, 2), most=4.0, width=0.4)
+        k, s = column(table, "k"), column(table, "S")
+        np.testing.assert_allclose(s[1:], 1 + j0(2 * k[1:]), atol=0.03)
+
+    def test_bond_order_of_a_hexagon_and_a_square(self):
+        angles = np.arange(6) * math.pi / 3 + 0.2
+        hexagon = np.vstack([[0, 0], np.column_stack([np.cos(angles), np.sin(angles)])])
+        order, counts = bond_order(hexagon)
+        self.assertEqual(counts[0], 6)
+        self.assertAlmostEqual(order[0], np.exp(6j * 0.2))
+        with self.assertRaisesRegex(Refused, "three disks"):
+            bond_order(np.array([[0, 0], [1, 0]]))
+
+    def test_free_disks_move_evenly(self):
+        scene = scene_of([(400, 500, 3, 0), (600, 500, 0, -4)], end=20, every=5)
+        states = "".join(
+            f"state {t}\ndisk 0 {400 + 3 * t} 500 3 0\ndisk 1 600 {500 - 4 * t} 0 -4\n" for t in (5, 10, 15)
+        )
+        last = "done 20\nwalls 0\npairs 0\nmomentum 3 -4\nenergy 25 25\ndisk 0 460 500 3 0\ndisk 1 600 420 0 -4\n"
+        most = 10 / scene.time
+
+        def of(measure, *more):
+            return measure(read_text(states + last, scene), sampling(scene, 0, 1, 2), *more)
+
+        # The mean of 9 and 16, over σ² = 10⁴, times t².
+        np.testing.assert_allclose(column(of(displacement, most), "msd"), [12.5 * t**2 / 1e4 for t in (5, 10)])
+        found = of(velocity_correlation, most)
+        np.testing.assert_allclose(column(found, "C"), [1, 1])
+        np.testing.assert_allclose(column(found, "D"), [scene.speed * t / scene.sigma for t in (5, 10)])
+        # v = 2.5, so the speeds are 1.2 and 1.6.
+        table = of(speeds, 3.0, 0.25)
+        np.testing.assert_allclose(column(table, "speed")[column(table, "density") > 0], [1.125, 1.625])
+
+    def test_errors_of_blocks(self):
+        # Of 1, 2 and 3 the standard deviation is 1.
+        self.assertAlmostEqual(float(block_error([1, 2, 3, math.nan])), 1 / math.sqrt(3))
+        self.assertTrue(np.isnan(block_error([1])))
+
+
+class Theory(unittest.TestCase):
+    def test_the_virial_series_meets_published_runs(self):
+        # Erpenbeck and Luban, Physical Review A 32, 2920 (1985), by the area over that of the closest packing.
+        for area, published in [(3, 2.0771), (2, 3.4243), (1.8, 4.1715), (1.6, 5.4963), (1.5, 6.6074)]:
+            phi = math.pi / math.sqrt(12) / area
+            self.assertAlmostEqual(theory.virial(phi) / published, 1, delta=5e-4)
+            self.assertAlmostEqual(theory.henderson(phi) / published, 1, delta=2e-3)
+
+
+class Fluids(unittest.TestCase):
+    """What has to agree in equilibrium, within four errors or a few percent. The runs are the same every time."""
+
+    def agree(self, first, second, least=0.0):
+        (a, error), (b, other) = first, second
+        self.assertLess(abs(a - b), 4 * math.hypot(error, other) + least, f"{a} +/- {error} and {b} +/- {other}")
+
+    def measured(self, measure, phi=0.45, every=0.5, *more):
+        scene, report = fluid(900, phi, 24.0, every)
+        return measure(read_text(report, scene), sampling(scene, blocks=10), *more)
+
+    def test_virial_contact_and_walls_give_the_same_pressure(self):
+        table = self.measured(pressure)
+        virial = value(table, "Z"), value(table, "Z_error")
+        self.agree(virial, (value(table, "Z_wall"), value(table, "Z_wall_error")))
+        self.agree(virial, (value(table, "Z_virial"), 0), 0.01)
+        self.agree(virial, noted(self.measured(pair_distribution), "phi g"))
+
+    def test_collisions_are_as_often_as_the_pressure_says(self):
+        # Z = 1 + √π / 4 times the collisions of a disk in σ / v.
+        found, table = self.measured(rate), self.measured(pressure)
+        by_rate = 1 + math.sqrt(math.pi) / 4 * value(found, "rate")
+        self.agree((by_rate, value(found, "rate_error")), (value(table, "Z"), value(table, "Z_error")))
+        self.assertAlmostEqual(value(found, "rate") / value(found, "rate_Enskog"), 1, delta=0.02)
+
+    def test_displacements_and_velocities_give_the_same_diffusion(self):
+        moved, turned = (self.measured(it, 0.45, 0.05, 5.0) for it in (displacement, velocity_correlation))
+        self.agree(noted(moved, "D"), noted(turned, "D"))
+        # The integral of C over close frames, by the rule of Simpson.
+        from scipy.integrate import simpson
+
+        whole = simpson([1, *column(turned, "C")], x=[0, *column(turned, "time")])
+        self.agree((whole, 0), noted(turned, "D"))
+
+    def test_speeds_are_maxwells(self):
+        table = self.measured(speeds)
+        density, errors, wanted = (column(table, it) for it in ("density", "density_error", "Maxwell"))
+        self.assertLess(np.abs(density - wanted).max(), 0.03)
+        far = np.abs(density - wanted) > 4 * np.maximum(errors, 2e-3)
+        self.assertLess(far.sum(), 3)
+        self.agree(noted(table, "^2"), (2, 0), 0.02)
+
+    def test_the_structure_factor_begins_at_the_compressibility(self):
+        table = self.measured(structure_factor, 0.45, 0.5, 3.0)
+        phi = 0.455
+        slope = (theory.virial(phi + 1e-4) * (phi + 1e-4) - theory.virial(phi - 1e-4) * (phi - 1e-4)) / 2e-4
+        self.assertAlmostEqual(column(table, "S")[1] * slope, 1, delta=0.25)
+
+    def test_a_mixture_has_a_pressure_and_no_theory(self):
+        scene, report = fluid(400, 0.4, 8.0, None, ((1.0, 0.7), (1.4, 0.3)))
+        table = pressure(read_text(report, scene), sampling(scene))
+        self.assertNotIn("Z_Henderson", table.columns)
+        # Its Z is a little below that of one size, since ⟨σ⟩² / ⟨σ²⟩ is 0.97.
+        self.assertAlmostEqual(value(table, "Z") / theory.henderson(value(table, "phi")), 0.98, delta=0.05)
+
+    def test_a_cut_run_goes_on_as_the_whole_one(self):
+        scene, report = fluid(200, 0.4, 1.0, None)
+        program = find_program()
+        cut = [program, "--mode", "cut", "--at", str(scene.end)]
+        longer = parse_scene(subprocess.run(cut, input=scene.text(), capture_output=True, text=True).stdout).timed(1.0, None)
+        whole = subprocess.run([program], input=scene.timed(2.0, None).text(), capture_output=True, text=True).stdout
+        part = subprocess.run([program], input=longer.text(), capture_output=True, text=True).stdout
+        ends = [[line for line in it.splitlines() if line.startswith("disk")] for it in (whole, part)]
+        self.assertEqual(scene.timed(2.0, None).end, scene.end + longer.end)
+        self.assertEqual(*ends)
+
+
+if __name__ == "__main__":
+    main()
