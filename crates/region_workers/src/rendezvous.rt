@@ -121,12 +121,14 @@ impl Rendezvous {
 
     /// Looks for the end of a phase so many times, and says whether it came.
     pub(crate) fn is_seen_to_pass(&self, phase: u32, looks: u32) -> bool {
-        let pause = Pause::new();
+        let mut pause = Pause::new();
         for _ in 0..looks {
             if self.is_past(phase) {
                 return true;
             }
-            pause.wait();
+            if !pause.wait() {
+                break;
+            }
         }
         false
     }

@@ -3,6 +3,7 @@
 mod cases;
 mod locks;
 mod pace;
+mod pauses;
 mod regions;
 mod scopes;
 mod seats;

@@ -1,0 +1,38 @@
+//! How long a pause takes.
+
+use super::cases::expect;
+use region_locks::Pause;
+use std::io;
+use std::time::Clock;
+
+// They take some 140 milliseconds, and two where the divisions of a pause are left out.
+const PAUSES: u32 = 2_000_000;
+
+// What they take at least, however quickly a processor divides.
+const LEAST_MILLIS: u128 = 10;
+
+// Whether each of so many pauses went as it should.
+fn wait_often(pauses: u32) -> bool {
+    let mut pause = Pause::new();
+    for _ in 0..pauses {
+        if !pause.wait() {
+            return false;
+        }
+    }
+    true
+}
+
+// Whether pauses went as they should, and whether they took the time that they take at least.
+fn timed_pauses<R: Clock>(rt: &R) -> io::Result<(bool, bool)> {
+    let before = rt.monotonic()?;
+    let went = wait_often(PAUSES);
+    let after = rt.monotonic()?;
+    let millis = after.saturating_sub(before).as_millis();
+    Ok((went, millis >= LEAST_MILLIS))
+}
+
+#[test]
+fn pauses_take_time(rt: HostRuntime) {
+    let found = timed_pauses(&rt).ok();
+    expect(&rt, PAUSES, found, Some((true, true)));
+}
