@@ -1,11 +1,11 @@
 //! A source in two parts: the bytes before the parting line, and then those after it.
 
 ghost use base.Fml.{GName};
-ghost use Rattle.std.specs.Prelude.{◌≡◌, ◌≤◌, ◌<◌, ◌-◌, ◌==◌, ℕ, Bool, List, Option, [], true, length, drop, get_or, is_some, Some, None, IfOk};
+ghost use Rattle.std.specs.Prelude.{◌≡◌, ◌≤◌, ◌<◌, ◌-◌, ◌^◌, ◌==◌, ℕ, Bool, List, Option, [], true, false, length, drop, get_or, is_some, Some, None, IfOk};
 ghost use Rattle.report_ports.specs.Ports.{Takes, CountsTake};
 ghost use Rattle.report_audit.specs.Lines.{line_length};
 ghost use Rattle.report_audit.specs.Parting.{all_left, front_of_known, rest_of_known};
-ghost use Rattle.report_audit.specs.Stages.{left_in, coming_in, IsNext};
+ghost use Rattle.report_audit.specs.Stages.{left_in, coming_in, IsNext, Passes};
 ghost use Rattle.report_audit.specs.Ready.{CountsUnread};
 
 use crate::ahead::Ahead;
@@ -63,8 +63,9 @@ impl<'s, S: Source> Parted<'s, S> {
     /// # Errors
     /// The source failed. The call may be made again, and goes on where this one broke off.
     pub fn turn(&mut self) -> Result<(), Unread>
-        ensures turned { IfOk result (λ _. (bytes : List ℕ) →
-            left_in self.old.stage (all_left self.old.ahead (S.left self.old.source.now)) ≡ Some [] →
+        ensures turned { IfOk result (λ _. (front bytes : List ℕ) →
+            left_in self.old.stage (all_left self.old.ahead (S.left self.old.source.now)) ≡ Some front →
+            length front < 2 ^ 64 →
             coming_in self.old.stage (all_left self.old.ahead (S.left self.old.source.now)) ≡ Some bytes →
             left_in self.new.stage (all_left self.new.ahead (S.left self.new.source.now)) ≡ Some bytes) }
         ensures last { IfOk result (λ _.
@@ -86,8 +87,9 @@ impl<'s, S: Source> Parted<'s, S> {
     fn skip(&mut self) -> Result<bool, Unread>
         ensures met { IfOk result (λ met. met ≡ true →
             IsNext self.new.stage (all_left self.new.ahead (S.left self.new.source.now))) }
-        ensures first { IfOk result (λ met.
-            left_in self.old.stage (all_left self.old.ahead (S.left self.old.source.now)) ≡ Some [] → met ≡ true) }
+        ensures passes { IfOk result (λ met. met ≡ false → Passes (2 ^ 64)
+            (left_in self.old.stage (all_left self.old.ahead (S.left self.old.source.now)))
+            (left_in self.new.stage (all_left self.new.ahead (S.left self.new.source.now)))) }
         ensures coming { coming_in self.new.stage (all_left self.new.ahead (S.left self.new.source.now))
             ≡ coming_in self.old.stage (all_left self.old.ahead (S.left self.old.source.now)) }
         ensures counts { CountsUnread (S.faults self.old.source.now) (S.faults self.new.source.now) result }
@@ -109,8 +111,9 @@ impl<'s, S: Source> Parted<'s, S> {
     fn skip_line(&mut self) -> Result<bool, Unread>
         ensures met { IfOk result (λ met. met ≡ true →
             IsNext self.new.stage (all_left self.new.ahead (S.left self.new.source.now))) }
-        ensures first { IfOk result (λ met.
-            left_in self.old.stage (all_left self.old.ahead (S.left self.old.source.now)) ≡ Some [] → met ≡ true) }
+        ensures passes { IfOk result (λ met. met ≡ false → Passes 1
+            (left_in self.old.stage (all_left self.old.ahead (S.left self.old.source.now)))
+            (left_in self.new.stage (all_left self.new.ahead (S.left self.new.source.now)))) }
         ensures coming { coming_in self.new.stage (all_left self.new.ahead (S.left self.new.source.now))
             ≡ coming_in self.old.stage (all_left self.old.ahead (S.left self.old.source.now)) }
         ensures counts { CountsUnread (S.faults self.old.source.now) (S.faults self.new.source.now) result }

@@ -1,4 +1,4 @@
-use Rattle.std.proofs.Common.{◌≤◌, ◌∙◌, Ok, ap, sym, subst}
+use Rattle.std.proofs.Common.{◌≤◌, ◌∙◌, [], arith, Ok, ap, sym, subst}
 use Rattle.report_ports.specs.Ports.{Rose}
 use Rattle.report_audit.specs.Compared.{HasShortLines}
 use Rattle.hard_disks.specs.Audits.{Empties}
@@ -12,7 +12,7 @@ returns-in-Ok-compare g c =
     let made = c.new-parted.ensures in
     let keeps = c.in_ok-kept.ensures.reads in
     let rest = claimed_left _ _ _ _ _ _ c.in_ok-kept.kept made.left made.coming (ap (λ v. v.1) c.read_report.ensures.lasts) keeps
-    c.in-Ok.ensures.turned in
+    (λ bytes none comes. c.in-Ok.ensures.turned [] bytes none (omega arith) comes) in
     let claimed = c.compare.new.claimed in
     let loan = ap (λ v. v.0) c.compare.ensures.lasts ∙ c.turn.ensures.loan ∙ ap (λ v. v.0) c.read_report.ensures.lasts ∙ made.loan in
     let last = c.source-2-1.given.1 (sym loan) in record {

@@ -1,10 +1,11 @@
-use Rattle.std.proofs.Common.{◌≡◌, true, false, sym, ◌∙◌}
+use Rattle.std.proofs.Common.{◌∙◌}
+use Rattle.report_audit.proofs.Fronts.{passes_both}
 use Rattle.report_audit.proofs.parted.Parted.skip.Goals as goal
 
 pub loop-init : goal.loop-init
 loop-init g c = record {
   met = c.in_ok-met.ensures.met;
-  first = c.in_ok-met.ensures.first;
+  passes = c.in_ok-met.ensures.passes;
   coming = c.in_ok-met.ensures.coming;
   counts = c.in_ok-met.ensures.counts;
   loan = c.in_ok-met.ensures.loan;
@@ -14,7 +15,7 @@ loop-init g c = record {
 pub loop-preserved : goal.loop-preserved
 loop-preserved g c = record {
   met = c.in_ok-met-2.ensures.met;
-  first = λ none. absurd (let same : false ≡ true = sym c.if-met.false ∙ c.loop.invariant.first none in cc);
+  passes = λ goes. passes_both _ _ _ _ _ (c.loop.invariant.passes c.if-met.false) (c.in_ok-met-2.ensures.passes goes);
   coming = c.in_ok-met-2.ensures.coming ∙ c.loop.invariant.coming;
   counts = c.in_ok-met-2.ensures.counts ∙ c.loop.invariant.counts;
   loan = c.in_ok-met-2.ensures.loan ∙ c.loop.invariant.loan;
