@@ -1,13 +1,10 @@
 -- What lies in a slot stands where the region stood that was put there first.
-use Rattle.std.proofs.Common.{◌≡◌, ℕ, List, Some, slice_get, sym, ap, ◌∙◌, subst, ⊎_elim}
-use mathlib.Core.Option.{some}
-use lib.ListN.{get_elem?}
+use Rattle.std.proofs.Common.{◌≡◌, ℕ, List, subst, ⊎_elim}
 use Rattle.cell_sequence.specs.State.{CellStateData}
 use Rattle.local_run.specs.Opening.{RegionData}
 use Rattle.local_run.specs.RunOn.{BeginsAs}
 use Rattle.local_run.proofs.Stands.{begun_still_stand}
 use Rattle.region_table.specs.Bases.{IsSpent, MayLieIn}
-use Rattle.region_table.specs.Rule.{Content}
 use Rattle.region_table.specs.Laws.{HaveStood, StillStands, HomesStillStand, TakenStillStand}
 
 what_lies_stands : (state : CellStateData) (opened : List RegionData) (k : ℕ) (region : RegionData) → HaveStood state opened →
@@ -17,13 +14,10 @@ what_lies_stands state opened k region stood lies alive = ⊎_elim
     (λ (spent : IsSpent lies.0.home.number region). absurd (alive spent.run))
     lies.2
 
-same_content : (a b : RegionData) → some (some {A = Content} (Some a)) ≡ some (some (Some b)) → a ≡ b
-same_content a b e = cc
-
 pub homes_still_stand : HomesStillStand
 homes_still_stand state opened s stood kept k region lt home at =
     let found = kept.home k lt home in
-    let same : found.0 ≡ region = same_content found.0 region (sym found.1 ∙ at) in
+    let same : found.0 ≡ region = cc (found.1, at) in
     what_lies_stands state opened k region stood (subst (MayLieIn opened k) same found.2.lies)
 
 pub taken_still_stand : TakenStillStand
