@@ -12,6 +12,9 @@ ghost use Rattle.impulse_rounding.specs.Laws.{RoundsRight, EnergyNearlyStays};
 
 use plane_vectors::Vector;
 
+// Below this twice a number and a divisor of 61 bits fit 64 bits.
+const MAX_NARROW: u128 = 1 << 62;
+
 /// The impulse, in units per tick, that the first of two disks gets and the second loses.
 ///
 /// (`rx`, `ry`) is the first centre less the second in units of length, at most 2^30 in each
@@ -39,6 +42,7 @@ pub fn impulse(rx: i64, ry: i64, ux: i64, uy: i64) -> (i64, i64)
 /// `r` is the first centre less the second in units of length, at most 2^30 in each component, and
 /// `u` the first velocity less the second in units per tick, at most 2^21 in each component. The
 /// two approach each other, so the centres differ.
+#[inline(always)]
 pub fn impulse_between(r: Vector, u: Vector) -> Vector
     requires approaching { dot r u <ℤ pos 0 }
     requires r_size { IsWithin (2 ^ 30) r }
@@ -63,6 +67,7 @@ pub fn energy_nearly_stays()
 {}
 
 // The exact impulse rounded to nearest, or up where the two wouldn't recede.
+#[inline(always)]
 fn rounded(r: Vector, u: Vector) -> Vector
     requires approaching { dot r u <ℤ pos 0 }
     requires r_size { IsWithin (2 ^ 30) r }
@@ -96,6 +101,7 @@ fn rounded_to_nearest(r: Vector, exact: ExactSizes) -> Vector
 }
 
 // The vector of the exact sizes rounded up, with the signs of r.
+#[inline(never)]
 fn rounded_up(r: Vector, exact: ExactSizes) -> Vector
     requires x_size { exact.x ≤ 2 ^ 22 * exact.divisor }
     requires y_size { exact.y ≤ 2 ^ 22 * exact.divisor }
@@ -150,13 +156,40 @@ fn parting_speed(r: Vector, u: Vector, impulse: Vector) -> i64
     r.dot(u) + 2 * r.dot(impulse)
 }
 
-// n / d to the nearest whole number, ties up.
+// n / d to the nearest whole number, ties up. A division of 128 bits costs many of 64, and mostly 64 are enough.
+#[inline(always)]
 fn divide_to_nearest(n: u128, d: u64) -> u64
     requires d { 0 < d }
     requires small { d ≤ 2 ^ 61 }
     requires n { n ≤ 2 ^ 22 * d }
     ensures value { result ≡ nearest n d }
     ensures size { result ≤ 2 ^ 22 }
+{
+    if n < MAX_NARROW {
+        divide_narrow_to_nearest(n as u64, d)
+    } else {
+        divide_wide_to_nearest(n, d)
+    }
+}
+
+// The same where 64 bits are enough.
+#[inline(always)]
+fn divide_narrow_to_nearest(n: u64, d: u64) -> u64
+    requires d { 0 < d }
+    requires small { d ≤ 2 ^ 61 }
+    requires n { n < 2 ^ 62 }
+    ensures { result ≡ nearest n d }
+{
+    (2 * n + d) / (2 * d)
+}
+
+// The same where they may not be.
+#[inline(never)]
+fn divide_wide_to_nearest(n: u128, d: u64) -> u64
+    requires d { 0 < d }
+    requires small { d ≤ 2 ^ 61 }
+    requires n { n ≤ 2 ^ 22 * d }
+    ensures { result ≡ nearest n d }
 {
     let wide = u128::from(d);
     ((2 * n + wide) / (2 * wide)) as u64

@@ -26,6 +26,11 @@ fn rounds_the_exact_impulse(rt: HostRuntime) {
         // just above a half and just below, and both just below
         (impulse(1073741824, 1073741823, -1, 0), (1, 0)),
         (impulse(1073741824, 1073741823, 0, -1), (1, 1)),
+        // the product of 2^30 and the closing speed along r: 3 times 2^60, 2^62 but for 2^33, 2^62, 5 times 2^60
+        (impulse(1073741824, 1073741823, -3, 0), (2, 1)),
+        (impulse(1073741823, 1073741824, -4, 0), (2, 2)),
+        (impulse(1073741824, 1073741823, -4, 0), (2, 2)),
+        (impulse(1073741824, 1073741823, -5, 0), (3, 2)),
     ];
     for (row, &(found, want)) in cases.iter().enumerate() {
         expect(&rt, row, found, want);
