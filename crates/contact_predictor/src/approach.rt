@@ -8,7 +8,7 @@ ghost use Rattle.contact_predictor.specs.Contact.{IsOnlyContactAfter};
 ghost use Rattle.contact_predictor.specs.Approach.{FitsApproach, IsApproachOf, IsSmall, IsCourse, IsEarly, closing_after, gap_after};
 
 use crate::MAX_TICKS;
-use crate::roots::small_root;
+use crate::roots::{PAST_FLOATS, float_quotient, small_root};
 use plane_vectors::Vector;
 
 /// The quadratic a s^2 + 2 b s + c of s ticks that two disks on straight paths have for a squared gap: the squared
@@ -66,6 +66,44 @@ impl Approach {
             IsOnlyContactAfter r u distance ticks) }
         ensures near { IfSome result (λ ticks. ticks ≤ 2 ^ 30) }
     {
+        match self.float_guess() {
+            Some(ticks) if self.ends_after(ticks) => Some(ticks),
+            _ => self.contact_by_integers(),
+        }
+    }
+
+    // The smaller root by floats, but for rounding: tested, so that it is known not to be late. None where a float
+    // doesn't hold the numbers, or the test fails.
+    #[inline(always)]
+    fn float_guess(self) -> Option<u64>
+        requires small { IsSmall self }
+        ensures early { IfSome result (IsEarly self) }
+        ensures near { IfSome result (λ ticks. ticks ≤ 2 ^ 30) }
+    {
+        let closing = self.closing.unsigned_abs();
+        let gap = self.gap.unsigned_abs();
+        let discriminant = self.discriminant();
+        if gap.max(discriminant) >= PAST_FLOATS {
+            return None;
+        }
+        let ticks = float_quotient(gap, discriminant, closing);
+        if ticks <= MAX_TICKS && ticks * closing <= gap {
+            Some(ticks)
+        } else {
+            None
+        }
+    }
+
+    // The same as `contact`, by whole numbers alone. Seldom asked, so it is kept apart.
+    #[inline(never)]
+    fn contact_by_integers(self) -> Option<u64>
+        requires small { IsSmall self }
+        requires apart { pos 0 ≤ℤ self.gap }
+        requires course { IsCourse self }
+        ensures found { IfSome result (λ ticks. (r u : Vector) (distance : ℤ) → IsApproachOf r u distance self →
+            IsOnlyContactAfter r u distance ticks) }
+        ensures near { IfSome result (λ ticks. ticks ≤ 2 ^ 30) }
+    {
         let ticks = self.guess();
         if ticks <= MAX_TICKS && self.ends_after(ticks) {
             Some(ticks)
@@ -80,10 +118,16 @@ impl Approach {
         requires { self.closing <ℤ pos 0 }
         ensures { IsEarly self result }
     {
+        let root = small_root(self.discriminant());
+        self.gap.unsigned_abs() / root.saturating_add(self.closing.unsigned_abs())
+    }
+
+    // The discriminant, but for what goes beyond 64 bits: nothing need be known of it.
+    #[inline(always)]
+    fn discriminant(self) -> u64 {
         let square = self.closing.wrapping_mul(self.closing);
         let product = self.square.wrapping_mul(self.gap);
-        let root = small_root(square.wrapping_sub(product).unsigned_abs());
-        self.gap.unsigned_abs() / root.saturating_add(self.closing.unsigned_abs())
+        square.wrapping_sub(product).cast_unsigned()
     }
 
     // Whether they approach after so many ticks for the last time.

@@ -1,4 +1,18 @@
-//! Square roots, but for rounding: nothing need be known of them.
+//! Square roots, and quotients by them, but for rounding: nothing need be known of them.
+
+ghost use Rattle.std.specs.Prelude.{◌^◌, ◌<◌};
+
+/// Each whole number below this is a float.
+pub(crate) const PAST_FLOATS: u64 = 1 << 53;
+
+// From here on neighbouring floats are one apart, so that a sum with it is rounded to a whole number.
+const WHOLE: f64 = 6755399441055744.0;
+
+// The bits of `WHOLE`; those of a float that is greater by a whole number are greater by as much.
+const WHOLE_BITS: u64 = 0x4338_0000_0000_0000;
+
+// By 2^30 more than `WHOLE`.
+const PAST_WHOLE: f64 = 6755400514797568.0;
 
 // A binary point at bit 30, for numbers about one.
 const ONE: u64 = 1 << 30;
@@ -8,6 +22,32 @@ const LINE_START: u64 = 4_620_000_000;
 
 // How much the line falls for each 8.
 const LINE_FALL: u64 = 5;
+
+// The whole part of gap / (root of the discriminant + closing), but for rounding, and if it isn't below 2^30, any number
+// that isn't. Floats are as fast as a division alone.
+#[inline(always)]
+pub(crate) fn float_quotient(gap: u64, discriminant: u64, closing: u64) -> u64
+    requires gap { gap < 2 ^ 53 }
+    requires discriminant { discriminant < 2 ^ 53 }
+    requires closing { closing < 2 ^ 53 }
+{
+    let divisor = float(discriminant).sqrt() + float(closing);
+    // Less nearly a half, as the sum is rounded to the nearest whole number.
+    let shifted = (float(gap) / divisor - 0.49999999) + WHOLE;
+    if shifted < PAST_WHOLE {
+        f64::to_bits(shifted).wrapping_sub(WHOLE_BITS)
+    } else {
+        u64::MAX
+    }
+}
+
+// Through a signed number, for which there is an instruction.
+#[inline(always)]
+fn float(n: u64) -> f64
+    requires { n < 2 ^ 53 }
+{
+    n.cast_signed() as f64
+}
 
 // The square root of a number, but for a millionth of it, or for one.
 pub(crate) fn rough_root(square: u128) -> u64 {

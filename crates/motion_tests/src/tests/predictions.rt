@@ -222,6 +222,67 @@ fn small_and_great(sizes: Sizes, a: &Disk, b: &Disk) -> (bool, Meeting, Meeting)
     )
 }
 
+// A box, the diameter of two disks, how far apart their centres are, how fast each comes towards the other, and the
+// tick at which they hit each other, if the box is one unit higher too.
+type HeadOnRow = (Sizes, i64, i64, i64, u64);
+
+const HEAD_ON: &[HeadOnRow] = &[
+    // a squared gap just below 2^53, up to which a float has each whole number, and just above
+    (SLOW_AND_WIDE, 4, 94_906_265, 1, 47_453_130),
+    (SLOW_AND_WIDE, 4, 94_906_266, 1, 47_453_131),
+    // a discriminant just below it, and just above: they touch exactly, and are one unit nearer
+    (QUICK, 46_340, 251_140, 1024, 100),
+    (QUICK, 46_340, 251_139, 1024, 99),
+    (QUICK, 46_342, 251_142, 1024, 100),
+    (QUICK, 46_342, 251_141, 1024, 99),
+];
+
+#[test]
+fn finds_when_disks_meet_head_on(rt: HostRuntime) {
+    for (row, &(sizes, diameter, apart, speed, want)) in HEAD_ON.iter().enumerate() {
+        let found = head_on(sizes, diameter, apart, speed);
+        let wanted = Some((want, 0));
+        expect(
+            &rt,
+            row,
+            found,
+            (Some((true, wanted)), Some((false, wanted))),
+        );
+    }
+}
+
+// What is found in a box and in one that is a unit higher.
+fn head_on(sizes: Sizes, diameter: i64, apart: i64, speed: i64) -> (Meeting, Meeting) {
+    let place = 100_000;
+    let left = disk_of((place, place, speed, 0, 0, 0));
+    let right = disk_of((
+        place.wrapping_add(apart),
+        place,
+        speed.wrapping_neg(),
+        0,
+        0,
+        0,
+    ));
+    (
+        meeting_of_size(&rules_of(sizes, 0), diameter, left, right),
+        meeting_of_size(&rules_of(sizes, 1), diameter, left, right),
+    )
+}
+
+// That of two disks of another size.
+fn meeting_of_size(rules: &Rules, diameter: i64, a: Disk, b: Disk) -> Meeting {
+    let rules = Rules { diameter, ..*rules };
+    let a = Disk {
+        size: diameter,
+        ..a
+    };
+    let b = Disk {
+        size: diameter,
+        ..b
+    };
+    meeting(&rules, &a, &b)
+}
+
 // The rules of a box that is higher by so much.
 fn rules_of((width, height, speed_limit): Sizes, more: i64) -> Rules {
     Rules {

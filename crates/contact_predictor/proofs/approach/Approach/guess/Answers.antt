@@ -11,10 +11,10 @@ some b root size sum lt is total = omega (arith, ints)
 pub nonzero_div-result : goal.nonzero_div-result
 nonzero_div-result c =
     let fits : FitsSigned w64 c.args.self.closing = search rules in
-    let size = simp to_z-of_z at c.unsigned_abs-3.ensures.value in
-    some c.args.self.closing c.small_root-root.result c.unsigned_abs-3.result _ c.requires size c.saturating_add.ensures
+    let size = simp to_z-of_z at c.unsigned_abs-2.ensures.value in
+    some c.args.self.closing c.small_root-root.result c.unsigned_abs-2.result _ c.requires size c.saturating_add.ensures
 
 pub returns : goal.returns
 returns c =
-    early c.args.self c.unsigned_abs-2.result c.small_root-root.result c.unsigned_abs-3.result c.saturating_add.result (search rules) (search rules)
-    c.unsigned_abs-2.ensures.value c.unsigned_abs-3.ensures.value c.unsigned_abs-3.ensures.bound c.saturating_add.ensures
+    early c.args.self c.unsigned_abs.result c.small_root-root.result c.unsigned_abs-2.result c.saturating_add.result (search rules) (search rules)
+    c.unsigned_abs.ensures.value c.unsigned_abs-2.ensures.value c.unsigned_abs-2.ensures.bound c.saturating_add.ensures
