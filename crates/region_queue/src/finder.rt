@@ -485,13 +485,13 @@ fn have_rows(view: &View, near: &Gathered) -> bool {
     let Some(rows) = view.compact() else {
         return true;
     };
-    let mut ends = (near.len() == 0) as u64;
+    let mut asked = (near.len() == 0) as u64;
     for disk in near.as_slice() {
         if let Some(row) = rows.get(*disk as usize) {
-            ends |= row.ends();
+            asked |= row.middle();
         }
     }
-    ends != 0
+    asked != 0
 }
 
 // Whether the cell of the lower of two different disks is owned, by whether each one's is.

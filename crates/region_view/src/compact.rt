@@ -144,11 +144,11 @@ impl Compact {
         }
     }
 
-    /// Something of both ends of what stands there, which may lie across two lines of the cache: so all of it comes
-    /// from memory. Nothing need be known of the answer.
+    /// What stands on both sides of the middle, where the border of two lines of the cache may be: so all of the row comes
+    /// from memory, by one read. Nothing need be known of the answer.
     #[inline(always)]
-    pub fn ends(&self) -> u64 {
-        self.time | u64::from(self.cell)
+    pub fn middle(&self) -> u64 {
+        u64::from(self.y.cast_unsigned()) | u64::from(self.vx.cast_unsigned()) << 32
     }
 
     // Whether there is a row.
