@@ -1,5 +1,5 @@
 -- Keys, the least of them, and the tree that finds it.
-use Rattle.std.specs.Prelude.{◌≡◌, ◌≢◌, ⊤, ℕ, ◌+◌, ◌*◌, ◌/◌, ◌^◌, ◌<◌, ◌≤◌, List, length, slice_index_or, Option, Some, None}
+use Rattle.std.specs.Prelude.{◌≡◌, ◌≢◌, ⊤, ℕ, ◌+◌, ◌-◌, ◌*◌, ◌/◌, ◌^◌, ◌<◌, ◌≤◌, List, length, slice_index_or, Option, Some, None}
 use Rattle.event_stamps.specs.declared.Stamp.{Stamp}
 use Rattle.event_stamps.specs.Order.{Before}
 
@@ -44,17 +44,22 @@ pub record IsLeastFrom (nodes : List Key) (start many : ℕ) (key : Key) : Type 
   pub one : (i : ℕ) × (i < many) × (key_at nodes (start + i) ≡ key)
   pub least : (i : ℕ) → i < many → IsNotAfter key (key_at nodes (start + i))
 
--- the node has the least of its children's keys
-abbrev pub IsPlayed : List Key → ℕ → Type 0
-IsPlayed nodes k = IsLeastFrom nodes (4 * k + 3) 4 (key_at nodes k)
+-- the node has the least of its children's keys, which follow on so many nodes at the top
+abbrev pub IsPlayed : ℕ → List Key → ℕ → Type 0
+IsPlayed roots nodes k = IsLeastFrom nodes (4 * k + roots) 4 (key_at nodes k)
 
--- the nodes below `first` are played, and the others have the disks' keys
-pub record IsTree (first : ℕ) (nodes : List Key) : Type 0 where
+-- the nodes below `first` are played, and the others have the keys; so many at the top have no parent
+pub record IsTree (roots first : ℕ) (nodes : List Key) : Type 0 where
   pub most : first ≤ 2 ^ 32
   pub within : first ≤ length nodes
-  pub len : 0 < length nodes → length nodes ≡ 4 * first + 3
-  pub played : (k : ℕ) → k < first → IsPlayed nodes k
+  pub len : 0 < length nodes → length nodes ≡ 4 * first + roots
+  pub played : (k : ℕ) → k < first → IsPlayed roots nodes k
 
--- all nodes but the parent of one are played; the three at the top have no parent
-abbrev pub IsTreeBut : ℕ → ℕ → List Key → Type 0
-IsTreeBut first child nodes = (k : ℕ) → k < first → (k + 1) ≢ ((child + 1) / 4) → IsPlayed nodes k
+-- all nodes but the parent of one are played
+abbrev pub IsTreeBut : ℕ → ℕ → ℕ → List Key → Type 0
+IsTreeBut roots first child nodes = (k : ℕ) → k < first → (k + 1) ≢ ((child + 4 - roots) / 4) → IsPlayed roots nodes k
+
+-- room for so many keys, and none is set
+pub record IsBlank (room : ℕ) (keys : List Key) : Type 0 where
+  pub enough : room ≤ length keys
+  pub none : (place : ℕ) → key_at keys place ≡ None

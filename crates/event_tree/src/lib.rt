@@ -6,8 +6,15 @@
 //! many levels as with two.
 #![tactic(auto)]
 
+mod bounds;
+mod code;
+mod code_tree;
+mod entries;
+mod narrow;
 mod packed;
+mod wide;
 
+pub use entries::Entries;
 use event_stamps::Stamp;
 pub use packed::Packed;
 use std::alloc::{AllocError, Global};
@@ -36,7 +43,7 @@ impl Model for EventTree {
 
     ghost view = { λ a. drop a.first a.nodes.items };
 
-    ghost invariant = { λ a. IsTree a.first a.nodes.items };
+    ghost invariant = { λ a. IsTree 3 a.first a.nodes.items };
 }
 
 ghost use Rattle.std.specs.Prelude.{◌≡◌, ◌+◌, ◌*◌, ◌<◌, ◌≤◌, ◌^◌, [], length};
@@ -80,11 +87,18 @@ impl EventTree {
     pub fn key(&self, disk: u32) -> Option<Stamp>
         ensures { result ≡ key_at self.now disk }
     {
+        self.packed_key(disk).key()
+    }
+
+    /// The key of a disk, packed.
+    pub fn packed_key(&self, disk: u32) -> Packed
+        ensures { result ≡ key_at self.now disk }
+    {
         let disk = disk as usize;
         if disk < self.room() {
-            self.nodes[self.first + disk].key()
+            self.nodes[self.first + disk]
         } else {
-            None
+            Packed::new(None)
         }
     }
 
@@ -150,8 +164,8 @@ fn replay(nodes: &mut [Packed], first: usize, leaf: usize)
     requires leaf { first ≤ leaf }
     requires within { leaf < length nodes.old }
     requires len { length nodes.old ≡ 4 * first + 3 }
-    requires tree { IsTreeBut first leaf nodes.old }
-    ensures tree { IsTree first nodes.new }
+    requires tree { IsTreeBut 3 first leaf nodes.old }
+    ensures tree { IsTree 3 first nodes.new }
     ensures leaves { drop first nodes.new ≡ drop first nodes.old }
 {
     let mut child = leaf;

@@ -65,6 +65,24 @@ impl Packed {
         unpack(self.number)
     }
 
+    // Its number.
+    #[inline(always)]
+    pub(crate) fn number(self) -> u128
+        ensures key { unpack result ≡ self }
+        ensures packed { IsPacked result }
+    {
+        self.number
+    }
+
+    // The key that has a number.
+    #[inline(always)]
+    pub(crate) fn numbered(number: u128) -> Packed
+        requires { IsPacked number }
+        ensures { result ≡ unpack number }
+    {
+        Packed { number }
+    }
+
     /// Whether it is the same key.
     #[inline(always)]
     pub fn is(self, other: Packed) -> bool

@@ -18,7 +18,7 @@ loop-child-preserved c =
     record {
       within = rw (length-set nodes parent key) (omega arith);
       len = length-set nodes parent key ∙ len;
-      tree = played_up c.args.first child parent nodes key (omega arith) c.loop-child.invariant.tree (omega arith)
+      tree = played_up 3 c.args.first child parent nodes key (omega arith) (omega arith) c.loop-child.invariant.tree (omega arith)
           (omega arith) c.least_of_four-key.ensures;
       leaves = drop-set-lt c.args.first nodes parent key (omega arith) ∙ c.loop-child.invariant.leaves;
     }
@@ -33,7 +33,7 @@ returns-then-is-clause-tree c =
     let within = c.loop-child.invariant.within in
     let here = c.index-nodes-parent.is ∙ get_or_default nodes parent c.index-nodes-parent.result None (omega arith) in
     let same : c.least_of_four-key.result ≡ c.index-nodes-parent.result = c.is.ensures.0 c.if-is.true in
-    kept_up c.args.first child parent nodes c.requires.most len c.loop-child.invariant.tree (omega arith)
+    kept_up 3 c.args.first child parent nodes (omega arith) c.requires.most len c.loop-child.invariant.tree (omega arith)
     (subst (λ (key : Key). IsLeastFrom nodes (4 * parent + 3) 4 key) (same ∙ here) c.least_of_four-key.ensures)
 
 pub returns-clause-tree : goal.returns-clause-tree

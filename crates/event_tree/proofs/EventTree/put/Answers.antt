@@ -7,7 +7,7 @@ use Rattle.event_tree.proofs.EventTree.put.Goals as goal
 
 pub replay-requires-clause-tree : goal.replay-requires-clause-tree
 replay-requires-clause-tree c = rw c.deref_mut.ensures.value
-    (leaf_set c.self.inside.first (c.self.inside.first + c.args.disk) c.self.inside.nodes.items c.args.key (omega arith)
+    (leaf_set 3 c.self.inside.first (c.self.inside.first + c.args.disk) c.self.inside.nodes.items c.args.key (omega arith) (omega arith)
     c.self.invariant)
 
 pub overflow_add-leaf : goal.overflow_add-leaf

@@ -7,7 +7,7 @@ pub returns-else-is_empty : goal.returns-else-is_empty
 returns-else-is_empty c =
     let some : 0 < length c.self.inside.nodes.items = grind arith in
     rw (← c.self.view_is)
-    (top_is_least c.self.inside.first c.self.inside.nodes.items c.least_of_three.result some c.self.invariant
+    (top_is_least 3 c.self.inside.first c.self.inside.nodes.items c.least_of_three.result (omega arith) some c.self.invariant
     (rw c.deref.ensures.value at c.least_of_three.ensures))
 
 pub returns-then-is_empty : goal.returns-then-is_empty

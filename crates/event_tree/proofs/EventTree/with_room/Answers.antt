@@ -9,13 +9,13 @@ use Rattle.event_tree.proofs.EventTree.with_room.Goals as goal
 pub invariant_of-wider : goal.invariant_of-wider
 invariant_of-wider c =
     let first = (c.args.room - 1) / 3 in
-    blank_tree first c.in_ok-vec.field-0.items (omega (arith, c.requires.most))
+    blank_tree 3 first c.in_ok-vec.field-0.items (omega (arith, c.requires.most))
     (c.in_ok-vec.ensures.items_if_clones_equal (λ y e. e) ∙ ap (λ (key : Key). replicate (4 * first + 3) key) c.new.ensures)
 
 pub loop-disk-init : goal.loop-disk-init
 loop-disk-init c =
     let first = (c.args.room - 1) / 3 in
-    let blank = blank_leaves first c.in_ok-vec.field-0.items
+    let blank = blank_leaves 3 first c.in_ok-vec.field-0.items
     (c.in_ok-vec.ensures.items_if_clones_equal (λ y e. e) ∙ ap (λ (key : Key). replicate (4 * first + 3) key) c.new.ensures) in
     record { enough = omega (arith, blank.0); copied = λ i lt. absurd (omega (arith, lt)); free = λ i le. blank.1 i }
 

@@ -1,0 +1,16 @@
+-- The least of the topmost keys is the least.
+use Rattle.std.proofs.Common.{◌≡◌, ◌<◌, length, arith}
+use Rattle.event_tree.proofs.Trees.{none_least, top_is_least}
+use Rattle.event_tree.proofs.code_tree.CodeTree.top.Goals as goal
+
+pub returns-else-is_empty : goal.returns-else-is_empty
+returns-else-is_empty c =
+    let some : 0 < length c.self.inside.nodes.items = grind arith in
+    rw (← c.self.view_is)
+    (top_is_least 2 c.self.inside.first c.self.inside.nodes.items c.least_of_two.result (omega arith) some c.self.invariant
+    (rw c.deref.ensures.value at c.least_of_two.ensures))
+
+pub returns-then-is_empty : goal.returns-then-is_empty
+returns-then-is_empty c =
+    let none : length c.self.inside.nodes.items ≡ 0 = grind arith in
+    rw c.none.ensures (none_least c.self.inside.first c.self.inside.nodes.items c.args.self.now c.self.view_is none)

@@ -1,0 +1,5 @@
+-- The key is that which is packed.
+use Rattle.event_tree.proofs.entries.Entries.least.Goals as goal
+
+pub returns-clause-least : goal.returns-clause-least
+returns-clause-least c = rw c.key.ensures.value c.top.ensures

@@ -1,0 +1,22 @@
+-- Entries of 16 bytes, four of them in a line.
+use Rattle.std.specs.Prelude.{◌≡◌, ℕ, ◌+◌, ◌*◌, ◌%◌, ◌<◌, ◌≤◌, ◌^◌, List, length, map, drop}
+use Rattle.event_tree.specs.Keys.{Key, IsLeastFrom, key_at}
+use Rattle.event_tree.specs.Entries.{EntriesData, entries_of}
+use Rattle.event_tree.specs.declared.narrow.Entry.{Entry}
+
+abbrev pub keys_in : List Entry → List Key
+keys_in entries = map (λ e. e.key) entries
+
+abbrev pub bounds_in : List Entry → List Key
+bounds_in entries = map (λ e. e.bound) entries
+
+-- the first three are of no disk
+abbrev pub entries_in : List Entry → EntriesData
+entries_in entries = entries_of (drop 3 (keys_in entries)) (drop 3 (bounds_in entries))
+
+-- the entries are in fours, of each of which the least key leads; there is none for a disk from 2^32 on
+pub record AreLed (entries : List Entry) (leads : List Key) : Type 0 where
+  pub fours : 0 < length entries → length entries % 4 ≡ 3
+  pub room : length entries ≤ 4 * length leads + 3
+  pub most : length entries ≤ 2 ^ 32 + 3
+  pub led : (group : ℕ) → IsLeastFrom (keys_in entries) (4 * group + 3) 4 (key_at leads group)

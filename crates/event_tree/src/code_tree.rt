@@ -1,0 +1,122 @@
+//! The least of keys in 8 bytes, kept while single ones change.
+
+ghost use Rattle.std.specs.Prelude.{◌≡◌, ◌+◌, ◌*◌, ◌<◌, ◌≤◌, ◌^◌, [], length, slice_set, drop, IfOk};
+ghost use Rattle.event_tree.specs.Keys.{IsLeastKey, IsLeastFrom, IsTree, IsTreeBut, IsBlank};
+
+use crate::code::Code;
+use std::alloc::{AllocError, Global};
+use std::marker::Model;
+
+// Some keys, in a tree as that of `EventTree`.
+#[derive(Drop)]
+pub(crate) struct CodeTree {
+    // The key i is at first + i, and at each k below first is the least of the four from 4 k + 2 on. The two at the
+    // top, from 0 on, have no node above them. A big block of memory mostly begins 16 bytes after a multiple of 64,
+    // so that the four are in one line of the cache.
+    nodes: Vec<Code>,
+    // Where the keys begin.
+    first: usize,
+}
+
+impl Model for CodeTree {
+    ghost use Rattle.std.specs.Prelude.{List, drop};
+    ghost use Rattle.event_tree.specs.Keys.{Key, IsTree};
+
+    ghost Value = { List Key };
+
+    ghost view = { λ a. drop a.first a.nodes.items };
+
+    ghost invariant = { λ a. IsTree 2 a.first a.nodes.items };
+}
+
+impl CodeTree {
+    // No keys. No memory is taken.
+    pub fn new(alloc: Global) -> CodeTree
+        ensures { result ≡ [] }
+    {
+        CodeTree {
+            nodes: Vec::new(alloc),
+            first: 0,
+        }
+    }
+
+    // Room for so many keys, or for up to two more.
+    pub fn with_room(alloc: Global, room: usize) -> Result<CodeTree, AllocError>
+        requires { room ≤ 2 ^ 33 }
+        ensures { IfOk result (IsBlank room) }
+    {
+        let first = room / 3;
+        Ok(CodeTree {
+            nodes: vec![in alloc; Code::none(); 4 * first + 2]?,
+            first,
+        })
+    }
+
+    // The least of the keys; none where there is no key.
+    #[inline(always)]
+    pub fn top(&self) -> Code
+        ensures { IsLeastKey self.now result }
+    {
+        if self.nodes.is_empty() {
+            Code::none()
+        } else {
+            least_of_two(&self.nodes)
+        }
+    }
+
+    // Sets one of the keys.
+    #[inline(always)]
+    pub fn set(&mut self, place: usize, key: Code)
+        requires { place < length self.old }
+        ensures { self.new ≡ slice_set self.old place key }
+    {
+        let leaf = self.first + place;
+        self.nodes[leaf] = key;
+        replay(&mut self.nodes, self.first, leaf);
+    }
+}
+
+// Plays the nodes above a leaf again, up to the first that keeps its key.
+#[inline(always)]
+fn replay(nodes: &mut [Code], first: usize, leaf: usize)
+    requires most { first ≤ 2 ^ 32 }
+    requires leaf { first ≤ leaf }
+    requires within { leaf < length nodes.old }
+    requires len { length nodes.old ≡ 4 * first + 2 }
+    requires tree { IsTreeBut 2 first leaf nodes.old }
+    ensures tree { IsTree 2 first nodes.new }
+    ensures leaves { drop first nodes.new ≡ drop first nodes.old }
+{
+    let mut child = leaf;
+    while child >= 2 {
+        let parent = (child - 2) / 4;
+        let key = least_of_four(nodes, 4 * parent + 2);
+        if key.is(nodes[parent]) {
+            return;
+        }
+        nodes[parent] = key;
+        child = parent;
+    }
+}
+
+// The least of four keys side by side.
+#[inline(always)]
+fn least_of_four(nodes: &[Code], start: usize) -> Code
+    requires { start + 4 ≤ length nodes.now }
+    ensures { IsLeastFrom nodes.now start 4 result }
+{
+    // One question for the bounds of all four.
+    let four = &nodes[start..start + 4];
+    let left = four[0].earlier(four[1]);
+    let right = four[2].earlier(four[3]);
+    left.earlier(right)
+}
+
+// The lesser of the two keys at the top.
+#[inline(always)]
+fn least_of_two(nodes: &[Code]) -> Code
+    requires { 2 ≤ length nodes.now }
+    ensures { IsLeastFrom nodes.now 0 2 result }
+{
+    nodes[0].earlier(nodes[1])
+}

@@ -1,0 +1,130 @@
+//! A key and a bound of each disk, and the least of the keys, kept while single ones change.
+
+ghost use Rattle.std.specs.Prelude.{◌≡◌, IfSome, OnOk};
+ghost use Rattle.event_tree.specs.Keys.{IsLeastKey, key_at};
+ghost use Rattle.event_tree.specs.Packing.{HasRoom};
+ghost use Rattle.event_tree.specs.Entries.{EntriesData, IsEntered, is_empty};
+
+use crate::code::Code;
+use crate::narrow::{Entry, Narrow};
+use crate::packed::Packed;
+use crate::wide::Wide;
+use event_stamps::Stamp;
+use std::alloc::{AllocError, Global};
+use std::marker::Model;
+
+/// A key and a bound of each disk: a stamp, or none.
+///
+/// While all of them are of ticks below 2^27 and rounds below 8, an entry of 16 bytes has both, and four of them
+/// are in one line of the cache. From the first on that isn't, all are kept in an `EventTree` and a list.
+#[derive(Drop)]
+pub struct Entries {
+    narrow: Narrow,
+    // What there is, once something doesn't fit.
+    wide: Option<Wide>,
+}
+
+impl Model for Entries {
+    ghost use Rattle.std.specs.Prelude.{unwrap_or};
+    ghost use Rattle.event_tree.specs.Entries.{EntriesData};
+
+    ghost Value = { EntriesData };
+
+    ghost view = { λ a. unwrap_or a.wide a.narrow };
+}
+
+impl Entries {
+    /// Nothing of any disk. No memory is taken.
+    pub fn new(alloc: Global) -> Entries
+        ensures { result ≡ is_empty }
+    {
+        Entries {
+            narrow: Narrow::new(alloc),
+            wide: None,
+        }
+    }
+
+    /// The least of the keys; none where there is no key.
+    pub fn least(&self) -> Option<Stamp>
+        ensures least { IsLeastKey self.now.keys result }
+        ensures room { IfSome result HasRoom }
+    {
+        self.top().key()
+    }
+
+    /// The least of the keys, packed.
+    #[inline(always)]
+    pub fn top(&self) -> Packed
+        ensures { IsLeastKey self.now.keys result }
+    {
+        match &self.wide {
+            Some(wide) => wide.top(),
+            None => self.narrow.top().packed(),
+        }
+    }
+
+    /// The key of a disk; none where none was set.
+    #[inline(always)]
+    pub fn key(&self, disk: u32) -> Packed
+        ensures { result ≡ key_at self.now.keys disk }
+    {
+        match &self.wide {
+            Some(wide) => wide.key(disk),
+            None => self.narrow.key(disk).packed(),
+        }
+    }
+
+    /// The bound of a disk; none where none was set.
+    #[inline(always)]
+    pub fn bound(&self, disk: u32) -> Packed
+        ensures { result ≡ key_at self.now.bounds disk }
+    {
+        match &self.wide {
+            Some(wide) => wide.bound(disk),
+            None => self.narrow.bound(disk).packed(),
+        }
+    }
+
+    /// Sets the key and the bound of a disk.
+    ///
+    /// # Errors
+    /// Out of memory. Nothing is claimed of the entries then.
+    pub fn set(
+        &mut self,
+        alloc: Global,
+        disk: u32,
+        key: Packed,
+        bound: Packed,
+    ) -> Result<(), AllocError>
+        ensures { OnOk result (IsEntered disk (key, bound) self.old self.new) }
+    {
+        if self.wide.is_none()
+            && let Some(key) = Code::of(key)
+            && let Some(bound) = Code::of(bound)
+        {
+            return self.narrow.set(alloc, disk, Entry { key, bound });
+        }
+        self.set_wide(alloc, disk, key, bound)
+    }
+
+    // Sets the key and the bound of a disk in the wide form.
+    #[inline(never)]
+    fn set_wide(
+        &mut self,
+        alloc: Global,
+        disk: u32,
+        key: Packed,
+        bound: Packed,
+    ) -> Result<(), AllocError>
+        ensures { OnOk result (IsEntered disk (key, bound) self.old self.new) }
+    {
+        if let Some(wide) = &mut self.wide {
+            return wide.set(alloc, disk, key, bound);
+        }
+        let mut wide = self.narrow.widened(alloc)?;
+        wide.set(alloc, disk, key, bound)?;
+        self.narrow = Narrow::new(alloc);
+        self.wide = Some(wide);
+        Ok(())
+    }
+}

@@ -1,0 +1,171 @@
+//! A key and a bound of each disk in 16 bytes, where all of them are small.
+
+ghost use Rattle.std.specs.Prelude.{◌≡◌, ◌+◌, ◌<◌, ◌≤◌, ◌^◌, length, IfOk, OnOk};
+ghost use Rattle.event_tree.specs.Keys.{IsLeastKey, IsLeastFrom, key_at};
+ghost use Rattle.event_tree.specs.Entries.{EntriesData, IsEntered, AreSame, IsRoomier, is_empty};
+ghost use Rattle.event_tree.specs.Narrow.{keys_in};
+
+use crate::code::Code;
+use crate::code_tree::CodeTree;
+use crate::wide::Wide;
+use std::alloc::{AllocError, Global};
+use std::marker::Model;
+
+// How many numbers disks can have.
+const MOST: usize = 1 << 32;
+
+// What is kept of a disk.
+#[derive(Clone, Copy)]
+pub(crate) struct Entry {
+    pub key: Code,
+    pub bound: Code,
+}
+
+// A key and a bound of each disk, and the least of the keys. Memory is taken for as many disks as the greatest
+// number that was ever set, or for up to twice as many.
+#[derive(Drop)]
+pub(crate) struct Narrow {
+    // From the fourth one on those of the disks, so that four side by side are in one line of the cache.
+    entries: Vec<Entry>,
+    // The least key of each such four.
+    leads: CodeTree,
+}
+
+impl Model for Narrow {
+    ghost use Rattle.event_tree.specs.Entries.{EntriesData};
+    ghost use Rattle.event_tree.specs.Narrow.{entries_in, AreLed};
+
+    ghost Value = { EntriesData };
+
+    ghost view = { λ a. entries_in a.entries.items };
+
+    ghost invariant = { λ a. AreLed a.entries.items a.leads };
+}
+
+impl Narrow {
+    // Nothing of any disk. No memory is taken.
+    pub fn new(alloc: Global) -> Narrow
+        ensures { result ≡ is_empty }
+    {
+        Narrow {
+            entries: Vec::new(alloc),
+            leads: CodeTree::new(alloc),
+        }
+    }
+
+    // The least of the keys; none where there is no key.
+    #[inline(always)]
+    pub fn top(&self) -> Code
+        ensures { IsLeastKey self.now.keys result }
+    {
+        self.leads.top()
+    }
+
+    // The key of a disk; none where none was set.
+    #[inline(always)]
+    pub fn key(&self, disk: u32) -> Code
+        ensures { result ≡ key_at self.now.keys disk }
+    {
+        let disk = disk as usize;
+        if disk < self.room() {
+            self.entries[disk + 3].key
+        } else {
+            Code::none()
+        }
+    }
+
+    // The bound of a disk; none where none was set.
+    #[inline(always)]
+    pub fn bound(&self, disk: u32) -> Code
+        ensures { result ≡ key_at self.now.bounds disk }
+    {
+        let disk = disk as usize;
+        if disk < self.room() {
+            self.entries[disk + 3].bound
+        } else {
+            Code::none()
+        }
+    }
+
+    // Sets the key and the bound of a disk.
+    #[inline(always)]
+    pub fn set(&mut self, alloc: Global, disk: u32, entry: Entry) -> Result<(), AllocError>
+        ensures { OnOk result (IsEntered disk (entry.key, entry.bound) self.old self.new) }
+    {
+        let disk = disk as usize;
+        if disk >= self.room() {
+            let twice = (2 * self.room()).min(MOST);
+            *self = self.with_room(alloc, twice.max(disk + 1))?;
+        }
+        self.put(disk, entry);
+        Ok(())
+    }
+
+    // The same in wide form.
+    pub fn widened(&self, alloc: Global) -> Result<Wide, AllocError>
+        ensures { IfOk result (AreSame self.now) }
+    {
+        let mut wide = Wide::new(alloc);
+        for disk in 0..self.room() {
+            let entry = self.entries[disk + 3];
+            wide.set(alloc, disk as u32, entry.key.packed(), entry.bound.packed())?;
+        }
+        Ok(wide)
+    }
+
+    // For how many disks there is room.
+    #[inline(always)]
+    fn room(&self) -> usize
+        ensures { result ≡ length self.now.keys }
+    {
+        self.entries.len().saturating_sub(3)
+    }
+
+    // The same, with room for so many disks, or for up to three more.
+    #[inline(never)]
+    fn with_room(&self, alloc: Global, room: usize) -> Result<Narrow, AllocError>
+        requires more { length self.now.keys < room }
+        requires most { room ≤ 2 ^ 32 }
+        ensures { IfOk result (IsRoomier self.now room) }
+    {
+        let groups = (room + 3) / 4;
+        let none = Entry {
+            key: Code::none(),
+            bound: Code::none(),
+        };
+        let mut wider = Narrow {
+            entries: vec![in alloc; none; 4 * groups + 3]?,
+            leads: CodeTree::with_room(alloc, groups)?,
+        };
+        for disk in 0..self.room() {
+            wider.put(disk, self.entries[disk + 3]);
+        }
+        Ok(wider)
+    }
+
+    // Sets those of a disk for which there is room.
+    #[inline(always)]
+    fn put(&mut self, disk: usize, entry: Entry)
+        requires { disk < length self.old.keys }
+        ensures entered { IsEntered disk (entry.key, entry.bound) self.old self.new }
+        ensures room { length self.new.keys ≡ length self.old.keys }
+    {
+        self.entries[disk + 3] = entry;
+        let group = disk / 4;
+        let least = least_of_group(&self.entries, 4 * group + 3);
+        self.leads.set(group, least);
+    }
+}
+
+// The least key of four disks side by side.
+#[inline(always)]
+fn least_of_group(entries: &[Entry], start: usize) -> Code
+    requires { start + 4 ≤ length entries.now }
+    ensures { IsLeastFrom (keys_in entries.now) start 4 result }
+{
+    // One question for the bounds of all four.
+    let four = &entries[start..start + 4];
+    let left = four[0].key.earlier(four[1].key);
+    let right = four[2].key.earlier(four[3].key);
+    left.earlier(right)
+}
