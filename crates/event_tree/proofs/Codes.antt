@@ -4,7 +4,7 @@ use Rattle.std.specs.Prelude.{Some, None, IfSome}
 use Rattle.std.proofs.lemmas.Nat.{div-mul-add, mod-mul-add}
 use Rattle.std.proofs.lemmas.Bool.Decides.{nat_tests}
 use Rattle.event_stamps.specs.declared.Stamp.{Stamp}
-use Rattle.event_stamps.specs.Order.{kind_number, IsInRange}
+use Rattle.event_stamps.specs.Order.{IsInRange}
 use Rattle.event_stamps.specs.Least.{earlier_of}
 use Rattle.event_stamps.proofs.Ranks.{kind_below}
 use Rattle.event_tree.specs.Keys.{Key}

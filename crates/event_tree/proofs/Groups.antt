@@ -1,15 +1,14 @@
 -- Of each four disks the least key leads.
-use Rattle.std.proofs.Common.{◌≡◌, ◌≢◌, ◌⊎◌, ℕ, zero, suc, ◌+◌, ◌-◌, ◌*◌, ◌/◌, ◌%◌, ◌^◌, ◌<◌, ◌≤◌, List, [], length, map, take, drop, set, get_or, replicate, below_more, arith, refl, sym, ap, subst, ◌∙◌, inl, inr}
-use Rattle.std.specs.Prelude.{Some, None}
+use Rattle.std.proofs.Common.{◌≡◌, ◌≢◌, ℕ, zero, suc, ◌+◌, ◌-◌, ◌*◌, ◌/◌, ◌%◌, ◌^◌, ◌<◌, ◌≤◌, List, [], length, take, drop, set, get_or, replicate, below_more, arith, refl, sym, ap, subst, ◌∙◌, inl, inr}
+use Rattle.std.specs.Prelude.{None}
 use Rattle.std.proofs.lemmas.List.{get_or-drop, get_or-set_same, get_or-set_other, get_or_past, get_or_default, length-drop, length-map, length-set, length-replicate, map-set}
 use Rattle.std.proofs.Math.ListN.{get_or-map}
-use Rattle.event_stamps.specs.declared.Stamp.{Stamp}
 use Rattle.event_stamps.specs.Least.{earlier_of}
 use Rattle.event_tree.specs.Keys.{Key, IsNotAfter, IsLeastKey, IsLeastFrom, IsBlank, key_at}
 use Rattle.event_tree.specs.Entries.{EntriesData, IsEntered, AreSame, entry_at}
 use Rattle.event_tree.specs.Narrow.{keys_in, bounds_in, entries_in, AreLed}
 use Rattle.event_tree.specs.declared.narrow.Entry.{Entry}
-use Rattle.event_tree.proofs.Trees.{not_after_trans, at_same, below_or_not, same_or_not, same_least, least_of_four, none_at, one_of_four}
+use Rattle.event_tree.proofs.Trees.{not_after_trans, at_same, same_or_not, same_least, least_of_four, one_of_four}
 
 -- ---- the least
 led_least : (keys leads : List Key) (top : Key) → ((group : ℕ) → IsLeastFrom keys (4 * group + 3) 4 (key_at leads group)) →

@@ -4,7 +4,7 @@ use Rattle.std.specs.Prelude.{Some, None, is_some, false, if◌then◌else◌}
 use Rattle.std.specs.Ordering.{is_lt}
 use Rattle.std.specs.declared.cmp.Ordering.{Ordering}
 use Rattle.std.specs.declared.cmp.Ordering.TheVariants.{Less, Equal, Greater}
-use Rattle.std.proofs.lemmas.List.{get_or-take, get_or-drop, get_or-set_same, get_or-set_other, get_or_past, get_or_default, get_or-replicate, length-replicate, length-drop, length-set, drop-replicate}
+use Rattle.std.proofs.lemmas.List.{get_or-take, get_or-drop, get_or-set_same, get_or-set_other, get_or_past, get_or_default, get_or-replicate, length-replicate, length-drop, drop-replicate}
 use Rattle.std.proofs.lemmas.Bool.{false≢true}
 use Rattle.event_stamps.specs.declared.Stamp.{Stamp}
 use Rattle.event_stamps.specs.Order.{Before, stamp_cmp}

@@ -4,17 +4,19 @@ use Rattle.event_tree.specs.Keys.{Key, IsLeastFrom, key_at}
 use Rattle.event_tree.specs.Entries.{EntriesData, entries_of}
 use Rattle.event_tree.specs.declared.narrow.Entry.{Entry}
 
+-- the keys of some entries
 abbrev pub keys_in : List Entry → List Key
 keys_in entries = map (λ e. e.key) entries
 
+-- their bounds
 abbrev pub bounds_in : List Entry → List Key
 bounds_in entries = map (λ e. e.bound) entries
 
--- the first three are of no disk
+-- of each disk its entry; the first three are of no disk
 abbrev pub entries_in : List Entry → EntriesData
 entries_in entries = entries_of (drop 3 (keys_in entries)) (drop 3 (bounds_in entries))
 
--- the entries are in fours, of each of which the least key leads; there is none for a disk from 2^32 on
+-- behind the first three the entries are in fours, of each four the least key leads, and no disk is past 2^32
 pub record AreLed (entries : List Entry) (leads : List Key) : Type 0 where
   pub fours : 0 < length entries → length entries % 4 ≡ 3
   pub room : length entries ≤ 4 * length leads + 3

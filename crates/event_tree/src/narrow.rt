@@ -25,7 +25,8 @@ pub(crate) struct Entry {
 // number that was ever set, or for up to twice as many.
 #[derive(Drop)]
 pub(crate) struct Narrow {
-    // From the fourth one on those of the disks, so that four side by side are in one line of the cache.
+    // From the fourth one on those of the disks: a big block of memory mostly begins 16 bytes after a multiple of
+    // 64, so that four side by side are in one line of the cache.
     entries: Vec<Entry>,
     // The least key of each such four.
     leads: CodeTree,

@@ -1,5 +1,5 @@
 -- All nodes begin without keys.
-use Rattle.std.proofs.Common.{◌≡◌, ◌+◌, ◌*◌, ◌/◌, replicate, arith, ◌∙◌, ap}
+use Rattle.std.proofs.Common.{◌+◌, ◌*◌, ◌/◌, replicate, arith, ◌∙◌, ap}
 use Rattle.event_tree.specs.Keys.{Key}
 use Rattle.event_tree.proofs.Trees.{blank_tree, blank_leaves}
 use Rattle.event_tree.proofs.code_tree.CodeTree.with_room.Goals as goal
