@@ -13,8 +13,8 @@ use Rattle.cell_lists.specs.Listing.{ListsData, with_disk, without_disk}
 use Rattle.region_view.specs.Views.{ViewData}
 use Rattle.region_view.proofs.Naming.{none_among}
 use Rattle.region_queue.specs.declared.finder.Finder.{Finder}
-use Rattle.region_queue.specs.declared.keys.Keys.{Keys}
-use Rattle.region_queue.specs.Finding.{Cells, cell_in, IsTakenOff, IsRelisted, AreRelisted, AreRetaken, AreRetakenOf, IsTaken, IsTakenAt, entry_at}
+use Rattle.event_tree.specs.Entries.{EntriesData, entry_at}
+use Rattle.region_queue.specs.Finding.{Cells, cell_in, IsTakenOff, IsRelisted, AreRelisted, AreRetaken, AreRetakenOf, IsTaken, IsTakenAt}
 
 pub take_whole : (xs : List ℕ) (n : ℕ) → length xs ≤ n → take n xs ≡ xs
 take_whole xs n le = grind (arith, common_steps)
@@ -42,12 +42,12 @@ pub relisted_more : (view : ViewData) (done : List ℕ) (disk : ℕ) (old mid ne
 relisted_more view done disk old mid new before is =
     again_more (λ i o. o ≡ cell_in view i) done disk (map.get old) (map.get mid) (map.get new) before is.listed is.others
 
-pub retaken_more : (finder : Finder) (view : ViewData) (done : List ℕ) (disk : ℕ) (old mid new : Keys) →
+pub retaken_more : (finder : Finder) (view : ViewData) (done : List ℕ) (disk : ℕ) (old mid new : EntriesData) →
     AreRetaken finder view done old mid → IsTakenAt finder view disk mid new → AreRetaken finder view (done ++ disk ∷ []) old new
 retaken_more finder view done disk old mid new before is =
     again_more (IsTaken finder view) done disk (entry_at old) (entry_at mid) (entry_at new) before is.taken is.others
 
-pub retaken_one : (finder : Finder) (view : ViewData) (Such : ℕ → Type 0) (disk : ℕ) (old new : Keys) →
+pub retaken_one : (finder : Finder) (view : ViewData) (Such : ℕ → Type 0) (disk : ℕ) (old new : EntriesData) →
     IsTakenAt finder view disk old new → ((i : ℕ) → Such i → i ≡ disk) → AreRetakenOf finder view Such old new
 retaken_one finder view Such disk old new is only i = elim (cases_eq i disk) [
   | inl same ↦ inl (subst (λ (n : ℕ). IsTaken finder view n (entry_at new n)) (sym same) is.taken)

@@ -6,10 +6,10 @@ use Rattle.event_stamps.specs.declared.Stamp.{Stamp}
 use Rattle.event_stamps.specs.declared.Kind.TheVariants.{Pair}
 use Rattle.event_stamps.specs.Least.{IsLeast}
 use Rattle.event_stamps.proofs.StampOrder.{not_before_itself}
+use Rattle.event_tree.specs.Entries.{EntriesData}
 use Rattle.event_tree.specs.Keys.{Key, IsNotAfter, key_at}
 use Rattle.region_view.specs.Naming.{Names}
 use Rattle.region_view.proofs.Naming.{by_itself, is_pair_or_not}
-use Rattle.region_queue.specs.declared.keys.Keys.{Keys}
 use Rattle.region_queue.specs.Finding.{AreGiven}
 use Rattle.region_queue.specs.Covering.{IsKey, Covers}
 use Rattle.region_queue.proofs.Covered.{key_stays}
@@ -67,17 +67,17 @@ given_is_key D s i least names = record {
 
 -- where an event is the least candidate and the key of its disks, and the candidates without them stay, the keys cover
 -- the candidates
-pub covers_back : (C D : Stamp → Type 0) (s : Stamp) (old new : Keys) → Covers C old.tree old.bounds →
-    ((t : Stamp) → AreApart t s → (C t ↔ D t)) → IsLeast D s → AreGiven s old new → Covers D new.tree new.bounds
+pub covers_back : (C D : Stamp → Type 0) (s : Stamp) (old new : EntriesData) → Covers C old.keys old.bounds →
+    ((t : Stamp) → AreApart t s → (C t ↔ D t)) → IsLeast D s → AreGiven s old new → Covers D new.keys new.bounds
 covers_back C D s old new covers stay least given = record {
   each = λ i. each i (names_decides s i);
   paired = λ t d pair. paired t d pair (shared_or_apart t s);
 }
   where
-    each : (i : ℕ) → Names s i ⊎ ¬ Names s i → IsKey D i (key_at new.tree i) (key_at new.bounds i)
+    each : (i : ℕ) → Names s i ⊎ ¬ Names s i → IsKey D i (key_at new.keys i) (key_at new.bounds i)
     each i (inl names) = subst (λ (entry : Key × Key). IsKey D i entry.0 entry.1) (sym (given.given i names)) (given_is_key D s i least names)
     each i (inr not) = subst (λ (entry : Key × Key). IsKey D i entry.0 entry.1) (sym (given.others i not))
-        (key_stays C D i (key_at old.tree i) (key_at old.bounds i) (λ t single first. stay t (apart_alone t s i single (inl first) not))
+        (key_stays C D i (key_at old.keys i) (key_at old.bounds i) (λ t single first. stay t (apart_alone t s i single (inl first) not))
         (covers.each i))
 
     paired : (t : Stamp) → D t → t.kind ≡ Pair → ((i : ℕ) × Names t i × Names s i) ⊎ AreApart t s →

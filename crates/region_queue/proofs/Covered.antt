@@ -5,12 +5,11 @@ use Rattle.std.specs.List.{Contains}
 use Rattle.event_stamps.specs.declared.Stamp.{Stamp}
 use Rattle.event_stamps.specs.declared.Kind.TheVariants.{Pair}
 use Rattle.event_stamps.specs.Least.{IsLeastOf}
+use Rattle.event_tree.specs.Entries.{EntriesData, entry_at}
 use Rattle.event_tree.specs.Keys.{Key, IsNotAfter, IsLeastKey, key_at}
 use Rattle.event_tree.proofs.Trees.{not_after_trans}
 use Rattle.region_view.specs.Naming.{Names, NamesAny}
 use Rattle.region_view.proofs.Naming.{none_among, by_itself, is_pair_or_not, names_or_not, one_named, names_none}
-use Rattle.region_queue.specs.declared.keys.Keys.{Keys}
-use Rattle.region_queue.specs.Finding.{entry_at}
 use Rattle.region_queue.specs.Covering.{IsKey, Covers}
 
 -- a disk's candidates, those of it by itself, and its pairs
@@ -28,7 +27,7 @@ abbrev pub IsTakenOf : (Stamp → Type 0) → ℕ → Key × Key → Type 0
 IsTakenOf D i entry = IsLeastOf (CandidatesOf D i) entry.0 × IsLeastOf (PairsOf D i) entry.1
 
 -- the entry is taken, or as it was where the disk isn't such a one
-abbrev pub IsRetaken : (Stamp → Type 0) → (ℕ → Type 0) → Keys → Keys → ℕ → Type 0
+abbrev pub IsRetaken : (Stamp → Type 0) → (ℕ → Type 0) → EntriesData → EntriesData → ℕ → Type 0
 IsRetaken D Such old new i = IsTakenOf D i (entry_at new i) ⊎ ((entry_at new i ≡ entry_at old i) × ¬ Such i)
 
 pub least_not_after : (P : Stamp → Type 0) (key : Key) (s : Stamp) → IsLeastOf P key → P s → IsNotAfter key (Some s)
@@ -63,18 +62,18 @@ key_stays C D i key bound stay is = record {
 
 -- ---- the theorem: where the keys of all touched disks are taken again, and the others are too or are kept, the keys cover
 -- the candidates again
-pub covers_again : (C D : Stamp → Type 0) (ids : List ℕ) (old new : Keys) → Covers C old.tree old.bounds →
+pub covers_again : (C D : Stamp → Type 0) (ids : List ℕ) (old new : EntriesData) → Covers C old.keys old.bounds →
     ((s : Stamp) → ¬ NamesAny s ids → (C s ↔ D s)) → ((i : ℕ) → IsRetaken D (λ n. Contains ids n) old new i) →
-    Covers D new.tree new.bounds
+    Covers D new.keys new.bounds
 covers_again C D ids old new covers stay kept = record {
   each = λ i. each i (kept i);
   paired = λ s d pair. paired s d pair (names_or_not s ids);
 }
   where
-    each : (i : ℕ) → IsRetaken D (λ n. Contains ids n) old new i → IsKey D i (key_at new.tree i) (key_at new.bounds i)
-    each i (inl taken) = taken_is_key D i (key_at new.tree i) (key_at new.bounds i) taken.0 taken.1
+    each : (i : ℕ) → IsRetaken D (λ n. Contains ids n) old new i → IsKey D i (key_at new.keys i) (key_at new.bounds i)
+    each i (inl taken) = taken_is_key D i (key_at new.keys i) (key_at new.bounds i) taken.0 taken.1
     each i (inr k) = subst (λ (entry : Key × Key). IsKey D i entry.0 entry.1) (sym k.0)
-        (key_stays C D i (key_at old.tree i) (key_at old.bounds i) (λ s not first. stay s (names_none s ids i not (inl first) k.1)) (covers.each i))
+        (key_stays C D i (key_at old.keys i) (key_at old.bounds i) (λ s not first. stay s (names_none s ids i not (inl first) k.1)) (covers.each i))
 
     stays : (s : Stamp) (i : ℕ) → PairsOf D i s → IsNotAfter (key_at old.bounds i) (Some s) → IsRetaken D (λ n. Contains ids n) old new i →
         IsNotAfter (key_at new.bounds i) (Some s)
@@ -96,8 +95,8 @@ covers_again C D ids old new covers stay kept = record {
         (was.0, was.1, stays s was.0 (d, pair, was.1) was.2 (kept was.0))
 
 -- taking any keys again takes nothing away
-pub covers_still : (C : Stamp → Type 0) (Such : ℕ → Type 0) (old new : Keys) → Covers C old.tree old.bounds →
-    ((i : ℕ) → IsRetaken C Such old new i) → Covers C new.tree new.bounds
+pub covers_still : (C : Stamp → Type 0) (Such : ℕ → Type 0) (old new : EntriesData) → Covers C old.keys old.bounds →
+    ((i : ℕ) → IsRetaken C Such old new i) → Covers C new.keys new.bounds
 covers_still C Such old new covers kept = covers_again C C [] old new covers (λ s none. (λ c. c, λ c. c)) again
   where
     again : (i : ℕ) → IsRetaken C (λ n. Contains [] n) old new i

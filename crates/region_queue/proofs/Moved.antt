@@ -8,6 +8,7 @@ use Rattle.event_stamps.specs.declared.Stamp.{Stamp}
 use Rattle.event_stamps.specs.declared.Kind.TheVariants.{Pair}
 use Rattle.event_stamps.specs.Least.{IsLeastOf, earlier_of}
 use Rattle.event_rules.specs.Events.{IsPairEvent}
+use Rattle.event_tree.specs.Entries.{EntriesData, IsEntered}
 use Rattle.event_tree.specs.Keys.{Key, IsNotAfter, key_at}
 use Rattle.event_tree.proofs.Trees.{IsLesser, lesser, not_after_trans}
 use Rattle.cell_grid.specs.Grid.{GridData, IsAdjacent, Owns}
@@ -15,10 +16,9 @@ use Rattle.region_view.specs.declared.action.Placed.{Placed}
 use Rattle.region_view.specs.Placing.{IsNearPair}
 use Rattle.region_view.specs.Views.{ViewData, rows_in}
 use Rattle.region_queue.specs.declared.finder.Finder.{Finder}
-use Rattle.region_queue.specs.declared.keys.Keys.{Keys}
 use Rattle.region_view.specs.Naming.{Names, IsPairOf, IsMoved}
 use Rattle.region_view.proofs.Naming.{same_row, near_pair, native_stays, natives_stay}
-use Rattle.region_queue.specs.Finding.{IsFound, IsPaired, IsPairedBeyond, IsExtended, IsEntered, IsTakenAt, cell_in}
+use Rattle.region_queue.specs.Finding.{IsFound, IsPaired, IsPairedBeyond, IsExtended, IsTakenAt, cell_in}
 use Rattle.region_queue.specs.Covering.{IsKey, Covers}
 use Rattle.region_queue.proofs.Again.{retaken_one}
 use Rattle.region_queue.proofs.Back.{names_decides}
@@ -163,12 +163,12 @@ joined_is_key D i single bound least pair = record {
 
 -- ---- the theorem: where a disk's bound takes in the pairs that are new, and all other candidates were there, the keys cover
 -- the candidates again
-extended_covers : (C D B : Stamp → Type 0) (disk : ℕ) (single beyond : Key) (old new : Keys) → Covers C old.tree old.bounds →
+extended_covers : (C D B : Stamp → Type 0) (disk : ℕ) (single beyond : Key) (old new : EntriesData) → Covers C old.keys old.bounds →
     ((s : Stamp) → ¬ Names s disk → (C s ↔ D s)) → ((s : Stamp) → PairsOf D disk s → C s ⊎ B s) →
     ((s : Stamp) → B s → (s.kind ≡ Pair) × Names s disk) → IfSome (key_at old.bounds disk) (λ s. s.kind ≡ Pair) →
     IsLeastOf (SinglesOf D disk) single → IsLeastOf B beyond →
     IsEntered disk (earlier_of single (earlier_of (key_at old.bounds disk) beyond), earlier_of (key_at old.bounds disk) beyond) old new →
-    Covers D new.tree new.bounds
+    Covers D new.keys new.bounds
 extended_covers C D B disk single beyond old new covers stay split names known least new_pair entered = record {
   each = λ i. each i (cases_eq i disk);
   paired = λ s d pair. paired s d pair (names_decides s disk);
@@ -186,13 +186,13 @@ extended_covers C D B disk single beyond old new covers stay split names known l
         (subst (λ (key : Key). IfSome key (λ (t : Stamp). t.kind ≡ Pair)) was known, (covers.each disk).bound_named s was)
     bound_pair s e (inr same) = names s (subst (IsLeastOf B) (sym same ∙ e) new_pair).0
 
-    each : (i : ℕ) → (i ≡ disk) ⊎ (i ≢ disk) → IsKey D i (key_at new.tree i) (key_at new.bounds i)
+    each : (i : ℕ) → (i ≡ disk) ⊎ (i ≢ disk) → IsKey D i (key_at new.keys i) (key_at new.bounds i)
     each i (inl same) =
-        subst (λ (n : ℕ). IsKey D n (key_at new.tree n) (key_at new.bounds n)) (sym same)
+        subst (λ (n : ℕ). IsKey D n (key_at new.keys n) (key_at new.bounds n)) (sym same)
         (subst (λ (entry : Key × Key). IsKey D disk entry.0 entry.1) (sym entered.set)
         (joined_is_key D disk single bound least (λ s e. bound_pair s e is.one)))
     each i (inr ne) = subst (λ (entry : Key × Key). IsKey D i entry.0 entry.1) (sym (entered.others i ne))
-        (key_stays C D i (key_at old.tree i) (key_at old.bounds i) (λ s not first. stay s (other s not first)) (covers.each i))
+        (key_stays C D i (key_at old.keys i) (key_at old.bounds i) (λ s not first. stay s (other s not first)) (covers.each i))
       where
         other : (s : Stamp) → ¬ (s.kind ≡ Pair) → s.first ≡ i → ¬ Names s disk
         other s not first (inl same) = ne (sym first ∙ same)
@@ -228,17 +228,17 @@ others_stay finder before view disk s moved not =
     native_stays finder.rules finder.grid finder.region before view s
     (λ i names. moved.0 i (λ same. not (subst (Names s) same names)))
 
-pub moved_covers : (finder : Finder) (before view : ViewData) (disk cell : ℕ) (old new : Keys) → IsMoved disk before view →
+pub moved_covers : (finder : Finder) (before view : ViewData) (disk cell : ℕ) (old new : EntriesData) → IsMoved disk before view →
     Some cell ≡ cell_in before disk → IsOwnerKept finder view disk cell → IfSome (key_at old.bounds disk) (λ s. s.kind ≡ Pair) →
-    IsExtended finder view disk cell old new → Covers (IsFound finder before) old.tree old.bounds → Covers (IsFound finder view) new.tree new.bounds
+    IsExtended finder view disk cell old new → Covers (IsFound finder before) old.keys old.bounds → Covers (IsFound finder view) new.keys new.bounds
 moved_covers finder before view disk cell old new moved at owner known is covers =
     extended_covers (IsFound finder before) (IsFound finder view) (IsPairedBeyond finder view disk cell) disk is.0 is.1 old new covers
     (λ s not. others_stay finder before view disk s moved not) (λ s pair. old_or_beyond finder before view disk cell s moved at owner pair)
     (λ s b. (b.1, names_pair s disk b.2.0 b.1 b.2.2)) known is.2 is.3 is.4
 
 -- so do they where all of the disk is taken again
-pub taken_covers : (finder : Finder) (before view : ViewData) (disk : ℕ) (old new : Keys) → IsMoved disk before view →
-    IsTakenAt finder view disk old new → Covers (IsFound finder before) old.tree old.bounds → Covers (IsFound finder view) new.tree new.bounds
+pub taken_covers : (finder : Finder) (before view : ViewData) (disk : ℕ) (old new : EntriesData) → IsMoved disk before view →
+    IsTakenAt finder view disk old new → Covers (IsFound finder before) old.keys old.bounds → Covers (IsFound finder view) new.keys new.bounds
 taken_covers finder before view disk old new moved is covers =
     covers_again (IsFound finder before) (IsFound finder view) (disk ∷ []) old new covers
     (λ s none. natives_stay finder.rules finder.grid finder.region before view (disk ∷ []) s (all_but_moved disk before view moved) none)

@@ -8,8 +8,8 @@ use Rattle.event_stamps.proofs.Ranks.{rank_less, kind_below}
 use Rattle.event_tree.specs.Packing.{HasRoom}
 use Rattle.event_stamps.specs.Least.{IsLeastOf}
 use Rattle.event_stamps.proofs.StampOrder.{before_decides, same_stamp}
+use Rattle.event_tree.specs.Entries.{EntriesData}
 use Rattle.event_tree.specs.Keys.{Key, IsNotAfter, IsLeastKey, key_at}
-use Rattle.region_queue.specs.declared.keys.Keys.{Keys}
 use Rattle.region_queue.specs.Covering.{Covers, IsSettled}
 use Rattle.region_queue.specs.Finding.{HasKey, IsHolder}
 use Rattle.region_queue.proofs.Covered.{CandidatesOf, IsTakenOf, IsRetaken, covered_from}
@@ -19,19 +19,19 @@ after_other : (s t : Stamp) → ¬ Before t s → ¬ (s ≡ t) → Before s t
 after_other s t not ne = elim (before_decides s t) [ inl before ↦ before | inr back ↦ absurd (ne (same_stamp s t back not)) ]
 
 -- where the disks that had the least key, which is no candidate, have their best ones
-pub rises : (C : Stamp → Type 0) (old new : Keys) (last : Stamp) (key : Key) → Covers C old.tree old.bounds → ¬ C last →
-    IsLeastKey old.tree (Some last) → ((i : ℕ) → IsRetaken C (IsHolder old last) old new i) → IsLeastKey new.tree key → IfSome key (Before last)
+pub rises : (C : Stamp → Type 0) (old new : EntriesData) (last : Stamp) (key : Key) → Covers C old.keys old.bounds → ¬ C last →
+    IsLeastKey old.keys (Some last) → ((i : ℕ) → IsRetaken C (IsHolder old last) old new i) → IsLeastKey new.keys key → IfSome key (Before last)
 rises C old new last None covers none least kept is = tt
 rises C old new last (Some s) covers none least kept is = from (is.one s refl).0 (is.one s refl).1 (kept (is.one s refl).0)
   where
-    from : (i : ℕ) → key_at new.tree i ≡ Some s → IsRetaken C (IsHolder old last) old new i → Before last s
+    from : (i : ℕ) → key_at new.keys i ≡ Some s → IsRetaken C (IsHolder old last) old new i → Before last s
     from i at (inl taken) =
         let c = (subst (IsLeastOf (CandidatesOf C i)) at taken.0).0.0 in
-        after_other last s (covered_from C old.tree old.bounds (Some last) s covers least c) (λ same. none (subst C (sym same) c))
+        after_other last s (covered_from C old.keys old.bounds (Some last) s covers least c) (λ same. none (subst C (sym same) c))
     from i at (inr k) =
-        let was : key_at old.tree i ≡ Some s = sym (ap (λ (entry : Key × Key). entry.0) k.0) ∙ at in
+        let was : key_at old.keys i ≡ Some s = sym (ap (λ (entry : Key × Key). entry.0) k.0) ∙ at in
         after_other last s (subst (IsNotAfter (Some last)) was (least.least i))
-        (λ same. let here = subst (λ (t : Stamp). key_at old.tree i ≡ Some t) (sym same) was in k.1 ((covers.each i).named last here, here))
+        (λ same. let here = subst (λ (t : Stamp). key_at old.keys i ≡ Some t) (sym same) was in k.1 ((covers.each i).named last here, here))
 
 -- ---- and is a candidate in the end
 pub none_left : (C : Stamp → Type 0) (keys : List Key) → IsLeastKey keys None → IsSettled C keys
@@ -80,7 +80,7 @@ below_falls s (Some t) hs hk before =
     omega arith
 
 -- ---- disks that have a key
-pub held : (C : Stamp → Type 0) (old mid new : Keys) (s : Stamp) →
+pub held : (C : Stamp → Type 0) (old mid new : EntriesData) (s : Stamp) →
     ((i : ℕ) → IsRetaken C (HasKey old s.first s) old mid i) → ((i : ℕ) → IsRetaken C (HasKey mid s.second s) mid new i) →
     (i : ℕ) → IsRetaken C (IsHolder old s) old new i
 held C old mid new s first second i = from (first i) (second i)

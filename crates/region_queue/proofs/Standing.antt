@@ -7,6 +7,7 @@ use Rattle.std.specs.FinMap as map
 use Rattle.fixed_motion.specs.declared.rules.Rules.{Rules}
 use Rattle.event_stamps.specs.declared.Stamp.{Stamp}
 use Rattle.event_stamps.specs.Least.{IsLeast, IsLeastOf}
+use Rattle.event_tree.specs.Entries.{EntriesData}
 use Rattle.event_tree.specs.Keys.{Key, IsLeastKey}
 use Rattle.cell_grid.specs.Grid.{GridData, IsCell}
 use Rattle.cell_grid.specs.declared.grid.Strip.{Strip}
@@ -14,7 +15,6 @@ use Rattle.region_view.specs.declared.action.Placed.{Placed}
 use Rattle.region_view.specs.Placing.{IsNative, IsValidPlacing}
 use Rattle.region_view.specs.Views.{ViewData, rows_in}
 use Rattle.region_queue.specs.declared.finder.Finder.{Finder}
-use Rattle.region_queue.specs.declared.keys.Keys.{Keys}
 use Rattle.region_view.specs.Naming.{Names, IsSameBut, IsSameButBy, IsMoved}
 use Rattle.region_view.proofs.Naming.{native_stays, natives_stay}
 use Rattle.region_queue.specs.Finding.{Cells, cell_in, AreListed, AreRelisted, AreRelistedOf, AreRetaken, AreGiven, IsFound, IsReady}
@@ -36,20 +36,20 @@ lists_again before after Such old new listed same again i = from (again i)
 
 -- ---- the queue
 -- where the keys cover the candidates of a view, and are settled after that, the queue stands for it
-pub stands_settled : {E : Type 0} (done : Result ⊤ E) (finder : Finder) (view : ViewData) (mid new : Keys) →
-    OnOk done (AreListed view finder.lists.cells → Covers (IsFound finder view) mid.tree mid.bounds → Covers (IsFound finder view) new.tree new.bounds) →
-    OnOk done (AreListed view finder.lists.cells → Covers (IsFound finder view) mid.tree mid.bounds → IsSettled (IsFound finder view) new.tree) →
-    OnOk done (AreListed view finder.lists.cells → Covers (IsFound finder view) mid.tree mid.bounds →
-    StandsFor (queue_of finder.rules finder.grid finder.region finder.lists.cells new.tree new.bounds) view)
+pub stands_settled : {E : Type 0} (done : Result ⊤ E) (finder : Finder) (view : ViewData) (mid new : EntriesData) →
+    OnOk done (AreListed view finder.lists.cells → Covers (IsFound finder view) mid.keys mid.bounds → Covers (IsFound finder view) new.keys new.bounds) →
+    OnOk done (AreListed view finder.lists.cells → Covers (IsFound finder view) mid.keys mid.bounds → IsSettled (IsFound finder view) new.keys) →
+    OnOk done (AreListed view finder.lists.cells → Covers (IsFound finder view) mid.keys mid.bounds →
+    StandsFor (queue_of finder.rules finder.grid finder.region finder.lists.cells new.keys new.bounds) view)
 unfolding StandsFor
 stands_settled (Ok done) finder view mid new covers settled = λ listed again. (listed, (covers listed again, settled listed again))
 stands_settled (Err e) finder view mid new covers settled = tt
 
 -- after changes of some disks
-pub stands_again : (finder : Finder) (before after : ViewData) (was : Cells) (ids : List ℕ) (old mid : Keys) →
+pub stands_again : (finder : Finder) (before after : ViewData) (was : Cells) (ids : List ℕ) (old mid : EntriesData) →
     AreRelisted after ids was finder.lists.cells → (AreListed after finder.lists.cells → AreRetaken finder after ids old mid) →
-    IsSameBut ids before after → StandsFor (queue_of finder.rules finder.grid finder.region was old.tree old.bounds) before →
-    AreListed after finder.lists.cells × Covers (IsFound finder after) mid.tree mid.bounds
+    IsSameBut ids before after → StandsFor (queue_of finder.rules finder.grid finder.region was old.keys old.bounds) before →
+    AreListed after finder.lists.cells × Covers (IsFound finder after) mid.keys mid.bounds
 unfolding StandsFor
 stands_again finder before after was ids old mid relisted retaken same stands = (
   listed,
@@ -61,10 +61,10 @@ stands_again finder before after was ids old mid relisted retaken same stands = 
     listed = lists_again before after (λ i. Contains ids i) was finder.lists.cells stands.0 same relisted
 
 -- after an event is taken back
-pub stands_back : (finder : Finder) (s : Stamp) (later view : ViewData) (was : Cells) (old mid : Keys) →
+pub stands_back : (finder : Finder) (s : Stamp) (later view : ViewData) (was : Cells) (old mid : EntriesData) →
     AreRelistedOf view (Names s) was finder.lists.cells → IsLeast (IsFound finder view) s → AreGiven s old mid →
-    IsSameButBy s later view → StandsFor (queue_of finder.rules finder.grid finder.region was old.tree old.bounds) later →
-    AreListed view finder.lists.cells × Covers (IsFound finder view) mid.tree mid.bounds
+    IsSameButBy s later view → StandsFor (queue_of finder.rules finder.grid finder.region was old.keys old.bounds) later →
+    AreListed view finder.lists.cells × Covers (IsFound finder view) mid.keys mid.bounds
 unfolding StandsFor
 stands_back finder s later view was old mid relisted least given same stands = (
   lists_again later view (Names s) was finder.lists.cells stands.0 same relisted,
@@ -73,12 +73,12 @@ stands_back finder s later view was old mid relisted least given same stands = (
 )
 
 -- after a disk has come to another cell
-pub stands_moved : (finder : Finder) (before view : ViewData) (was : Cells) (disk : ℕ) (cell : Option ℕ) (old mid : Keys) →
+pub stands_moved : (finder : Finder) (before view : ViewData) (was : Cells) (disk : ℕ) (cell : Option ℕ) (old mid : EntriesData) →
     AreRelisted view (disk ∷ []) was finder.lists.cells → cell ≡ map.get was disk →
     (AreListed view finder.lists.cells → (before : ViewData) → IsMoved disk before view → cell ≡ cell_in before disk →
-    Covers (IsFound finder before) old.tree old.bounds → Covers (IsFound finder view) mid.tree mid.bounds) →
-    IsMoved disk before view → StandsFor (queue_of finder.rules finder.grid finder.region was old.tree old.bounds) before →
-    AreListed view finder.lists.cells × Covers (IsFound finder view) mid.tree mid.bounds
+    Covers (IsFound finder before) old.keys old.bounds → Covers (IsFound finder view) mid.keys mid.bounds) →
+    IsMoved disk before view → StandsFor (queue_of finder.rules finder.grid finder.region was old.keys old.bounds) before →
+    AreListed view finder.lists.cells × Covers (IsFound finder view) mid.keys mid.bounds
 unfolding StandsFor
 stands_moved finder before view was disk cell old mid relisted at covers moved stands =
     (listed, covers listed before moved (at ∙ stands.0 disk) stands.1.0)

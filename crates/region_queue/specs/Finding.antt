@@ -1,5 +1,5 @@
 -- What is found and kept of one disk.
-use Rattle.std.specs.Prelude.{◌≡◌, ◌≢◌, ◌⊎◌, ℕ, ◌<◌, ◌≤◌, Bool, IsTrue, List, Option, Some, IfSome, option_map}
+use Rattle.std.specs.Prelude.{◌≡◌, ◌≢◌, ◌⊎◌, ℕ, ◌<◌, Bool, IsTrue, List, Option, Some, IfSome, option_map}
 use Rattle.std.specs.Ordering.{nat_cmp}
 use Rattle.std.specs.FinMap as map
 use Rattle.std.specs.List.{Contains}
@@ -9,10 +9,10 @@ use Rattle.fixed_motion.specs.Rules.{IsChecked}
 use Rattle.event_stamps.specs.declared.Stamp.{Stamp}
 use Rattle.event_stamps.specs.declared.Kind.TheVariants.{Pair}
 use Rattle.event_stamps.specs.Least.{IsLeastOf, earlier_of}
+use Rattle.event_tree.specs.Entries.{EntriesData, IsEntered, entry_at}
 use Rattle.event_tree.specs.Keys.{Key, key_at}
 use Rattle.event_rules.specs.Events.{NeverHit}
 use Rattle.event_rules.specs.Small.{IsSmallPair}
-use Rattle.cell_grid.specs.declared.grid.Strip.{Strip}
 use Rattle.cell_grid.specs.Grid.{GridData, IsGridOf, IsRegion, IsCell, IsAdjacent, IsStripOf, Owns}
 use Rattle.cell_lists.specs.declared.near.Block.{Block}
 use Rattle.cell_lists.specs.Listing.{ListsData, IsFree}
@@ -22,7 +22,6 @@ use Rattle.region_view.specs.Events.{IsAlone, IsNear}
 use Rattle.region_view.specs.Placing.{IsNative, IsValidPlacing}
 use Rattle.region_view.specs.Views.{ViewData, rows_in}
 use Rattle.region_queue.specs.declared.finder.Finder.{Finder}
-use Rattle.region_queue.specs.declared.keys.Keys.{Keys}
 use Rattle.region_view.specs.Naming.{Names, IsPairOf}
 
 -- ---- where disks are listed
@@ -155,48 +154,39 @@ abbrev pub IsBestBeyond : Finder → ViewData → ℕ → ℕ → Key → Type 0
 IsBestBeyond finder view disk cell key = IsLeastOf (IsPairedBeyond finder view disk cell) key
 
 -- ---- what is kept of the disks
--- a disk's key, and the bound of its pairs
-abbrev pub entry_at : Keys → ℕ → Key × Key
-entry_at keys disk = (key_at keys.tree disk, key_at keys.bounds disk)
-
--- one disk has this entry, and the others have theirs
-pub record IsEntered (disk : ℕ) (entry : Key × Key) (old new : Keys) : Type 0 where
-  pub set : entry_at new disk ≡ entry
-  pub others : (other : ℕ) → other ≢ disk → entry_at new other ≡ entry_at old other
-
 -- the least native candidate that names the disk, and the least pair
 abbrev pub IsTaken : Finder → ViewData → ℕ → Key × Key → Type 0
 IsTaken finder view disk entry = IsBest finder view disk entry.0 × IsBestPair finder view disk entry.1
 
 -- so is the entry of one disk, and the others have theirs
-pub record IsTakenAt (finder : Finder) (view : ViewData) (disk : ℕ) (old new : Keys) : Type 0 where
+pub record IsTakenAt (finder : Finder) (view : ViewData) (disk : ℕ) (old new : EntriesData) : Type 0 where
   pub taken : IsTaken finder view disk (entry_at new disk)
   pub others : (other : ℕ) → other ≢ disk → entry_at new other ≡ entry_at old other
 
 -- so are the entries of such disks, and those of others too or are as they were
-abbrev pub AreRetakenOf : Finder → ViewData → (ℕ → Type 0) → Keys → Keys → Type 0
+abbrev pub AreRetakenOf : Finder → ViewData → (ℕ → Type 0) → EntriesData → EntriesData → Type 0
 AreRetakenOf finder view Such old new = (i : ℕ) →
     IsTaken finder view i (entry_at new i) ⊎ ((entry_at new i ≡ entry_at old i) × ¬ Such i)
 
-abbrev pub AreRetaken : Finder → ViewData → List ℕ → Keys → Keys → Type 0
+abbrev pub AreRetaken : Finder → ViewData → List ℕ → EntriesData → EntriesData → Type 0
 AreRetaken finder view disks old new = AreRetakenOf finder view (λ i. Contains disks i) old new
 
 -- the disk's bound is the earlier of the old one and its least pair beyond the cells adjacent to this one, and its key
 -- the earlier of that and its least candidate by itself
-abbrev pub IsExtended : Finder → ViewData → ℕ → ℕ → Keys → Keys → Type 0
+abbrev pub IsExtended : Finder → ViewData → ℕ → ℕ → EntriesData → EntriesData → Type 0
 IsExtended finder view disk cell old new = (single : Key) × (beyond : Key) × IsBestSingle finder view disk single
     × IsBestBeyond finder view disk cell beyond
     × IsEntered disk (earlier_of single (earlier_of (key_at old.bounds disk) beyond), earlier_of (key_at old.bounds disk) beyond) old new
 
 -- the keys and bounds of an event's disks are its stamp, and the others are as they were
-pub record AreGiven (s : Stamp) (old new : Keys) : Type 0 where
+pub record AreGiven (s : Stamp) (old new : EntriesData) : Type 0 where
   pub given : (i : ℕ) → Names s i → entry_at new i ≡ (Some s, Some s)
   pub others : (i : ℕ) → ¬ Names s i → entry_at new i ≡ entry_at old i
 
 -- it is this disk, and its key is this one
-abbrev pub HasKey : Keys → ℕ → Stamp → ℕ → Type 0
-HasKey keys disk s i = (i ≡ disk) × (key_at keys.tree i ≡ Some s)
+abbrev pub HasKey : EntriesData → ℕ → Stamp → ℕ → Type 0
+HasKey entries disk s i = (i ≡ disk) × (key_at entries.keys i ≡ Some s)
 
 -- the disk has this key, which names it
-abbrev pub IsHolder : Keys → Stamp → ℕ → Type 0
-IsHolder keys s i = Names s i × (key_at keys.tree i ≡ Some s)
+abbrev pub IsHolder : EntriesData → Stamp → ℕ → Type 0
+IsHolder entries s i = Names s i × (key_at entries.keys i ≡ Some s)

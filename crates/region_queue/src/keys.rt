@@ -1,6 +1,6 @@
 //! The keys of a region's disks, and when they are taken again.
 
-ghost use Rattle.std.specs.Prelude.{◌≡◌, ◌↔◌, [], Some, IsTrue, IfSome, OnOk};
+ghost use Rattle.std.specs.Prelude.{◌≡◌, ◌↔◌, Some, IsTrue, IfSome, OnOk};
 ghost use Rattle.event_stamps.specs.declared.Kind.TheVariants.{Pair};
 ghost use Rattle.event_stamps.specs.Order.{IsInRange};
 ghost use Rattle.cell_grid.specs.Grid.{IsCell, Owns};
@@ -9,56 +9,19 @@ ghost use Rattle.region_view.specs.Views.{ViewData, rows_in};
 ghost use Rattle.region_view.specs.Naming.{IsMoved};
 ghost use Rattle.region_queue.specs.Covering.{Covers, IsSettled};
 ghost use Rattle.region_queue.specs.Finding.{IsReady, IsFound, AreListed, AreRetaken, AreRetakenOf, AreGiven};
-ghost use Rattle.region_queue.specs.Finding.{IsEntered, IsTakenAt, IsExtended, HasKey, IsHolder, cell_in};
+ghost use Rattle.region_queue.specs.Finding.{IsTakenAt, IsExtended, HasKey, IsHolder, cell_in};
 
-use crate::bounds::Bounds;
 use crate::finder::{Finder, has_stamp};
 use event_stamps::{Kind, Stamp};
-use event_tree::{EventTree, Packed};
+use event_tree::{Entries, Packed};
 use region_view::View;
 use std::alloc::{AllocError, Global};
-
-// What is kept of each disk.
-#[derive(Drop)]
-pub(crate) struct Keys {
-    // The least native candidate that names the disk, as of when it was last taken.
-    pub tree: EventTree,
-    // A stamp after none of its pairs, as of then: the least of them, or one that has come before it.
-    pub bounds: Bounds,
-}
-
-impl Keys {
-    // Nothing of any disk. No memory is taken.
-    pub fn new(alloc: Global) -> Keys
-        ensures tree { result.tree ≡ [] }
-        ensures bounds { result.bounds ≡ [] }
-    {
-        Keys {
-            tree: EventTree::new(alloc),
-            bounds: Bounds::new(alloc),
-        }
-    }
-
-    // Sets the key of a disk, and the bound of its pairs.
-    pub fn set(
-        &mut self,
-        alloc: Global,
-        disk: u32,
-        key: Packed,
-        bound: Packed,
-    ) -> Result<(), AllocError>
-        ensures { OnOk result (IsEntered disk (key, bound) self.old self.new) }
-    {
-        self.bounds.set(alloc, disk, bound)?;
-        self.tree.set(alloc, disk, key)
-    }
-}
 
 // Takes the keys of these disks again.
 pub(crate) fn take_keys(
     alloc: Global,
     finder: &Finder,
-    keys: &mut Keys,
+    keys: &mut Entries,
     view: &View,
     disks: &[u32],
 ) -> Result<(), AllocError>
@@ -76,7 +39,7 @@ pub(crate) fn take_keys(
 fn take_key(
     alloc: Global,
     finder: &Finder,
-    keys: &mut Keys,
+    keys: &mut Entries,
     view: &View,
     disk: u32,
 ) -> Result<(), AllocError>
@@ -93,7 +56,7 @@ fn take_key(
 pub(crate) fn take_crossed(
     alloc: Global,
     finder: &Finder,
-    keys: &mut Keys,
+    keys: &mut Entries,
     view: &View,
     disk: u32,
     cell: Option<u32>,
@@ -102,13 +65,13 @@ pub(crate) fn take_crossed(
     requires cell { IfSome cell (IsCell finder.now.grid) }
     ensures { OnOk result (AreListed view.now finder.now.lists.cells → (before : ViewData) →
         IsMoved disk before view.now → cell ≡ cell_in before disk →
-        Covers (IsFound finder.now before) keys.old.tree keys.old.bounds →
-        Covers (IsFound finder.now view.now) keys.new.tree keys.new.bounds) }
+        Covers (IsFound finder.now before) keys.old.keys keys.old.bounds →
+        Covers (IsFound finder.now view.now) keys.new.keys keys.new.bounds) }
 {
     let Some(cell) = cell else {
         return take_key(alloc, finder, keys, view, disk);
     };
-    if is_owner_kept(finder, view, disk, cell) && is_pair_or_none(keys.bounds.get(disk)) {
+    if is_owner_kept(finder, view, disk, cell) && is_pair_or_none(keys.bound(disk)) {
         extend_key(alloc, finder, keys, view, disk, cell)
     } else {
         take_key(alloc, finder, keys, view, disk)
@@ -143,7 +106,7 @@ fn is_pair_or_none(key: Packed) -> bool
 fn extend_key(
     alloc: Global,
     finder: &Finder,
-    keys: &mut Keys,
+    keys: &mut Entries,
     view: &View,
     disk: u32,
     cell: u32,
@@ -153,7 +116,7 @@ fn extend_key(
     ensures { OnOk result (AreListed view.now finder.now.lists.cells →
         IsExtended finder.now view.now disk cell keys.old keys.new) }
 {
-    let known = keys.bounds.get(disk);
+    let known = keys.bound(disk);
     let best = finder.best_beyond(view, disk, cell);
     let bound = known.earlier(best.pair);
     let key = best.single.earlier(bound);
@@ -161,7 +124,7 @@ fn extend_key(
 }
 
 // Makes an event the key of its disks.
-pub(crate) fn give_key(alloc: Global, keys: &mut Keys, event: &Stamp) -> Result<(), AllocError>
+pub(crate) fn give_key(alloc: Global, keys: &mut Entries, event: &Stamp) -> Result<(), AllocError>
     requires { IsInRange event.now }
     ensures { OnOk result (AreGiven event.now keys.old keys.new) }
 {
@@ -185,25 +148,25 @@ pub(crate) fn is_of_pair(event: &Stamp) -> bool
 pub(crate) fn settle(
     alloc: Global,
     finder: &Finder,
-    keys: &mut Keys,
+    keys: &mut Entries,
     view: &View,
 ) -> Result<(), AllocError>
     requires { IsReady finder.now view.now }
     ensures covers { OnOk result (AreListed view.now finder.now.lists.cells →
-        Covers (IsFound finder.now view.now) keys.old.tree keys.old.bounds →
-        Covers (IsFound finder.now view.now) keys.new.tree keys.new.bounds) }
+        Covers (IsFound finder.now view.now) keys.old.keys keys.old.bounds →
+        Covers (IsFound finder.now view.now) keys.new.keys keys.new.bounds) }
     ensures settled { OnOk result (AreListed view.now finder.now.lists.cells →
-        Covers (IsFound finder.now view.now) keys.old.tree keys.old.bounds →
-        IsSettled (IsFound finder.now view.now) keys.new.tree) }
+        Covers (IsFound finder.now view.now) keys.old.keys keys.old.bounds →
+        IsSettled (IsFound finder.now view.now) keys.new.keys) }
 {
-    let mut least = keys.tree.top();
+    let mut least = keys.top();
     while let Some(stamp) = least.key() {
         if finder.is_fresh(view, &stamp) {
             break;
         }
         take_held(alloc, finder, keys, view, &stamp)?;
         // The least key is a later one, once all disks that had this key have theirs taken again.
-        least = keys.tree.top().if_after(least);
+        least = keys.top().if_after(least);
     }
     Ok(())
 }
@@ -212,7 +175,7 @@ pub(crate) fn settle(
 fn take_held(
     alloc: Global,
     finder: &Finder,
-    keys: &mut Keys,
+    keys: &mut Entries,
     view: &View,
     stamp: &Stamp,
 ) -> Result<(), AllocError>
@@ -228,7 +191,7 @@ fn take_held(
 fn take_if_held(
     alloc: Global,
     finder: &Finder,
-    keys: &mut Keys,
+    keys: &mut Entries,
     view: &View,
     stamp: &Stamp,
     disk: u32,
@@ -237,7 +200,7 @@ fn take_if_held(
     ensures { OnOk result (AreListed view.now finder.now.lists.cells →
         AreRetakenOf finder.now view.now (HasKey keys.old disk stamp.now) keys.old keys.new) }
 {
-    if has_stamp(keys.tree.key(disk), stamp) {
+    if has_stamp(keys.key(disk).key(), stamp) {
         take_key(alloc, finder, keys, view, disk)?;
     }
     Ok(())

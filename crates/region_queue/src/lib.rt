@@ -10,7 +10,6 @@
 //! disks that are beside both cells are those that they were, so that only the others are looked for.
 #![tactic(auto)]
 
-mod bounds;
 mod finder;
 mod keys;
 mod listing;

@@ -1,11 +1,12 @@
 //! The queue of a region.
 
 use crate::finder::Finder;
-use crate::keys::{Keys, give_key, settle, take_crossed, take_keys};
+use crate::keys::{give_key, settle, take_crossed, take_keys};
 use crate::listing::{list_again, list_event};
 use cell_grid::Grid;
 use cell_lists::Lists;
 use event_stamps::Stamp;
+use event_tree::Entries;
 use fixed_motion::Rules;
 use region_view::View;
 use std::alloc::{AllocError, Global};
@@ -18,7 +19,9 @@ use std::marker::Model;
 #[derive(Drop)]
 pub struct Queue {
     finder: Finder,
-    keys: Keys,
+    // Of each disk: the least native candidate that names it, as of when it was last taken; and a stamp after none
+    // of its pairs, as of then, which is the least of them or one that has come before it.
+    keys: Entries,
 }
 
 impl Model for Queue {
@@ -28,7 +31,7 @@ impl Model for Queue {
 
     ghost coded = { queue_code };
 
-    ghost view = { λ a. queue_of a.finder.rules a.finder.grid a.finder.region a.finder.lists.cells a.keys.tree a.keys.bounds };
+    ghost view = { λ a. queue_of a.finder.rules a.finder.grid a.finder.region a.finder.lists.cells a.keys.keys a.keys.bounds };
 
     ghost invariant = { λ a. IsSound a.finder.rules a.finder.grid a.finder.region a.finder.strip a.finder.lists.grid };
 }
@@ -84,7 +87,7 @@ impl Queue {
         ensures { (view : ViewData) → StandsFor self.now view →
             IsLeastOf (IsNative self.now.rules self.now.grid self.now.region (rows_in view)) result }
     {
-        self.keys.tree.least()
+        self.keys.least()
     }
 
     /// Takes in the changes of these disks, to what stands at their numbers in a view. The queue then stands
@@ -153,7 +156,7 @@ impl Queue {
                 strip: grid.strip(region),
                 lists: Lists::new(alloc, grid)?,
             },
-            keys: Keys::new(alloc),
+            keys: Entries::new(alloc),
         })
     }
 }

@@ -22,12 +22,12 @@ loop-stamp-preserved c = λ listed covers.
     let stamp = c.in-Some.stamp in
     let key : c.loop-stamp.least ≡ Some stamp = sym c.in-Some.ensures.value in
     let was = c.loop-stamp.invariant listed covers in
-    let least = subst (λ (k : Key). IsLeastKey old.tree k) key was.1 in
+    let least = subst (λ (k : Key). IsLeastKey old.keys k) key was.1 in
     let again = c.in_ok-take_held.ensures listed in
     let same = c.if_after-least.ensures.same stamp key
     (rises C old new stamp c.top.result was.0 (c.is_fresh.ensures.stale c.if-is_fresh.false) least again c.top.ensures) in (
       covers_still C (IsHolder old stamp) old new was.0 again,
-      subst (λ (k : Key). IsLeastKey new.tree k) (sym same) c.top.ensures,
+      subst (λ (k : Key). IsLeastKey new.keys k) (sym same) c.top.ensures,
     )
 
 pub returns-then-is_fresh-clause-settled : goal.returns-then-is_fresh-clause-settled
@@ -36,13 +36,13 @@ returns-then-is_fresh-clause-settled c = λ listed covers.
     let stamp = c.in-Some.stamp in
     let key : c.loop-stamp.least ≡ Some stamp = sym c.in-Some.ensures.value in
     let was = c.loop-stamp.invariant listed covers in
-    fresh_settled C c.loop-stamp.keys.tree c.loop-stamp.keys.bounds stamp was.0 (subst (λ (k : Key). IsLeastKey c.loop-stamp.keys.tree k) key was.1)
+    fresh_settled C c.loop-stamp.keys.keys c.loop-stamp.keys.bounds stamp was.0 (subst (λ (k : Key). IsLeastKey c.loop-stamp.keys.keys k) key was.1)
     (c.is_fresh.ensures.fresh c.if-is_fresh.true) (is_pair_or_not stamp.kind)
 
 pub returns-in_default-clause-settled : goal.returns-in_default-clause-settled
 returns-in_default-clause-settled c = λ listed covers.
-    none_left (IsFound c.args.finder.now c.args.view.now) c.loop-stamp.keys.tree
-    (subst (λ (key : Key). IsLeastKey c.loop-stamp.keys.tree key) (sym c.key.ensures.value ∙ c.in_default.is)
+    none_left (IsFound c.args.finder.now c.args.view.now) c.loop-stamp.keys.keys
+    (subst (λ (key : Key). IsLeastKey c.loop-stamp.keys.keys key) (sym c.key.ensures.value ∙ c.in_default.is)
     (c.loop-stamp.invariant listed covers).1)
 
 pub returns-in_default-clause-covers : goal.returns-in_default-clause-covers

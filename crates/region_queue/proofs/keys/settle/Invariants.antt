@@ -6,8 +6,8 @@ use Rattle.region_queue.proofs.Settled.{below_all}
 use Rattle.region_queue.proofs.keys.settle.Given as goal
 
 abbrev pub invariant-loop-stamp : goal.invariant-loop-stamp
-invariant-loop-stamp l = AreListed l.view l.finder.lists.cells → Covers (IsFound l.finder l.view) l.fn.keys.tree l.fn.keys.bounds →
-    Covers (IsFound l.finder l.view) l.keys.tree l.keys.bounds × IsLeastKey l.keys.tree l.least
+invariant-loop-stamp l = AreListed l.view l.finder.lists.cells → Covers (IsFound l.finder l.view) l.fn.keys.keys l.fn.keys.bounds →
+    Covers (IsFound l.finder l.view) l.keys.keys l.keys.bounds × IsLeastKey l.keys.keys l.least
 
 abbrev pub decreases-loop-stamp : goal.decreases-loop-stamp
 decreases-loop-stamp l = below_all l.least

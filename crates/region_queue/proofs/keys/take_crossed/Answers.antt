@@ -21,7 +21,7 @@ returns-in_default c =
     let new = c.take_key.new.keys in
     on_ok c.take_key.result (AreListed view finder.lists.cells → IsTakenAt finder view disk old new)
     (AreListed view finder.lists.cells → (before : ViewData) → IsMoved disk before view → c.args.cell ≡ cell_in before disk →
-    Covers (IsFound finder before) old.tree old.bounds → Covers (IsFound finder view) new.tree new.bounds)
+    Covers (IsFound finder before) old.keys old.bounds → Covers (IsFound finder view) new.keys new.bounds)
     (λ taken listed before moved at covers. taken_covers finder before view disk old new moved (taken listed) covers) c.take_key.ensures
 
 pub returns-else-is_owner_kept : goal.returns-else-is_owner_kept
@@ -33,7 +33,7 @@ returns-else-is_owner_kept c =
     let new = c.take_key-else-is_owner_kept.new.keys in
     on_ok c.take_key-else-is_owner_kept.result (AreListed view finder.lists.cells → IsTakenAt finder view disk old new)
     (AreListed view finder.lists.cells → (before : ViewData) → IsMoved disk before view → c.args.cell ≡ cell_in before disk →
-    Covers (IsFound finder before) old.tree old.bounds → Covers (IsFound finder view) new.tree new.bounds)
+    Covers (IsFound finder before) old.keys old.bounds → Covers (IsFound finder view) new.keys new.bounds)
     (λ taken listed before moved at covers. taken_covers finder before view disk old new moved (taken listed) covers)
     c.take_key-else-is_owner_kept.ensures
 
@@ -47,10 +47,10 @@ returns-then-is_pair_or_none c =
     let new = c.extend_key.new.keys in
     on_ok c.extend_key.result (AreListed view finder.lists.cells → IsExtended finder view disk cell old new)
     (AreListed view finder.lists.cells → (before : ViewData) → IsMoved disk before view → c.args.cell ≡ cell_in before disk →
-    Covers (IsFound finder before) old.tree old.bounds → Covers (IsFound finder view) new.tree new.bounds)
+    Covers (IsFound finder before) old.keys old.bounds → Covers (IsFound finder view) new.keys new.bounds)
     (λ extended listed before moved at covers.
     moved_covers finder before view disk cell old new moved (sym c.in-Some.is ∙ at) (c.is_owner_kept.ensures c.if-is_owner_kept.true)
-    (subst (λ (key : Key). IfSome key (λ s. s.kind ≡ Pair)) c.get.ensures (c.is_pair_or_none.ensures c.if-is_pair_or_none.true))
+    (subst (λ (key : Key). IfSome key (λ s. s.kind ≡ Pair)) c.bound.ensures (c.is_pair_or_none.ensures c.if-is_pair_or_none.true))
     (extended listed) covers)
     c.extend_key.ensures
 

@@ -16,5 +16,5 @@ returns-else-has_stamp c = λ listed i.
     inr (
       refl,
       λ such. both_ways c.has_stamp.result c.if-has_stamp.false
-          (c.has_stamp.ensures.1 (c.key.ensures ∙ ap (key_at c.args.keys.now.tree) (sym such.0) ∙ such.1)),
+          (c.has_stamp.ensures.1 (c.key-2.ensures.value ∙ c.key.ensures ∙ ap (key_at c.args.keys.now.keys) (sym such.0) ∙ such.1)),
     )

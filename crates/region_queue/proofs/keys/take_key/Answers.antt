@@ -1,7 +1,8 @@
 -- The events of the disk by itself, and with others near.
 use Rattle.std.proofs.Common.{sym, subst}
+use Rattle.event_tree.specs.Entries.{IsEntered}
 use Rattle.event_tree.specs.Keys.{Key}
-use Rattle.region_queue.specs.Finding.{AreListed, IsBest, IsTaken, IsEntered, IsTakenAt}
+use Rattle.region_queue.specs.Finding.{AreListed, IsBest, IsTaken, IsTakenAt}
 use Rattle.region_queue.proofs.Again.{on_ok}
 use Rattle.region_queue.proofs.Candidates.{best_of_both}
 use Rattle.region_queue.proofs.keys.take_key.Goals as goal

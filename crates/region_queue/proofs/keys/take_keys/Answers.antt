@@ -1,7 +1,8 @@
 -- One more key is taken again.
 use Rattle.std.proofs.Common.{◌<◌, List, ℕ, take, length, get_or, arith, sym, subst}
 use Rattle.std.proofs.lemmas.List.{take_more}
-use Rattle.region_queue.specs.Finding.{IsTaken, AreRetaken, entry_at}
+use Rattle.event_tree.specs.Entries.{entry_at}
+use Rattle.region_queue.specs.Finding.{IsTaken, AreRetaken}
 use Rattle.region_queue.proofs.Again.{again_none, retaken_more, take_whole}
 use Rattle.region_queue.proofs.keys.take_keys.Goals as goal
 

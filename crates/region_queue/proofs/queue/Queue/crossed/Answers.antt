@@ -27,12 +27,12 @@ returns-clause-stands c =
     let new = c.settle.new.keys in
     let disk = c.args.disk in
     let view = c.args.view.now in
-    let queue = queue_of finder.rules finder.grid finder.region was old.tree old.bounds in
-    let again = queue_of finder.rules finder.grid finder.region finder.lists.cells new.tree new.bounds in
+    let queue = queue_of finder.rules finder.grid finder.region was old.keys old.bounds in
+    let again = queue_of finder.rules finder.grid finder.region finder.lists.cells new.keys new.bounds in
     subst (λ (q : QueueData). OnOk c.settle.result ((before : ViewData) → StandsFor q before → IsMoved disk before view → StandsFor again view))
     c.self.view_is
     (on_ok c.settle.result
-    (AreListed view finder.lists.cells → Covers (IsFound finder view) mid.tree mid.bounds → StandsFor again view)
+    (AreListed view finder.lists.cells → Covers (IsFound finder view) mid.keys mid.bounds → StandsFor again view)
     ((before : ViewData) → StandsFor queue before → IsMoved disk before view → StandsFor again view)
     (λ once before stands moved.
     let is =

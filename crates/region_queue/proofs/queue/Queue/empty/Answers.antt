@@ -1,7 +1,7 @@
 -- No disk is listed, and none has a key.
-use Rattle.std.proofs.Common.{List, [], refl, sym, ap, subst}
+use Rattle.std.proofs.Common.{refl, sym, ap, subst}
 use Rattle.std.specs.FinMap as map
-use Rattle.event_tree.specs.Keys.{Key}
+use Rattle.event_tree.specs.Entries.{EntriesData}
 use Rattle.cell_lists.specs.Listing.{ListsData}
 use Rattle.region_queue.specs.Finding.{Cells}
 use Rattle.region_queue.specs.Queue.{queue_of, StandsFor}
@@ -13,12 +13,10 @@ returns c =
     let rules = c.args.rules.now in
     let grid = c.args.grid.now in (
       record { rules = refl; grid = refl; region = refl },
-      subst (λ (cells : Cells). StandsFor (queue_of rules grid c.args.region cells c.new-2.result.tree c.new-2.result.bounds) map.empty)
+      subst (λ (cells : Cells). StandsFor (queue_of rules grid c.args.region cells c.new-2.result.keys c.new-2.result.bounds) map.empty)
           (sym (ap (λ (l : ListsData). l.cells) c.in_ok-new.ensures))
-          (subst (λ (keys : List Key). StandsFor (queue_of rules grid c.args.region map.empty keys c.new-2.result.bounds) map.empty)
-          (sym c.new-2.ensures.tree)
-          (subst (λ (keys : List Key). StandsFor (queue_of rules grid c.args.region map.empty [] keys) map.empty) (sym c.new-2.ensures.bounds)
-          (empty_stands rules grid c.args.region))),
+          (subst (λ (entries : EntriesData). StandsFor (queue_of rules grid c.args.region map.empty entries.keys entries.bounds) map.empty)
+          (sym c.new-2.ensures) (empty_stands rules grid c.args.region)),
     )
 
 pub invariant_of-result : goal.invariant_of-result

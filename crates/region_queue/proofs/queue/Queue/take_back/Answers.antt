@@ -43,12 +43,12 @@ returns-clause-stands c =
     let s = c.args.event.now in
     let view = c.args.view.now in
     let least = subst (λ (q : QueueData). IsLeast (IsNative q.rules q.grid q.region (rows_in view)) s) (sym c.self.view_is) c.requires.least in
-    let queue = queue_of finder.rules finder.grid finder.region was old.tree old.bounds in
-    let again = queue_of finder.rules finder.grid finder.region finder.lists.cells new.tree new.bounds in
+    let queue = queue_of finder.rules finder.grid finder.region was old.keys old.bounds in
+    let again = queue_of finder.rules finder.grid finder.region finder.lists.cells new.keys new.bounds in
     subst (λ (q : QueueData). OnOk c.settle.result ((later : ViewData) → StandsFor q later → IsSameButBy s later view → StandsFor again view))
     c.self.view_is
     (on_ok c.settle.result
-    (AreListed view finder.lists.cells → Covers (IsFound finder view) mid.tree mid.bounds → StandsFor again view)
+    (AreListed view finder.lists.cells → Covers (IsFound finder view) mid.keys mid.bounds → StandsFor again view)
     ((later : ViewData) → StandsFor queue later → IsSameButBy s later view → StandsFor again view)
     (λ once later stands same.
     let is = stands_back finder s later view was old mid c.in_ok-list_event.ensures.listed least c.in_ok-give_key.ensures same stands in
