@@ -171,7 +171,32 @@ const CROWD: &str = "width = 124\n\
     [12, 8, 2, 1], [12, 32, 2, -2], [32, 20, 1, -2], [32, 44, -2, -2], [52, 8, 2, 3], [52, 56, -1, 1], \
     [72, 20, 1, -2], [72, 44, -1, 1], [92, 8, -2, 2], [92, 32, -1, 2], [112, 20, -3, 2], [112, 44, 1, -2]]\n";
 
-// More events than the run has.
+// Disks in a line that touch but for one unit: a velocity goes from the first to the last within one tick, by rounds
+// from 0 to 10.
+const ROUNDS: &str = "width = 124\n\
+    height = 20\n\
+    diameter = 4\n\
+    speed_limit = 8\n\
+    round_limit = 64\n\
+    end = 60\n\
+    disks = [\
+    [10, 10, 2, 0], [15, 10, 0, 0], [20, 10, 0, 0], [25, 10, 0, 0], [30, 10, 0, 0], [35, 10, 0, 0], \
+    [40, 10, 0, 0], [45, 10, 0, 0], [50, 10, 0, 0], [55, 10, 0, 0], [60, 10, 0, 0], [65, 10, 0, 0]]\n";
+
+// Disks so slow in a box so wide that they have events before the tick 2^27, at it and after it.
+const TICKS: &str = "width = 536870912\n\
+    height = 4096\n\
+    diameter = 4\n\
+    speed_limit = 8\n\
+    round_limit = 8\n\
+    end = 268435456\n\
+    disks = [\
+    [100, 100, 1, 0], [134217831, 100, 0, 0], [100, 200, 1, 0], [134217832, 200, 0, 0], \
+    [100, 300, 1, 0], [134217833, 300, 0, 0], [100, 400, 2, 0], [300, 400, -2, 0]]\n";
+
+const SCENES: &[&str] = &[CROWD, ROUNDS, TICKS];
+
+// More events than a run has.
 const MOST_EVENTS: u32 = 10_000;
 
 const LEAST_CALLS: u32 = 2_000;
@@ -183,11 +208,13 @@ type Course = (u32, u32, Option<(Event, Event)>);
 #[test]
 fn queues_that_are_kept_find_what_queues_opened_anew_find(rt: HostRuntime) -> Result<(), Fail> {
     let (mut calls, mut events): (u32, u32) = (0, 0);
-    for region in 0..REGIONS {
-        let (more, found, wrong) = course_of(rt.alloc(), region)?;
-        expect(&rt, region as usize, wrong, None);
-        calls = calls.wrapping_add(more);
-        events = events.wrapping_add(found);
+    for text in SCENES {
+        for region in 0..REGIONS {
+            let (more, found, wrong) = course_of(rt.alloc(), text, region)?;
+            expect(&rt, region as usize, wrong, None);
+            calls = calls.wrapping_add(more);
+            events = events.wrapping_add(found);
+        }
     }
     let is_enough = calls >= LEAST_CALLS && events >= 200;
     expect(&rt, calls as usize, is_enough, true);
@@ -195,8 +222,8 @@ fn queues_that_are_kept_find_what_queues_opened_anew_find(rt: HostRuntime) -> Re
 }
 
 // No calls where the scene is refused, or the grid has no such region.
-fn course_of(alloc: Global, region: u32) -> Result<Course, AllocError> {
-    match opened(alloc, CROWD, REGIONS) {
+fn course_of(alloc: Global, text: &str, region: u32) -> Result<Course, AllocError> {
+    match opened(alloc, text, REGIONS) {
         Some(mut state) if region < state.grid().regions() => follow(alloc, &mut state, region),
         _ => Ok((0, 0, None)),
     }
