@@ -183,17 +183,18 @@ const ROUNDS: &str = "width = 124\n\
     [10, 10, 2, 0], [15, 10, 0, 0], [20, 10, 0, 0], [25, 10, 0, 0], [30, 10, 0, 0], [35, 10, 0, 0], \
     [40, 10, 0, 0], [45, 10, 0, 0], [50, 10, 0, 0], [55, 10, 0, 0], [60, 10, 0, 0], [65, 10, 0, 0]]\n";
 
-// Disks so slow in a box so wide that they have events before the tick 2^27, at it and after it.
+// Disks so slow and so far apart that pairs of them meet a tick before 2^27, at it and a tick after it.
 const TICKS: &str = "width = 536870912\n\
-    height = 4096\n\
-    diameter = 4\n\
+    height = 134217728\n\
+    diameter = 16777216\n\
     speed_limit = 8\n\
     round_limit = 8\n\
     end = 268435456\n\
     disks = [\
-    [100, 100, 1, 0], [134217831, 100, 0, 0], [100, 200, 1, 0], [134217832, 200, 0, 0], \
-    [100, 300, 1, 0], [134217833, 300, 0, 0], [100, 400, 2, 0], [300, 400, -2, 0]]\n";
+    [16777216, 16777216, 1, 0], [167772159, 16777216, 0, 0], [16777216, 50331648, 1, 0], \
+    [167772160, 50331648, 0, 0], [16777216, 83886080, 1, 0], [167772161, 83886080, 0, 0]]\n";
 
+// A row of the comparison is ten times the place of the scene, and the region.
 const SCENES: &[&str] = &[CROWD, ROUNDS, TICKS];
 
 // More events than a run has.
@@ -208,10 +209,11 @@ type Course = (u32, u32, Option<(Event, Event)>);
 #[test]
 fn queues_that_are_kept_find_what_queues_opened_anew_find(rt: HostRuntime) -> Result<(), Fail> {
     let (mut calls, mut events): (u32, u32) = (0, 0);
-    for text in SCENES {
+    for (scene, text) in SCENES.iter().enumerate() {
         for region in 0..REGIONS {
             let (more, found, wrong) = course_of(rt.alloc(), text, region)?;
-            expect(&rt, region as usize, wrong, None);
+            let row = scene.wrapping_mul(10).wrapping_add(region as usize);
+            expect(&rt, row, wrong, None);
             calls = calls.wrapping_add(more);
             events = events.wrapping_add(found);
         }
