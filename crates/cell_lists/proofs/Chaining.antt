@@ -2,10 +2,13 @@
 use Rattle.std.proofs.Common.{ap, ◌≡◌, ◌≢◌, ◌⊎◌, ◌↔◌, ℕ, ◌+◌, ◌%◌, ◌^◌, ◌<◌, ◌≤◌, List, length, get_or, set, arith, refl, sym, subst, ◌∙◌, inl, inr}
 use Rattle.std.specs.Option.{option_eq}
 use Rattle.std.proofs.lemmas.Bool.{cases_lt, true≢false, false≢true, eqb-true, eq-eqb}
-use Rattle.std.specs.Prelude.{true, false, eqb, replicate, Option, Some, None}
+use Rattle.std.proofs.lemmas.Option.{none-some}
+use Rattle.std.specs.Prelude.{Bool, true, false, eqb, replicate, Option, Some, None, IsSome, IfSome, IsSomeAnd, IsTrue}
 use Rattle.std.proofs.lemmas.List.{get_or-set_same, get_or-set_other, get_or_past, get_or_default, get_or-replicate, length-set, length-replicate}
-use Rattle.cell_lists.specs.Chain.{ChainsData, chains_of, at, IsLinked, IsUnlinked, IsIn, InBucket, IsFirst, IsLast, IsChained}
-use Rattle.cell_lists.proofs.Firsts.{after_of, ascent, falls, first_kept, first_before, first_is, first_later, first_earlier}
+use Rattle.cell_lists.specs.declared.pointer.Pointer.{Pointer}
+use Rattle.cell_lists.specs.Pointer.{no_pointer, disk_of, SaysMore, pointer_at}
+use Rattle.cell_lists.specs.Chain.{ChainsData, chains_of, at, pointer_from, IsPointed, LeadsTo, IsMarkedAnew, IsLinked, IsUnlinked, IsIn, InBucket, IsFirst, IsLast, LeadsOn, IsChained}
+use Rattle.cell_lists.proofs.Firsts.{after_of, IsBefore, ascent, falls, first_kept, first_before, first_is, first_later, first_earlier, first_after_last, head_not_last, next_not_last, beyond, none_before, first_one, first_there}
 
 -- ---- a disk that is listed, or taken off
 pub same_or_not : (i j : ℕ) → (i ≡ j) ⊎ (i ≢ j)
@@ -61,11 +64,6 @@ unmoved old new m b d c from o changed (inr (inl lt)) h =
     first_kept (InBucket old m c) (InBucket new m c) from o (λ j le. changed.but c j (λ e. absurd (omega arith))) h
 unmoved old new m b d c from o changed (inr (inr p)) h =
     first_before (InBucket old m c) (InBucket new m c) d p.0 from o (λ j ne. changed.but c j ne) p.1 p.2 p.3 h
-
--- whether a disk comes right before d in its bucket
-abbrev IsBefore : Option ℕ → ℕ → Type 0
-IsBefore None i = ⊥
-IsBefore (Some p) i = i ≡ p
 
 less_or_more : (i d : ℕ) → i ≢ d → (i < d) ⊎ (d < i)
 less_or_more i d ne = grind arith
@@ -140,114 +138,366 @@ last_up_to xs m b d (Some p) is = let lt : p < d = is.0 in omega arith
 here_after : (cells : List (Option ℕ)) (m b d cell : ℕ) → d < length cells → cell % m ≡ b → InBucket (set cells d (Some cell)) m b d
 here_after cells m b d cell lt is = (cell, get_or-set_same cells d (Some cell) None lt, is)
 
--- the first with another spelling of the answer
-pub spelled : (cells : List (Option ℕ)) (m b from : ℕ) (x y : Option ℕ) → y ≡ x → IsFirst cells m b from x → IsFirst cells m b from y
-spelled cells m b from x y e h = subst (λ (o : Option ℕ). IsFirst cells m b from o) (sym e) h
+-- ---- pointers that were written
+pub pointed_heads : (heads nexts heads' nexts' : List Pointer) (b : ℕ) (q : Option ℕ) (x : Pointer) (c : ℕ) → IsPointed heads nexts b q x heads' nexts' →
+    c ≢ b → pointer_at heads' c ≡ pointer_at heads c
+pointed_heads heads nexts heads' nexts' b None x c h ne = ap (λ (xs : List Pointer). pointer_at xs c) h.0 ∙ get_or-set_other heads b c x no_pointer ne
+pointed_heads heads nexts heads' nexts' b (Some p) x c h ne = ap (λ (xs : List Pointer). pointer_at xs c) h.0
 
-renamed : (cells : List (Option ℕ)) (m b c from : ℕ) (o : Option ℕ) → c ≡ b → IsFirst cells m b from o → IsFirst cells m c from o
-renamed cells m b c from o e h = subst (λ (n : ℕ). IsFirst cells m n from o) (sym e) h
+pointed_nexts : (heads nexts heads' nexts' : List Pointer) (b : ℕ) (q : Option ℕ) (x : Pointer) (i : ℕ) → IsPointed heads nexts b q x heads' nexts' →
+    ¬ IsBefore q i → pointer_at nexts' i ≡ pointer_at nexts i
+pointed_nexts heads nexts heads' nexts' b None x i h other = ap (λ (xs : List Pointer). pointer_at xs i) h.1
+pointed_nexts heads nexts heads' nexts' b (Some p) x i h other = ap (λ (xs : List Pointer). pointer_at xs i) h.1 ∙ get_or-set_other nexts p i x no_pointer other
 
-pub chained_put : (heads nexts cells heads' nexts' : List (Option ℕ)) (b d cell : ℕ) (last : Option ℕ) → IsChained heads nexts cells → d < length cells → at cells d ≡ None →
-    cell % length heads ≡ b → b < length heads → IsLast cells (length heads) b d last → IsLinked heads nexts b d last heads' nexts' → IsChained heads' nexts' (set cells d (Some cell))
-chained_put heads nexts cells heads' nexts' b d cell None chained lt free is inside last links = rw (links.0, links.1) (record {
-  some = rw (length-set heads b (Some d)) chained.some;
-  few = rw (length-set cells d (Some cell)) chained.few;
-  len = length-set nexts d (at heads b) ∙ chained.len ∙ sym (length-set cells d (Some cell));
-  first = λ c less. rw (length-set heads b (Some d)) (first c (rw (length-set heads b (Some d)) at less) (same_or_not c b));
-  after = λ i c here. rw (length-set heads b (Some d)) (after i c (rw (length-set heads b (Some d)) at here) (same_or_not i d));
-})
+pointed_here : (heads nexts heads' nexts' : List Pointer) (b : ℕ) (q : Option ℕ) (x : Pointer) → IsPointed heads nexts b q x heads' nexts' →
+    b < length heads → IfSome q (λ p. p < length nexts) → pointer_from heads' nexts' b q ≡ x
+pointed_here heads nexts heads' nexts' b None x h inside within = ap (λ (xs : List Pointer). pointer_at xs b) h.0 ∙ get_or-set_same heads b x no_pointer inside
+pointed_here heads nexts heads' nexts' b (Some p) x h inside within = ap (λ (xs : List Pointer). pointer_at xs p) h.1 ∙ get_or-set_same nexts p x no_pointer within
+
+pub pointed_count : (heads nexts heads' nexts' : List Pointer) (b : ℕ) (q : Option ℕ) (x : Pointer) → IsPointed heads nexts b q x heads' nexts' →
+    (length heads' ≡ length heads) × (length nexts' ≡ length nexts)
+pointed_count heads nexts heads' nexts' b None x h = (ap length h.0 ∙ length-set heads b x, ap length h.1)
+pointed_count heads nexts heads' nexts' b (Some p) x h = (ap length h.0, ap length h.1 ∙ length-set nexts p x)
+
+-- the pointers but those at the last disk before d, at the second last, and at d are as they were
+record IsRestSame (heads nexts heads' nexts' : List Pointer) (b d : ℕ) (last second : Option ℕ) : Type 0 where
+  heads_count : length heads' ≡ length heads
+  nexts_count : length nexts' ≡ length nexts
+  others : (c : ℕ) → c ≢ b → pointer_at heads' c ≡ pointer_at heads c
+  head : (p q : ℕ) → last ≡ Some p → second ≡ Some q → pointer_at heads' b ≡ pointer_at heads b
+  behind : (i : ℕ) → i ≢ d → ¬ IsBefore last i → (IsSome last → ¬ IsBefore second i) → pointer_at nexts' i ≡ pointer_at nexts i
+
+-- ---- what says that there is more
+swapped : (old new : List (Option ℕ)) (m b d : ℕ) → Changed old new m b d → Changed new old m b d
+swapped old new m b d changed = record {
+  but = λ c j ne. (λ h. (changed.but c j ne).1 h, λ h. (changed.but c j ne).0 h);
+  other = λ c ne j. (λ h. (changed.other c ne j).1 h, λ h. (changed.other c ne j).0 h);
+}
+
+-- the last below d, or below one before d
+last_still : (old new : List (Option ℕ)) (m b d k : ℕ) (last : Option ℕ) → Changed old new m b d → k ≤ d → IsLast old m b k last → IsLast new m b k last
+last_still old new m b d k None changed le is = λ j less h. is j less ((changed.but b j (λ e. absurd (omega arith))).1 h)
+last_still old new m b d k (Some p) changed le is = let low : p < k = is.0 in (
+  low,
+  (changed.but b p (λ e. absurd (omega arith))).0 is.1,
+  λ j above less h. is.2 j above less ((changed.but b j (λ e. absurd (omega arith))).1 h),
+)
+
+later_kept : (old new : List (Option ℕ)) (m b d : ℕ) (last : Option ℕ) (c e : ℕ) → Changed old new m b d → IsLast old m b d last → InBucket old m c e →
+    (c ≡ b → ¬ IsBefore last e) → ((j : ℕ) × (e < j) × InBucket old m c j) → ((j : ℕ) × (e < j) × InBucket new m c j)
+later_kept old new m b d last c e changed is here other x = split (same_or_not x.0 d) (same_or_not c b)
   where
-    new : List (Option ℕ)
-    new = set cells d (Some cell)
+    through : (last : Option ℕ) → IsLast old m b d last → c ≡ b → ¬ IsBefore last e → e < d → ((j : ℕ) × (e < j) × InBucket new m c j)
+    through None is same nb less = absurd (is e less (subst (λ (n : ℕ). InBucket old m n e) same here))
+    through (Some p) is same nb less =
+        let below : p < d = is.0 in
+        let before : e < p = lower e p nb (λ more. is.2 e more less (subst (λ (n : ℕ). InBucket old m n e) same here)) in
+        (p, before, (changed.but c p (λ at_d. absurd (omega arith))).0 (subst (λ (n : ℕ). InBucket old m n p) (sym same) is.1))
+      where
+        lower : (i p : ℕ) → i ≢ p → ¬ (p < i) → i < p
+        lower i p ne never = grind arith
 
-    m : ℕ
-    m = length heads
+    split : (x.0 ≡ d) ⊎ (x.0 ≢ d) → (c ≡ b) ⊎ (c ≢ b) → ((j : ℕ) × (e < j) × InBucket new m c j)
+    split (inr ne) which = (x.0, x.1, (changed.but c x.0 ne).0 x.2)
+    split (inl at_d) (inr ne) = (x.0, x.1, (changed.other c ne x.0).0 x.2)
+    split (inl at_d) (inl same) = through last is same (other same) (subst (λ (n : ℕ). e < n) at_d x.1)
 
-    changed : Changed cells (set cells d (Some cell)) (length heads) b d
-    changed = changed_put cells (length heads) b d cell lt free is
+marks_kept : (old new : List (Option ℕ)) (m b d : ℕ) (last : Option ℕ) (c : ℕ) (Says : Type 0) (o : Option ℕ) → Changed old new m b d → IsLast old m b d last →
+    IfSome o (InBucket old m c) → IfSome o (InBucket new m c) → (c ≡ b → IfSome o (λ e. ¬ IsBefore last e)) →
+    (Says ↔ IsSomeAnd o (λ i. (j : ℕ) × (i < j) × InBucket old m c j)) → (Says ↔ IsSomeAnd o (λ i. (j : ℕ) × (i < j) × InBucket new m c j))
+marks_kept old new m b d last c Says None changed is was now other marks = marks
+marks_kept old new m b d last c Says (Some e) changed is was now other marks = (
+  λ says. later_kept old new m b d last c e changed is was other (marks.0 says),
+  λ x. marks.1 (later_kept new old m b d last c e (swapped old new m b d changed) (last_still old new m b d d last changed (omega arith) is) now other x),
+)
 
-    both : IsFirst (set cells d (Some cell)) (length heads) b 0 (Some d) × IsFirst (set cells d (Some cell)) (length heads) b (d + 1) (at heads b)
-    both = listed_next cells (set cells d (Some cell)) (length heads) b d None (at heads b) changed last (omega arith) (in_none cells (length heads) b d free)
-        (here_after cells (length heads) b d cell lt is) (chained.first b inside)
+-- a pointer that still leads on to the same disk, which isn't the last before d
+leads_still : (old new : List (Option ℕ)) (m b d : ℕ) (last : Option ℕ) (c from from' : ℕ) (x : Pointer) → Changed old new m b d → IsLast old m b d last →
+    (c ≡ b → IfSome (disk_of x) (λ e. ¬ IsBefore last e)) → LeadsOn old m c from x → IsFirst new m c from' (disk_of x) → LeadsOn new m c from' x
+leads_still old new m b d last c from from' x changed is other was now = (
+  now,
+  marks_kept old new m b d last c (SaysMore x) (disk_of x) changed is (first_one (InBucket old m c) from (disk_of x) was.0)
+      (first_one (InBucket new m c) from' (disk_of x) now) other was.1,
+)
 
-    first : (c : ℕ) → c < length heads → (c ≡ b) ⊎ (c ≢ b) → IsFirst (set cells d (Some cell)) (length heads) c 0 (at (set heads b (Some d)) c)
-    first c less (inl e) =
-        subst (λ (n : ℕ). IsFirst (set cells d (Some cell)) (length heads) n 0 (at (set heads b (Some d)) n)) (sym e)
-        (spelled (set cells d (Some cell)) (length heads) b 0 (Some d) (at (set heads b (Some d)) b) (get_or-set_same heads b (Some d) None inside) both.0)
+-- a pointer to one of which that is known
+leads_to : (cells : List (Option ℕ)) (m c from i : ℕ) (Has : Type 0) (x : Pointer) → LeadsTo x i Has → IsFirst cells m c from (Some i) →
+    (Has ↔ ((j : ℕ) × (i < j) × InBucket cells m c j)) → LeadsOn cells m c from x
+leads_to cells m c from i Has x to first has = (
+  subst (λ (o : Option ℕ). IsFirst cells m c from o) (sym to.0) first,
+  subst (λ (o : Option ℕ). SaysMore x ↔ IsSomeAnd o (λ i. (j : ℕ) × (i < j) × InBucket cells m c j)) (sym to.0)
+      (λ says. has.0 (to.1.0 says), λ more. to.1.1 (has.1 more)),
+)
+
+leads_as : (cells : List (Option ℕ)) (m c from : ℕ) (x y : Pointer) → y ≡ x → LeadsOn cells m c from x → LeadsOn cells m c from y
+leads_as cells m c from x y e h = subst (λ (z : Pointer). LeadsOn cells m c from z) (sym e) h
+
+-- chains where all but three pointers are as they were, and these lead on
+rechained : (heads nexts heads' nexts' : List Pointer) (cells new : List (Option ℕ)) (b d : ℕ) (last second : Option ℕ) → IsChained heads nexts cells →
+    length new ≡ length cells → Changed cells new (length heads) b d → IsLast cells (length heads) b d last →
+    IfSome last (λ p. IsLast cells (length heads) b p second) → IsRestSame heads nexts heads' nexts' b d last second →
+    LeadsOn new (length heads) b (after_of last) (pointer_from heads' nexts' b last) →
+    IfSome last (λ p. LeadsOn new (length heads) b (after_of second) (pointer_from heads' nexts' b second)) →
+    ((c : ℕ) → InBucket new (length heads) c d → LeadsOn new (length heads) c (d + 1) (pointer_at nexts' d)) → IsChained heads' nexts' new
+rechained heads nexts heads' nexts' cells new b d last second chained count changed is_last is_second rest at_last at_second at_d = record {
+  some = rw rest.heads_count chained.some;
+  few = rw count chained.few;
+  len = rest.nexts_count ∙ chained.len ∙ sym count;
+  first = λ c less. rw rest.heads_count (first c (rw rest.heads_count at less) (same_or_not c b));
+  after = λ i c here. rw rest.heads_count (after i c (rw rest.heads_count at here) (same_or_not i d));
+}
+  where
+    head : (last second : Option ℕ) → IsLast cells (length heads) b d last → IfSome last (λ p. IsLast cells (length heads) b p second) →
+        ((p q : ℕ) → last ≡ Some p → second ≡ Some q → pointer_at heads' b ≡ pointer_at heads b) →
+        LeadsOn new (length heads) b (after_of last) (pointer_from heads' nexts' b last) →
+        IfSome last (λ p. LeadsOn new (length heads) b (after_of second) (pointer_from heads' nexts' b second)) → b < length heads →
+        LeadsOn new (length heads) b 0 (pointer_at heads' b)
+    head None second is_last is_second same at_last at_second less = at_last
+    head (Some p) None is_last is_second same at_last at_second less = at_second
+    head (Some p) (Some q) is_last is_second same at_last at_second less =
+        leads_as new (length heads) b 0 (pointer_at heads b) (pointer_at heads' b) (same p q refl refl)
+        (leads_still cells new (length heads) b d (Some p) b 0 0 (pointer_at heads b) changed is_last
+        (λ _. head_not_last (InBucket cells (length heads) b) (disk_of (pointer_at heads b)) p q is_second.1 is_second.0 was.0) was
+        (head_rest cells new (length heads) b d p b (disk_of (pointer_at heads b)) changed is_last.0 is_last.1 was.0))
+      where
+        was : LeadsOn cells (length heads) b 0 (pointer_at heads b)
+        was = chained.first b less
+
+    first : (c : ℕ) → c < length heads → (c ≡ b) ⊎ (c ≢ b) → LeadsOn new (length heads) c 0 (pointer_at heads' c)
+    first c less (inl e) = subst (λ (n : ℕ). LeadsOn new (length heads) n 0 (pointer_at heads' n)) (sym e)
+        (head last second is_last is_second rest.head at_last at_second (subst (λ (n : ℕ). n < length heads) e less))
     first c less (inr ne) =
-        spelled (set cells d (Some cell)) (length heads) c 0 (at heads c) (at (set heads b (Some d)) c) (get_or-set_other heads b c (Some d) None ne)
-        (unmoved cells (set cells d (Some cell)) (length heads) b d c 0 (at heads c) changed (inl ne) (chained.first c less))
+        let was = chained.first c less in
+        leads_as new (length heads) c 0 (pointer_at heads c) (pointer_at heads' c) (rest.others c ne)
+        (leads_still cells new (length heads) b d last c 0 0 (pointer_at heads c) changed is_last (λ e. absurd (ne e)) was
+        (unmoved cells new (length heads) b d c 0 (disk_of (pointer_at heads c)) changed (inl ne) was.0))
 
-    after : (i c : ℕ) → InBucket (set cells d (Some cell)) (length heads) c i → (i ≡ d) ⊎ (i ≢ d) → IsFirst (set cells d (Some cell)) (length heads) c (i + 1) (at (set nexts d (at heads b)) i)
-    after i c here (inl e) =
-        let same : c ≡ b = in_one (set cells d (Some cell)) (length heads) b c d cell (get_or-set_same cells d (Some cell) None lt) is
-        (subst (λ (n : ℕ). InBucket (set cells d (Some cell)) (length heads) c n) e here) in
-        let lt' : d < length nexts = (let l = chained.len in omega arith) in
-        subst (λ (n : ℕ). IsFirst (set cells d (Some cell)) (length heads) c (n + 1) (at (set nexts d (at heads b)) n)) (sym e)
-        (spelled (set cells d (Some cell)) (length heads) c (d + 1) (at heads b) (at (set nexts d (at heads b)) d) (get_or-set_same nexts d (at heads b) None lt')
-        (renamed (set cells d (Some cell)) (length heads) b c (d + 1) (at heads b) same both.1))
-    after i c here (inr ne) =
-        let was = (changed.but c i ne).1 here in
-        spelled (set cells d (Some cell)) (length heads) c (i + 1) (at nexts i) (at (set nexts d (at heads b)) i) (get_or-set_other nexts d i (at heads b) None ne)
-        (after_rest cells (set cells d (Some cell)) (length heads) b d None (at nexts i) changed last i c ne (λ x. x) was (chained.after i c was))
-chained_put heads nexts cells heads' nexts' b d cell (Some p) chained lt free is inside last links = rw (links.0, links.1) (record {
-  some = chained.some;
-  few = rw (length-set cells d (Some cell)) chained.few;
-  len = length-set (set nexts d (at nexts p)) p (Some d) ∙ length-set nexts d (at nexts p) ∙ chained.len ∙ sym (length-set cells d (Some cell));
-  first = λ c less. head_rest cells (set cells d (Some cell)) (length heads) b d p c (at heads c) changed last.0 last.1 (chained.first c less);
-  after = λ i c here. after i c here (same_or_not i d) (same_or_not i p);
-})
+    in_b : (p c i : ℕ) → i ≡ p → i ≢ d → InBucket cells (length heads) b p → InBucket new (length heads) c i → c ≡ b
+    in_b p c i e ne here now =
+        in_one cells (length heads) b c p here.0 here.1 here.2 (subst (λ (n : ℕ). InBucket cells (length heads) c n) e ((changed.but c i ne).1 now))
+
+    still : (i c : ℕ) → InBucket new (length heads) c i → i ≢ d → ¬ IsBefore last i → (IsSome last → ¬ IsBefore second i) →
+        (c ≡ b → IfSome (disk_of (pointer_at nexts i)) (λ e. ¬ IsBefore last e)) → LeadsOn new (length heads) c (i + 1) (pointer_at nexts' i)
+    still i c here ne not_last not_second other =
+        let before = (changed.but c i ne).1 here in
+        let was = chained.after i c before in
+        leads_as new (length heads) c (i + 1) (pointer_at nexts i) (pointer_at nexts' i) (rest.behind i ne not_last not_second)
+        (leads_still cells new (length heads) b d last c (i + 1) (i + 1) (pointer_at nexts i) changed is_last other was
+        (after_rest cells new (length heads) b d last (disk_of (pointer_at nexts i)) changed is_last i c ne not_last before was.0))
+
+    after : (i c : ℕ) → InBucket new (length heads) c i → (i ≡ d) ⊎ (i ≢ d) → LeadsOn new (length heads) c (i + 1) (pointer_at nexts' i)
+    after i c here (inl e) = subst (λ (n : ℕ). LeadsOn new (length heads) c (n + 1) (pointer_at nexts' n)) (sym e)
+        (at_d c (subst (λ (n : ℕ). InBucket new (length heads) c n) e here))
+    after i c here (inr ne) = by_last last second is_last is_second at_last at_second (still i c here ne)
+      where
+        before : InBucket cells (length heads) c i
+        before = (changed.but c i ne).1 here
+
+        by_last : (last second : Option ℕ) → IsLast cells (length heads) b d last → IfSome last (λ p. IsLast cells (length heads) b p second) →
+            LeadsOn new (length heads) b (after_of last) (pointer_from heads' nexts' b last) →
+            IfSome last (λ p. LeadsOn new (length heads) b (after_of second) (pointer_from heads' nexts' b second)) →
+            (¬ IsBefore last i → (IsSome last → ¬ IsBefore second i) → (c ≡ b → IfSome (disk_of (pointer_at nexts i)) (λ e. ¬ IsBefore last e)) →
+            LeadsOn new (length heads) c (i + 1) (pointer_at nexts' i)) → LeadsOn new (length heads) c (i + 1) (pointer_at nexts' i)
+        by_last None second is_last is_second at_last at_second still =
+            still (λ never. never) (λ some. absurd (false≢true some)) (λ _. none_before (disk_of (pointer_at nexts i)))
+        by_last (Some p) second is_last is_second at_last at_second still = by_second second is_second at_second still (same_or_not i p)
+          where
+            moved : (k : ℕ) → i ≡ k → InBucket cells (length heads) b k → LeadsOn new (length heads) b (k + 1) (pointer_at nexts' k) →
+                LeadsOn new (length heads) c (i + 1) (pointer_at nexts' i)
+            moved k e in_bucket leads = subst (λ (n : ℕ). LeadsOn new (length heads) n (i + 1) (pointer_at nexts' i)) (sym (in_b k c i e ne in_bucket here))
+                (subst (λ (n : ℕ). LeadsOn new (length heads) b (n + 1) (pointer_at nexts' n)) (sym e) leads)
+
+            rest_of : (second : Option ℕ) → IsLast cells (length heads) b p second → i ≢ p → ¬ IsBefore second i →
+                c ≡ b → IfSome (disk_of (pointer_at nexts i)) (λ e. ¬ IsBefore (Some p) e)
+            rest_of second is_second not_last not_second e =
+                next_not_last (InBucket cells (length heads) b) (disk_of (pointer_at nexts i)) p i second is_second
+                (subst (λ (n : ℕ). InBucket cells (length heads) n i) e before) not_second
+                (subst (λ (n : ℕ). IsFirst cells (length heads) n (i + 1) (disk_of (pointer_at nexts i))) e (chained.after i c before).0)
+
+            by_second : (second : Option ℕ) → IsLast cells (length heads) b p second →
+                LeadsOn new (length heads) b (after_of second) (pointer_from heads' nexts' b second) →
+                (i ≢ p → (IsSome (Some p) → ¬ IsBefore second i) → (c ≡ b → IfSome (disk_of (pointer_at nexts i)) (λ e. ¬ IsBefore (Some p) e)) →
+                LeadsOn new (length heads) c (i + 1) (pointer_at nexts' i)) → (i ≡ p) ⊎ (i ≢ p) → LeadsOn new (length heads) c (i + 1) (pointer_at nexts' i)
+            by_second second is_second at_second still (inl e) = moved p e is_last.1 at_last
+            by_second None is_second at_second still (inr other) = still other (λ _. λ never. never) (rest_of None is_second other (λ never. never))
+            by_second (Some q) is_second at_second still (inr other) = elim (same_or_not i q) [
+              | inl e ↦ moved q e is_second.1 at_second
+              | inr apart ↦ still other (λ _. apart) (rest_of (Some q) is_second other apart)
+            ]
+
+-- ---- what a disk that is listed, or taken off, leaves of the pointers
+pub marked_count : (heads nexts heads' nexts' : List Pointer) (b : ℕ) (last second : Option ℕ) (more : Bool) → IsMarkedAnew heads nexts b last second more heads' nexts' →
+    (length heads' ≡ length heads) × (length nexts' ≡ length nexts)
+marked_count heads nexts heads' nexts' b None second more h = (ap length h.0, ap length h.1)
+marked_count heads nexts heads' nexts' b (Some p) second more h = pointed_count heads nexts heads' nexts' b second h.0 h.2
+
+marked_heads : (heads nexts heads' nexts' : List Pointer) (b : ℕ) (last second : Option ℕ) (more : Bool) (c : ℕ) → IsMarkedAnew heads nexts b last second more heads' nexts' →
+    c ≢ b → pointer_at heads' c ≡ pointer_at heads c
+marked_heads heads nexts heads' nexts' b None second more c h ne = ap (λ (xs : List Pointer). pointer_at xs c) h.0
+marked_heads heads nexts heads' nexts' b (Some p) second more c h ne = pointed_heads heads nexts heads' nexts' b second h.0 c h.2 ne
+
+marked_head : (heads nexts heads' nexts' : List Pointer) (b : ℕ) (last second : Option ℕ) (more : Bool) (p q : ℕ) → IsMarkedAnew heads nexts b last second more heads' nexts' →
+    last ≡ Some p → second ≡ Some q → heads' ≡ heads
+marked_head heads nexts heads' nexts' b None second more p q h e f = h.0
+marked_head heads nexts heads' nexts' b (Some n) None more p q h e f = absurd (none-some q f)
+marked_head heads nexts heads' nexts' b (Some n) (Some k) more p q h e f = h.2.0
+
+marked_nexts : (heads nexts heads' nexts' : List Pointer) (b : ℕ) (last second : Option ℕ) (more : Bool) (i : ℕ) → IsMarkedAnew heads nexts b last second more heads' nexts' →
+    (IsSome last → ¬ IsBefore second i) → pointer_at nexts' i ≡ pointer_at nexts i
+marked_nexts heads nexts heads' nexts' b None second more i h other = ap (λ (xs : List Pointer). pointer_at xs i) h.1
+marked_nexts heads nexts heads' nexts' b (Some p) second more i h other = pointed_nexts heads nexts heads' nexts' b second h.0 i h.2 (other refl)
+
+pointed_head : (heads nexts heads' nexts' : List Pointer) (b : ℕ) (q : Option ℕ) (x : Pointer) (p : ℕ) → IsPointed heads nexts b q x heads' nexts' →
+    q ≡ Some p → heads' ≡ heads
+pointed_head heads nexts heads' nexts' b None x p h e = absurd (none-some p e)
+pointed_head heads nexts heads' nexts' b (Some n) x p h e = h.0
+
+-- the nexts but that of d are the same
+record AreSameBut (nexts nexts' : List Pointer) (d : ℕ) : Type 0 where
+  count : length nexts' ≡ length nexts
+  same : (i : ℕ) → i ≢ d → pointer_at nexts' i ≡ pointer_at nexts i
+
+rest_same : (heads nexts heads1 nexts1 between heads' nexts' : List Pointer) (b d : ℕ) (last second : Option ℕ) (more : Bool) (x : Pointer) →
+    IsMarkedAnew heads nexts b last second more heads1 nexts1 → AreSameBut nexts1 between d → IsPointed heads1 between b last x heads' nexts' →
+    IsRestSame heads nexts heads' nexts' b d last second
+rest_same heads nexts heads1 nexts1 between heads' nexts' b d last second more x marked but pointed = record {
+  heads_count = (pointed_count heads1 between heads' nexts' b last x pointed).0 ∙ (marked_count heads nexts heads1 nexts1 b last second more marked).0;
+  nexts_count = (pointed_count heads1 between heads' nexts' b last x pointed).1 ∙ but.count ∙ (marked_count heads nexts heads1 nexts1 b last second more marked).1;
+  others = λ c ne. pointed_heads heads1 between heads' nexts' b last x c pointed ne ∙ marked_heads heads nexts heads1 nexts1 b last second more c marked ne;
+  head = λ p q e f. ap (λ (xs : List Pointer). pointer_at xs b)
+      (pointed_head heads1 between heads' nexts' b last x p pointed e ∙ marked_head heads nexts heads1 nexts1 b last second more p q marked e f);
+  behind = λ i ne not_last not_second. pointed_nexts heads1 between heads' nexts' b last x i pointed not_last ∙ but.same i ne
+      ∙ marked_nexts heads nexts heads1 nexts1 b last second more i marked not_second;
+}
+
+-- what points at the last disk before d leads on to it
+second_leads : (heads nexts heads1 nexts1 between heads' nexts' : List Pointer) (cells new : List (Option ℕ)) (b d : ℕ) (last second : Option ℕ) (more : Bool) (x : Pointer) →
+    IsChained heads nexts cells → b < length heads → Changed cells new (length heads) b d → IsLast cells (length heads) b d last →
+    IfSome last (λ p. IsLast cells (length heads) b p second) →
+    IsMarkedAnew heads nexts b last second more heads1 nexts1 → AreSameBut nexts1 between d → IsPointed heads1 between b last x heads' nexts' →
+    IfSome last (λ p. IsTrue more ↔ ((j : ℕ) × (p < j) × InBucket new (length heads) b j)) →
+    IfSome last (λ p. LeadsOn new (length heads) b (after_of second) (pointer_from heads' nexts' b second))
+second_leads heads nexts heads1 nexts1 between heads' nexts' cells new b d None second more x chained inside changed is_last is_second marked but pointed has = tt
+second_leads heads nexts heads1 nexts1 between heads' nexts' cells new b d (Some p) second more x chained inside changed is_last is_second marked but pointed has =
+    leads_as new (length heads) b (after_of second) marked.0 (pointer_from heads' nexts' b second)
+    (there second is_second ∙ pointed_here heads nexts heads1 nexts1 b second marked.0 marked.2 inside (room second is_second))
+    (leads_to new (length heads) b (after_of second) p (IsTrue more) marked.0 marked.1
+    (first_after_last (InBucket new (length heads) b) p second ((changed.but b p not_d).0 is_last.1)
+    (last_still cells new (length heads) b d p second changed (let less : p < d = is_last.0 in omega arith) is_second)) has)
   where
+    not_d : p ≢ d
+    not_d e = let less : p < d = is_last.0 in absurd (omega arith)
+
+    room : (second : Option ℕ) → IsLast cells (length heads) b p second → IfSome second (λ q. q < length nexts)
+    room None is = tt
+    room (Some q) is = let few = within cells (length heads) b q is.1 in let len = chained.len in omega arith
+
+    there : (second : Option ℕ) → IsLast cells (length heads) b p second → pointer_from heads' nexts' b second ≡ pointer_from heads1 nexts1 b second
+    there None is = ap (λ (xs : List Pointer). pointer_at xs b) pointed.0
+    there (Some q) is =
+        let below : q < p = is.0 in
+        let less : p < d = is_last.0 in
+        pointed_nexts heads1 between heads' nexts' b (Some p) x q pointed (λ e. absurd (omega arith)) ∙ but.same q (λ e. absurd (omega arith))
+
+-- the second last isn't the last, nor d
+not_second : (cells : List (Option ℕ)) (m b d i : ℕ) (last second : Option ℕ) → IsLast cells m b d last → IfSome last (λ p. IsLast cells m b p second) →
+    IfSome last (λ p. p ≤ i) → IsSome last → ¬ IsBefore second i
+not_second cells m b d i None second is_last is_second more some = absurd (false≢true some)
+not_second cells m b d i (Some p) None is_last is_second more some = λ never. never
+not_second cells m b d i (Some p) (Some q) is_last is_second more some = λ e. let below : q < p = is_second.0 in absurd (omega arith)
+
+not_last : (cells : List (Option ℕ)) (m b d : ℕ) (last : Option ℕ) → IsLast cells m b d last → ¬ IsBefore last d
+not_last cells m b d None is = λ never. never
+not_last cells m b d (Some p) is = λ e. let less : p < d = is.0 in absurd (omega arith)
+
+up_to_d : (cells : List (Option ℕ)) (m b d : ℕ) (last : Option ℕ) → IsLast cells m b d last → IfSome last (λ p. p ≤ d)
+up_to_d cells m b d None is = tt
+up_to_d cells m b d (Some p) is = let less : p < d = is.0 in omega arith
+
+last_room : (cells : List (Option ℕ)) (nexts : List Pointer) (m b d : ℕ) (last : Option ℕ) → length nexts ≡ length cells → IsLast cells m b d last →
+    IfSome last (λ p. p < length nexts)
+last_room cells nexts m b d None len is = tt
+last_room cells nexts m b d (Some p) len is = let few = within cells m b p is.1 in omega arith
+
+pub chained_put : (heads nexts heads1 nexts1 heads' nexts' : List Pointer) (cells : List (Option ℕ)) (b d cell : ℕ) (last second : Option ℕ) →
+    IsChained heads nexts cells → d < length cells → at cells d ≡ None → cell % length heads ≡ b → b < length heads →
+    IsLast cells (length heads) b d last → IfSome last (λ p. IsLast cells (length heads) b p second) →
+    IsMarkedAnew heads nexts b last second true heads1 nexts1 → IsLinked heads1 nexts1 b d last heads' nexts' → IsChained heads' nexts' (set cells d (Some cell))
+chained_put heads nexts heads1 nexts1 heads' nexts' cells b d cell last second chained lt free is inside is_last is_second marked linked =
+    rechained heads nexts heads' nexts' cells (set cells d (Some cell)) b d last second chained (length-set cells d (Some cell)) changed is_last is_second
+    (rest_same heads nexts heads1 nexts1 (set nexts1 d next) heads' nexts' b d last second true linked.0 marked but linked.2) at_last
+    (second_leads heads nexts heads1 nexts1 (set nexts1 d next) heads' nexts' cells (set cells d (Some cell)) b d last second true linked.0 chained inside
+    changed is_last is_second marked but linked.2 (goes_on last is_last)) at_d
+  where
+    next : Pointer
+    next = pointer_from heads1 nexts1 b last
+
+    counts : (length heads1 ≡ length heads) × (length nexts1 ≡ length nexts)
+    counts = marked_count heads nexts heads1 nexts1 b last second true marked
+
     changed : Changed cells (set cells d (Some cell)) (length heads) b d
     changed = changed_put cells (length heads) b d cell lt free is
 
-    both : IsFirst (set cells d (Some cell)) (length heads) b (p + 1) (Some d) × IsFirst (set cells d (Some cell)) (length heads) b (d + 1) (at nexts p)
-    both = listed_next cells (set cells d (Some cell)) (length heads) b d (Some p) (at nexts p) changed last (last_up_to cells (length heads) b d (Some p) last)
-        (in_none cells (length heads) b d free) (here_after cells (length heads) b d cell lt is) (chained.after p b last.1)
+    now_here : InBucket (set cells d (Some cell)) (length heads) b d
+    now_here = here_after cells (length heads) b d cell lt is
 
-    apart : d ≢ p
-    apart e = let less : p < d = last.0 in absurd (omega arith)
+    but : AreSameBut nexts1 (set nexts1 d next) d
+    but = record { count = length-set nexts1 d next; same = λ i ne. get_or-set_other nexts1 d i next no_pointer ne }
 
-    set_d : at (set (set nexts d (at nexts p)) p (Some d)) d ≡ at nexts p
-    set_d = get_or-set_other (set nexts d (at nexts p)) p d (Some d) None apart ∙ get_or-set_same nexts d (at nexts p) None (let l = chained.len in omega arith)
+    next_was : (last : Option ℕ) → IsLast cells (length heads) b d last → IfSome last (λ p. IsLast cells (length heads) b p second) →
+        IsMarkedAnew heads nexts b last second true heads1 nexts1 → pointer_from heads1 nexts1 b last ≡ pointer_from heads nexts b last
+    next_was None is_last is_second marked = ap (λ (xs : List Pointer). pointer_at xs b) marked.0
+    next_was (Some p) is_last is_second marked = marked_nexts heads nexts heads1 nexts1 b (Some p) second true p marked
+        (not_second cells (length heads) b d p (Some p) second is_last is_second (omega arith))
 
-    set_p : at (set (set nexts d (at nexts p)) p (Some d)) p ≡ Some d
-    set_p = get_or-set_same (set nexts d (at nexts p)) p (Some d) None
-        (let l = chained.len in let n = within cells (length heads) b p last.1 in let k = length-set nexts d (at nexts p) in omega arith)
+    led : (last : Option ℕ) → IsLast cells (length heads) b d last → LeadsOn cells (length heads) b (after_of last) (pointer_from heads nexts b last)
+    led None is_last = chained.first b inside
+    led (Some p) is_last = chained.after p b is_last.1
 
-    after : (i c : ℕ) → InBucket (set cells d (Some cell)) (length heads) c i → (i ≡ d) ⊎ (i ≢ d) → (i ≡ p) ⊎ (i ≢ p) →
-        IsFirst (set cells d (Some cell)) (length heads) c (i + 1) (at (set (set nexts d (at nexts p)) p (Some d)) i)
-    after i c here (inl e) other =
-        let same : c ≡ b = in_one (set cells d (Some cell)) (length heads) b c d cell (get_or-set_same cells d (Some cell) None lt) is
-        (subst (λ (n : ℕ). InBucket (set cells d (Some cell)) (length heads) c n) e here) in
-        subst (λ (n : ℕ). IsFirst (set cells d (Some cell)) (length heads) c (n + 1) (at (set (set nexts d (at nexts p)) p (Some d)) n)) (sym e)
-        (spelled (set cells d (Some cell)) (length heads) c (d + 1) (at nexts p) (at (set (set nexts d (at nexts p)) p (Some d)) d) set_d
-        (renamed (set cells d (Some cell)) (length heads) b c (d + 1) (at nexts p) same both.1))
-    after i c here (inr ne) (inl e) =
-        let was = subst (λ (n : ℕ). InBucket cells (length heads) c n) e ((changed.but c i ne).1 here) in
-        let same : c ≡ b = in_one cells (length heads) b c p last.1.0 last.1.1 last.1.2 was in
-        subst (λ (n : ℕ). IsFirst (set cells d (Some cell)) (length heads) c (n + 1) (at (set (set nexts d (at nexts p)) p (Some d)) n)) (sym e)
-        (spelled (set cells d (Some cell)) (length heads) c (p + 1) (Some d) (at (set (set nexts d (at nexts p)) p (Some d)) p) set_p
-        (renamed (set cells d (Some cell)) (length heads) b c (p + 1) (Some d) same both.0))
-    after i c here (inr ne) (inr other) =
-        let was = (changed.but c i ne).1 here in
-        let kept : at (set (set nexts d (at nexts p)) p (Some d)) i ≡ at nexts i =
-        get_or-set_other (set nexts d (at nexts p)) p i (Some d) None other ∙ get_or-set_other nexts d i (at nexts p) None ne in
-        spelled (set cells d (Some cell)) (length heads) c (i + 1) (at nexts i) (at (set (set nexts d (at nexts p)) p (Some d)) i) kept
-        (after_rest cells (set cells d (Some cell)) (length heads) b d (Some p) (at nexts i) changed last i c ne other was (chained.after i c was))
+    was : LeadsOn cells (length heads) b (after_of last) next
+    was = leads_as cells (length heads) b (after_of last) (pointer_from heads nexts b last) next (next_was last is_last is_second marked) (led last is_last)
 
-pub chained_take : (heads nexts cells heads' nexts' : List (Option ℕ)) (b d cell : ℕ) (last : Option ℕ) → IsChained heads nexts cells → at cells d ≡ Some cell →
-    cell % length heads ≡ b → b < length heads → IsLast cells (length heads) b d last → IsUnlinked heads nexts b d last heads' nexts' → IsChained heads' nexts' (set cells d None)
-chained_take heads nexts cells heads' nexts' b d cell None chained listed is inside last links = rw (links.0, links.1) (record {
-  some = rw (length-set heads b (at nexts d)) chained.some;
-  few = rw (length-set cells d None) chained.few;
-  len = chained.len ∙ sym (length-set cells d None);
-  first = λ c less. rw (length-set heads b (at nexts d)) (first c (rw (length-set heads b (at nexts d)) at less) (same_or_not c b));
-  after = λ i c here. rw (length-set heads b (at nexts d)) (after i c (rw (length-set heads b (at nexts d)) at here) (same_or_not i d));
-})
+    both : IsFirst (set cells d (Some cell)) (length heads) b (after_of last) (Some d) × IsFirst (set cells d (Some cell)) (length heads) b (d + 1) (disk_of next)
+    both = listed_next cells (set cells d (Some cell)) (length heads) b d last (disk_of next) changed is_last (last_up_to cells (length heads) b d last is_last)
+        (in_none cells (length heads) b d free) now_here was.0
+
+    at_last : LeadsOn (set cells d (Some cell)) (length heads) b (after_of last) (pointer_from heads' nexts' b last)
+    at_last = leads_as (set cells d (Some cell)) (length heads) b (after_of last) linked.0 (pointer_from heads' nexts' b last)
+        (pointed_here heads1 (set nexts1 d next) heads' nexts' b last linked.0 linked.2 (rw counts.0 inside)
+        (last_room cells (set nexts1 d next) (length heads) b d last (length-set nexts1 d next ∙ counts.1 ∙ chained.len) is_last))
+        (leads_to (set cells d (Some cell)) (length heads) b (after_of last) d (IsSome (disk_of next)) linked.0 linked.1 both.0
+        (first_there (InBucket (set cells d (Some cell)) (length heads) b) d (disk_of next) both.1))
+
+    goes_on : (last : Option ℕ) → IsLast cells (length heads) b d last →
+        IfSome last (λ p. IsTrue true ↔ ((j : ℕ) × (p < j) × InBucket (set cells d (Some cell)) (length heads) b j))
+    goes_on None is_last = tt
+    goes_on (Some p) is_last = (λ _. (d, is_last.0, now_here), λ _. refl)
+
+    at_d : (c : ℕ) → InBucket (set cells d (Some cell)) (length heads) c d → LeadsOn (set cells d (Some cell)) (length heads) c (d + 1) (pointer_at nexts' d)
+    at_d c here =
+        let same : c ≡ b = in_one (set cells d (Some cell)) (length heads) b c d cell (get_or-set_same cells d (Some cell) None lt) is here in
+        subst (λ (n : ℕ). LeadsOn (set cells d (Some cell)) (length heads) n (d + 1) (pointer_at nexts' d)) (sym same)
+        (leads_as (set cells d (Some cell)) (length heads) b (d + 1) next (pointer_at nexts' d)
+        (pointed_nexts heads1 (set nexts1 d next) heads' nexts' b last linked.0 d linked.2 (not_last cells (length heads) b d last is_last)
+        ∙ get_or-set_same nexts1 d next no_pointer (let count = counts.1 in let len = chained.len in omega arith))
+        (leads_still cells (set cells d (Some cell)) (length heads) b d last b (after_of last) (d + 1) next changed is_last
+        (λ _. beyond (InBucket (set cells d (Some cell)) (length heads) b) (InBucket cells (length heads) b) d last (disk_of next) is_last both.1) was both.1))
+
+pub chained_take : (heads nexts heads1 nexts1 heads' nexts' : List Pointer) (cells : List (Option ℕ)) (b d cell : ℕ) (last second : Option ℕ) (more : Bool) →
+    IsChained heads nexts cells → at cells d ≡ Some cell → cell % length heads ≡ b → b < length heads →
+    IsLast cells (length heads) b d last → IfSome last (λ p. IsLast cells (length heads) b p second) → (IsTrue more ↔ IsSome (disk_of (pointer_at nexts d))) →
+    IsMarkedAnew heads nexts b last second more heads1 nexts1 → IsUnlinked heads1 nexts1 b d last heads' nexts' → IsChained heads' nexts' (set cells d None)
+chained_take heads nexts heads1 nexts1 heads' nexts' cells b d cell last second more chained listed is inside is_last is_second has_more marked unlinked =
+    rechained heads nexts heads' nexts' cells (set cells d None) b d last second chained (length-set cells d None) changed is_last is_second
+    (rest_same heads nexts heads1 nexts1 nexts1 heads' nexts' b d last second more (pointer_at nexts1 d) marked but unlinked) at_last
+    (second_leads heads nexts heads1 nexts1 nexts1 heads' nexts' cells (set cells d None) b d last second more (pointer_at nexts1 d) chained inside
+    changed is_last is_second marked but unlinked (goes_on last is_last next)) (λ c here. absurd (gone c here))
   where
     lt : d < length cells
     lt = within cells (length heads) b d (cell, listed, is)
+
+    counts : (length heads1 ≡ length heads) × (length nexts1 ≡ length nexts)
+    counts = marked_count heads nexts heads1 nexts1 b last second more marked
 
     changed : Changed cells (set cells d None) (length heads) b d
     changed = changed_take cells (length heads) b d cell lt listed is
@@ -255,64 +505,45 @@ chained_take heads nexts cells heads' nexts' b d cell None chained listed is ins
     gone : (c : ℕ) → ¬ InBucket (set cells d None) (length heads) c d
     gone c = in_none (set cells d None) (length heads) c d (get_or-set_same cells d None None lt)
 
-    next : IsFirst (set cells d None) (length heads) b 0 (at nexts d)
-    next = taken_next cells (set cells d None) (length heads) b d None (at nexts d) changed last (omega arith) (gone b) (chained.after d b (cell, listed, is))
+    but : AreSameBut nexts1 nexts1 d
+    but = record { count = refl; same = λ i ne. refl }
 
-    first : (c : ℕ) → c < length heads → (c ≡ b) ⊎ (c ≢ b) → IsFirst (set cells d None) (length heads) c 0 (at (set heads b (at nexts d)) c)
-    first c less (inl e) =
-        subst (λ (n : ℕ). IsFirst (set cells d None) (length heads) n 0 (at (set heads b (at nexts d)) n)) (sym e)
-        (spelled (set cells d None) (length heads) b 0 (at nexts d) (at (set heads b (at nexts d)) b) (get_or-set_same heads b (at nexts d) None inside) next)
-    first c less (inr ne) =
-        spelled (set cells d None) (length heads) c 0 (at heads c) (at (set heads b (at nexts d)) c) (get_or-set_other heads b c (at nexts d) None ne)
-        (unmoved cells (set cells d None) (length heads) b d c 0 (at heads c) changed (inl ne) (chained.first c less))
+    was : LeadsOn cells (length heads) b (d + 1) (pointer_at nexts d)
+    was = chained.after d b (cell, listed, is)
 
-    after : (i c : ℕ) → InBucket (set cells d None) (length heads) c i → (i ≡ d) ⊎ (i ≢ d) → IsFirst (set cells d None) (length heads) c (i + 1) (at nexts i)
-    after i c here (inl e) = absurd (gone c (subst (λ (n : ℕ). InBucket (set cells d None) (length heads) c n) e here))
-    after i c here (inr ne) =
-        let was = (changed.but c i ne).1 here in
-        after_rest cells (set cells d None) (length heads) b d None (at nexts i) changed last i c ne (λ x. x) was (chained.after i c was)
-chained_take heads nexts cells heads' nexts' b d cell (Some p) chained listed is inside last links = rw (links.0, links.1) (record {
-  some = chained.some;
-  few = rw (length-set cells d None) chained.few;
-  len = length-set nexts p (at nexts d) ∙ chained.len ∙ sym (length-set cells d None);
-  first = λ c less. head_rest cells (set cells d None) (length heads) b d p c (at heads c) changed last.0 last.1 (chained.first c less);
-  after = λ i c here. after i c here (same_or_not i d) (same_or_not i p);
-})
-  where
-    lt : d < length cells
-    lt = within cells (length heads) b d (cell, listed, is)
+    next : IsFirst (set cells d None) (length heads) b (after_of last) (disk_of (pointer_at nexts d))
+    next = taken_next cells (set cells d None) (length heads) b d last (disk_of (pointer_at nexts d)) changed is_last (last_up_to cells (length heads) b d last is_last)
+        (gone b) was.0
 
-    changed : Changed cells (set cells d None) (length heads) b d
-    changed = changed_take cells (length heads) b d cell lt listed is
+    at_last : LeadsOn (set cells d None) (length heads) b (after_of last) (pointer_from heads' nexts' b last)
+    at_last = leads_as (set cells d None) (length heads) b (after_of last) (pointer_at nexts d) (pointer_from heads' nexts' b last)
+        (pointed_here heads1 nexts1 heads' nexts' b last (pointer_at nexts1 d) unlinked (rw counts.0 inside)
+        (last_room cells nexts1 (length heads) b d last (counts.1 ∙ chained.len) is_last)
+        ∙ marked_nexts heads nexts heads1 nexts1 b last second more d marked
+        (not_second cells (length heads) b d d last second is_last is_second (up_to_d cells (length heads) b d last is_last)))
+        (leads_still cells (set cells d None) (length heads) b d last b (d + 1) (after_of last) (pointer_at nexts d) changed is_last
+        (λ _. beyond (InBucket cells (length heads) b) (InBucket cells (length heads) b) d last (disk_of (pointer_at nexts d)) is_last was.0) was next)
 
-    gone : (c : ℕ) → ¬ InBucket (set cells d None) (length heads) c d
-    gone c = in_none (set cells d None) (length heads) c d (get_or-set_same cells d None None lt)
-
-    next : IsFirst (set cells d None) (length heads) b (p + 1) (at nexts d)
-    next = taken_next cells (set cells d None) (length heads) b d (Some p) (at nexts d) changed last (last_up_to cells (length heads) b d (Some p) last) (gone b)
-        (chained.after d b (cell, listed, is))
-
-    after : (i c : ℕ) → InBucket (set cells d None) (length heads) c i → (i ≡ d) ⊎ (i ≢ d) → (i ≡ p) ⊎ (i ≢ p) →
-        IsFirst (set cells d None) (length heads) c (i + 1) (at (set nexts p (at nexts d)) i)
-    after i c here (inl e) other = absurd (gone c (subst (λ (n : ℕ). InBucket (set cells d None) (length heads) c n) e here))
-    after i c here (inr ne) (inl e) =
-        let was = subst (λ (n : ℕ). InBucket cells (length heads) c n) e ((changed.but c i ne).1 here) in
-        let same : c ≡ b = in_one cells (length heads) b c p last.1.0 last.1.1 last.1.2 was in
-        let room : p < length nexts = (let l = chained.len in let n = within cells (length heads) b p last.1 in omega arith) in
-        subst (λ (n : ℕ). IsFirst (set cells d None) (length heads) c (n + 1) (at (set nexts p (at nexts d)) n)) (sym e)
-        (spelled (set cells d None) (length heads) c (p + 1) (at nexts d) (at (set nexts p (at nexts d)) p) (get_or-set_same nexts p (at nexts d) None room)
-        (renamed (set cells d None) (length heads) b c (p + 1) (at nexts d) same next))
-    after i c here (inr ne) (inr other) =
-        let was = (changed.but c i ne).1 here in
-        spelled (set cells d None) (length heads) c (i + 1) (at nexts i) (at (set nexts p (at nexts d)) i) (get_or-set_other nexts p i (at nexts d) None other)
-        (after_rest cells (set cells d None) (length heads) b d (Some p) (at nexts i) changed last i c ne other was (chained.after i c was))
+    goes_on : (last : Option ℕ) → IsLast cells (length heads) b d last →
+        IsFirst (set cells d None) (length heads) b (after_of last) (disk_of (pointer_at nexts d)) →
+        IfSome last (λ p. IsTrue more ↔ ((j : ℕ) × (p < j) × InBucket (set cells d None) (length heads) b j))
+    goes_on None is_last next = tt
+    goes_on (Some p) is_last next =
+        let there = first_there (InBucket (set cells d None) (length heads) b) p (disk_of (pointer_at nexts d)) next in
+        (λ yes. there.0 (has_more.0 yes), λ x. has_more.1 (there.1 x))
 
 -- with no disk listed
 abbrev none_at : ℕ → List (Option ℕ)
 none_at n = replicate n None
 
+abbrev unpointed : ℕ → List Pointer
+unpointed n = replicate n no_pointer
+
 count_none : (n : ℕ) → length (none_at n) ≡ n
 count_none n = length-replicate {A = Option ℕ} n None
+
+count_unpointed : (n : ℕ) → length (unpointed n) ≡ n
+count_unpointed n = length-replicate {A = Pointer} n no_pointer
 
 pub at_none : (n i : ℕ) → at (none_at n) i ≡ None
 at_none n i = elim (cases_lt i n) [
@@ -320,29 +551,35 @@ at_none n i = elim (cases_lt i n) [
   | inr past ↦ get_or_past (none_at n) i None (rw (count_none n) past)
 ]
 
-pub chained_none : (count room : ℕ) → 0 < count → room < 2 ^ 32 → IsChained (none_at count) (none_at room) (none_at room)
+unpointed_at : (n i : ℕ) → pointer_at (unpointed n) i ≡ no_pointer
+unpointed_at n i = elim (cases_lt i n) [
+  | inl lt ↦ get_or-replicate n i no_pointer no_pointer lt
+  | inr past ↦ get_or_past (unpointed n) i no_pointer (rw (count_unpointed n) past)
+]
+
+pub chained_none : (count room : ℕ) → 0 < count → room < 2 ^ 31 → IsChained (unpointed count) (unpointed room) (none_at room)
 chained_none count room some few = record {
-  some = rw (count_none count) some;
+  some = rw (count_unpointed count) some;
   few = rw (count_none room) few;
-  len = refl;
-  first = λ b lt. subst (λ (o : Option ℕ). IsFirst (none_at room) (length (none_at count)) b 0 o) (sym (at_none count b))
-      (λ j le here. never (length (none_at count)) b j here);
-  after = λ i b here. absurd (never (length (none_at count)) b i here);
+  len = count_unpointed room ∙ sym (count_none room);
+  first = λ b lt. leads_as (none_at room) (length (unpointed count)) b 0 no_pointer (pointer_at (unpointed count) b) (unpointed_at count b)
+      (λ j le here. never (length (unpointed count)) b j here, (λ says. absurd (omega arith), λ no. absurd no));
+  after = λ i b here. absurd (never (length (unpointed count)) b i here);
 }
   where
     never : (m b i : ℕ) → ¬ InBucket (none_at room) m b i
     never m b i = in_none (none_at room) m b i (at_none room i)
 
 -- ---- what the chains are seen as
-pub record IsSeen (heads nexts : List (Option ℕ)) (chains : ChainsData) : Type 0 where
+pub record IsSeen (heads nexts : List Pointer) (chains : ChainsData) : Type 0 where
   pub some : 0 < chains.buckets
   pub count : length heads ≡ chains.buckets
-  pub few : length chains.cells < 2 ^ 32
+  pub few : length chains.cells < 2 ^ 31
   pub len : length nexts ≡ length chains.cells
-  pub first : (b : ℕ) → b < chains.buckets → IsFirst chains.cells chains.buckets b 0 (at heads b)
-  pub after : (i b : ℕ) → InBucket chains.cells chains.buckets b i → IsFirst chains.cells chains.buckets b (i + 1) (at nexts i)
+  pub first : (b : ℕ) → b < chains.buckets → LeadsOn chains.cells chains.buckets b 0 (pointer_at heads b)
+  pub after : (i b : ℕ) → InBucket chains.cells chains.buckets b i → LeadsOn chains.cells chains.buckets b (i + 1) (pointer_at nexts i)
 
-pub seen : (heads nexts cells : List (Option ℕ)) (chains : ChainsData) → chains_of (length heads) cells ≡ chains → IsChained heads nexts cells →
+pub seen : (heads nexts : List Pointer) (cells : List (Option ℕ)) (chains : ChainsData) → chains_of (length heads) cells ≡ chains → IsChained heads nexts cells →
     IsSeen heads nexts chains
 seen heads nexts cells chains e chained = subst (IsSeen heads nexts) e (record {
   some = chained.some;
@@ -353,20 +590,20 @@ seen heads nexts cells chains e chained = subst (IsSeen heads nexts) e (record {
   after = chained.after;
 })
 
--- a head that was read is the first of its bucket
-pub head_is_first : (heads nexts : List (Option ℕ)) (chains : ChainsData) (b : ℕ) (read : Option ℕ) → IsSeen heads nexts chains → b < chains.buckets →
-    read ≡ get_or heads b read → IsFirst chains.cells chains.buckets b 0 read
-head_is_first heads nexts chains b read is inside r =
+-- a head that was read leads on to the first of its bucket
+pub head_leads : (heads nexts : List Pointer) (chains : ChainsData) (b : ℕ) (read : Pointer) → IsSeen heads nexts chains → b < chains.buckets →
+    read ≡ get_or heads b read → LeadsOn chains.cells chains.buckets b 0 read
+head_leads heads nexts chains b read is inside r =
     let within : b < length heads = subst (λ (m : ℕ). b < m) (sym is.count) inside in
-    spelled chains.cells chains.buckets b 0 (at heads b) read (r ∙ get_or_default heads b read None within) (is.first b inside)
+    leads_as chains.cells chains.buckets b 0 (pointer_at heads b) read (r ∙ get_or_default heads b read no_pointer within) (is.first b inside)
 
--- a next one that was read is the first of the bucket after its disk
-pub next_is_first : (heads nexts : List (Option ℕ)) (chains : ChainsData) (b i : ℕ) (read : Option ℕ) → IsSeen heads nexts chains →
-    InBucket chains.cells chains.buckets b i → read ≡ get_or nexts i read → IsFirst chains.cells chains.buckets b (i + 1) read
-next_is_first heads nexts chains b i read is here r =
+-- a next one that was read leads on to the first of the bucket after its disk
+pub next_leads : (heads nexts : List Pointer) (chains : ChainsData) (b i : ℕ) (read : Pointer) → IsSeen heads nexts chains →
+    InBucket chains.cells chains.buckets b i → read ≡ get_or nexts i read → LeadsOn chains.cells chains.buckets b (i + 1) read
+next_leads heads nexts chains b i read is here r =
     let few : i < length chains.cells = within chains.cells chains.buckets b i here in
     let len = is.len in
-    spelled chains.cells chains.buckets b (i + 1) (at nexts i) read (r ∙ get_or_default nexts i read None (omega arith)) (is.after i b here)
+    leads_as chains.cells chains.buckets b (i + 1) (pointer_at nexts i) read (r ∙ get_or_default nexts i read no_pointer (omega arith)) (is.after i b here)
 
 -- a cell that was read is that of its disk
 pub cell_is_read : (cells : List (Option ℕ)) (count : ℕ) (chains : ChainsData) (disk : ℕ) (read : Option ℕ) → chains_of count cells ≡ chains →
@@ -387,7 +624,7 @@ pub is_other : (o : Option ℕ) (cell : ℕ) → false ≡ option_eq eqb o (Some
 is_other o cell e is = false≢true (e ∙ ap (λ x. option_eq eqb x (Some cell)) is ∙ eq-eqb cell cell refl)
 
 -- and further along
-pub next_falls : (heads nexts : List (Option ℕ)) (chains : ChainsData) (b i : ℕ) (read : Option ℕ) → IsSeen heads nexts chains →
+pub next_falls : (heads nexts : List Pointer) (chains : ChainsData) (b i : ℕ) (read : Option ℕ) → IsSeen heads nexts chains →
     InBucket chains.cells chains.buckets b i → IsFirst chains.cells chains.buckets b (i + 1) read → ascent read < ascent (Some i)
 next_falls heads nexts chains b i read is here next =
     let room : i < length chains.cells = within chains.cells chains.buckets b i here in

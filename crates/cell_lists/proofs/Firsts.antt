@@ -1,7 +1,7 @@
 -- Firsts and lasts of a property.
-use Rattle.std.proofs.Common.{◌≡◌, ◌≢◌, ◌⊎◌, ◌^◌, IfSome, ◌↔◌, ℕ, ◌+◌, ◌-◌, ◌<◌, ◌≤◌, min, List, [], ◌∷◌, ◌++◌, append_assoc, arith, inl, inr, sym, subst}
-use Rattle.std.specs.Prelude.{Option, Some, None}
-use Rattle.std.proofs.lemmas.Bool.{cases_lt}
+use Rattle.std.proofs.Common.{◌≡◌, ◌≢◌, ◌⊎◌, ◌^◌, IfSome, ◌↔◌, ℕ, ◌+◌, ◌-◌, ◌<◌, ◌≤◌, min, List, [], ◌∷◌, ◌++◌, append_assoc, arith, refl, inl, inr, sym, subst}
+use Rattle.std.specs.Prelude.{Option, Some, None, IsSome}
+use Rattle.std.proofs.lemmas.Bool.{cases_lt, false≢true}
 use Rattle.cell_lists.specs.Firsts.{IsFirstOf, IsLastOf, AreAllFrom, lesser_of}
 
 -- ---- walks
@@ -9,6 +9,11 @@ use Rattle.cell_lists.specs.Firsts.{IsFirstOf, IsLastOf, AreAllFrom, lesser_of}
 abbrev pub after_of : Option ℕ → ℕ
 after_of None = 0
 after_of (Some i) = i + 1
+
+-- whether a number is this one, where there is one
+abbrev pub IsBefore : Option ℕ → ℕ → Type 0
+IsBefore None i = ⊥
+IsBefore (Some p) i = i ≡ p
 
 -- how far numbers of 32 bits may still ascend
 abbrev pub ascent : Option ℕ → ℕ
@@ -23,9 +28,56 @@ pub last_past : (P : ℕ → Type 0) (last : Option ℕ) (i d : ℕ) → IsFirst
 last_past P None i d h le s = λ j lt p. h.2 j (omega arith) (omega arith) p
 last_past P (Some q) i d h le s = (s.0, s.1, λ j above lt p. h.2 j (omega arith) (omega arith) p)
 
+-- what is before a first is the last below it
+pub second_before : (P : ℕ → Type 0) (last : Option ℕ) (d i : ℕ) → IsFirstOf P (after_of last) (Some i) → IfSome last (λ p. (p < d) × P p) → IsLastOf P i last
+second_before P None d i h s = λ j lt p. h.2 j (omega arith) lt p
+second_before P (Some q) d i h s = let more : q + 1 ≤ i = h.0 in (omega arith, s.1, λ j above lt p. h.2 j (omega arith) lt p)
+
 pub last_end : (P : ℕ → Type 0) (last : Option ℕ) (d : ℕ) → IsFirstOf P (after_of last) None → IfSome last (λ p. (p < d) × P p) → IsLastOf P d last
 last_end P None d h s = λ j lt p. h j (omega arith) p
 last_end P (Some q) d h s = (s.0, s.1, λ j above lt p. h j (omega arith) p)
+
+-- what comes right before p leads on to p
+pub first_after_last : (P : ℕ → Type 0) (p : ℕ) (last : Option ℕ) → P p → IsLastOf P p last → IsFirstOf P (after_of last) (Some p)
+first_after_last P p None holds is = (omega arith, holds, λ j above below h. is j below h)
+first_after_last P p (Some q) holds is = let less : q < p = is.0 in (omega arith, holds, λ j above below h. is.2 j (omega arith) below h)
+
+-- only what comes right before p leads on to p
+pub head_not_last : (P : ℕ → Type 0) (o : Option ℕ) (p q : ℕ) → P q → q < p → IsFirstOf P 0 o → IfSome o (λ e. ¬ IsBefore (Some p) e)
+head_not_last P None p q holds less h = tt
+head_not_last P (Some e) p q holds less h = λ same. h.2 q (omega arith) (omega arith) holds
+
+pub next_not_last : (P : ℕ → Type 0) (o : Option ℕ) (p i : ℕ) (last : Option ℕ) → IsLastOf P p last → P i → ¬ IsBefore last i → IsFirstOf P (i + 1) o →
+    IfSome o (λ e. ¬ IsBefore (Some p) e)
+next_not_last P None p i last is holds other h = tt
+next_not_last P (Some e) p i None is holds other h = λ same. let more : i + 1 ≤ e = h.0 in is i (omega arith) holds
+next_not_last P (Some e) p i (Some q) is holds other h = λ same. let more : i + 1 ≤ e = h.0 in let less : q < p = is.0 in elim (apart i q other) [
+  | inl below ↦ h.2 q (omega arith) (omega arith) is.1
+  | inr above ↦ is.2 i above (omega arith) holds
+]
+  where
+    apart : (i q : ℕ) → i ≢ q → (i < q) ⊎ (q < i)
+    apart i q ne = grind arith
+
+-- what comes after d isn't what comes before it
+pub beyond : (P Q : ℕ → Type 0) (d : ℕ) (last o : Option ℕ) → IsLastOf Q d last → IsFirstOf P (d + 1) o → IfSome o (λ e. ¬ IsBefore last e)
+beyond P Q d last None is h = tt
+beyond P Q d None (Some e) is h = λ never. never
+beyond P Q d (Some p) (Some e) is h = λ same. let more : d + 1 ≤ e = h.0 in let less : p < d = is.0 in absurd (omega arith)
+
+pub none_before : (o : Option ℕ) → IfSome o (λ e. ¬ IsBefore None e)
+none_before None = tt
+none_before (Some e) = λ never. never
+
+-- a first is one
+pub first_one : (P : ℕ → Type 0) (from : ℕ) (o : Option ℕ) → IsFirstOf P from o → IfSome o P
+first_one P from None h = tt
+first_one P from (Some i) h = h.1
+
+-- there is a first after d exactly where there is one after d
+pub first_there : (P : ℕ → Type 0) (d : ℕ) (o : Option ℕ) → IsFirstOf P (d + 1) o → (IsSome o ↔ ((j : ℕ) × (d < j) × P j))
+first_there P d None h = (λ some. absurd (false≢true some), λ x. (let more = x.1 in absurd (h x.0 (omega arith) x.2)))
+first_there P d (Some i) h = (λ _. (let more : d + 1 ≤ i = h.0 in (i, omega arith, h.1)), λ _. refl)
 
 -- ---- firsts, where P becomes Q
 -- they agree from there on

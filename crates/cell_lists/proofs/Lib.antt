@@ -2,6 +2,7 @@
 pub mod Blocks
 mod Chaining
 mod Nodes
+mod Bits
 pub mod Firsts
 mod Listed
 mod Walks

@@ -1,18 +1,25 @@
 -- The disks that come to those that were gathered.
-use Rattle.std.proofs.Common.{◌≡◌, ◌⊎◌, ◌↔◌, inl, inr, ℕ, zero, suc, ◌+◌, ◌<◌, ◌≤◌, List, [], ◌∷◌, ◌++◌, length, take, drop, get_or, arith, refl, sym, subst, ap, ◌∙◌}
-use Rattle.std.specs.Prelude.{Option, Some, None}
+use Rattle.std.proofs.Common.{◌≡◌, ◌≢◌, ◌⊎◌, ◌↔◌, inl, inr, ℕ, zero, suc, ◌+◌, ◌-◌, ◌<◌, ◌≤◌, List, [], ◌∷◌, ◌++◌, length, take, drop, get_or, arith, refl, sym, subst, ap, ◌∙◌}
+use Rattle.std.specs.Prelude.{Option, Some, None, IsSomeAnd}
 use Rattle.std.specs.List.{Contains}
 use Rattle.std.proofs.Math.Nat.{mod-eq_of_lt}
-use Rattle.std.proofs.lemmas.List.{append-nil, append_assoc, length-append, length-take-le, take_at, drop_at, get_or_at, take-append-drop}
+use Rattle.std.proofs.lemmas.Bool.{cases_lt}
+use Rattle.std.proofs.lemmas.Option.{none-some}
+use Rattle.std.proofs.lemmas.List.{append-nil, append_assoc, length-append, length-drop, length-take-le, take_at, drop_at, get_or_at, get_or_default, get_or-drop, get_or-take, get_or_append_left, take-append-drop, take-append-le, drop-append-le}
 use Rattle.std.proofs.lemmas.List.Elements.{Contains-append_left, Contains-append_right, Contains-append_cases}
 use Rattle.cell_grid.specs.Grid.{GridData}
 use Rattle.cell_lists.specs.declared.near.Block.{Block}
+use Rattle.cell_lists.specs.declared.pointer.Pointer.{Pointer}
+use Rattle.cell_lists.specs.declared.places.Places.{Places}
 use Rattle.cell_lists.specs.declared.gathered.TheConstants.{MOST_GATHERED}
 use Rattle.cell_lists.specs.Firsts.{IsFirstOf}
 use Rattle.cell_lists.specs.Nearby.{IsWithin}
-use Rattle.cell_lists.specs.Chain.{ChainsData, IsIn, InBucket, IsFirst}
-use Rattle.cell_lists.specs.Gathering.{with_offered, HaveOwnBuckets, AreListed, IsFromOneOf, StartsAdded, AreFollowed, AreGatheredIn}
+use Rattle.cell_lists.specs.Pointer.{disk_of, SaysMore}
+use Rattle.cell_lists.specs.Places.{Holds}
+use Rattle.cell_lists.specs.Chain.{ChainsData, IsIn, InBucket, IsFirst, LeadsOn}
+use Rattle.cell_lists.specs.Gathering.{with_offered, HaveOwnBuckets, AreListed, IsFromOneOf, StartsAdded, HasLater, SaysLater, ArePending, AreFollowed, AreGatheredIn}
 use Rattle.cell_lists.proofs.Firsts.{first_kept}
+use Rattle.cell_lists.proofs.Chaining.{same_or_not}
 
 -- ---- lists
 none_in : (x : ℕ) → ¬ Contains {X = ℕ} [] x
@@ -84,6 +91,14 @@ head_added cells cell old (Some i) h = (
   },
 )
 
+-- those of no cell
+pub nothing_added : (cells : List (Option ℕ)) (IsSuch : ℕ → Type 0) (old : List ℕ) → ((cell : ℕ) → ¬ IsSuch cell) → StartsAdded cells IsSuch old old
+nothing_added cells IsSuch old never = (
+  [],
+  sym (append-nil old),
+  record { listed = λ disk here. absurd (none_in disk here); all = λ disk cell here such. absurd (never cell such) },
+)
+
 -- those of some cells, and then of others
 pub both_added : (cells : List (Option ℕ)) (First Second Both : ℕ → Type 0) (a b c : List ℕ) → StartsAdded cells First a b → StartsAdded cells Second b c →
     ((cell : ℕ) → (Both cell ↔ (First cell ⊎ Second cell))) → StartsAdded cells Both a c
@@ -115,187 +130,296 @@ cell_added cells first cell a b o le h is =
     both_added cells (λ n. (first ≤ n) × (n < cell)) (λ n. n ≡ cell) (λ n. (first ≤ n) × (n < cell + 1)) a b (with_offered b o) h
     (head_added cells cell b o is) (λ n. next_cell first cell n le)
 
+-- ---- disks that have a greater one in their cell
+-- a pointer of a bucket of one cell says of that cell what it says
+pub own_later : (chains : ChainsData) (cell from : ℕ) (x : Pointer) → HaveOwnBuckets chains → cell < chains.buckets →
+    LeadsOn chains.cells chains.buckets cell from x → SaysLater chains.cells x
+own_later chains cell from x own lt leads = says (disk_of x) leads.0 leads.1
+  where
+    says : (o : Option ℕ) → IsFirst chains.cells chains.buckets cell from o →
+        (SaysMore x ↔ IsSomeAnd o (λ i. (j : ℕ) × (i < j) × InBucket chains.cells chains.buckets cell j)) → (SaysMore x ↔ IsSomeAnd o (HasLater chains.cells))
+    says None first marks = marks
+    says (Some i) first marks = (
+      λ more. (let later = marks.0 more in (cell, later.0, here, (own_bucket chains cell own lt later.0).0 later.2, later.1)),
+      λ later. marks.1 (
+        later.1,
+        later.4,
+        (own_bucket chains cell own lt later.1).1
+            (subst (λ (n : ℕ). IsIn chains.cells n later.1) (one_cell chains.cells later.0 cell i later.2 here) later.3),
+      ),
+    )
+      where
+        here : IsIn chains.cells cell i
+        here = (own_bucket chains cell own lt i).0 first.1
+
+-- where no place is held yet, none of the disks has to be looked at
+pub none_pending : (cells : List (Option ℕ)) (disks : List ℕ) (places : Places) → ((p : ℕ) → ¬ Holds places p) → ArePending cells (length disks) disks places
+none_pending cells disks places none p = (λ h. absurd (none p h), λ x. (let low = x.0 in let high = x.1 in absurd (omega arith)))
+
+one_more : (disks : List ℕ) (d : ℕ) → length (disks ++ (d ∷ [])) ≡ length disks + 1
+one_more disks d = length-append disks (d ∷ [])
+
+at_before : (disks : List ℕ) (d p : ℕ) → p < length disks → get_or (disks ++ (d ∷ [])) p 0 ≡ get_or disks p 0
+at_before disks d p lt = get_or_append_left disks (d ∷ []) 0 p lt
+
+at_end : (disks : List ℕ) (d p : ℕ) → p ≡ length disks → get_or (disks ++ (d ∷ [])) p 0 ≡ d
+at_end disks d p e = get_or_at disks d [] 0 p (sym e)
+
+-- one more disk
+pub pending_more : (cells : List (Option ℕ)) (first : ℕ) (disks : List ℕ) (before after : Places) (x : Pointer) → first ≤ length disks → SaysLater cells x →
+    ((p : ℕ) → (Holds after p ↔ (Holds before p ⊎ ((p ≡ length disks) × SaysMore x)))) → ArePending cells first disks before →
+    ArePending cells first (with_offered disks (disk_of x)) after
+pending_more cells first disks before after x some says step pending = more (disk_of x) says
+  where
+    more : (o : Option ℕ) → (SaysMore x ↔ IsSomeAnd o (HasLater cells)) → ArePending cells first (with_offered disks o) after
+    more None says p = (
+      λ h. elim ((step p).0 h) [ inl was ↦ (pending p).0 was | inr new ↦ absurd (says.0 new.1) ],
+      λ h. (step p).1 (inl ((pending p).1 h)),
+    )
+    more (Some d) says p = (λ h. forward ((step p).0 h), λ h. backward h (cases_lt p (length disks)))
+      where
+        forward : Holds before p ⊎ ((p ≡ length disks) × SaysMore x) →
+            (first ≤ p) × (p < length (disks ++ (d ∷ []))) × HasLater cells (get_or (disks ++ (d ∷ [])) p 0)
+        forward (inl was) =
+            let h = (pending p).0 was in
+            let lt = h.1 in
+            (h.0, (let count = one_more disks d in omega arith), subst (HasLater cells) (sym (at_before disks d p lt)) h.2)
+        forward (inr (e, more)) =
+            (omega arith, (let count = one_more disks d in omega arith), subst (HasLater cells) (sym (at_end disks d p e)) (says.0 more))
+
+        backward : (first ≤ p) × (p < length (disks ++ (d ∷ []))) × HasLater cells (get_or (disks ++ (d ∷ [])) p 0) →
+            (p < length disks) ⊎ (length disks ≤ p) → Holds after p
+        backward h (inl lt) = (step p).1 (inl ((pending p).1 (h.0, lt, subst (HasLater cells) (at_before disks d p lt) h.2)))
+        backward h (inr past) =
+            let e : p ≡ length disks = (let lt = h.1 in let count = one_more disks d in omega arith) in
+            (step p).1 (inr (e, says.1 (subst (HasLater cells) (at_end disks d p e) h.2)))
+
 -- ---- the next disks
--- the disk that was looked at, and what comes from its next one, are what comes from it
-from_next : (cells : List (Option ℕ)) (cell p disk : ℕ) (o : Option ℕ) → IsIn cells cell p → IsFirstOf (IsIn cells cell) (p + 1) o →
-    IsFromOneOf cells (p ∷ []) disk → (disk ≡ p) ⊎ IsFromOneOf cells (with_offered [] o) disk
-from_next cells cell p disk o here next h = split (same_or_more (subst (λ (n : ℕ). n ≤ disk) (the_one p h.0 h.1) h.2.3)) o next
+-- the disk is in the cell of this one, and after it
+abbrev IsAfter : List (Option ℕ) → ℕ → ℕ → Type 0
+IsAfter cells start disk = (cell : ℕ) × IsIn cells cell start × IsIn cells cell disk × (start < disk)
+
+-- what is gathered while disks are followed: what comes from the old ones is there, or after one at a place that is held
+pub record IsFollowing (cells : List (Option ℕ)) (old : List ℕ) (first : ℕ) (new : List ℕ) (places : Places) : Type 0 where
+  pub kept : take first new ≡ take first old
+  pub some : first ≤ length new
+  pub listed : AreListed cells (drop first new)
+  pub held : (p : ℕ) → Holds places p → (first ≤ p) × (p < length new) × HasLater cells (get_or new p 0)
+  pub same : (disk : ℕ) → (IsFromOneOf cells (drop first old) disk ↔
+      (Contains (drop first new) disk ⊎ ((p : ℕ) × Holds places p × IsAfter cells (get_or new p 0) disk)))
+
+behind : (xs : List ℕ) (first p : ℕ) → first ≤ p → p < length xs → Contains (drop first xs) (get_or xs p 0)
+behind xs first p from lt = (p - first, inside, there ∙ get_or_default xs p (get_or xs p 0) 0 lt)
   where
-    same_or_more : p ≤ disk → (disk ≡ p) ⊎ (p + 1 ≤ disk)
-    same_or_more le = grind arith
+    inside : p - first < length (drop first xs)
+    inside = let count = length-drop first xs in omega arith
 
-    in_cell : IsIn cells cell disk
-    in_cell = subst (λ (n : ℕ). IsIn cells n disk)
-        (one_cell cells h.2.0 cell p (subst (λ (n : ℕ). IsIn cells h.2.0 n) (the_one p h.0 h.1) h.2.1) here) h.2.2
+    there : get_or (drop first xs) (p - first) (get_or xs p 0) ≡ get_or xs p (get_or xs p 0)
+    there = get_or-drop first xs (p - first) (get_or xs p 0) ∙ ap (λ n. get_or xs n (get_or xs p 0)) (let sum : first + (p - first) ≡ p = omega arith in sum)
 
-    split : (disk ≡ p) ⊎ (p + 1 ≤ disk) → (o : Option ℕ) → IsFirstOf (IsIn cells cell) (p + 1) o → (disk ≡ p) ⊎ IsFromOneOf cells (with_offered [] o) disk
-    split (inl same) o next = inl same
-    split (inr more) None next = absurd (next disk more in_cell)
-    split (inr more) (Some n) next = inr (n, one_in n, (cell, next.1, in_cell, not_less n disk (λ less. next.2 disk more less in_cell)))
-
-next_from : (cells : List (Option ℕ)) (cell p disk : ℕ) (o : Option ℕ) → IsIn cells cell p → IsFirstOf (IsIn cells cell) (p + 1) o →
-    IsFromOneOf cells (with_offered [] o) disk → IsFromOneOf cells (p ∷ []) disk
-next_from cells cell p disk None here next h = absurd (none_in h.0 h.1)
-next_from cells cell p disk (Some n) here next h =
-    let same : h.0 ≡ n = the_one n h.0 h.1 in
-    let from : h.0 ≤ disk = h.2.3 in
-    let later : p + 1 ≤ n = next.0 in
-    let in_cell = subst (λ (m : ℕ). IsIn cells m disk)
-    (one_cell cells h.2.0 cell n (subst (λ (m : ℕ). IsIn cells h.2.0 m) same h.2.1) next.1) h.2.2 in
-    (p, one_in p, (cell, here, in_cell, omega arith))
-
-new_listed : (cells : List (Option ℕ)) (cell from disk : ℕ) (o : Option ℕ) → IsFirstOf (IsIn cells cell) from o → Contains (with_offered [] o) disk → IsIn cells cell disk
-new_listed cells cell from disk None next is = absurd (none_in disk is)
-new_listed cells cell from disk (Some n) next is = subst (λ (m : ℕ). IsIn cells cell m) (sym (the_one n disk is)) next.1
-
-as_two : (xs : List ℕ) (o : Option ℕ) → with_offered xs o ≡ xs ++ with_offered [] o
-as_two xs None = sym (append-nil xs)
-as_two xs (Some n) = refl
-
--- what is gathered while the disks are looked at: before the first those that were there, and then those that were looked at, and the others
-pub record IsWalked (cells : List (Option ℕ)) (old : List ℕ) (first i : ℕ) (new : List ℕ) : Type 0 where
-  pub done : List ℕ
-  pub todo : List ℕ
-  pub parts : new ≡ take first old ++ (done ++ todo)
-  pub seen : first + length done ≡ i
-  pub listed : AreListed cells todo
-  pub same : (disk : ℕ) → (IsFromOneOf cells (drop first old) disk ↔ (Contains done disk ⊎ IsFromOneOf cells todo disk))
-
-pub walk_starts : (cells : List (Option ℕ)) (old : List ℕ) (first : ℕ) → AreListed cells (drop first old) → IsWalked cells old first first old
-walk_starts cells old first listed = record {
-  done = [];
-  todo = drop first old;
-  parts = sym (take-append-drop first old);
-  seen = nothing first;
+pub following_starts : (cells : List (Option ℕ)) (old : List ℕ) (first : ℕ) (places : Places) → first ≤ length old → AreListed cells (drop first old) →
+    ArePending cells first old places → IsFollowing cells old first old places
+following_starts cells old first places some listed pending = record {
+  kept = refl;
+  some = some;
   listed = listed;
-  same = λ disk. (λ h. inr h, λ h. elim h [ inl is ↦ absurd (none_in disk is) | inr from ↦ from ]);
+  held = λ p h. (pending p).0 h;
+  same = λ disk. (λ h. forward disk h (same_or_less h.0 disk h.2.3), backward disk);
 }
   where
-    nothing : (n : ℕ) → n + 0 ≡ n
-    nothing n = omega arith
+    same_or_less : (i j : ℕ) → i ≤ j → (i ≡ j) ⊎ (i < j)
+    same_or_less i j le = grind arith
 
--- the walk before a disk is looked at, with this one apart
-record IsAt (cells : List (Option ℕ)) (old : List ℕ) (first i : ℕ) (new : List ℕ) (p : ℕ) : Type 0 where
-  done : List ℕ
-  rest : List ℕ
-  parts : new ≡ take first old ++ (done ++ (p ∷ rest))
-  seen : first + length done ≡ i
-  listed : AreListed cells (p ∷ rest)
-  same : (disk : ℕ) → (IsFromOneOf cells (drop first old) disk ↔ (Contains done disk ⊎ IsFromOneOf cells (p ∷ rest) disk))
-
-walk_at : (cells : List (Option ℕ)) (old : List ℕ) (first i : ℕ) (new : List ℕ) → first ≤ length old → IsWalked cells old first i new → i < length new →
-    IsAt cells old first i new (get_or new i 0)
-walk_at cells old first i new some walk lt = split walk.todo walk.parts walk.listed walk.same
-  where
-    split : (todo : List ℕ) → new ≡ take first old ++ (walk.done ++ todo) → AreListed cells todo →
-        ((disk : ℕ) → (IsFromOneOf cells (drop first old) disk ↔ (Contains walk.done disk ⊎ IsFromOneOf cells todo disk))) → IsAt cells old first i new (get_or new i 0)
-    split [] parts listed same = absurd (let seen = walk.seen in
-        let count : length new ≡ length (take first old) + length walk.done =
-        ap length parts ∙ length-append (take first old) (walk.done ++ []) ∙ ap (λ xs. length (take first old) + length xs) (append-nil walk.done) in
-        let kept : length (take first old) ≡ first = length-take-le first old some in omega arith)
-    split (p ∷ rest) parts listed same = subst (λ (n : ℕ). IsAt cells old first i new n) (sym here) (record {
-      done = walk.done;
-      rest = rest;
-      parts = parts;
-      seen = walk.seen;
-      listed = listed;
-      same = same;
-    })
+    forward : (disk : ℕ) (h : IsFromOneOf cells (drop first old) disk) → (h.0 ≡ disk) ⊎ (h.0 < disk) →
+        Contains (drop first old) disk ⊎ ((p : ℕ) × Holds places p × IsAfter cells (get_or old p 0) disk)
+    forward disk h (inl e) = inl (subst (λ (n : ℕ). Contains (drop first old) n) e h.1)
+    forward disk h (inr less) = inr (first + h.1.0, (pending (first + h.1.0)).1 (omega arith, within, later), after)
       where
-        count : length (take first old ++ walk.done) ≡ i
-        count = length-append (take first old) walk.done ∙ ap (λ n. n + length walk.done) (length-take-le first old some) ∙ walk.seen
+        within : first + h.1.0 < length old
+        within = let lt = h.1.1 in let count = length-drop first old in omega arith
 
-        here : get_or new i 0 ≡ p
-        here = ap (λ xs. get_or xs i 0) (parts ∙ sym (append_assoc (take first old) walk.done (p ∷ rest))) ∙ get_or_at (take first old ++ walk.done) p rest 0 i count
+        there : get_or old (first + h.1.0) 0 ≡ h.0
+        there = get_or_default old (first + h.1.0) 0 h.0 within ∙ sym (get_or-drop first old h.1.0 h.0) ∙ h.1.2
 
--- one more disk that was looked at
-looked_at : (cells : List (Option ℕ)) (old : List ℕ) (first i : ℕ) (new : List ℕ) (p cell : ℕ) (o : Option ℕ) → IsAt cells old first i new p →
-    IsIn cells cell p → IsFirstOf (IsIn cells cell) (p + 1) o → IsWalked cells old first (i + 1) (with_offered new o)
-looked_at cells old first i new p cell o walk here next = record {
-  done = walk.done ++ (p ∷ []);
-  todo = walk.rest ++ with_offered [] o;
-  parts = parts;
-  seen = seen;
-  listed = λ disk is. listed disk (Contains-append_cases walk.rest (with_offered [] o) disk is);
-  same = λ disk. (λ h. forward disk ((walk.same disk).0 h), λ h. (walk.same disk).1 (backward disk h));
-}
-  where
-    parts : with_offered new o ≡ take first old ++ ((walk.done ++ (p ∷ [])) ++ (walk.rest ++ with_offered [] o))
-    parts = as_two new o
-        ∙ ap (λ xs. xs ++ with_offered [] o) walk.parts
-        ∙ append_assoc (take first old) (walk.done ++ (p ∷ walk.rest)) (with_offered [] o)
-        ∙ ap (λ xs. take first old ++ xs) (append_assoc walk.done (p ∷ walk.rest) (with_offered [] o) ∙ sym (append_assoc walk.done (p ∷ []) (walk.rest ++ with_offered [] o)))
+        later : HasLater cells (get_or old (first + h.1.0) 0)
+        later = subst (HasLater cells) (sym there) (h.2.0, disk, h.2.1, h.2.2, less)
 
-    seen : first + length (walk.done ++ (p ∷ [])) ≡ i + 1
-    seen = let was = walk.seen in let count = length-append walk.done (p ∷ []) in omega arith
+        after : IsAfter cells (get_or old (first + h.1.0) 0) disk
+        after = subst (λ (n : ℕ). IsAfter cells n disk) (sym there) (h.2.0, h.2.1, h.2.2, less)
 
-    listed : (disk : ℕ) → Contains walk.rest disk ⊎ Contains (with_offered [] o) disk → (n : ℕ) × IsIn cells n disk
-    listed disk (inl is) = walk.listed disk (Contains-append_right (p ∷ []) walk.rest disk is)
-    listed disk (inr is) = (cell, new_listed cells cell (p + 1) disk o next is)
-
-    after : (disk : ℕ) → (disk ≡ p) ⊎ IsFromOneOf cells (with_offered [] o) disk →
-        Contains (walk.done ++ (p ∷ [])) disk ⊎ IsFromOneOf cells (walk.rest ++ with_offered [] o) disk
-    after disk (inl e) = inl (Contains-append_right walk.done (p ∷ []) disk (subst (λ (n : ℕ). Contains (p ∷ []) n) (sym e) (one_in p)))
-    after disk (inr from) = inr (from_later cells walk.rest (with_offered [] o) disk from)
-
-    forward : (disk : ℕ) → Contains walk.done disk ⊎ IsFromOneOf cells (p ∷ walk.rest) disk →
-        Contains (walk.done ++ (p ∷ [])) disk ⊎ IsFromOneOf cells (walk.rest ++ with_offered [] o) disk
-    forward disk (inl is) = inl (Contains-append_left walk.done (p ∷ []) disk is)
-    forward disk (inr from) = elim (Contains-append_cases (p ∷ []) walk.rest from.0 from.1) [
-      | inl is ↦ after disk (from_next cells cell p disk o here next (from.0, is, from.2))
-      | inr is ↦ inr (from_more cells walk.rest (with_offered [] o) disk (from.0, is, from.2))
-    ]
-
-    backward : (disk : ℕ) → Contains (walk.done ++ (p ∷ [])) disk ⊎ IsFromOneOf cells (walk.rest ++ with_offered [] o) disk →
-        Contains walk.done disk ⊎ IsFromOneOf cells (p ∷ walk.rest) disk
-    backward disk (inl is) = elim (Contains-append_cases walk.done (p ∷ []) disk is) [
-      | inl was ↦ inl was
-      | inr one ↦ inr (subst (λ (n : ℕ). IsFromOneOf cells (p ∷ walk.rest) n) (sym (the_one p disk one))
-          (p, Contains-append_left (p ∷ []) walk.rest p (one_in p), (cell, here, here, same p)))
-    ]
+    backward : (disk : ℕ) → Contains (drop first old) disk ⊎ ((p : ℕ) × Holds places p × IsAfter cells (get_or old p 0) disk) →
+        IsFromOneOf cells (drop first old) disk
+    backward disk (inl is) = let here = listed disk is in (disk, is, (here.0, here.1, here.1, itself disk))
       where
-        same : (n : ℕ) → n ≤ n
-        same n = omega arith
-    backward disk (inr from) = inr (elim (Contains-append_cases walk.rest (with_offered [] o) from.0 from.1) [
-      | inl is ↦ from_later cells (p ∷ []) walk.rest disk (from.0, is, from.2)
-      | inr is ↦ from_more cells (p ∷ []) walk.rest disk (next_from cells cell p disk o here next (from.0, is, from.2))
-    ])
+        itself : (n : ℕ) → n ≤ n
+        itself n = omega arith
+    backward disk (inr (p, holds, after)) =
+        let at = (pending p).0 holds in
+        let less = after.3 in
+        (get_or old p 0, behind old first p at.0 at.1, (after.0, after.1, after.2, omega arith))
 
-pub walk_listed : (cells : List (Option ℕ)) (old : List ℕ) (first i : ℕ) (new : List ℕ) → first ≤ length old → IsWalked cells old first i new →
-    i < length new → (cell : ℕ) × IsIn cells cell (get_or new i 0)
-walk_listed cells old first i new some walk lt =
-    let here = walk_at cells old first i new some walk lt in
-    here.listed (get_or new i 0) (Contains-append_left (get_or new i 0 ∷ []) here.rest (get_or new i 0) (one_in (get_or new i 0)))
+-- a disk that has a later one in its cell has a next one
+next_there : (cells : List (Option ℕ)) (s : ℕ) (o : Option ℕ) → HasLater cells s →
+    ((cell : ℕ) → IsIn cells cell s → IsFirstOf (IsIn cells cell) (s + 1) o) → (n : ℕ) × (o ≡ Some n)
+next_there cells s None later next = absurd (let less = later.4 in next later.0 later.2 later.1 (omega arith) later.3)
+next_there cells s (Some n) later next = (n, refl)
 
-pub walk_more : (cells : List (Option ℕ)) (old : List ℕ) (first i : ℕ) (new : List ℕ) (o : Option ℕ) → first ≤ length old →
-    IsWalked cells old first i new → i < length new →
-    ((cell : ℕ) → IsIn cells cell (get_or new i 0) → IsFirstOf (IsIn cells cell) (get_or new i 0 + 1) o) → IsWalked cells old first (i + 1) (with_offered new o)
-walk_more cells old first i new o some walk lt next =
-    let in_cell = walk_listed cells old first i new some walk lt in
-    looked_at cells old first i new (get_or new i 0) in_cell.0 o (walk_at cells old first i new some walk lt) in_cell.1 (next in_cell.0 in_cell.1)
+pub longer : (cells : List (Option ℕ)) (disks : List ℕ) (s : ℕ) (o : Option ℕ) → HasLater cells s →
+    ((cell : ℕ) → IsIn cells cell s → IsFirstOf (IsIn cells cell) (s + 1) o) → length (with_offered disks o) ≡ length disks + 1
+longer cells disks s o later next =
+    let there = next_there cells s o later next in
+    subst (λ (o : Option ℕ). length (with_offered disks o) ≡ length disks + 1) (sym there.1) (one_more disks there.0)
 
--- all were looked at
-pub walk_ends : (cells : List (Option ℕ)) (old : List ℕ) (first i : ℕ) (new : List ℕ) → first ≤ length old → IsWalked cells old first i new →
-    length new ≤ i → AreFollowed cells first old new
-walk_ends cells old first i new some walk past = end walk.todo walk.parts walk.same
+-- the next of one disk at a place that was held
+pub following_more : (cells : List (Option ℕ)) (old : List ℕ) (first : ℕ) (new : List ℕ) (before after : Places) (q : ℕ) (x : Pointer) →
+    IsFollowing cells old first new before → Holds before q →
+    ((cell : ℕ) → IsIn cells cell (get_or new q 0) → IsFirstOf (IsIn cells cell) (get_or new q 0 + 1) (disk_of x)) → SaysLater cells x →
+    ((p : ℕ) → (Holds after p ↔ ((Holds before p × (p ≢ q)) ⊎ ((p ≡ length new) × SaysMore x)))) →
+    IsFollowing cells old first (with_offered new (disk_of x)) after
+following_more cells old first new before after q x following holds next says step = more (disk_of x) next says
   where
-    kept : length (take first old) ≡ first
-    kept = length-take-le first old some
+    held : (first ≤ q) × (q < length new) × HasLater cells (get_or new q 0)
+    held = following.held q holds
 
-    end : (todo : List ℕ) → new ≡ take first old ++ (walk.done ++ todo) →
-        ((disk : ℕ) → (IsFromOneOf cells (drop first old) disk ↔ (Contains walk.done disk ⊎ IsFromOneOf cells todo disk))) → AreFollowed cells first old new
-    end [] parts same = record {
-      kept = ap (take first) parts ∙ take_at (take first old) (walk.done ++ []) first kept;
-      all = λ disk. subst (λ (xs : List ℕ). Contains xs disk ↔ IsFromOneOf cells (drop first old) disk) (sym behind)
-          (λ is. (same disk).1 (inl is), λ from. elim ((same disk).0 from) [ inl is ↦ is | inr none ↦ absurd (none_in none.0 none.1) ]);
+    more : (o : Option ℕ) → ((cell : ℕ) → IsIn cells cell (get_or new q 0) → IsFirstOf (IsIn cells cell) (get_or new q 0 + 1) o) →
+        (SaysMore x ↔ IsSomeAnd o (HasLater cells)) → IsFollowing cells old first (with_offered new o) after
+    more None next says = let there = next_there cells (get_or new q 0) None held.2 next in absurd (none-some there.0 there.1)
+    more (Some n) next says = record {
+      kept = take-append-le first new (n ∷ []) following.some ∙ following.kept;
+      some = (let count = one_more new n in let some = following.some in omega arith);
+      listed = λ disk is. listed disk (Contains-append_cases (drop first new) (n ∷ []) disk (subst (λ (xs : List ℕ). Contains xs disk) parts is));
+      held = λ p h. held_still p ((step p).0 h);
+      same = λ disk. (
+        λ h. forward disk ((following.same disk).0 h),
+        λ h. (following.same disk).1 (backward disk h),
+      );
     }
       where
-        behind : drop first new ≡ walk.done
-        behind = ap (drop first) parts ∙ drop_at (take first old) (walk.done ++ []) first kept ∙ append-nil walk.done
-    end (p ∷ rest) parts same = absurd (let seen = walk.seen in
-        let count : length new ≡ length (take first old) + (length walk.done + length (p ∷ rest)) =
-        ap length parts ∙ length-append (take first old) (walk.done ++ (p ∷ rest)) ∙ ap (λ n. length (take first old) + n) (length-append walk.done (p ∷ rest)) in
-        let is = kept in omega arith)
+        first_next : IsFirstOf (IsIn cells held.2.0) (get_or new q 0 + 1) (Some n)
+        first_next = next held.2.0 held.2.2
+
+        parts : drop first (new ++ (n ∷ [])) ≡ drop first new ++ (n ∷ [])
+        parts = drop-append-le first new (n ∷ []) following.some
+
+        listed : (disk : ℕ) → Contains (drop first new) disk ⊎ Contains (n ∷ []) disk → (cell : ℕ) × IsIn cells cell disk
+        listed disk (inl is) = following.listed disk is
+        listed disk (inr is) = (held.2.0, subst (λ (m : ℕ). IsIn cells held.2.0 m) (sym (the_one n disk is)) first_next.1)
+
+        held_still : (p : ℕ) → (Holds before p × (p ≢ q)) ⊎ ((p ≡ length new) × SaysMore x) →
+            (first ≤ p) × (p < length (new ++ (n ∷ []))) × HasLater cells (get_or (new ++ (n ∷ [])) p 0)
+        held_still p (inl (was, other)) =
+            let h = following.held p was in
+            let lt = h.1 in
+            (h.0, (let count = one_more new n in omega arith), subst (HasLater cells) (sym (at_before new n p lt)) h.2)
+        held_still p (inr (e, says_more)) = (
+          (let some = following.some in omega arith),
+          (let count = one_more new n in omega arith),
+          subst (HasLater cells) (sym (at_end new n p e)) (says.0 says_more),
+        )
+
+        order : (i j : ℕ) → (i < j) ⊎ ((i ≡ j) ⊎ (j < i))
+        order i j = grind arith
+
+        from_q : (disk : ℕ) → IsAfter cells (get_or new q 0) disk → (n < disk) ⊎ ((n ≡ disk) ⊎ (disk < n)) →
+            Contains (drop first (new ++ (n ∷ []))) disk ⊎ ((p : ℕ) × Holds after p × IsAfter cells (get_or (new ++ (n ∷ [])) p 0) disk)
+        from_q disk h which = by_order which
+          where
+            here : IsIn cells held.2.0 disk
+            here = subst (λ (m : ℕ). IsIn cells m disk) (one_cell cells h.0 held.2.0 (get_or new q 0) h.1 held.2.2) h.2
+
+            by_order : (n < disk) ⊎ ((n ≡ disk) ⊎ (disk < n)) →
+                Contains (drop first (new ++ (n ∷ []))) disk ⊎ ((p : ℕ) × Holds after p × IsAfter cells (get_or (new ++ (n ∷ [])) p 0) disk)
+            by_order (inl less) = inr (
+              length new,
+              (step (length new)).1 (inr (refl, says.1 (held.2.0, disk, first_next.1, here, less))),
+              subst (λ (m : ℕ). IsAfter cells m disk) (sym (at_end new n (length new) refl)) (held.2.0, first_next.1, here, less),
+            )
+            by_order (inr (inl e)) = inl (subst (λ (xs : List ℕ). Contains xs disk) (sym parts)
+                (Contains-append_right (drop first new) (n ∷ []) disk (subst (λ (m : ℕ). Contains (n ∷ []) m) e (one_in n))))
+            by_order (inr (inr more)) = absurd (let less = h.3 in first_next.2 disk (omega arith) more here)
+
+        forward : (disk : ℕ) → Contains (drop first new) disk ⊎ ((p : ℕ) × Holds before p × IsAfter cells (get_or new p 0) disk) →
+            Contains (drop first (new ++ (n ∷ []))) disk ⊎ ((p : ℕ) × Holds after p × IsAfter cells (get_or (new ++ (n ∷ [])) p 0) disk)
+        forward disk (inl is) = inl (subst (λ (xs : List ℕ). Contains xs disk) (sym parts) (Contains-append_left (drop first new) (n ∷ []) disk is))
+        forward disk (inr (p, holds, h)) = elim (same_or_not p q) [
+          | inl e ↦ from_q disk (subst (λ (m : ℕ). IsAfter cells (get_or new m 0) disk) e h) (order n disk)
+          | inr ne ↦ inr (p, (step p).1 (inl (holds, ne)), subst (λ (m : ℕ). IsAfter cells m disk) (sym (at_before new n p (following.held p holds).1)) h)
+        ]
+
+        from_n : (disk : ℕ) → IsAfter cells n disk → IsAfter cells (get_or new q 0) disk
+        from_n disk h =
+            let less = h.3 in
+            let more : get_or new q 0 + 1 ≤ n = first_next.0 in
+            (held.2.0, held.2.2, subst (λ (m : ℕ). IsIn cells m disk) (one_cell cells h.0 held.2.0 n h.1 first_next.1) h.2, omega arith)
+
+        backward : (disk : ℕ) → Contains (drop first (new ++ (n ∷ []))) disk ⊎ ((p : ℕ) × Holds after p × IsAfter cells (get_or (new ++ (n ∷ [])) p 0) disk) →
+            Contains (drop first new) disk ⊎ ((p : ℕ) × Holds before p × IsAfter cells (get_or new p 0) disk)
+        backward disk (inl is) = elim (Contains-append_cases (drop first new) (n ∷ []) disk (subst (λ (xs : List ℕ). Contains xs disk) parts is)) [
+          | inl was ↦ inl was
+          | inr one ↦ inr (
+            q,
+            holds,
+            subst (λ (m : ℕ). IsAfter cells (get_or new q 0) m) (sym (the_one n disk one))
+                (held.2.0, held.2.2, first_next.1, (let more : get_or new q 0 + 1 ≤ n = first_next.0 in omega arith)),
+          )
+        ]
+        backward disk (inr (p, h, after_p)) = elim ((step p).0 h) [
+          | inl was ↦ inr (p, was.0, subst (λ (m : ℕ). IsAfter cells m disk) (at_before new n p (following.held p was.0).1) after_p)
+          | inr end ↦ inr (q, holds, from_n disk (subst (λ (m : ℕ). IsAfter cells m disk) (at_end new n p end.0) after_p))
+        ]
+
+-- the same of the first so many of an array
+pub walk_held : (cells : List (Option ℕ)) (old : List ℕ) (first count : ℕ) (disks : List ℕ) (places : Places) (q : ℕ) → count ≤ MOST_GATHERED →
+    length disks ≡ MOST_GATHERED → IsFollowing cells old first (take count disks) places → Holds places q → (q < count) × HasLater cells (get_or disks q 0)
+walk_held cells old first count disks places q most long following holds =
+    let held = following.held q holds in
+    let less : q < count = subst (λ (n : ℕ). q < n) (all_taken count disks most long) held.1 in
+    (less, subst (HasLater cells) (get_or-take count disks q 0 less) held.2)
+
+pub walk_step : (cells : List (Option ℕ)) (old : List ℕ) (first count : ℕ) (disks : List ℕ) (before without after : Places) (q : ℕ) (x : Pointer) →
+    count ≤ MOST_GATHERED → length disks ≡ MOST_GATHERED → IsFollowing cells old first (take count disks) before → Holds before q →
+    ((cell : ℕ) → IsIn cells cell (get_or disks q 0) → IsFirstOf (IsIn cells cell) (get_or disks q 0 + 1) (disk_of x)) → SaysLater cells x →
+    ((p : ℕ) → (Holds without p ↔ (Holds before p × (p ≢ q)))) → ((p : ℕ) → (Holds after p ↔ (Holds without p ⊎ ((p ≡ count) × SaysMore x)))) →
+    IsFollowing cells old first (with_offered (take count disks) (disk_of x)) after
+walk_step cells old first count disks before without after q x most long following holds next says taken_out put_in =
+    following_more cells old first (take count disks) before after q x following holds
+    (subst (λ (s : ℕ). (cell : ℕ) → IsIn cells cell s → IsFirstOf (IsIn cells cell) (s + 1) (disk_of x)) (sym (get_or-take count disks q 0 less)) next) says step
+  where
+    taken : length (take count disks) ≡ count
+    taken = all_taken count disks most long
+
+    less : q < count
+    less = (walk_held cells old first count disks before q most long following holds).0
+
+    split : (p : ℕ) → Holds without p ⊎ ((p ≡ count) × SaysMore x) → (Holds before p × (p ≢ q)) ⊎ ((p ≡ length (take count disks)) × SaysMore x)
+    split p (inl h) = inl ((taken_out p).0 h)
+    split p (inr h) = inr (h.0 ∙ sym taken, h.1)
+
+    join : (p : ℕ) → (Holds before p × (p ≢ q)) ⊎ ((p ≡ length (take count disks)) × SaysMore x) → Holds without p ⊎ ((p ≡ count) × SaysMore x)
+    join p (inl h) = inl ((taken_out p).1 h)
+    join p (inr h) = inr (h.0 ∙ taken, h.1)
+
+    step : (p : ℕ) → (Holds after p ↔ ((Holds before p × (p ≢ q)) ⊎ ((p ≡ length (take count disks)) × SaysMore x)))
+    step p = (λ h. split p ((put_in p).0 h), λ h. (put_in p).1 (join p h))
+
+pub walk_longer : (cells : List (Option ℕ)) (count : ℕ) (disks : List ℕ) (q count' : ℕ) (disks' : List ℕ) (x : Pointer) → count ≤ MOST_GATHERED →
+    length disks ≡ MOST_GATHERED → count' ≤ MOST_GATHERED → length disks' ≡ MOST_GATHERED → HasLater cells (get_or disks q 0) →
+    ((cell : ℕ) → IsIn cells cell (get_or disks q 0) → IsFirstOf (IsIn cells cell) (get_or disks q 0 + 1) (disk_of x)) →
+    take count' disks' ≡ with_offered (take count disks) (disk_of x) → count' ≡ count + 1
+walk_longer cells count disks q count' disks' x most long most' long' later next offered =
+    sym (all_taken count' disks' most' long') ∙ ap length offered ∙ longer cells (take count disks) (get_or disks q 0) (disk_of x) later next
+    ∙ ap (λ n. n + 1) (all_taken count disks most long)
+
+-- no place is held any more
+pub following_ends : (cells : List (Option ℕ)) (old : List ℕ) (first : ℕ) (new : List ℕ) (places : Places) → IsFollowing cells old first new places →
+    ((p : ℕ) → ¬ Holds places p) → AreFollowed cells first old new
+following_ends cells old first new places following none = record {
+  kept = following.kept;
+  all = λ disk. (
+    λ is. (following.same disk).1 (inl is),
+    λ from. elim ((following.same disk).0 from) [ inl is ↦ is | inr (p, h, after) ↦ absurd (none p h) ],
+  );
+}
 
 -- ---- all disks of a block
 pub starts_behind : (cells : List (Option ℕ)) (IsSuch : ℕ → Type 0) (old new : List ℕ) → StartsAdded cells IsSuch old new → AreListed cells (drop (length old) new)

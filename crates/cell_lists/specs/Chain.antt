@@ -1,8 +1,10 @@
 -- The chains of disks that are listed in cells of one bucket.
-use Rattle.std.specs.Prelude.{◌≡◌, ℕ, ◌+◌, ◌*◌, ◌%◌, ◌^◌, ◌<◌, max, min, List, [], ◌∷◌, length, slice_index_or, slice_set, Option, Some, None}
+use Rattle.std.specs.Prelude.{◌≡◌, ◌↔◌, ℕ, ◌+◌, ◌*◌, ◌%◌, ◌^◌, ◌<◌, max, min, Bool, IsTrue, List, [], ◌∷◌, length, slice_index_or, slice_set, Option, Some, None, IsSome, IsSomeAnd}
 use Rattle.std.specs.Ordering.{nat_cmp}
 use Rattle.std.specs.FinMap as map
 use Rattle.cell_grid.specs.Grid.{GridData, IsCell}
+use Rattle.cell_lists.specs.declared.pointer.Pointer.{Pointer}
+use Rattle.cell_lists.specs.Pointer.{disk_of, SaysMore, pointer_at}
 use Rattle.cell_lists.specs.Firsts.{IsFirstOf, IsLastOf}
 
 -- what chains are seen as: how many buckets there are, and of each disk the cell in which it is listed, or none
@@ -38,23 +40,48 @@ IsFirst cells count bucket from o = IsFirstOf (InBucket cells count bucket) from
 abbrev pub IsLast : List (Option ℕ) → ℕ → ℕ → ℕ → Option ℕ → Type 0
 IsLast cells count bucket below o = IsLastOf (InBucket cells count bucket) below o
 
--- each head is the first disk of its bucket, and each disk's next the first one after it
-pub record IsChained (heads nexts cells : List (Option ℕ)) : Type 0 where
+-- the pointer leads to the first disk of the bucket from a number on, and says whether a greater one is in the bucket
+abbrev pub LeadsOn : List (Option ℕ) → ℕ → ℕ → ℕ → Pointer → Type 0
+LeadsOn cells count bucket from pointer = IsFirst cells count bucket from (disk_of pointer)
+    × (SaysMore pointer ↔ IsSomeAnd (disk_of pointer) (λ i. (j : ℕ) × (i < j) × InBucket cells count bucket j))
+
+-- each head leads to the first disk of its bucket, and each disk's pointer to the first one after it
+pub record IsChained (heads nexts : List Pointer) (cells : List (Option ℕ)) : Type 0 where
   pub some : 0 < length heads
-  pub few : length cells < 2 ^ 32
+  pub few : length cells < 2 ^ 31
   pub len : length nexts ≡ length cells
-  pub first : (b : ℕ) → b < length heads → IsFirst cells (length heads) b 0 (at heads b)
-  pub after : (i b : ℕ) → InBucket cells (length heads) b i → IsFirst cells (length heads) b (i + 1) (at nexts i)
+  pub first : (b : ℕ) → b < length heads → LeadsOn cells (length heads) b 0 (pointer_at heads b)
+  pub after : (i b : ℕ) → InBucket cells (length heads) b i → LeadsOn cells (length heads) b (i + 1) (pointer_at nexts i)
+
+-- the pointer at the head of the bucket, or of the disk before
+abbrev pub pointer_from : List Pointer → List Pointer → ℕ → Option ℕ → Pointer
+pointer_from heads nexts b None = pointer_at heads b
+pointer_from heads nexts b (Some p) = pointer_at nexts p
+
+-- another pointer is there
+abbrev pub IsPointed : List Pointer → List Pointer → ℕ → Option ℕ → Pointer → List Pointer → List Pointer → Type 0
+IsPointed heads nexts b None pointer heads' nexts' = (heads' ≡ slice_set heads b pointer) × (nexts' ≡ nexts)
+IsPointed heads nexts b (Some p) pointer heads' nexts' = (heads' ≡ heads) × (nexts' ≡ slice_set nexts p pointer)
+
+-- the pointer leads to the disk, and says that it has a next one exactly where it has
+abbrev pub LeadsTo : Pointer → ℕ → Type 0 → Type 0
+LeadsTo pointer d HasNext = (disk_of pointer ≡ Some d) × (SaysMore pointer ↔ HasNext)
+
+-- what points at the last disk before one, from the second last or the head, says now whether it has a next one
+abbrev pub IsMarkedAnew : List Pointer → List Pointer → ℕ → Option ℕ → Option ℕ → Bool → List Pointer → List Pointer → Type 0
+IsMarkedAnew heads nexts b None second has_next heads' nexts' = (heads' ≡ heads) × (nexts' ≡ nexts)
+IsMarkedAnew heads nexts b (Some p) second has_next heads' nexts' =
+    (pointer : Pointer) × LeadsTo pointer p (IsTrue has_next) × IsPointed heads nexts b second pointer heads' nexts'
 
 -- the disk is set behind the one before it in its bucket's chain, or at the chain's head
-abbrev pub IsLinked : List (Option ℕ) → List (Option ℕ) → ℕ → ℕ → Option ℕ → List (Option ℕ) → List (Option ℕ) → Type 0
-IsLinked heads nexts b d None heads' nexts' = (heads' ≡ slice_set heads b (Some d)) × (nexts' ≡ slice_set nexts d (at heads b))
-IsLinked heads nexts b d (Some p) heads' nexts' = (heads' ≡ heads) × (nexts' ≡ slice_set (slice_set nexts d (at nexts p)) p (Some d))
+abbrev pub IsLinked : List Pointer → List Pointer → ℕ → ℕ → Option ℕ → List Pointer → List Pointer → Type 0
+IsLinked heads nexts b d before heads' nexts' =
+    let next = pointer_from heads nexts b before in
+    (pointer : Pointer) × LeadsTo pointer d (IsSome (disk_of next)) × IsPointed heads (slice_set nexts d next) b before pointer heads' nexts'
 
 -- the disk is taken out
-abbrev pub IsUnlinked : List (Option ℕ) → List (Option ℕ) → ℕ → ℕ → Option ℕ → List (Option ℕ) → List (Option ℕ) → Type 0
-IsUnlinked heads nexts b d None heads' nexts' = (heads' ≡ slice_set heads b (at nexts d)) × (nexts' ≡ nexts)
-IsUnlinked heads nexts b d (Some p) heads' nexts' = (heads' ≡ heads) × (nexts' ≡ slice_set nexts p (at nexts d))
+abbrev pub IsUnlinked : List Pointer → List Pointer → ℕ → ℕ → Option ℕ → List Pointer → List Pointer → Type 0
+IsUnlinked heads nexts b d before heads' nexts' = IsPointed heads nexts b before (pointer_at nexts d) heads' nexts'
 
 -- the same disks are listed, and there is room for so many
 abbrev pub HasRoom : List (Option ℕ) → ℕ → List (Option ℕ) → Type 0

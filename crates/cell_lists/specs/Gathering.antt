@@ -1,8 +1,12 @@
 -- How the disks of some cells are gathered: the first of each cell, and then the next of each that was gathered.
-use Rattle.std.specs.Prelude.{◌≡◌, ◌↔◌, ◌⊎◌, ℕ, ◌<◌, ◌≤◌, List, [], ◌∷◌, ◌++◌, take, drop, Option, Some, None}
+use Rattle.std.specs.Prelude.{◌≡◌, ◌↔◌, ◌⊎◌, ℕ, ◌<◌, ◌≤◌, List, [], ◌∷◌, ◌++◌, length, take, drop, slice_index_or, Option, Some, None, IsSomeAnd}
 use Rattle.std.specs.List.{Contains}
 use Rattle.cell_grid.specs.Grid.{GridData}
 use Rattle.cell_lists.specs.declared.near.Block.{Block}
+use Rattle.cell_lists.specs.declared.pointer.Pointer.{Pointer}
+use Rattle.cell_lists.specs.declared.places.Places.{Places}
+use Rattle.cell_lists.specs.Pointer.{disk_of, SaysMore}
+use Rattle.cell_lists.specs.Places.{Holds}
 use Rattle.cell_lists.specs.Chain.{ChainsData, IsIn}
 use Rattle.cell_lists.specs.Nearby.{IsWithin}
 
@@ -32,6 +36,18 @@ pub record AreStarts (cells : List (Option ℕ)) (IsSuch : ℕ → Type 0) (star
 -- such disks were added at the end
 abbrev pub StartsAdded : List (Option ℕ) → (ℕ → Type 0) → List ℕ → List ℕ → Type 0
 StartsAdded cells IsSuch old new = (starts : List ℕ) × (new ≡ old ++ starts) × AreStarts cells IsSuch starts
+
+-- a greater disk is in the cell of this one
+abbrev pub HasLater : List (Option ℕ) → ℕ → Type 0
+HasLater cells disk = (cell : ℕ) × (later : ℕ) × IsIn cells cell disk × IsIn cells cell later × (disk < later)
+
+-- the pointer says that its disk has a next one exactly where a greater disk is in its cell
+abbrev pub SaysLater : List (Option ℕ) → Pointer → Type 0
+SaysLater cells pointer = SaysMore pointer ↔ IsSomeAnd (disk_of pointer) (HasLater cells)
+
+-- these are the places, from the first on, of the disks that have a greater one in their cell
+abbrev pub ArePending : List (Option ℕ) → ℕ → List ℕ → Places → Type 0
+ArePending cells first disks places = (p : ℕ) → (Holds places p ↔ ((first ≤ p) × (p < length disks) × HasLater cells (slice_index_or disks p 0)))
 
 -- the first so many disks stay, and the others are now those that are in the cell of one of the old others, and are this one or after it
 pub record AreFollowed (cells : List (Option ℕ)) (first : ℕ) (old new : List ℕ) : Type 0 where

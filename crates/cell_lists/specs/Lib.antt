@@ -2,6 +2,8 @@ pub mod Firsts
 pub mod Listing
 pub mod Chain
 pub mod Slot
+pub mod Pointer
+pub mod Places
 pub mod Nodes
 pub mod Nearby
 pub mod Gathering

@@ -5,14 +5,18 @@
 //! bucket beside its cell, since a walk asks for both. The chains ascend. Where the grid has at most
 //! four times as many cells as there is room for disks, each cell has a bucket of its own; else cells
 //! share buckets, so that the empty cells of a great grid take no memory.
+//!
+//! What points at a disk also says whether that disk has a next one, so that a walk ends without a read
+//! of the last disk's node. So where a chain's last disk is added or taken off, one pointer more is written.
 
+use crate::pointer::Pointer;
 use crate::slot::Slot;
 use std::alloc::{AllocError, Global};
 use std::marker::Model;
 
-// The most disks that there is room for: one for each number of 32 bits but the greatest, which no
-// slot holds.
-const MOST_ROOM: usize = (1 << 32) - 1;
+// The most disks that there is room for: one for each number of 31 bits but the greatest, which no
+// pointer holds.
+const MOST_ROOM: usize = (1 << 31) - 1;
 
 // The most buckets for each disk that there is room for, where there are so many cells.
 const MOST_BUCKETS_A_DISK: usize = 4;
@@ -21,7 +25,14 @@ const MOST_BUCKETS_A_DISK: usize = 4;
 #[derive(Clone, Copy)]
 struct Node {
     cell: Slot,
-    next: Slot,
+    next: Pointer,
+}
+
+// The greatest two disks of a bucket that are less than one of it.
+#[derive(Clone, Copy)]
+struct LastTwo {
+    last: Option<u32>,
+    second_last: Option<u32>,
 }
 
 // The cell in which each disk is listed, or none.
@@ -29,7 +40,7 @@ struct Node {
 pub struct Chains {
     // The least disk of each bucket. The bucket of a cell is its remainder after division by their
     // number.
-    heads: Vec<Slot>,
+    heads: Vec<Pointer>,
     nodes: Vec<Node>,
     // How many cells the grid has.
     cell_count: u32,
@@ -38,32 +49,33 @@ pub struct Chains {
 impl Model for Chains {
     ghost use Rattle.std.specs.Prelude.{length};
     ghost use Rattle.cell_lists.specs.Chain.{ChainsData, chains_of, IsChained};
-    ghost use Rattle.cell_lists.specs.Nodes.{nexts_of, cells_of};
+    ghost use Rattle.cell_lists.specs.Nodes.{pointers_of, cells_of};
 
     ghost Value = { ChainsData };
 
     ghost view = { λ a. chains_of (length a.heads.items) (cells_of a.nodes.items) };
 
-    ghost invariant = { λ a. IsChained a.heads.items (nexts_of a.nodes.items) (cells_of a.nodes.items) };
+    ghost invariant = { λ a. IsChained a.heads.items (pointers_of a.nodes.items) (cells_of a.nodes.items) };
 }
 
-ghost use Rattle.std.specs.Prelude.{◌≡◌, ◌↔◌, ◌+◌, ◌%◌, ◌<◌, ◌≤◌, ◌^◌, ℕ, length, None, Some, replicate, IfOk, OnOk, IfSome, IsTrue};
+ghost use Rattle.std.specs.Prelude.{◌≡◌, ◌↔◌, ◌+◌, ◌%◌, ◌<◌, ◌≤◌, ◌^◌, ℕ, length, None, Some, replicate, IfOk, OnOk, IfSome, IsSome, IsTrue};
 ghost use Rattle.cell_lists.specs.Firsts.{IsFirstOf};
-ghost use Rattle.cell_lists.specs.Nodes.{nexts_of, cells_of};
-ghost use Rattle.cell_lists.specs.Chain.{chains_of, bucket_count, with_cell, at, IsIn, IsFirst, IsLast, IsLinked, IsUnlinked, HasRoom};
-ghost use Rattle.cell_lists.specs.Gathering.{HaveOwnBuckets};
+ghost use Rattle.cell_lists.specs.Nodes.{pointers_of, cells_of};
+ghost use Rattle.cell_lists.specs.Pointer.{no_pointer, disk_of, SaysMore};
+ghost use Rattle.cell_lists.specs.Chain.{chains_of, bucket_count, with_cell, at, IsIn, IsFirst, IsLast, pointer_from, IsPointed, IsMarkedAnew, IsLinked, IsUnlinked, HasRoom};
+ghost use Rattle.cell_lists.specs.Gathering.{HaveOwnBuckets, SaysLater};
 
 impl Chains {
     // No disk listed, with room for so many, in a grid of so many cells.
     pub fn new(alloc: Global, cell_count: u32, room: usize) -> Result<Chains, AllocError>
         requires some { 0 < room }
-        requires most { room < 2 ^ 32 }
+        requires most { room < 2 ^ 31 }
         ensures { IfOk result (λ chains. chains ≡ chains_of (bucket_count cell_count room) (replicate room None)) }
     {
         let most = MOST_BUCKETS_A_DISK * room;
         let buckets = (cell_count as usize).min(most).max(room);
         Ok(Chains {
-            heads: vec![in alloc; Slot::none(); buckets]?,
+            heads: vec![in alloc; Pointer::none(); buckets]?,
             nodes: vec![in alloc; Node::none(); room]?,
             cell_count,
         })
@@ -88,7 +100,7 @@ impl Chains {
     // The same disks listed, with room for so many.
     fn with_room(&self, alloc: Global, room: usize) -> Result<Chains, AllocError>
         requires some { 0 < room }
-        requires most { room < 2 ^ 32 }
+        requires most { room < 2 ^ 31 }
         requires more { length self.now.cells ≤ room }
         ensures { IfOk result (λ chains. HasRoom self.now.cells room chains.cells) }
     {
@@ -112,8 +124,9 @@ impl Chains {
         ensures { self.new ≡ with_cell self.old disk (Some cell) }
     {
         let bucket = self.bucket(cell);
-        let before = self.last_below(bucket, disk);
-        link(&mut self.heads, &mut self.nodes, bucket, disk, before);
+        let before = self.last_two_below(bucket, disk);
+        mark(&mut self.heads, &mut self.nodes, bucket, before, true);
+        link(&mut self.heads, &mut self.nodes, bucket, disk, before.last);
         self.nodes[disk as usize].cell = Slot::of(cell);
     }
 
@@ -123,8 +136,10 @@ impl Chains {
         ensures { self.new ≡ with_cell self.old disk None }
     {
         let bucket = self.bucket(cell);
-        let before = self.last_below(bucket, disk);
-        unlink(&mut self.heads, &mut self.nodes, bucket, disk, before);
+        let before = self.last_two_below(bucket, disk);
+        let has_next = self.nodes[disk as usize].next.is_some();
+        mark(&mut self.heads, &mut self.nodes, bucket, before, has_next);
+        unlink(&mut self.heads, &mut self.nodes, bucket, disk, before.last);
         self.nodes[disk as usize].cell = Slot::none();
     }
 
@@ -160,20 +175,22 @@ impl Chains {
 
     // The least disk listed in a cell that has a bucket of its own.
     #[inline(always)]
-    pub fn head_of(&self, cell: u32) -> Slot
+    pub fn head_of(&self, cell: u32) -> Pointer
         requires own { HaveOwnBuckets self.now }
         requires cell { cell < self.now.buckets }
-        ensures { IsFirstOf (IsIn self.now.cells cell) 0 result }
+        ensures disk { IsFirstOf (IsIn self.now.cells cell) 0 (disk_of result) }
+        ensures more { SaysLater self.now.cells result }
     {
         self.heads[cell as usize]
     }
 
     // The next disk after one in its cell, which has a bucket of its own.
     #[inline(always)]
-    pub fn next_of(&self, disk: u32) -> Slot
+    pub fn next_of(&self, disk: u32) -> Pointer
         requires own { HaveOwnBuckets self.now }
         requires listed { (cell : ℕ) × IsIn self.now.cells cell disk }
-        ensures { (cell : ℕ) → IsIn self.now.cells cell disk → IsFirstOf (IsIn self.now.cells cell) (disk + 1) result }
+        ensures disk { (cell : ℕ) → IsIn self.now.cells cell disk → IsFirstOf (IsIn self.now.cells cell) (disk + 1) (disk_of result) }
+        ensures more { SaysLater self.now.cells result }
     {
         self.nodes[disk as usize].next
     }
@@ -208,61 +225,131 @@ impl Chains {
         }
     }
 
-    // The greatest disk of a bucket that is less than this one.
-    fn last_below(&self, bucket: usize, disk: u32) -> Option<u32>
+    // The greatest two disks of a bucket that are less than this one.
+    fn last_two_below(&self, bucket: usize, disk: u32) -> LastTwo
         requires { bucket < self.now.buckets }
-        ensures { IsLast self.now.cells self.now.buckets bucket disk result }
+        ensures last { IsLast self.now.cells self.now.buckets bucket disk result.last }
+        ensures second_last { IfSome result.last (λ p. IsLast self.now.cells self.now.buckets bucket p result.second_last) }
     {
+        let mut second_last = None;
         let mut last = None;
-        let mut next = self.heads[bucket].get();
-        while let Some(i) = next {
+        let mut next = self.heads[bucket];
+        while let Some(i) = next.get() {
             if i >= disk {
                 break;
             }
-            last = next;
-            next = self.nodes[i as usize].next.get();
+            second_last = last;
+            last = Some(i);
+            if !next.has_next() {
+                break;
+            }
+            next = self.nodes[i as usize].next;
         }
-        last
+        LastTwo { last, second_last }
     }
 }
 
 impl Node {
     // Of a disk that isn't listed.
     fn none() -> Node
-        ensures { result ≡ record { cell = None; next = None } }
+        ensures { result ≡ record { cell = None; next = no_pointer } }
     {
         Node {
             cell: Slot::none(),
-            next: Slot::none(),
+            next: Pointer::none(),
         }
+    }
+}
+
+// What points from the head of a bucket, or from the disk that comes before.
+fn pointer_behind(
+    heads: &Vec<Pointer>,
+    nodes: &Vec<Node>,
+    bucket: usize,
+    before: Option<u32>,
+) -> Pointer
+    requires bucket { bucket < length heads.now.items }
+    requires before { IfSome before (λ p. p < length nodes.now.items) }
+    ensures { result ≡ pointer_from heads.now.items (pointers_of nodes.now.items) bucket before }
+{
+    match before {
+        None => heads[bucket],
+        Some(p) => nodes[p as usize].next,
+    }
+}
+
+// Has another pointer there.
+fn point(
+    heads: &mut Vec<Pointer>,
+    nodes: &mut Vec<Node>,
+    bucket: usize,
+    before: Option<u32>,
+    pointer: Pointer,
+)
+    requires bucket { bucket < length heads.old.items }
+    requires before { IfSome before (λ p. p < length nodes.old.items) }
+    ensures pointed { IsPointed heads.old.items (pointers_of nodes.old.items) bucket before pointer
+        heads.new.items (pointers_of nodes.new.items) }
+    ensures cells { cells_of nodes.new.items ≡ cells_of nodes.old.items }
+{
+    match before {
+        None => heads[bucket] = pointer,
+        Some(p) => nodes[p as usize].next = pointer,
+    }
+}
+
+// Says of the last disk before one, where it is pointed at, whether it has a next one.
+fn mark(
+    heads: &mut Vec<Pointer>,
+    nodes: &mut Vec<Node>,
+    bucket: usize,
+    before: LastTwo,
+    has_next: bool,
+)
+    requires bucket { bucket < length heads.old.items }
+    requires few { length nodes.old.items < 2 ^ 31 }
+    requires last { IfSome before.last (λ p. p < length nodes.old.items) }
+    requires second_last { IsSome before.last → IfSome before.second_last (λ p. p < length nodes.old.items) }
+    ensures marked { IsMarkedAnew heads.old.items (pointers_of nodes.old.items) bucket before.last before.second_last has_next
+        heads.new.items (pointers_of nodes.new.items) }
+    ensures cells { cells_of nodes.new.items ≡ cells_of nodes.old.items }
+{
+    if let Some(disk) = before.last {
+        let pointer = Pointer::to(disk, has_next);
+        point(heads, nodes, bucket, before.second_last, pointer);
     }
 }
 
 // Sets a disk into its bucket's chain, after the one that comes before it.
-fn link(heads: &mut Vec<Slot>, nodes: &mut Vec<Node>, bucket: usize, disk: u32, before: Option<u32>)
+fn link(
+    heads: &mut Vec<Pointer>,
+    nodes: &mut Vec<Node>,
+    bucket: usize,
+    disk: u32,
+    before: Option<u32>,
+)
     requires bucket { bucket < length heads.old.items }
     requires disk { disk < length nodes.old.items }
-    requires few { length nodes.old.items < 2 ^ 32 }
+    requires few { length nodes.old.items < 2 ^ 31 }
     requires before { IfSome before (λ p. p < length nodes.old.items) }
-    ensures linked { IsLinked heads.old.items (nexts_of nodes.old.items) bucket disk before
-        heads.new.items (nexts_of nodes.new.items) }
+    ensures linked { IsLinked heads.old.items (pointers_of nodes.old.items) bucket disk before
+        heads.new.items (pointers_of nodes.new.items) }
     ensures cells { cells_of nodes.new.items ≡ cells_of nodes.old.items }
 {
-    match before {
-        None => {
-            nodes[disk as usize].next = heads[bucket];
-            heads[bucket] = Slot::of(disk);
-        }
-        Some(p) => {
-            nodes[disk as usize].next = nodes[p as usize].next;
-            nodes[p as usize].next = Slot::of(disk);
-        }
-    }
+    let next = pointer_behind(heads, nodes, bucket, before);
+    nodes[disk as usize].next = next;
+    point(
+        heads,
+        nodes,
+        bucket,
+        before,
+        Pointer::to(disk, next.is_some()),
+    );
 }
 
 // Takes a disk out of its bucket's chain.
 fn unlink(
-    heads: &mut Vec<Slot>,
+    heads: &mut Vec<Pointer>,
     nodes: &mut Vec<Node>,
     bucket: usize,
     disk: u32,
@@ -271,12 +358,10 @@ fn unlink(
     requires bucket { bucket < length heads.old.items }
     requires disk { disk < length nodes.old.items }
     requires before { IfSome before (λ p. p < length nodes.old.items) }
-    ensures unlinked { IsUnlinked heads.old.items (nexts_of nodes.old.items) bucket disk before
-        heads.new.items (nexts_of nodes.new.items) }
+    ensures unlinked { IsUnlinked heads.old.items (pointers_of nodes.old.items) bucket disk before
+        heads.new.items (pointers_of nodes.new.items) }
     ensures cells { cells_of nodes.new.items ≡ cells_of nodes.old.items }
 {
-    match before {
-        None => heads[bucket] = nodes[disk as usize].next,
-        Some(p) => nodes[p as usize].next = nodes[disk as usize].next,
-    }
+    let next = nodes[disk as usize].next;
+    point(heads, nodes, bucket, before, next);
 }

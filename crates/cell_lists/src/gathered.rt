@@ -1,6 +1,7 @@
 //! Some disks, side by side.
 
-use crate::slot::Slot;
+use crate::places::Places;
+use crate::pointer::Pointer;
 use std::marker::Model;
 
 /// How many disks are gathered at most.
@@ -24,8 +25,10 @@ impl Model for Gathered {
     ghost invariant = { λ g. g.count ≤ MOST_GATHERED };
 }
 
-ghost use Rattle.std.specs.Prelude.{◌≡◌, ◌<◌, ◌≤◌, [], length, take, slice_index, slice_set};
+ghost use Rattle.std.specs.Prelude.{◌≡◌, ◌⊎◌, ◌↔◌, ℕ, ◌<◌, ◌≤◌, [], length, take, slice_index, slice_set};
 ghost use Rattle.cell_lists.specs.declared.gathered.TheConstants.{MOST_GATHERED};
+ghost use Rattle.cell_lists.specs.Pointer.{disk_of, SaysMore};
+ghost use Rattle.cell_lists.specs.Places.{Holds};
 ghost use Rattle.cell_lists.specs.Gathering.{with_offered};
 
 impl Gathered {
@@ -85,16 +88,29 @@ impl Gathered {
     }
 }
 
-// Writes a number behind so many disks, where the slot has one, and answers how many there are then. What it
-// has can't be foretold, so it is written in any case, and counted where it is a number. The count goes in and
-// out by value, so that it needn't be read from memory again after each write beside it.
-#[inline(always)]
-pub(crate) fn offer(disks: &mut [u32; MOST_GATHERED], count: usize, slot: Slot) -> usize
-    requires { count < MOST_GATHERED }
-    ensures room { result ≤ MOST_GATHERED }
-    ensures more { count ≤ result }
-    ensures offered { take result disks.new ≡ with_offered (take count disks.old) slot }
-{
-    disks[count] = slot.number();
-    count + slot.is_some() as usize
+// How many disks were gathered so far, and at which places there are some whose next one wasn't.
+#[derive(Clone, Copy)]
+pub(crate) struct SoFar {
+    pub(crate) count: usize,
+    pub(crate) pending: Places,
+}
+
+impl SoFar {
+    // Writes a disk behind those so far, where the pointer has one. What it has can't be foretold, so it is
+    // written in any case, and counted where it is a disk. The count goes in and out by value, so that it
+    // needn't be read from memory again after each write beside it.
+    #[inline(always)]
+    pub(crate) fn offer(self, disks: &mut [u32; MOST_GATHERED], pointer: Pointer) -> SoFar
+        requires { self.count < MOST_GATHERED }
+        ensures room { result.count ≤ MOST_GATHERED }
+        ensures more { self.count ≤ result.count }
+        ensures offered { take result.count disks.new ≡ with_offered (take self.count disks.old) (disk_of pointer) }
+        ensures pending { (p : ℕ) → (Holds result.pending p ↔ (Holds self.pending p ⊎ ((p ≡ self.count) × SaysMore pointer))) }
+    {
+        disks[self.count] = pointer.number();
+        SoFar {
+            count: self.count + pointer.is_some() as usize,
+            pending: self.pending.with(self.count, pointer.has_next()),
+        }
+    }
 }

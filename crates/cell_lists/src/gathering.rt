@@ -1,18 +1,21 @@
 //! Gathering the disks that are listed in a block of cells.
 //!
 //! Whether a cell is empty, and whether a disk has a next one, can't be foretold, and a wrong guess takes
-//! longer than some reads. So nothing asks for that: all heads of the block are read, and then the next of
-//! each disk that was gathered, and the processor can wait for many of them at once.
+//! longer than some reads. So nothing asks for that: all heads of the block are read, and the processor can
+//! wait for many of them at once. What points at a disk says whether it has a next one, so then the nodes
+//! are read of those disks alone that have one.
 
-ghost use Rattle.std.specs.Prelude.{◌*◌, ◌<◌, ◌≤◌, take, drop, IfSome, IsTrue};
+ghost use Rattle.std.specs.Prelude.{◌*◌, ℕ, ◌<◌, ◌≤◌, take, drop, IfSome, IsTrue};
 ghost use Rattle.cell_lists.specs.declared.gathered.TheConstants.{MOST_GATHERED};
 ghost use Rattle.cell_lists.specs.Chain.{AreCells};
 ghost use Rattle.cell_lists.specs.Nearby.{IsBlock, IsWithin};
-ghost use Rattle.cell_lists.specs.Gathering.{HaveOwnBuckets, AreListed, StartsAdded, AreFollowed, AreGatheredIn};
+ghost use Rattle.cell_lists.specs.Places.{Holds};
+ghost use Rattle.cell_lists.specs.Gathering.{HaveOwnBuckets, AreListed, StartsAdded, ArePending, AreFollowed, AreGatheredIn};
 
 use crate::chains::Chains;
-use crate::gathered::{Gathered, MOST_GATHERED, offer};
+use crate::gathered::{Gathered, MOST_GATHERED, SoFar};
 use crate::near::Block;
+use crate::places::Places;
 use cell_grid::Grid;
 
 impl Chains {
@@ -28,11 +31,14 @@ impl Chains {
             return false;
         }
         let disks = &mut gathered.disks;
-        let first = gathered.count;
+        let first = SoFar {
+            count: gathered.count,
+            pending: Places::none(),
+        };
         let Some(heads) = self.gather_heads(grid, block, disks, first) else {
             return false;
         };
-        let Some(count) = self.gather_nexts(first, disks, heads) else {
+        let Some(count) = self.gather_nexts(gathered.count, disks, heads) else {
             return false;
         };
         gathered.count = count;
@@ -40,31 +46,33 @@ impl Chains {
     }
 
     // Gathers the least disk of each cell of a block behind so many disks, and answers how many there are
-    // then. None where there is no room for them.
+    // then, and which of these have a next one. None where there is no room for them.
     #[inline(always)]
     fn gather_heads(
         &self,
         grid: &Grid,
         block: Block,
         disks: &mut [u32; MOST_GATHERED],
-        so_far: usize,
-    ) -> Option<usize>
+        first: SoFar,
+    ) -> Option<SoFar>
         requires own { HaveOwnBuckets self.now }
         requires buckets { grid.now.rows * grid.now.columns ≤ self.now.buckets }
         requires block { IsBlock grid.now block }
-        requires room { so_far ≤ MOST_GATHERED }
-        ensures room { IfSome result (λ n. n ≤ MOST_GATHERED) }
-        ensures more { IfSome result (λ n. so_far ≤ n) }
-        ensures added { IfSome result (λ n. StartsAdded self.now.cells (IsWithin grid.now block)
-            (take so_far disks.old) (take n disks.new)) }
+        requires room { first.count ≤ MOST_GATHERED }
+        requires none { (p : ℕ) → ¬ Holds first.pending p }
+        ensures room { IfSome result (λ r. r.count ≤ MOST_GATHERED) }
+        ensures more { IfSome result (λ r. first.count ≤ r.count) }
+        ensures added { IfSome result (λ r. StartsAdded self.now.cells (IsWithin grid.now block)
+            (take first.count disks.old) (take r.count disks.new)) }
+        ensures pending { IfSome result (λ r. ArePending self.now.cells first.count (take r.count disks.new) r.pending) }
     {
         let columns = grid.columns();
-        let mut count = so_far;
+        let mut so_far = first;
         for row in block.low..block.high {
             let start = row * columns;
-            count = self.gather_heads_of(start + block.left, start + block.right, disks, count)?;
+            so_far = self.gather_heads_of(start + block.left, start + block.right, disks, so_far)?;
         }
-        Some(count)
+        Some(so_far)
     }
 
     // Gathers the least disk of each cell from one number on, below another, in the same way.
@@ -74,54 +82,57 @@ impl Chains {
         first: u32,
         end: u32,
         disks: &mut [u32; MOST_GATHERED],
-        so_far: usize,
-    ) -> Option<usize>
+        before: SoFar,
+    ) -> Option<SoFar>
         requires own { HaveOwnBuckets self.now }
         requires order { first ≤ end }
         requires buckets { end ≤ self.now.buckets }
-        requires room { so_far ≤ MOST_GATHERED }
-        ensures room { IfSome result (λ n. n ≤ MOST_GATHERED) }
-        ensures more { IfSome result (λ n. so_far ≤ n) }
-        ensures added { IfSome result (λ n. StartsAdded self.now.cells (λ cell. (first ≤ cell) × (cell < end))
-            (take so_far disks.old) (take n disks.new)) }
+        requires room { before.count ≤ MOST_GATHERED }
+        ensures room { IfSome result (λ r. r.count ≤ MOST_GATHERED) }
+        ensures more { IfSome result (λ r. before.count ≤ r.count) }
+        ensures added { IfSome result (λ r. StartsAdded self.now.cells (λ cell. (first ≤ cell) × (cell < end))
+            (take before.count disks.old) (take r.count disks.new)) }
+        ensures pending { IfSome result (λ r. (start : ℕ) → start ≤ before.count →
+            ArePending self.now.cells start (take before.count disks.old) before.pending →
+            ArePending self.now.cells start (take r.count disks.new) r.pending) }
     {
-        let mut count = so_far;
+        let mut so_far = before;
         for cell in first..end {
-            if count >= MOST_GATHERED {
+            if so_far.count >= MOST_GATHERED {
                 return None;
             }
-            count = offer(disks, count, self.head_of(cell));
+            so_far = so_far.offer(disks, self.head_of(cell));
         }
-        Some(count)
+        Some(so_far)
     }
 
-    // Gathers the next disk after each but the first so many, and then after each that came so, in the same
-    // way.
+    // Gathers the next disk after each that has one which wasn't gathered, and then after each that came so,
+    // in the same way.
     #[inline(always)]
     fn gather_nexts(
         &self,
         first: usize,
         disks: &mut [u32; MOST_GATHERED],
-        so_far: usize,
+        heads: SoFar,
     ) -> Option<usize>
         requires own { HaveOwnBuckets self.now }
-        requires first { first ≤ so_far }
-        requires room { so_far ≤ MOST_GATHERED }
-        requires listed { AreListed self.now.cells (drop first (take so_far disks.old)) }
+        requires first { first ≤ heads.count }
+        requires room { heads.count ≤ MOST_GATHERED }
+        requires listed { AreListed self.now.cells (drop first (take heads.count disks.old)) }
+        requires pending { ArePending self.now.cells first (take heads.count disks.old) heads.pending }
         ensures room { IfSome result (λ n. n ≤ MOST_GATHERED) }
-        ensures followed { IfSome result (λ n. AreFollowed self.now.cells first (take so_far disks.old)
+        ensures followed { IfSome result (λ n. AreFollowed self.now.cells first (take heads.count disks.old)
             (take n disks.new)) }
     {
-        let mut count = so_far;
-        let mut i = first;
-        while i < count {
-            if count >= MOST_GATHERED {
+        let mut so_far = heads;
+        while let Some(place) = so_far.pending.first() {
+            if so_far.count >= MOST_GATHERED {
                 return None;
             }
-            let disk = disks[i];
-            count = offer(disks, count, self.next_of(disk));
-            i += 1;
+            let next = self.next_of(disks[place]);
+            so_far.pending = so_far.pending.without(place);
+            so_far = so_far.offer(disks, next);
         }
-        Some(count)
+        Some(so_far.count)
     }
 }

@@ -6,6 +6,8 @@ mod gathered;
 mod gathering;
 mod lists;
 mod near;
+mod places;
+mod pointer;
 mod slot;
 
 pub use gathered::{Gathered, MOST_GATHERED};

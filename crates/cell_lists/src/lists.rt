@@ -56,7 +56,7 @@ impl Lists {
     ///
     /// # Errors
     /// Out of memory: the number is greater than all that were listed before, and there is no room for
-    /// it, as there never is for 2^32 - 1. The lists stay as they are.
+    /// it, as there never is from 2^31 - 1 on. The lists stay as they are.
     pub fn put(&mut self, alloc: Global, disk: u32, cell: u32) -> Result<(), AllocError>
         requires free { IsFree self.old disk }
         requires cell { IsCell self.old.grid cell }
@@ -161,6 +161,7 @@ impl Lists {
 
     /// Gathers the disks that are listed in a block, beside those that were gathered before. False where
     /// there is no room for them, or where cells share buckets; then nothing is said of what is gathered.
+    #[inline(always)]
     pub fn gather(&self, block: Block, gathered: &mut Gathered) -> bool
         requires { IsBlock self.now.grid block }
         ensures { IsTrue result → AreGathered self.now block gathered.old gathered.new }

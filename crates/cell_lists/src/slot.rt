@@ -22,7 +22,7 @@ impl Model for Slot {
     ghost inverse_ok = { λ a h i. record { code = coded_again a.code i } };
 }
 
-ghost use Rattle.std.specs.Prelude.{◌≡◌, ◌↔◌, ◌+◌, ◌<◌, ◌^◌, Some, None, IfSome, IsSome, IsTrue, MatchOption};
+ghost use Rattle.std.specs.Prelude.{◌≡◌, ◌+◌, ◌<◌, ◌^◌, Some, None, IfSome};
 
 impl Slot {
     pub fn none() -> Slot
@@ -47,20 +47,5 @@ impl Slot {
         } else {
             Some(self.code - 1)
         }
-    }
-
-    #[inline(always)]
-    pub fn is_some(self) -> bool
-        ensures { IsTrue result ↔ IsSome self }
-    {
-        self.code != 0
-    }
-
-    // The number, with no question for whether there is one; for none, the greatest of 32 bits.
-    #[inline(always)]
-    pub fn number(self) -> u32
-        ensures { MatchOption self (result ≡ u32.MAX) (λ n. result ≡ n) }
-    {
-        self.code.wrapping_sub(1)
     }
 }

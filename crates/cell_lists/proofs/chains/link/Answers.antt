@@ -1,26 +1,28 @@
 -- The disk comes behind the one before it, or at the head, and stays in its cell.
-use Rattle.std.proofs.Common.{◌<◌, length, subst}
-use Rattle.std.specs.Prelude.{ℕ, Option, IfSome}
-use Rattle.cell_lists.proofs.Nodes.{linked_first, linked_behind, cells_kept, cells_twice}
+use Rattle.std.proofs.Common.{◌↔◌, List, set, subst, ap, ◌∙◌}
+use Rattle.std.specs.Prelude.{IsSome}
+use Rattle.cell_lists.specs.declared.pointer.Pointer.{Pointer}
+use Rattle.cell_lists.specs.Pointer.{disk_of, SaysMore}
+use Rattle.cell_lists.specs.Chain.{IsPointed}
+use Rattle.cell_lists.specs.Nodes.{pointers_of}
+use Rattle.cell_lists.proofs.Nodes.{pointers_set, cells_kept}
 use Rattle.cell_lists.proofs.chains.link.Goals as goal
 
-pub returns-in-None-clause-linked : goal.returns-in-None-clause-linked
-returns-in-None-clause-linked c =
-    linked_first c.args.heads.now.items c.args.nodes.now.items c.args.bucket c.args.disk c.args.before c.index_mut.result.now c.index.result.now
-    c.of.result c.in-None.is c.requires.bucket c.index.ensures c.of.ensures
+pub returns-clause-linked : goal.returns-clause-linked
+returns-clause-linked c =
+    let next = c.pointer_behind-next.result in
+    let nodes = c.args.nodes.now.items in
+    let is = c.pointer_behind-next.ensures in (
+      c.to.result,
+      (
+        c.to.ensures.disk,
+        subst (λ (x : Pointer). SaysMore c.to.result ↔ IsSome (disk_of x)) is
+            (λ says. c.is_some.ensures.0 (c.to.ensures.more.0 says), λ some. c.to.ensures.more.1 (c.is_some.ensures.1 some)),
+      ),
+      subst (λ (xs : List Pointer). IsPointed c.args.heads.now.items xs c.args.bucket c.args.before c.to.result c.point.new.heads.items (pointers_of c.point.new.nodes.items))
+          (pointers_set nodes c.args.disk c.index_mut.result.now next ∙ ap (set (pointers_of nodes) c.args.disk) is) c.point.ensures.pointed,
+    )
 
-pub returns-in-None-clause-cells : goal.returns-in-None-clause-cells
-returns-in-None-clause-cells c =
-    cells_kept c.args.nodes.now.items c.args.disk c.index_mut.result.now c.index.result.now c.index_mut.ensures.value
-
-pub returns-in-Some-clause-linked : goal.returns-in-Some-clause-linked
-returns-in-Some-clause-linked c =
-    linked_behind c.args.heads.now.items c.args.nodes.now.items c.args.bucket c.args.disk c.in-Some.p c.args.before c.index_mut-in-Some.result.now
-    c.index-in-Some.result.now c.index_mut-in-Some-2.result.now c.of-in-Some.result c.in-Some.is
-    (subst (λ (o : Option ℕ). IfSome o (λ p. p < length c.args.nodes.now.items)) c.in-Some.is c.requires.before) c.index-in-Some.ensures
-    c.of-in-Some.ensures
-
-pub returns-in-Some-clause-cells : goal.returns-in-Some-clause-cells
-returns-in-Some-clause-cells c =
-    cells_twice c.args.nodes.now.items c.args.disk c.in-Some.p c.index_mut-in-Some.result.now c.index_mut-in-Some-2.result.now
-    c.index-in-Some.result.now.next c.of-in-Some.result c.index_mut-in-Some.ensures.value c.index_mut-in-Some-2.ensures.value
+pub returns-clause-cells : goal.returns-clause-cells
+returns-clause-cells c =
+    c.point.ensures.cells ∙ cells_kept c.args.nodes.now.items c.args.disk c.index_mut.result.now c.pointer_behind-next.result c.index_mut.ensures.value

@@ -11,7 +11,7 @@ use Rattle.cell_lists.proofs.chains.Chains.gather.Goals as goal
 pub gather_nexts-requires-clause-listed : goal.gather_nexts-requires-clause-listed
 gather_nexts-requires-clause-listed c =
     let cells = c.args.self.now.cells in
-    let heads = take c.in-Some.heads c.gather_heads.new.disks in
+    let heads = take c.in-Some.heads.count c.gather_heads.new.disks in
     subst (λ (n : ℕ). AreListed cells (drop n heads))
     (all_taken c.gathered.inside.count c.gathered.inside.disks c.gathered.invariant c.gathered.told)
     (starts_behind cells (IsWithin c.args.grid.now c.args.block) (take c.gathered.inside.count c.gathered.inside.disks) heads c.in-Some.ensures.added)
@@ -20,7 +20,7 @@ pub returns : goal.returns
 returns c = λ yes.
     let cells = c.args.self.now.cells in
     let old = take c.gathered.inside.count c.gathered.inside.disks in
-    let heads = take c.in-Some.heads c.gather_heads.new.disks in
+    let heads = take c.in-Some.heads.count c.gather_heads.new.disks in
     let new = take c.in-Some-gather_nexts.count c.gather_nexts.new.disks in
     subst (λ (xs : List ℕ). AreGatheredIn cells c.args.grid.now c.args.block xs new) c.gathered.view_is
     (gathered_in cells c.args.grid.now c.args.block old heads new c.in-Some.ensures.added
@@ -51,3 +51,6 @@ pub gather_heads-requires-clause-buckets : goal.gather_heads-requires-clause-buc
 gather_heads-requires-clause-buckets c =
     let enough = rw (c.rows.ensures.value, c.columns.ensures.value) at (c.has_buckets.ensures.0 c.if-not-has_buckets.false) in
     enough
+
+pub gather_nexts-requires-clause-pending : goal.gather_nexts-requires-clause-pending
+gather_nexts-requires-clause-pending c = c.in-Some.ensures.pending

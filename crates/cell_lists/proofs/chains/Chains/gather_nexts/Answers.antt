@@ -1,56 +1,81 @@
--- One more disk is looked at in each round.
-use Rattle.std.proofs.Common.{◌+◌, ◌<◌, ◌≤◌, List, take, sym, subst}
+-- One more disk is followed in each round.
+use Rattle.std.proofs.Common.{◌≡◌, ◌+◌, ◌≤◌, List, take, arith, sym, subst}
 use Rattle.std.specs.Prelude.{ℕ}
-use Rattle.std.proofs.lemmas.List.{get_or-take}
-use Rattle.cell_lists.specs.Firsts.{IsFirstOf}
-use Rattle.cell_lists.specs.Chain.{IsIn}
-use Rattle.cell_lists.proofs.Walks.{IsWalked, walk_starts, walk_more, walk_ends, walk_listed, all_taken}
+use Rattle.cell_lists.proofs.Walks.{IsFollowing, following_starts, following_ends, walk_held, walk_step, walk_longer, all_taken}
 use Rattle.cell_lists.proofs.chains.Chains.gather_nexts.Goals as goal
 
-pub loop-i-init : goal.loop-i-init
-loop-i-init c = record {
+pub loop-place-init : goal.loop-place-init
+loop-place-init c = record {
   room = c.requires.room;
   long = c.told-disks;
-  walked = walk_starts c.args.self.now.cells (take c.args.so_far c.args.disks.now) c.args.first c.requires.listed;
+  following = following_starts c.args.self.now.cells (take c.args.heads.count c.args.disks.now) c.args.first c.args.heads.pending
+      (subst (λ (n : ℕ). c.args.first ≤ n) (sym (all_taken c.args.heads.count c.args.disks.now c.requires.room c.told-disks)) c.requires.first)
+      c.requires.listed c.requires.pending;
 }
 
-pub next_of-requires-clause-listed : goal.next_of-requires-clause-listed
-next_of-requires-clause-listed c =
-    let cells = c.args.self.now.cells in
-    let old = take c.args.so_far c.args.disks.now in
-    let i = c.loop-i.i in
-    let now = take c.loop-i.count c.loop-i.disks in
-    subst (λ (n : ℕ). (cell : ℕ) × IsIn cells cell n) (get_or-take c.loop-i.count c.loop-i.disks i 0 c.loop-i-test.true)
-    (walk_listed cells old c.args.first i now
-    (subst (λ (n : ℕ). c.args.first ≤ n) (sym (all_taken c.args.so_far c.args.disks.now c.requires.room c.told-disks)) c.requires.first)
-    c.loop-i.invariant.walked
-    (subst (λ (n : ℕ). i < n) (sym (all_taken c.loop-i.count c.loop-i.disks c.loop-i.invariant.room c.loop-i.invariant.long)) c.loop-i-test.true))
+pub bounds-disks-place : goal.bounds-disks-place
+bounds-disks-place c =
+    let was = c.loop-place.invariant in
+    let held = walk_held c.args.self.now.cells (take c.args.heads.count c.args.disks.now) c.args.first c.loop-place.so_far.count c.loop-place.disks
+    c.loop-place.so_far.pending c.in-Some.place was.room was.long was.following c.in-Some.ensures in
+    let less = held.0 in
+    let room = was.room in
+    omega arith
 
-pub loop-i-preserved : goal.loop-i-preserved
-loop-i-preserved c =
-    let cells = c.args.self.now.cells in
-    let old = take c.args.so_far c.args.disks.now in
-    let i = c.loop-i.i in
-    let now = take c.loop-i.count c.loop-i.disks in
-    let next = subst (λ (n : ℕ). (cell : ℕ) → IsIn cells cell n → IsFirstOf (IsIn cells cell) (n + 1) c.next_of.result)
-    (sym (get_or-take c.loop-i.count c.loop-i.disks i 0 c.loop-i-test.true)) c.next_of.ensures in
+pub offset_bounds-disks-place : goal.offset_bounds-disks-place
+offset_bounds-disks-place c =
+    let was = c.loop-place.invariant in
+    let held = walk_held c.args.self.now.cells (take c.args.heads.count c.args.disks.now) c.args.first c.loop-place.so_far.count c.loop-place.disks
+    c.loop-place.so_far.pending c.in-Some.place was.room was.long was.following c.in-Some.ensures in
+    let less = held.0 in
+    let room = was.room in
+    omega arith
+
+pub without-so_far-requires : goal.without-so_far-requires
+without-so_far-requires c =
+    let was = c.loop-place.invariant in
+    let held = walk_held c.args.self.now.cells (take c.args.heads.count c.args.disks.now) c.args.first c.loop-place.so_far.count c.loop-place.disks
+    c.loop-place.so_far.pending c.in-Some.place was.room was.long was.following c.in-Some.ensures in
+    let less = held.0 in
+    let room = was.room in
+    omega arith
+
+pub next_of-next-requires-clause-listed : goal.next_of-next-requires-clause-listed
+next_of-next-requires-clause-listed c =
+    let was = c.loop-place.invariant in
+    let held = walk_held c.args.self.now.cells (take c.args.heads.count c.args.disks.now) c.args.first c.loop-place.so_far.count c.loop-place.disks
+    c.loop-place.so_far.pending c.in-Some.place was.room was.long was.following c.in-Some.ensures in
+    (held.1.0, held.1.2)
+
+pub loop-place-smaller : goal.loop-place-smaller
+loop-place-smaller c =
+    let was = c.loop-place.invariant in
+    let held = walk_held c.args.self.now.cells (take c.args.heads.count c.args.disks.now) c.args.first c.loop-place.so_far.count c.loop-place.disks
+    c.loop-place.so_far.pending c.in-Some.place was.room was.long was.following c.in-Some.ensures in
+    let more : c.offer-so_far.result.count ≡ c.loop-place.so_far.count + 1 =
+    walk_longer c.args.self.now.cells c.loop-place.so_far.count c.loop-place.disks c.in-Some.place c.offer-so_far.result.count c.offer-so_far.new.disks
+    c.next_of-next.result was.room was.long c.offer-so_far.ensures.room c.offer-so_far.array_long held.1 c.next_of-next.ensures.disk
+    c.offer-so_far.ensures.offered in
+    let room = c.offer-so_far.ensures.room in
+    omega arith
+
+pub loop-place-preserved : goal.loop-place-preserved
+loop-place-preserved c =
+    let was = c.loop-place.invariant in
     record {
-      room = c.offer-count.ensures.room;
-      long = c.offer-count.array_long;
-      walked = subst (λ (xs : List ℕ). IsWalked cells old c.args.first (i + 1) xs) (sym c.offer-count.ensures.offered)
-          (walk_more cells old c.args.first i now c.next_of.result
-          (subst (λ (n : ℕ). c.args.first ≤ n) (sym (all_taken c.args.so_far c.args.disks.now c.requires.room c.told-disks)) c.requires.first)
-          c.loop-i.invariant.walked
-          (subst (λ (n : ℕ). i < n) (sym (all_taken c.loop-i.count c.loop-i.disks c.loop-i.invariant.room c.loop-i.invariant.long)) c.loop-i-test.true)
-          next);
+      room = c.offer-so_far.ensures.room;
+      long = c.offer-so_far.array_long;
+      following = subst (λ (xs : List ℕ). IsFollowing c.args.self.now.cells (take c.args.heads.count c.args.disks.now) c.args.first xs c.offer-so_far.result.pending)
+          (sym c.offer-so_far.ensures.offered)
+          (walk_step c.args.self.now.cells (take c.args.heads.count c.args.disks.now) c.args.first c.loop-place.so_far.count c.loop-place.disks
+          c.loop-place.so_far.pending c.without-so_far.result c.offer-so_far.result.pending c.in-Some.place c.next_of-next.result was.room was.long was.following
+          c.in-Some.ensures c.next_of-next.ensures.disk c.next_of-next.ensures.more c.without-so_far.ensures c.offer-so_far.ensures.pending);
     }
+
+pub returns-clause-room : goal.returns-clause-room
+returns-clause-room c = c.loop-place.invariant.room
 
 pub returns-clause-followed : goal.returns-clause-followed
 returns-clause-followed c =
-    walk_ends c.args.self.now.cells (take c.args.so_far c.args.disks.now) c.args.first c.loop-i.i (take c.loop-i.count c.loop-i.disks)
-    (subst (λ (n : ℕ). c.args.first ≤ n) (sym (all_taken c.args.so_far c.args.disks.now c.requires.room c.told-disks)) c.requires.first)
-    c.loop-i.invariant.walked
-    (subst (λ (n : ℕ). n ≤ c.loop-i.i) (sym (all_taken c.loop-i.count c.loop-i.disks c.loop-i.invariant.room c.loop-i.invariant.long)) c.loop-i-test.false)
-
-pub next_of-requires-clause-own : goal.next_of-requires-clause-own
-next_of-requires-clause-own c = c.requires.own
+    following_ends c.args.self.now.cells (take c.args.heads.count c.args.disks.now) c.args.first (take c.loop-place.so_far.count c.loop-place.disks)
+    c.loop-place.so_far.pending c.loop-place.invariant.following c.in_default.ensures

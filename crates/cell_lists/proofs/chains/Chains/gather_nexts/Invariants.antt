@@ -1,15 +1,15 @@
--- What is to come is what comes from the disks that weren't looked at yet.
+-- What is to come is there, or comes after the disks at places that are pending.
 use Rattle.std.proofs.Common.{◌≡◌, ◌-◌, ◌≤◌, length, take}
 use Rattle.cell_lists.specs.declared.gathered.TheConstants.{MOST_GATHERED}
-use Rattle.cell_lists.proofs.Walks.{IsWalked}
+use Rattle.cell_lists.proofs.Walks.{IsFollowing}
 use Rattle.cell_lists.proofs.chains.Chains.gather_nexts.Given as goal
 
-abbrev pub invariant-loop-i : goal.invariant-loop-i
-invariant-loop-i l = record {
-  room : l.count ≤ MOST_GATHERED;
+abbrev pub invariant-loop-place : goal.invariant-loop-place
+invariant-loop-place l = record {
+  room : l.so_far.count ≤ MOST_GATHERED;
   long : length l.disks ≡ MOST_GATHERED;
-  walked : IsWalked l.self.cells (take l.so_far l.initial.disks) l.first l.i (take l.count l.disks);
+  following : IsFollowing l.self.cells (take l.fn.heads.count l.fn.disks) l.fn.first (take l.so_far.count l.disks) l.so_far.pending;
 }
 
-abbrev pub decreases-loop-i : goal.decreases-loop-i
-decreases-loop-i l = MOST_GATHERED - l.i
+abbrev pub decreases-loop-place : goal.decreases-loop-place
+decreases-loop-place l = MOST_GATHERED - l.so_far.count

@@ -3,26 +3,27 @@ use Rattle.std.proofs.Common.{◌+◌, ◌%◌, ◌<◌, ◌≤◌, arith, sym, 
 use Rattle.std.specs.Prelude.{ℕ, Option}
 use Rattle.cell_lists.specs.Firsts.{IsFirstOf}
 use Rattle.cell_lists.proofs.Firsts.{ascent}
+use Rattle.cell_lists.specs.Pointer.{disk_of}
 use Rattle.cell_lists.specs.Chain.{IsFirst, IsIn}
-use Rattle.cell_lists.specs.Nodes.{nexts_of, cells_of}
-use Rattle.cell_lists.proofs.Chaining.{within, cell_is_read, is_that, is_other, seen, next_is_first, next_falls, passed_more, passed_all, passed_one}
+use Rattle.cell_lists.specs.Nodes.{pointers_of, cells_of}
+use Rattle.cell_lists.proofs.Chaining.{within, cell_is_read, is_that, is_other, seen, next_leads, next_falls, passed_more, passed_all, passed_one}
 use Rattle.cell_lists.proofs.Nodes.{next_read, cell_read, node_there}
 use Rattle.cell_lists.proofs.chains.Chains.skip.Goals as goal
 
 pub loop-next-smaller : goal.loop-next-smaller
 loop-next-smaller c =
     let heads = c.self.inside.heads.items in
-    let nexts = nexts_of c.self.inside.nodes.items in
+    let nexts = pointers_of c.self.inside.nodes.items in
     let is = seen heads nexts (cells_of c.self.inside.nodes.items) c.args.self.now c.self.view_is c.self.invariant in
     let here = subst (λ (o : Option ℕ). IsFirst c.args.self.now.cells c.args.self.now.buckets (c.args.cell % c.args.self.now.buckets) c.loop-next.invariant.0 o) c.in-Some.is c.loop-next.invariant.3 in
-    subst (λ (o : Option ℕ). ascent c.get-next.result < ascent o) (sym c.in-Some.is) (rw c.get-next.ensures.value
-    (next_falls heads nexts c.args.self.now (c.args.cell % c.args.self.now.buckets) c.in-Some.disk c.index-node.result.now.next is here.1
-    (next_is_first heads nexts c.args.self.now (c.args.cell % c.args.self.now.buckets) c.in-Some.disk c.index-node.result.now.next is here.1 (next_read c.self.inside.nodes.items c.in-Some.disk c.index-node.result.now c.index-node.ensures))))
+    subst (λ (o : Option ℕ). ascent c.get-next.result < ascent o) (sym c.in-Some.is) (rw c.get-next.ensures
+    (next_falls heads nexts c.args.self.now (c.args.cell % c.args.self.now.buckets) c.in-Some.disk (disk_of c.index-node.result.now.next) is here.1
+    ((next_leads heads nexts c.args.self.now (c.args.cell % c.args.self.now.buckets) c.in-Some.disk c.index-node.result.now.next is here.1 (next_read c.self.inside.nodes.items c.in-Some.disk c.index-node.result.now c.index-node.ensures)).0)))
 
 pub loop-next-preserved : goal.loop-next-preserved
 loop-next-preserved c =
     let heads = c.self.inside.heads.items in
-    let nexts = nexts_of c.self.inside.nodes.items in
+    let nexts = pointers_of c.self.inside.nodes.items in
     let is = seen heads nexts (cells_of c.self.inside.nodes.items) c.args.self.now c.self.view_is c.self.invariant in
     let kept = c.loop-next.invariant in
     let later : c.args.from ≤ kept.0 = kept.1 in
@@ -35,7 +36,7 @@ loop-next-preserved c =
       passed_one c.args.self.now.cells c.args.cell c.args.from c.in-Some.disk
           (passed_more c.args.self.now.cells c.args.self.now.buckets c.args.cell c.args.from kept.0 c.in-Some.disk here kept.2)
           (λ is. is_other c.get.result c.args.cell c.if-eq.ensures (c.get.ensures.value ∙ sym read ∙ is)),
-      rw c.get-next.ensures.value (next_is_first heads nexts c.args.self.now (c.args.cell % c.args.self.now.buckets) c.in-Some.disk c.index-node.result.now.next is here.1 (next_read c.self.inside.nodes.items c.in-Some.disk c.index-node.result.now c.index-node.ensures)),
+      rw c.get-next.ensures ((next_leads heads nexts c.args.self.now (c.args.cell % c.args.self.now.buckets) c.in-Some.disk c.index-node.result.now.next is here.1 (next_read c.self.inside.nodes.items c.in-Some.disk c.index-node.result.now c.index-node.ensures)).0),
     )
 
 pub returns-then-eq : goal.returns-then-eq
