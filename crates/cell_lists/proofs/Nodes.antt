@@ -88,10 +88,6 @@ pub unlinked_count : (heads nexts heads' nexts' : List Pointer) (b d : ℕ) (las
     length heads' ≡ length heads
 unlinked_count heads nexts heads' nexts' b d last h = (pointed_count heads nexts heads' nexts' b last (pointer_at nexts d) h).0
 
--- as many nodes as there were
-pub nodes_count : (nodes nodes' : List Node) → cells_of nodes' ≡ cells_of nodes → length nodes' ≡ length nodes
-nodes_count nodes nodes' e = sym (length-map nodes' (λ n. n.cell)) ∙ ap length e ∙ length-map nodes (λ n. n.cell)
-
 -- what chains are seen as with another cell of a disk
 pub seen_with_cell : (heads heads' : List Pointer) (nodes nodes' : List Node) (chains : ChainsData) (d : ℕ) (node : Node) (one o : Option ℕ) →
     chains_of (length heads) (cells_of nodes) ≡ chains → length heads' ≡ length heads → cells_of nodes' ≡ cells_of nodes → one ≡ o →

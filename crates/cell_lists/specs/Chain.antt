@@ -58,7 +58,7 @@ abbrev pub pointer_from : List Pointer → List Pointer → ℕ → Option ℕ �
 pointer_from heads nexts b None = pointer_at heads b
 pointer_from heads nexts b (Some p) = pointer_at nexts p
 
--- another pointer is there
+-- this pointer is there now, and all others are as they were
 abbrev pub IsPointed : List Pointer → List Pointer → ℕ → Option ℕ → Pointer → List Pointer → List Pointer → Type 0
 IsPointed heads nexts b None pointer heads' nexts' = (heads' ≡ slice_set heads b pointer) × (nexts' ≡ nexts)
 IsPointed heads nexts b (Some p) pointer heads' nexts' = (heads' ≡ heads) × (nexts' ≡ slice_set nexts p pointer)

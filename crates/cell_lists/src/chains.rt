@@ -7,7 +7,8 @@
 //! share buckets, so that the empty cells of a great grid take no memory.
 //!
 //! What points at a disk also says whether that disk has a next one, so that a walk ends without a read
-//! of the last disk's node. So where a chain's last disk is added or taken off, one pointer more is written.
+//! of the last disk's node. For that one pointer more is written where a disk comes behind another one,
+//! or is taken from behind it.
 
 use crate::pointer::Pointer;
 use crate::slot::Slot;
@@ -261,7 +262,7 @@ impl Node {
     }
 }
 
-// What points from the head of a bucket, or from the disk that comes before.
+// The pointer at the head of a bucket, or of the disk that comes before.
 fn pointer_behind(
     heads: &Vec<Pointer>,
     nodes: &Vec<Node>,
@@ -278,7 +279,7 @@ fn pointer_behind(
     }
 }
 
-// Has another pointer there.
+// Writes the pointer at the head of a bucket, or of the disk that comes before.
 fn point(
     heads: &mut Vec<Pointer>,
     nodes: &mut Vec<Node>,
