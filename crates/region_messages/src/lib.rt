@@ -29,7 +29,7 @@ impl Model for Trail {
     ghost invariant = { λ a. Rises a.messages.items };
 }
 
-ghost use Rattle.std.specs.Prelude.{◌≡◌, ◌≤◌, ◌<◌, ◌++◌, ◌∷◌, [], length, get_or, take, drop, slice_get, Some, option_copied, OnOk, OnErr, MatchOption, option_map, IsTrue, ◌↔◌};
+ghost use Rattle.std.specs.Prelude.{◌≡◌, ◌⊎◌, ◌≤◌, ◌<◌, ◌++◌, ◌∷◌, [], length, get_or, take, drop, slice_get, Some, option_copied, OnOk, OnErr, MatchOption, option_map, IsTrue, ◌↔◌};
 ghost use Rattle.region_view.specs.declared.rows.Message.{Message};
 ghost use Rattle.region_messages.specs.Trails.{Rises, is_before, IsAmong, IsAfterAll, IsFree, with_message, below, from, AgreesUpTo, IsFirstDisagreement, StartAlike};
 
@@ -155,6 +155,42 @@ impl Trail {
     {
         self.kept = self.messages.len();
         self.heard = heard;
+    }
+
+    /// Brings a copy of it up to date: from the first message on that hasn't stood since it was last marked, as it
+    /// is then. What the copy has from the stamp of that message on goes, so that its stamps rise whatever it was
+    /// a copy of.
+    ///
+    /// # Errors
+    /// Out of memory: the copy lacks its last messages, and the mark stays.
+    pub fn post_to(&mut self, copy: &mut Trail) -> Result<(), AllocError>
+        ensures unchanged { self.new ≡ self.old }
+        ensures rises { Rises copy.new }
+        ensures among { (m : Message) → IsAmong m copy.new → IsAmong m copy.old ⊎ IsAmong m self.old }
+    {
+        copy.keep_first(self.kept);
+        if let Some(next) = stamp_at(&self.messages, copy.len()) {
+            copy.replace_from(next, self)?;
+        }
+        self.mark(self.len());
+        Ok(())
+    }
+
+    /// Forgets the last mark: nothing is taken to have stood since.
+    pub fn forget(&mut self)
+        ensures { self.new ≡ self.old }
+    {
+        self.kept = 0;
+        self.heard = 0;
+    }
+
+    // Keeps its first messages, so many.
+    fn keep_first(&mut self, count: usize)
+        ensures first { self.new ≡ take count self.old }
+        ensures rises { Rises self.new }
+    {
+        self.messages.truncate(count);
+        self.kept = self.kept.min(count);
     }
 
     /// Whether the hearer of the last mark may find something new: a message that it hasn't, or one less.
