@@ -5,8 +5,12 @@ use event_stamps::Stamp;
 /// How far a region came when it ran. Nothing is claimed of it.
 #[derive(Clone, Copy, Debug)]
 pub struct Progress {
+    /// Whether it heard anything new before it ran.
+    pub heard_news: bool,
+    /// What was due there when it began to run: see [`Region::due`](region_core::Region::due).
+    pub began: Stamp,
     /// How many events it ran and messages it took in.
     pub steps: u32,
-    /// What is due there next: see [`Region::due`](region_core::Region::due).
+    /// What is due there next.
     pub due: Stamp,
 }

@@ -5,17 +5,23 @@ ghost use Rattle.std.specs.Prelude.{◌<◌};
 use crate::pace::{Pace, Slice};
 use std::sync::atomic::{AtomicU64, Ordering};
 
-/// The slices of a burst, one after another. All regions run each, whoever runs them. With half of the steps of the
-/// last turn they settle: they only run to where any was to run, so that hardly anything is left of which they
-/// disagree.
+/// In how many slices the regions settle at most.
+pub(crate) const SETTLING_SLICES: u32 = 12;
+
+/// The slices of a burst, one after another. All regions run each, whoever runs them. A slice may go over the end of a
+/// turn. Before the last half of the last turn the regions begin to settle, each slice with as many steps as that half:
+/// they only run to where any was to run, so that hardly anything is left of which they disagree.
 #[derive(Drop)]
 pub(crate) struct Course {
-    turns: u32,
     // How many steps a turn has.
     steps: u32,
-    // The turn that the present slice is of, and how many steps it has after that one.
-    turn: AtomicU64,
+    // How many steps there are before the regions settle, and how many of them come after the present slice.
+    all: u64,
     left: AtomicU64,
+    // The turn in which the present slice begins.
+    turn: AtomicU64,
+    // In how many slices the regions have settled.
+    settled: AtomicU64,
     // The slice: its steps and its bound.
     slice_steps: AtomicU64,
     slice_bound: AtomicU64,
@@ -27,11 +33,13 @@ impl Course {
     pub(crate) fn new(turns: u32, steps: u32, pace: &Pace) -> Course
         requires { 0 < steps }
     {
+        let all = (u64::from(turns) * u64::from(steps)).saturating_sub(u64::from(steps / 2));
         let course = Course {
-            turns,
             steps,
+            all,
+            left: AtomicU64::new(all),
             turn: AtomicU64::new(0),
-            left: AtomicU64::new(u64::from(steps)),
+            settled: AtomicU64::new(0),
             slice_steps: AtomicU64::new(0),
             slice_bound: AtomicU64::new(0),
         };
@@ -50,35 +58,36 @@ impl Course {
     {
         let steps = self.slice_steps.load(Ordering::SeqCst);
         Slice {
-            steps: steps.clamp(1, u64::from(self.steps)) as u32,
+            steps: steps.clamp(1, u64::from(u32::MAX)) as u32,
             bound: self.slice_bound.load(Ordering::SeqCst),
         }
     }
 
     /// Goes on to the next slice, and says whether there is one. Called by one worker alone, while no region runs.
     pub(crate) fn go_on(&self, pace: &Pace) -> bool {
-        let mut turn = self.turn.load(Ordering::SeqCst);
-        let mut left = self.left.load(Ordering::SeqCst).min(u64::from(self.steps)) as u32;
-        if left == 0 {
-            turn = turn.saturating_add(1);
-            left = self.steps;
-        }
-        if turn >= u64::from(self.turns) {
-            return false;
-        }
-        let is_last = turn + 1 == u64::from(self.turns);
-        let settling = if is_last { self.steps / 2 } else { 0 };
-        let slice = if left > settling {
-            pace.next_slice(left - settling)
+        let left = self.left.load(Ordering::SeqCst);
+        let slice = if left > 0 {
+            self.go_ahead(pace, left)
+        } else if self.settled.fetch_add(1, Ordering::SeqCst) < u64::from(SETTLING_SLICES) {
+            pace.settling_slice(self.steps - self.steps / 2)
         } else {
-            pace.settling_slice(left)
+            return false;
         };
-        self.turn.store(turn, Ordering::SeqCst);
-        self.left
-            .store(u64::from(left - slice.steps), Ordering::SeqCst);
         self.slice_steps
             .store(u64::from(slice.steps), Ordering::SeqCst);
         self.slice_bound.store(slice.bound, Ordering::SeqCst);
         true
+    }
+
+    // The next slice where so many steps are left before the regions settle.
+    fn go_ahead(&self, pace: &Pace, left: u64) -> Slice
+        requires { 0 < left }
+    {
+        let slice = pace.next_slice(left.min(u64::from(u32::MAX)) as u32);
+        let turn = self.all.saturating_sub(left) / u64::from(self.steps);
+        self.turn.store(turn, Ordering::SeqCst);
+        self.left
+            .store(left - u64::from(slice.steps), Ordering::SeqCst);
+        slice
     }
 }

@@ -1,7 +1,7 @@
 //! Workers: threads that run the regions side by side between two commits.
 //!
-//! How far regions run before they hear each other ([`pace`], [`virtual_time`]) and where a burst stands ([`roll`]) is
-//! public for the tests alone, which stand in a crate of their own.
+//! How far regions run before they hear each other ([`pace`], [`virtual_time`]) and where a burst stands ([`roll`],
+//! [`rendezvous`]) is public for the tests alone, which stand in a crate of their own.
 #![tactic(auto)]
 
 mod by_call;
@@ -9,7 +9,7 @@ mod call;
 mod course;
 mod job;
 pub mod pace;
-mod rendezvous;
+pub mod rendezvous;
 pub mod roll;
 mod shared;
 mod turns;

@@ -1,13 +1,13 @@
 //! How far regions run before they hear each other.
 //!
 //! What a region runs on old news is done again or put right later, so no region runs far ahead of the last one; but
-//! each slice costs two waits. So all regions run to a bound that is so far after the least due stamp of them all
+//! each slice costs a wait. So all regions run to a bound that is so far after the least due stamp of them all
 //! as a slice's steps lately took in virtual time. It goes by what is due and not by what was done last, since a
 //! region without events would hold up all others.
 //!
 //! Nothing is claimed of it: the locks keep the regions right, however far they run.
 
-ghost use Rattle.std.specs.Prelude.{◌<◌, ◌≤◌};
+ghost use Rattle.std.specs.Prelude.{◌≡◌, ◌<◌, ◌≤◌};
 
 use crate::virtual_time::{from_parts, to_parts};
 use crossbeam_utils::CachePadded;
@@ -104,14 +104,12 @@ impl Pace {
         }
     }
 
-    /// A slice to the farthest bound that there was, with half of the steps that are left, one at least.
-    pub fn settling_slice(&self, left: u32) -> Slice
-        requires { 0 < left }
-        ensures some { 0 < result.steps }
-        ensures most { result.steps ≤ left }
+    /// A slice of so many steps, to the farthest bound that there was.
+    pub fn settling_slice(&self, steps: u32) -> Slice
+        ensures { result.steps ≡ steps }
     {
         Slice {
-            steps: left - left / 2,
+            steps,
             bound: self.farthest.load(Ordering::SeqCst),
         }
     }
@@ -127,20 +125,13 @@ impl Pace {
             return;
         };
         let due = to_parts(&progress.due, self.disks);
-        let before = mark.due.swap(due, Ordering::SeqCst);
+        let span = due.saturating_sub(to_parts(&progress.began, self.disks));
         let lead = mark.lead.load(Ordering::SeqCst);
-        let span = due.saturating_sub(before);
+        mark.due.store(due, Ordering::SeqCst);
         mark.lead.store(
             self.lead_after(lead, span, progress.steps),
             Ordering::SeqCst,
         );
-    }
-
-    /// Takes in what is due in a region after it heard others.
-    pub fn heard(&self, region: u32, due: &Stamp) {
-        if let Some(mark) = self.marks.get(region as usize) {
-            mark.due.store(to_parts(due, self.disks), Ordering::SeqCst);
-        }
     }
 
     // The least of what is due in any region, and the least lead.

@@ -25,7 +25,7 @@ const SLEEP_MILLIS: u64 = 1;
 
 /// Where the workers of a burst meet in each phase.
 #[derive(Drop)]
-pub(crate) struct Rendezvous {
+pub struct Rendezvous {
     // The word of the roll.
     roll: AtomicU64,
     sleepers: AtomicU64,
@@ -35,7 +35,7 @@ pub(crate) struct Rendezvous {
 
 impl Rendezvous {
     /// A rendezvous to which nobody has come, of so many regions.
-    pub(crate) fn new(alloc: Global, regions: usize) -> Result<Rendezvous, AllocError> {
+    pub fn new(alloc: Global, regions: usize) -> Result<Rendezvous, AllocError> {
         let mut untaken = Vec::with_capacity(alloc, regions)?;
         for _ in 0..regions {
             untaken.push(CachePadded::new(AtomicU64::new(0)))?;
@@ -48,13 +48,13 @@ impl Rendezvous {
     }
 
     /// How far the burst is.
-    pub(crate) fn roll(&self) -> Roll {
+    pub fn roll(&self) -> Roll {
         Roll::of(self.roll.load(Ordering::SeqCst))
     }
 
     /// Takes a region in a phase, and says whether it was to be had: nobody has taken it, and the phase isn't past.
     /// Until the work on it is noted, the phase goes on.
-    pub(crate) fn takes(&self, region: u32, phase: u32) -> bool {
+    pub fn takes(&self, region: u32, phase: u32) -> bool {
         let Some(untaken) = self.untaken.get(region as usize) else {
             return false;
         };
@@ -67,7 +67,7 @@ impl Rendezvous {
 
     /// Notes a worker's share of the phase's work. The roll where that was the last of it: then the worker is to begin
     /// the next phase.
-    pub(crate) fn note(&self, share: &Share) -> Option<Roll> {
+    pub fn note(&self, share: &Share) -> Option<Roll> {
         if share.regions == 0 {
             return None;
         }
@@ -89,15 +89,14 @@ impl Rendezvous {
     }
 
     /// Begins the phase after one that is done, unless a worker has left meanwhile.
-    pub(crate) fn begin(&self, done: Roll, next: Roll) {
+    pub fn begin(&self, done: Roll, next: Roll) {
         let begun = self.roll.compare_exchange(
             done.word(),
             next.word(),
             Ordering::SeqCst,
             Ordering::SeqCst,
         );
-        // A hearing is short, and who sleeps would come too late for it.
-        if begun.is_ok() && !next.hears {
+        if begun.is_ok() {
             self.wake();
         }
     }

@@ -12,26 +12,18 @@ const DONE: u32 = 32;
 
 const MOVED: u32 = 39;
 
-const NEWS: u32 = 40;
-
-const HEARS: u32 = 41;
-
 // The phase of a burst that is over: more than any burst has.
 const OVER: u32 = u32::MAX;
 
 /// How far the workers of a burst are.
 #[derive(Clone, Copy)]
 pub struct Roll {
-    /// What they are at, counted from 0 on: a phase is a slice or a hearing.
+    /// What slice they are at, counted from 0 on.
     pub phase: u32,
     /// Of how many regions it is done.
     pub done: u32,
-    /// Whether any of these could go on, or found something new; in a hearing, or in the slice before it.
+    /// Whether any of these heard anything new, or could go on.
     pub moved: bool,
-    /// Whether any of them has news for another.
-    pub news: bool,
-    /// Whether the phase is a hearing.
-    pub hears: bool,
 }
 
 /// What a worker did in a phase.
@@ -39,10 +31,8 @@ pub struct Roll {
 pub struct Share {
     /// Of how many regions it did the phase's work.
     pub regions: u32,
-    /// Whether any of them could go on, or found something new.
+    /// Whether any of them heard anything new, or could go on.
     pub moved: bool,
-    /// Whether any of them has news for another.
-    pub news: bool,
 }
 
 impl Share {
@@ -51,15 +41,13 @@ impl Share {
         Share {
             regions: 0,
             moved: false,
-            news: false,
         }
     }
 
     /// One region more.
-    pub fn add(&mut self, moved: bool, news: bool) {
+    pub fn add(&mut self, moved: bool) {
         self.regions = self.regions.saturating_add(1);
         self.moved = self.moved || moved;
-        self.news = self.news || news;
     }
 }
 
@@ -70,18 +58,12 @@ impl Roll {
             phase: (word % PHASES) as u32,
             done: ((word >> DONE) % COUNTS) as u32,
             moved: flag_at(word, MOVED),
-            news: flag_at(word, NEWS),
-            hears: flag_at(word, HEARS),
         }
     }
 
     /// The word that keeps the roll.
     pub fn word(&self) -> u64 {
-        u64::from(self.phase)
-            | u64::from(self.done) << DONE
-            | u64::from(self.moved) << MOVED
-            | u64::from(self.news) << NEWS
-            | u64::from(self.hears) << HEARS
+        u64::from(self.phase) | u64::from(self.done) << DONE | u64::from(self.moved) << MOVED
     }
 
     /// Whether nothing is to be done any more in this burst.
@@ -95,26 +77,24 @@ impl Roll {
             return self;
         }
         Roll {
+            phase: self.phase,
             done: self.done.saturating_add(share.regions),
             moved: self.moved || share.moved,
-            news: self.news || share.news,
-            ..self
         }
     }
 
-    /// The next phase, where this one is done of all regions: a hearing if there are news. If none could go on, and
-    /// none has news or found any in the hearing that followed, the burst is over: nothing would ever change. (A
-    /// region may have news for ever: a message that it took back, and that the other keeps until it is past it.)
+    /// The next phase, where this one is done of all regions. If none heard anything new nor could go on, the burst is
+    /// over: nothing would ever change, as all had heard what the others did before, and none did anything since. In
+    /// the first phase there is nothing to hear yet. (It doesn't count whether there may be news: a message that was
+    /// taken back, and that its hearer keeps until the sender is past it, may be news for ever.)
     pub fn next(self) -> Roll {
-        if self.is_over() || !self.moved && !self.news {
+        if self.is_over() || !self.moved && self.phase > 0 {
             return Roll::over();
         }
         Roll {
             phase: self.phase.saturating_add(1),
             done: 0,
-            moved: self.news && self.moved,
-            news: false,
-            hears: self.news,
+            moved: false,
         }
     }
 
@@ -124,8 +104,6 @@ impl Roll {
             phase: OVER,
             done: 0,
             moved: false,
-            news: false,
-            hears: false,
         }
     }
 }

@@ -8,7 +8,6 @@ use crate::job::Job;
 use crate::pace::Pace;
 use crate::rendezvous::Rendezvous;
 use crate::turns::Turns;
-use cell_grid::Grid;
 use region_core::{Gate, Region};
 use region_locks::{Locks, Origin};
 use std::alloc::{AllocError, Global};
@@ -19,16 +18,14 @@ use std::sync::Wait;
 pub(crate) struct Shared<'g, G: Gate, O: Origin> {
     pub alloc: Global,
     pub locks: Locks<O>,
-    pub grid: Grid,
     pub turns: Turns<'g, G>,
     pub pace: Pace,
     pub course: Course,
     pub rendezvous: Rendezvous,
     /// How many workers there are, 1 at least.
     pub workers: u32,
-    /// How many steps a region makes in a turn at most.
+    /// How many steps of each region a turn has.
     pub steps: u32,
-    ghost each: { locks ≡ grid.regions },
     ghost some_workers: { 0 < workers },
 }
 
@@ -55,7 +52,6 @@ impl<'g, G: Gate, O: Origin> Shared<'g, G, O> {
         let job = Job {
             alloc: self.alloc,
             locks: &self.locks,
-            grid: &self.grid,
             turns: &self.turns,
             pace: &self.pace,
             course: &self.course,

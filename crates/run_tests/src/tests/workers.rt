@@ -1,6 +1,6 @@
 //! What workers do to regions.
 
-ghost use Rattle.std.specs.Prelude.{IfOk};
+ghost use Rattle.std.specs.Prelude.{◌<◌, IfOk};
 ghost use Rattle.local_run.specs.Bursts.{AreTogether};
 
 use super::cases::expect;
@@ -36,18 +36,22 @@ fn opened(rt: &impl Abort, alloc: Global, end: u32, disks: &str) -> Result<Vec<R
     committed.open_all(alloc)
 }
 
-// Regions after a burst by one worker, of one turn with one step.
-fn after_one_step<R: Threads + Wait + Sync>(
+// Regions after a burst by one worker, of so many turns with so many steps.
+fn after_turns<R: Threads + Wait + Sync>(
     rt: &R,
     alloc: Global,
     regions: Vec<Region>,
+    turns: u32,
+    steps: u32,
 ) -> Result<Vec<Region>, AllocError>
-    requires { AreTogether regions.items }
+    requires together { AreTogether regions.items }
+    requires some_turns { 0 < turns }
+    requires some_steps { 0 < steps }
 {
     let workers = Workers {
         workers: 1,
-        turns: 1,
-        steps: 1,
+        turns,
+        steps,
         gate: &OpenGate,
     };
     workers.burst(rt, alloc, regions)
@@ -64,10 +68,10 @@ fn seen(region: &Region) -> Seen {
     (region.entries(), region.clock(), heard)
 }
 
-// Region 0 has made its step, region 1 has heard of it, and there is nothing else.
+// Region 0 has made its step, region 1 has heard of it before its own step and taken it in, and there is nothing else.
 const ONE_STEP_ON: &[Seen] = &[
     (1, Some(CROSSING), None),
-    (0, None, Some(1)),
+    (1, Some(CROSSING), Some(1)),
     (0, None, None),
     (0, None, None),
 ];
@@ -88,13 +92,51 @@ fn seen_after_one_step<R: Threads + Wait + Sync + Abort>(
     number: usize,
 ) -> Result<Option<(usize, Seen)>, AllocError> {
     let opened = opened(rt, alloc, 40, FOUR_IN_A_ROW)?;
-    let regions = after_one_step(rt, alloc, opened)?;
+    let regions = after_turns(rt, alloc, opened, 1, 1)?;
     Ok(seen_among(&regions, number))
 }
 
 fn seen_among(regions: &[Region], number: usize) -> Option<(usize, Seen)> {
     let region = regions.get(number)?;
     Some((regions.len(), seen(region)))
+}
+
+// One disk in each region that bounces up and down, every other tick or so.
+const BOUNCING_APART: &str = "[50, 10, 0, 8], [150, 10, 0, 8], [250, 10, 0, 8], [350, 10, 0, 8]";
+
+// Most of the steps of four turns with 64 steps, and more than any two slices have.
+const MOST: usize = 150;
+
+// Where a burst ended early, or left a region out of its slices, one of them would have made fewer steps.
+#[test]
+fn each_region_goes_on_to_the_end_of_a_burst(rt: HostRuntime) -> Result<(), Fail> {
+    let found = least_after_turns(&rt, rt.alloc())?;
+    expect(
+        &rt,
+        "least steps",
+        found.map(|least| least >= MOST),
+        Some(true),
+    );
+    Ok(())
+}
+
+// The least number of entries that a region has after four turns with 64 steps; none where there is no region.
+fn least_after_turns<R: Threads + Wait + Sync + Abort>(
+    rt: &R,
+    alloc: Global,
+) -> Result<Option<usize>, AllocError> {
+    let opened = opened(rt, alloc, 4000, BOUNCING_APART)?;
+    let regions = after_turns(rt, alloc, opened, 4, 64)?;
+    Ok(least_entries(&regions))
+}
+
+fn least_entries(regions: &[Region]) -> Option<usize> {
+    let mut least = None;
+    for region in regions {
+        let entries = region.entries();
+        least = Some(least.map_or(entries, |before: usize| before.min(entries)));
+    }
+    least
 }
 
 // Worker 0 waits in its first turn until worker 1 was here, and notes whether it was. All turns are counted, and it is

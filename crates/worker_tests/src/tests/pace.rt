@@ -5,14 +5,15 @@ use super::regions::{RULES, empty_scene, opened};
 use event_stamps::{Kind, Stamp};
 use region_locks::Progress;
 use region_workers::pace::{Pace, Slice};
+use region_workers::rendezvous::Rendezvous;
 use region_workers::roll::{Roll, Share};
 use region_workers::virtual_time::{from_parts, to_parts};
 use std::alloc::{AllocError, Global};
 
-// The work on so many regions, whether any could go on, and whether any has news.
-type ShareRow = (u32, bool, bool);
+// The work on so many regions, and whether any of them moved.
+type ShareRow = (u32, bool);
 
-// The phase, of how many regions it is done, and whether it is a hearing.
+// The phase, of how many regions it is done, and whether any of them moved.
 type RollRow = (u32, u32, bool);
 
 // Shares of the work on four regions, and what the roll says after each.
@@ -21,39 +22,29 @@ type Course = &'static [(ShareRow, RollRow)];
 const COURSES: &[Course] = &[
     &[
         // One worker does all.
-        ((4, true, false), (1, 0, false)),
-        // There are news.
-        ((1, true, true), (1, 1, false)),
-        ((2, true, false), (1, 3, false)),
-        ((1, false, false), (2, 0, true)),
-        // Regions that heard may go on.
-        ((4, true, false), (3, 0, false)),
+        ((4, true), (1, 0, false)),
+        // It is enough that one of them moved.
+        ((1, false), (1, 1, false)),
+        ((2, true), (1, 3, true)),
+        ((1, false), (2, 0, false)),
         // None has anything to do.
-        ((3, false, false), (3, 3, false)),
-        ((1, false, false), (u32::MAX, 0, false)),
-        ((1, true, true), (u32::MAX, 0, false)),
+        ((3, false), (2, 3, false)),
+        ((1, false), (u32::MAX, 0, false)),
+        ((1, true), (u32::MAX, 0, false)),
     ],
     &[
-        // One could go on, and no hearing finds anything new: it may go on still.
-        ((4, true, true), (1, 0, true)),
-        ((4, false, false), (2, 0, false)),
-        // None could go on, and a hearing finds something new.
-        ((4, false, true), (3, 0, true)),
-        ((3, false, false), (3, 3, true)),
-        ((1, true, false), (4, 0, false)),
-        // None could go on, and no hearing finds anything new.
-        ((4, false, true), (5, 0, true)),
-        ((4, false, false), (u32::MAX, 0, false)),
+        // Before the first phase nothing was posted that one could have heard.
+        ((4, false), (1, 0, false)),
+        // The last one moved.
+        ((3, false), (1, 3, false)),
+        ((1, true), (2, 0, false)),
+        ((4, false), (u32::MAX, 0, false)),
     ],
 ];
 
 // What a word keeps of a roll after a share of the work on four regions.
-fn kept(roll: Roll, &(regions, moved, news): &ShareRow) -> Roll {
-    let with = roll.with(&Share {
-        regions,
-        moved,
-        news,
-    });
+fn kept(roll: Roll, &(regions, moved): &ShareRow) -> Roll {
+    let with = roll.with(&Share { regions, moved });
     Roll::of((if with.done == 4 { with.next() } else { with }).word())
 }
 
@@ -63,9 +54,33 @@ fn a_phase_ends_when_it_is_done_of_all_regions(rt: HostRuntime) {
         let mut roll = Roll::of(0);
         for (row, (share, want)) in course.iter().enumerate() {
             roll = kept(roll, share);
-            expect(&rt, row, (roll.phase, roll.done, roll.hears), *want);
+            expect(&rt, row, (roll.phase, roll.done, roll.moved), *want);
         }
     }
+}
+
+// Of how many regions a phase is done, where that is told after a share of the work on one of three.
+fn done_after_one(meeting: &Rendezvous) -> Option<u32> {
+    let share = Share {
+        regions: 1,
+        moved: true,
+    };
+    meeting.note(&share).map(|done| done.done)
+}
+
+// What is told after each of three shares.
+fn done_in_turn(alloc: Global) -> Result<[Option<u32>; 3], AllocError> {
+    let meeting = Rendezvous::new(alloc, 3)?;
+    let first = done_after_one(&meeting);
+    let second = done_after_one(&meeting);
+    Ok([first, second, done_after_one(&meeting)])
+}
+
+#[test]
+fn whoever_notes_the_last_region_is_told(rt: HostRuntime) -> Result<(), AllocError> {
+    let found = done_in_turn(rt.alloc())?;
+    expect(&rt, "shares", found, [None, None, Some(3)]);
+    Ok(())
 }
 
 // Stamps in their order: the tick, the round, what happens, and the disk.
@@ -109,11 +124,13 @@ fn parts_are_in_the_order_of_stamps(rt: HostRuntime) {
     }
 }
 
-// A region that made so many steps, where what is due next is at a tick.
-fn progress(steps: u32, tick: u64) -> Progress {
+// A region that made so many steps, where what is due was at a tick, and is at another then.
+fn progress(steps: u32, began: u64, due: u64) -> Progress {
     Progress {
+        heard_news: false,
+        began: Stamp::end_of(began),
         steps,
-        due: Stamp::end_of(tick),
+        due: Stamp::end_of(due),
     }
 }
 
@@ -124,15 +141,14 @@ fn seen(pace: &Pace, slice: &Slice) -> Seen {
     (slice.steps, pace.bound(slice))
 }
 
-// The next slice when the first steps are made, after a message, and to settle.
+// The next slice when the first steps are made, where a message made an earlier stamp due, and to settle.
 fn later_slices(pace: &Pace) -> (Seen, Seen, Seen) {
-    pace.heard(0, &Stamp::end_of(2));
-    pace.ran(0, &progress(16, 10));
-    pace.ran(1, &progress(0, 20));
+    pace.ran(0, &progress(16, 2, 10));
+    pace.ran(1, &progress(0, 20, 20));
     let next = seen(pace, &pace.next_slice(3));
-    pace.heard(2, &Stamp::end_of(9));
+    pace.ran(0, &progress(16, 1, 9));
     let earlier = seen(pace, &pace.next_slice(64));
-    (next, earlier, seen(pace, &pace.settling_slice(9)))
+    (next, earlier, seen(pace, &pace.settling_slice(5)))
 }
 
 // The steps of the first slice of four regions without disks, whether it ends after they do, and later slices; none

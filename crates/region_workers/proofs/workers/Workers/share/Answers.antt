@@ -1,5 +1,5 @@
 -- What is shared keeps what is known of its parts. That is said here, so that others are refused as soon as this fails.
-use Rattle.std.proofs.Common.{◌≤◌, ◌∙◌, arith}
+use Rattle.std.proofs.Common.{◌≤◌, arith}
 use Rattle.std.proofs.lemmas.Result.{IfOk-from_err}
 use Rattle.region_workers.proofs.workers.Workers.share.Goals as goal
 
@@ -15,11 +15,8 @@ new-requires-3 g c = c.args.self.now.some_steps
 pub overflow_cast-count : goal.overflow_cast-count
 overflow_cast-count g c = omega (arith, c.count.type_inv)
 
-pub invariant_of-result-clause-each : goal.invariant_of-result-clause-each
-invariant_of-result-clause-each g c = c.in_ok-locks.ensures ∙ c.requires.grid
-
-pub invariant_of-result-clause-some_workers : goal.invariant_of-result-clause-some_workers
-invariant_of-result-clause-some_workers g c = c.threads-workers.ensures
+pub invariant_of-result : goal.invariant_of-result
+invariant_of-result g c = record { some_workers = c.threads-workers.ensures }
 
 pub returns : goal.returns
 returns g c = record { locks = c.in_ok-locks.ensures }
