@@ -7,6 +7,7 @@
 
 mod appending;
 mod aside;
+mod beside;
 mod border;
 mod burst;
 mod gate;
@@ -21,6 +22,7 @@ mod running_events;
 mod running_on;
 mod weaving;
 
+pub use beside::{Beside, Idle};
 pub use burst::Burst;
 pub use gate::{Gate, OpenGate};
 pub use local_run::{

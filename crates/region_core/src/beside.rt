@@ -1,0 +1,44 @@
+//! What is done beside a burst.
+
+/// Work that is done piece by piece beside a burst, with something that is lent to it, by whoever would wait.
+pub trait Beside<W> {
+    /// Whether it may go on with what is lent.
+    ghost fits: { Self → W → Type 0 };
+
+    /// What may have come of both after some pieces.
+    ghost goes: { Self → W → Self → W → Type 0 };
+
+    /// Does a piece of it, and says whether there may be more.
+    fn go_on(&mut self, lent: &mut W) -> bool
+        requires { fits self.old lent.old }
+        ensures { goes self.old lent.old self.new lent.new };
+
+    /// No piece leaves both as they are.
+    ghost stays: { (x : Self) (u : W) → goes x u x u };
+
+    /// Pieces and further pieces are pieces.
+    ghost goes_further: { (x y z : Self) (u v w : W) → goes x u y v → goes y v z w → goes x u z w };
+
+    /// After some pieces it may still go on.
+    ghost still_fits: { (x y : Self) (u v : W) → fits x u → goes x u y v → fits y v };
+}
+
+/// Nothing to do beside a burst.
+#[derive(Clone, Copy, Debug, Drop)]
+pub struct Idle;
+
+impl Beside<()> for Idle {
+    ghost fits = { λ x u. Unit {0} };
+
+    ghost goes = { λ x u y v. Unit {0} };
+
+    ghost stays = { λ x u. tt };
+
+    ghost goes_further = { λ x y z u v w a b. tt };
+
+    ghost still_fits = { λ x y u v a b. tt };
+
+    fn go_on(&mut self, _lent: &mut ()) -> bool {
+        false
+    }
+}
