@@ -1,19 +1,23 @@
 //! A burst by a call.
 
 use crate::call::Call;
-use std::marker::Model;
+use region_core::Beside;
+use std::marker::{Model, PhantomData};
 
-/// A burst that hands the regions to a call, which gives back each at its place, run on.
+/// A burst that hands the regions to a call, which gives back each at its place, run on, with what is done beside.
 ///
 /// What a trait's method sends to another thread has to be known to allow that, and of a gate that the method
 /// doesn't name it isn't known. So whoever knows the gate makes the call, and this makes a burst of it.
 #[derive(Drop)]
-pub struct ByCall<C: Call> {
+pub struct ByCall<S: Beside<W>, W, C: Call<S, W>> {
     call: C,
+    // What is done beside, and what is lent to it.
+    of: PhantomData<S>,
+    lent: PhantomData<W>,
 }
 
 // What is known of the call; contracts see nothing else of it.
-impl<C: Call> Model for ByCall<C> {
+impl<S: Beside<W>, W, C: Call<S, W>> Model for ByCall<S, W, C> {
     ghost Value = { Unit {0} };
 
     ghost view = { λ _. tt };
@@ -26,16 +30,20 @@ use std::alloc::{AllocError, Global};
 use std::sync::Wait;
 use std::thread::Threads;
 
-impl<C: Call> ByCall<C> {
+impl<S: Beside<W>, W, C: Call<S, W>> ByCall<S, W, C> {
     /// The burst by this call.
-    pub fn new(call: C) -> ByCall<C>
+    pub fn new(call: C) -> ByCall<S, W, C>
         requires { C.keeping call }
     {
-        ByCall { call }
+        ByCall {
+            call,
+            of: PhantomData,
+            lent: PhantomData,
+        }
     }
 }
 
-impl<C: Call> Burst for ByCall<C> {
+impl<S: Beside<W>, W, C: Call<S, W>> Burst<S, W> for ByCall<S, W, C> {
     ghost keeping = { λ _. Unit {0} };
 
     fn keeps(&self) -> bool {
@@ -47,7 +55,9 @@ impl<C: Call> Burst for ByCall<C> {
         _rt: &R,
         _alloc: Global,
         regions: Vec<Region>,
+        beside: &mut S,
+        lent: &mut W,
     ) -> Result<Vec<Region>, AllocError> {
-        self.call.work(regions)
+        self.call.work(regions, beside, lent)
     }
 }

@@ -114,7 +114,8 @@ impl Rendezvous {
         }
     }
 
-    fn is_past(&self, phase: u32) -> bool {
+    /// Whether a phase is past.
+    pub(crate) fn is_past(&self, phase: u32) -> bool {
         self.roll().phase != phase
     }
 

@@ -8,7 +8,7 @@ use crate::job::Job;
 use crate::pace::Pace;
 use crate::rendezvous::Rendezvous;
 use crate::turns::Turns;
-use region_core::{Gate, Region};
+use region_core::{Beside, Gate, Region};
 use region_locks::{Locks, Origin};
 use std::alloc::{AllocError, Global};
 use std::sync::Wait;
@@ -30,25 +30,42 @@ pub(crate) struct Shared<'g, G: Gate, O: Origin> {
 }
 
 impl<'g, G: Gate, O: Origin> Shared<'g, G, O> {
-    /// Makes the turns of the first worker and those that nobody has begun by then, and takes the regions back.
+    /// Makes the turns of the first worker, who goes on with what is beside where it would wait, and those that nobody
+    /// has begun by then, and takes the regions back.
     ///
     /// # Errors
     /// Out of memory: a region is spent.
-    pub(crate) fn work_to_the_end<R: Wait>(&self, rt: &R) -> Result<Vec<Region>, AllocError>
+    pub(crate) fn work_to_the_end<R: Wait, S: Beside<W>, W>(
+        &self,
+        rt: &R,
+        beside: &mut S,
+        lent: &mut W,
+    ) -> Result<Vec<Region>, AllocError>
+        requires { S.fits beside.old lent.old }
         ensures count { IfOk result (λ worked. length worked.items ≡ self.now.locks) }
         ensures kept { IfOk result (λ worked. AreRunOn O.given worked.items) }
+        ensures beside { S.goes beside.old lent.old beside.new lent.new }
     {
-        let made = self.work(rt, 0);
+        let made = self.work(rt, 0, beside, lent);
         self.turns.begin_rest(rt);
         made?;
         self.locks.take_back(rt, self.alloc)
     }
 
-    /// Makes the turns of a worker.
+    /// Makes the turns of a worker, who goes on with what is beside where it would wait.
     ///
     /// # Errors
     /// Out of memory: a region is spent.
-    pub(crate) fn work<R: Wait>(&self, rt: &R, worker: u32) -> Result<(), AllocError> {
+    pub(crate) fn work<R: Wait, S: Beside<W>, W>(
+        &self,
+        rt: &R,
+        worker: u32,
+        beside: &mut S,
+        lent: &mut W,
+    ) -> Result<(), AllocError>
+        requires { S.fits beside.old lent.old }
+        ensures { S.goes beside.old lent.old beside.new lent.new }
+    {
         let job = Job {
             alloc: self.alloc,
             locks: &self.locks,
@@ -60,6 +77,6 @@ impl<'g, G: Gate, O: Origin> Shared<'g, G, O> {
             workers: self.workers,
             steps: self.steps,
         };
-        job.run(rt)
+        job.run(rt, beside, lent)
     }
 }
