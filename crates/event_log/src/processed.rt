@@ -56,6 +56,7 @@ use event_stamps::Stamp;
 use local_run::MAX_ENTRIES;
 use region_view::Action;
 use std::alloc::{AllocError, Global};
+use std::mem::swap;
 
 impl EventLog {
     /// No entries.
@@ -337,6 +338,44 @@ impl EventLog {
         drop_front(&mut self.wholes, whole);
         lower(&mut self.heads, row as u32, whole as u32);
     }
+
+    /// Puts the first entries, so many, into another log in place of what is there, and keeps the others. The two
+    /// exchange their rooms, and only what stays is copied: so of two logs that are cut again and again none takes
+    /// memory once both have room.
+    ///
+    /// # Errors
+    /// Out of memory: nothing changes here, and what was in the other log may be gone.
+    pub fn cut_first(&mut self, gone: usize, into: &mut EventLog) -> Result<(), AllocError>
+        requires place { gone ≤ length self.old }
+        ensures kept { OnOk result (self.new ≡ drop gone self.old) }
+        ensures cut { OnOk result (into.new ≡ take gone self.old) }
+        ensures unchanged { OnErr result (self.new ≡ self.old) }
+    {
+        self.copy_rest(gone, into)?;
+        self.truncate(gone);
+        swap(self, into);
+        Ok(())
+    }
+
+    // Copies the entries from a place on into another log, in place of what is there.
+    fn copy_rest(&self, from: usize, into: &mut EventLog) -> Result<(), AllocError>
+        requires place { from ≤ length self.now }
+        ensures { OnOk result (into.new ≡ drop from self.now) }
+    {
+        let (row, whole) = edge(&self.heads, from, self.rows.len(), self.wholes.len());
+        let heads = rest_of(&self.heads, from);
+        let rows = rest_of(&self.rows, row);
+        let wholes = rest_of(&self.wholes, whole);
+        into.truncate(0);
+        // There is room before anything is copied.
+        into.heads.reserve(heads.len())?;
+        into.rows.reserve(rows.len())?;
+        into.wholes.extend_from_slice(wholes)?;
+        into.rows.extend_from_slice(rows).unwrap();
+        into.heads.extend_from_slice(heads).unwrap();
+        lower(&mut into.heads, row as u32, whole as u32);
+        Ok(())
+    }
 }
 
 // The action of an entry; none where it is a message.
@@ -359,6 +398,15 @@ fn has_row(rows: &Rows, disk: u32) -> bool
         [row] => row.0 == disk,
         [first, second, ..] => first.0 == disk || second.0 == disk,
     }
+}
+
+// The items from a place on.
+#[inline(always)]
+fn rest_of<T>(items: &[T], from: usize) -> &[T]
+    requires { from ≤ length items.now }
+    ensures { result.now ≡ drop from items.now }
+{
+    &items[from..]
 }
 
 // Takes the first items away, so many. Only those that stay move.
