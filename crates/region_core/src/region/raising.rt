@@ -4,8 +4,12 @@ ghost use Rattle.std.specs.Prelude.{◌≡◌, IfSome, OnOk, OnErr};
 ghost use Rattle.event_stamps.specs.Order.{Before, end_stamp};
 ghost use Rattle.local_run.specs.Opening.{spent};
 ghost use Rattle.local_run.specs.Raising.{raised, HasNoneWaitingBelow};
+ghost use Rattle.local_run.specs.Entries.{entries_below};
+ghost use Rattle.local_run.specs.Keeping.{entries_of};
+ghost use Rattle.event_log.specs.Logged.{entries_in};
 
-use crate::region::Region;
+use crate::region::{Region, let_go};
+use event_log::EventLog;
 use event_stamps::Stamp;
 use std::alloc::{AllocError, Global};
 
@@ -31,5 +35,35 @@ impl Region {
         live.raise_floor(&self.home, to);
         self.floor = to;
         Ok(())
+    }
+
+    /// Raises the floor as [`raise_floor`](Region::raise_floor) does, and the entries before it go into a log, in
+    /// place of what is there: of a spent region, none.
+    ///
+    /// # Errors
+    /// Out of memory: the region is spent.
+    pub fn cut_floor(&mut self, to: Stamp, into: &mut EventLog) -> Result<(), AllocError>
+        requires not_lowered { ¬ Before to self.old.floor }
+        requires in_time { ¬ Before (end_stamp self.old.home.rules.end) to }
+        requires none_waiting { IfSome self.old.run (HasNoneWaitingBelow to) }
+        ensures raised { OnOk result (self.new ≡ raised to self.old) }
+        ensures spent { OnErr result (self.new ≡ spent self.old) }
+        ensures cut { OnOk result (entries_in into.new ≡ entries_below to (entries_of self.old)) }
+    {
+        let Some(live) = &mut self.live else {
+            self.floor = to;
+            into.truncate(0);
+            return Ok(());
+        };
+        match live.cut_floor(&self.home, to, into) {
+            Ok(()) => {
+                self.floor = to;
+                Ok(())
+            }
+            Err(error) => {
+                let_go(&mut self.live);
+                Err(error)
+            }
+        }
     }
 }
