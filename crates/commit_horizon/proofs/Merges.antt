@@ -51,6 +51,37 @@ rise_joined (z ∷ xs) x rise before = (
   rise_joined xs x rise.1 (λ y among. before y (inr among)),
 )
 
+-- ---- the least entry
+-- of its stamp there is only this action, and only in this region
+pub only_least : (state : CellStateData) (h : Stamp) (runs : Runs) (k : ℕ) (b : Action) → CellLaws state →
+    AllGoOn state h runs → IsLeastEntry state runs k b → Before (stamp_of b) h →
+    (q : ℕ) (x : Action) → IsRegion state.grid q → IsAmong (Native x) (runs q).log → stamp_of x ≡ stamp_of b →
+    (x ≡ b) × (q ≡ k)
+only_least state h runs k b laws on entry before q x within among same =
+    let step = central_step state h runs k b laws on entry before in
+    let also = central_step state h runs q x laws on (record {
+      within = within;
+      among = among;
+      least = subst (NoneBefore state runs) (sym same) entry.least;
+    }) (subst (λ (s : Stamp). Before s h) (sym same) before) in (
+      laws.one_action x b also.0 step.0,
+      laws.one_home (stamp_of b) q k step.0.0.0 (subst (λ (s : Stamp). IsHomeOf state s q) same also.1) step.1,
+    )
+
+-- where no action of a run has the stamp, it has the same ones past it
+pub same_actions : (h t : Stamp) (run : Local) → HeadNotBefore t run.log →
+    ((x : Action) → IsAmong (Native x) run.log → stamp_of x ≢ t) →
+    actions_below h (past t run).log ≡ actions_below h run.log
+same_actions h t run late none = elim (past_cases t run run.log refl late) [
+  | inl first ↦ ap (λ (v : Local). actions_below h v.log) first.4 ∙ by_entry first.0 first.1 first.2 first.3
+  | inr kept ↦ ap (λ (v : Local). actions_below h v.log) kept.0
+]
+  where
+    by_entry : (e : Entry) (es : List Entry) → run.log ≡ e ∷ es → entry_stamp e ≡ t →
+        actions_below h es ≡ actions_below h run.log
+    by_entry (Native x) es is same = absurd (none x (subst (IsAmong (Native x)) (sym is) (inl refl)) same)
+    by_entry (Heard p m) es is same = sym (ap (actions_below h) is)
+
 -- ---- what is left
 -- the state has followed what was merged; the regions that are left go on from it, and the heads are theirs
 pub record IsMerging (old : CellStateData) (whole : Runs) (h : Stamp) (heads : Heads) (done : List Action)
@@ -184,15 +215,7 @@ module _ (old : CellStateData) (whole : Runs) (h : Stamp) (heads : Heads) (done 
   -- of the same stamp there is only this action, and only here
   only : (q : ℕ) (x : Action) → IsRegion now.grid q → IsAmong (Native x) (left q).log →
       stamp_of x ≡ stamp_of b → (x ≡ b) × (q ≡ k)
-  only q x within_q among same =
-      let also = central_step now h left q x laws merging.on (record {
-        within = within_q;
-        among = among;
-        least = subst (NoneBefore now left) (sym same) none_before;
-      }) (subst (λ (s : Stamp). Before s h) (sym same) own_among.1) in (
-        laws.one_action x b also.0 step.0,
-        laws.one_home (stamp_of b) q k step.0.0.0 (subst (λ (s : Stamp). IsHomeOf now s q) same also.1) step.1,
-      )
+  only = only_least now h left k b laws merging.on entry own_among.1
 
   left_here : (new : Option Head) → IsHeadAfter h (whole k).log (head.place + 1) new →
       IsLeft h (whole k).log (actions_below h (past (stamp_of b) (left k)).log) new
@@ -209,18 +232,8 @@ module _ (old : CellStateData) (whole : Runs) (h : Stamp) (heads : Heads) (done 
 
   left_there : (q : ℕ) → IsRegion now.grid q → q ≢ k →
       actions_below h (past (stamp_of b) (left q)).log ≡ actions_below h (left q).log
-  left_there q within_q other =
-      elim (past_cases (stamp_of b) (left q) (left q).log refl (late q within_q)) [
-        | inl first ↦ ap (λ (v : Local). actions_below h v.log) first.4
-            ∙ by_entry first.0 first.1 first.2 first.3
-        | inr kept ↦ ap (λ (v : Local). actions_below h v.log) kept.0
-      ]
-    where
-      by_entry : (e : Entry) (es : List Entry) → (left q).log ≡ e ∷ es → entry_stamp e ≡ stamp_of b →
-          actions_below h es ≡ actions_below h (left q).log
-      by_entry (Native x) es is same =
-          absurd (other (only q x within_q (subst (IsAmong (Native x)) (sym is) (inl refl)) same).1)
-      by_entry (Heard p m) es is same = sym (ap (actions_below h) is)
+  left_there q within_q other = same_actions h (stamp_of b) (left q) (late q within_q)
+      (λ x among same. other (only q x within_q among same).1)
 
   heads_left : (new : Option Head) → k < length heads →
       IsHeadAfter h (whole k).log (head.place + 1) new → (q : ℕ) → IsRegion now.grid q →
