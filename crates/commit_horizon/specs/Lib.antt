@@ -6,3 +6,4 @@ pub mod Leading
 pub mod Raising
 pub mod Commits
 pub mod Telling
+pub mod TellingOn
