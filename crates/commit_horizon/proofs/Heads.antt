@@ -88,21 +88,21 @@ head_within heads k head at = elim (cases_lt k (length heads)) [
   | inr past ↦ absurd (none-some head (sym (get_or_past heads k None past) ∙ at))
 ]
 
-rest_at : (log : List Entry) (k : ℕ) (e : Entry) → slice_get log k ≡ Some e → drop k log ≡ e ∷ drop (k + 1) log
+pub rest_at : (log : List Entry) (k : ℕ) (e : Entry) → slice_get log k ≡ Some e → drop k log ≡ e ∷ drop (k + 1) log
 rest_at log k e at = drop_more log k e (slice_get_within log k e at)
     ∙ ap (λ (v : Entry). v ∷ drop (k + 1) log) (get_or_from_slice_get log k e e at)
 
-entry_at : (log : List Entry) (k : ℕ) → k < length log → (e : Entry) × (slice_get log k ≡ Some e)
+pub entry_at : (log : List Entry) (k : ℕ) → k < length log → (e : Entry) × (slice_get log k ≡ Some e)
 entry_at [] k lt = absurd (omega arith)
 entry_at (e ∷ es) zero lt = (e, refl)
 entry_at (e ∷ es) (suc k) lt = entry_at es k (omega arith)
 
-native_entry : (found : Option Entry) (x : Action) → native_in found ≡ Some x → found ≡ Some (Native x)
+pub native_entry : (found : Option Entry) (x : Action) → native_in found ≡ Some x → found ≡ Some (Native x)
 native_entry None x is = absurd (none-some x is)
 native_entry (Some (Native y)) x is = ap (λ (v : Action). Some (Native v)) (same_Some y x is)
 native_entry (Some (Heard q m)) x is = absurd (none-some x is)
 
-native_within : (log : List Entry) (k : ℕ) (x : Action) → native_in (slice_get log k) ≡ Some x → k < length log
+pub native_within : (log : List Entry) (k : ℕ) (x : Action) → native_in (slice_get log k) ≡ Some x → k < length log
 native_within log k x is = slice_get_within log k (Native x) (native_entry (slice_get log k) x is)
 
 pub head_found : (h : Stamp) (log : List Entry) (done k : ℕ) (x : Action) → done ≤ k →

@@ -6,4 +6,5 @@ pub mod Leading
 pub mod Raising
 pub mod Commits
 pub mod Telling
+pub mod Untold
 pub mod TellingOn

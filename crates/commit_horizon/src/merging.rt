@@ -124,9 +124,9 @@ fn comes_before(stamp: &Stamp, other: &Stamp) -> bool
     }
 }
 
-// No head.
+/// No head.
 #[inline(always)]
-fn no_head() -> PackedHead
+pub(crate) fn no_head() -> PackedHead
     ensures { head_in result ≡ None }
 {
     PackedHead {

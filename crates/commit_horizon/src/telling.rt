@@ -118,9 +118,9 @@ fn tell_at<L: Listener>(
     }
 }
 
-// Tells a collision; a crossing isn't told.
+/// Tells a collision; a crossing isn't told.
 #[inline(always)]
-fn tell_hit<L: Listener>(action: &Action, listener: &mut L) -> Result<(), Deaf>
+pub(crate) fn tell_hit<L: Listener>(action: &Action, listener: &mut L) -> Result<(), Deaf>
     requires tellable { MayBeTold action.now }
     requires awaited { IsHitAwaited L.awaits (L.meaning listener.old) action.now }
     ensures told { OnOk result

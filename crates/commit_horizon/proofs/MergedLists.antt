@@ -1,0 +1,113 @@
+-- Lists that are merged by stamps: there is one way, and the first of what is merged is the least of all.
+use Rattle.std.proofs.Common.{◌≡◌, ◌≢◌, inl, inr, ℕ, zero, suc, List, [], ◌∷◌, set, get_or, get_or-set_other, sym, ap, ◌∙◌, subst, refl}
+use Rattle.event_stamps.specs.Order.{Before}
+use Rattle.event_stamps.proofs.StampOrder.{before_trans, before_decides, not_before_itself}
+use Rattle.region_view.specs.declared.action.Action.{Action}
+use Rattle.region_view.specs.Acting.{stamp_of}
+use Rattle.region_messages.proofs.Order.{is_before_true, is_before_false}
+use Rattle.local_run.proofs.Among.{same_or_other}
+use Rattle.commit_horizon.specs.Untold.{BeginsAfter, IsMergeOf, merged_with, merged_of, CanBeTold, AllCanBeTold, CanBeTellings}
+
+-- ---- two lists
+not_after : (x y : Action) → Before (stamp_of x) (stamp_of y) → ¬ Before (stamp_of y) (stamp_of x)
+not_after x y before less = not_before_itself (stamp_of x) (before_trans (stamp_of x) (stamp_of y) (stamp_of x) before less)
+
+-- the first of either list goes first, where it comes before the other list
+left_first : (x : Action) (xs ys : List Action) → BeginsAfter x ys →
+    merged_with (x ∷ xs) ys ≡ x ∷ merged_with xs ys
+left_first x xs [] after = refl
+left_first x xs (y ∷ ys) after = rw (is_before_false (stamp_of y) (stamp_of x) (not_after x y after)) refl
+
+right_first : (x : Action) (xs ys : List Action) → BeginsAfter x xs →
+    merged_with xs (x ∷ ys) ≡ x ∷ merged_with xs ys
+right_first x [] ys after = refl
+right_first x (y ∷ xs) ys after = rw (is_before_true (stamp_of x) (stamp_of y) after) refl
+
+both_after : (x : Action) (xs ys : List Action) → BeginsAfter x xs → BeginsAfter x ys → BeginsAfter x (merged_with xs ys)
+both_after x [] ys here there = there
+both_after x (a ∷ xs) [] here there = here
+both_after x (a ∷ xs) (b ∷ ys) here there = elim (before_decides (stamp_of b) (stamp_of a)) [
+  | inl less ↦ rw (is_before_true (stamp_of b) (stamp_of a) less) there
+  | inr not ↦ rw (is_before_false (stamp_of b) (stamp_of a) not) here
+]
+
+-- ---- all lists
+all_after : (lists : List (List Action)) (x : Action) → ((k : ℕ) → BeginsAfter x (get_or lists k [])) →
+    BeginsAfter x (merged_of lists)
+unfolding merged_of
+all_after [] x each = tt
+all_after (xs ∷ lists) x each =
+    both_after x xs (merged_of lists) (each zero) (all_after lists x (λ k. each (suc k)))
+
+none_merged : (lists : List (List Action)) → ((k : ℕ) → get_or lists k [] ≡ []) → merged_of lists ≡ []
+unfolding merged_of
+none_merged [] none = refl
+none_merged (xs ∷ lists) none =
+    ap (λ (v : List Action). merged_with v (merged_of lists)) (none zero) ∙ none_merged lists (λ k. none (suc k))
+
+-- the first of one list goes first, where it comes before all others
+goes_first : (lists : List (List Action)) (k : ℕ) (x : Action) (rest : List Action) → get_or lists k [] ≡ x ∷ rest →
+    ((q : ℕ) → q ≢ k → BeginsAfter x (get_or lists q [])) → merged_of lists ≡ x ∷ merged_of (set lists k rest)
+unfolding merged_of
+goes_first [] k x rest at others = cc
+goes_first (xs ∷ lists) zero x rest at others =
+    ap (λ (v : List Action). merged_with v (merged_of lists)) at
+    ∙ left_first x rest (merged_of lists) (all_after lists x (λ q. others (suc q) (λ same. cc)))
+goes_first (xs ∷ lists) (suc k) x rest at others =
+    ap (merged_with xs) (goes_first lists k x rest at (λ q not. others (suc q) (λ same. not cc)))
+    ∙ right_first x xs (merged_of (set lists k rest)) (others zero (λ same. cc))
+
+-- what they are merged to is this list
+pub merge_is : (lists : List (List Action)) (xs : List Action) → IsMergeOf lists xs → merged_of lists ≡ xs
+merge_is lists [] none = none_merged lists none
+merge_is lists (x ∷ xs) (k, rest, at, others, more) =
+    goes_first lists k x rest at others ∙ ap (λ (v : List Action). x ∷ v) (merge_is (set lists k rest) xs more)
+
+-- ---- the least of all
+-- no other list begins before it
+abbrev pub NoneBeginsBefore : List (List Action) → Action → Type 0
+NoneBeginsBefore lists x = (q : ℕ) (y : Action) (ys : List Action) → get_or lists q [] ≡ y ∷ ys →
+    ¬ Before (stamp_of y) (stamp_of x)
+
+-- it is the first of what is merged, and what is left of the lists is merged to the others
+pub record GoesFirst (lists : List (List Action)) (k : ℕ) (x : Action) (rest xs : List Action) : Type 0 where
+  pub others : List Action
+  pub first : xs ≡ x ∷ others
+  pub merged : IsMergeOf (set lists k rest) others
+
+pub least_goes : (lists : List (List Action)) (k : ℕ) (x : Action) (rest xs : List Action) → IsMergeOf lists xs →
+    get_or lists k [] ≡ x ∷ rest → NoneBeginsBefore lists x → GoesFirst lists k x rest xs
+least_goes lists k x rest [] none at least = let same : [] ≡ x ∷ rest = sym (none k) ∙ at in absurd cc
+least_goes lists k x rest (y ∷ ys) (j, tail, there, others, more) at least = elim (same_or_other k j) [
+  | inl same ↦
+      let is : y ∷ tail ≡ x ∷ rest = sym there ∙ sym (ap (λ (n : ℕ). get_or lists n []) same) ∙ at in
+      let first : y ≡ x = cc in
+      let left : tail ≡ rest = cc in record {
+        others = ys;
+        first = ap (λ (v : Action). v ∷ ys) first;
+        merged = subst (λ (n : ℕ). IsMergeOf (set lists n rest) ys) (sym same)
+            (subst (λ (v : List Action). IsMergeOf (set lists j v) ys) left more);
+      }
+  | inr other ↦ absurd (least j y tail there (subst (BeginsAfter y) at (others k other)))
+]
+
+-- where all lists are empty, nothing is merged
+pub nothing_left : (lists : List (List Action)) (xs : List Action) → IsMergeOf lists xs →
+    ((k : ℕ) → get_or lists k [] ≡ []) → xs ≡ []
+nothing_left lists xs merged none = sym (merge_is lists xs merged) ∙ none_merged lists none
+
+-- ---- what can be told
+-- the first of each list can be told, where all that is merged can be
+pub first_can : (lists : List (List Action)) (xs : List Action) (k : ℕ) (x : Action) (rest : List Action) →
+    CanBeTellings lists xs → get_or lists k [] ≡ x ∷ rest → CanBeTold x
+first_can lists xs k x rest can = by_list lists xs can.merged can.can
+  where
+    by_list : (lists : List (List Action)) (xs : List Action) → IsMergeOf lists xs → AllCanBeTold xs →
+        get_or lists k [] ≡ x ∷ rest → CanBeTold x
+    by_list lists [] none all at = let same : [] ≡ x ∷ rest = sym (none k) ∙ at in absurd cc
+    by_list lists (y ∷ ys) (j, tail, there, others, more) all at = elim (same_or_other k j) [
+      | inl same ↦
+          let is : y ∷ tail ≡ x ∷ rest = sym there ∙ sym (ap (λ (n : ℕ). get_or lists n []) same) ∙ at in
+          let first : y ≡ x = cc in subst CanBeTold first all.0
+      | inr other ↦ by_list (set lists j tail) ys more all.1 (get_or-set_other lists j k tail [] other ∙ at)
+    ]

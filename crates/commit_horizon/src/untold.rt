@@ -1,0 +1,237 @@
+//! What is final and wasn't told yet.
+
+use crate::leading::Leader;
+use crate::merging::PackedHead;
+use event_log::EventLog;
+use std::marker::Model;
+
+/// Actions that are final and are to be told, in the order of their stamps. They lie in the logs of the regions that
+/// ran them, which are merged only as they are told.
+#[derive(Drop)]
+pub struct Untold {
+    // A log of each region.
+    logs: Vec<EventLog>,
+    // Of each, the next action that is untold.
+    heads: Vec<PackedHead>,
+    // The first of those.
+    first: Leader,
+}
+
+impl Model for Untold {
+    ghost use Rattle.std.specs.Prelude.{List, map};
+    ghost use Rattle.region_view.specs.declared.action.Action.{Action};
+    ghost use Rattle.event_log.specs.Logged.{entries_in};
+    ghost use Rattle.commit_horizon.specs.Merging.{heads_in};
+    ghost use Rattle.commit_horizon.specs.Untold.{lefts, merged_of, AreUntold};
+
+    ghost Value = { List Action };
+
+    ghost view = { λ s. merged_of (lefts (map entries_in s.logs.items) (heads_in s.heads.items)) };
+
+    ghost invariant = { λ s. AreUntold (map entries_in s.logs.items) (heads_in s.heads.items) s.first };
+}
+
+ghost use Rattle.std.specs.Prelude.{◌≡◌, ◌+◌, ◌<◌, List, [], ◌∷◌, length, map, drop, false, true, Some, IfSome, IfOk, OnOk, OnErr};
+ghost use Rattle.std.specs.Option.{IsSome};
+ghost use Rattle.event_rules.specs.Told.{Told, AwaitsAll, CountsRefusal};
+ghost use Rattle.region_view.specs.declared.action.Action.{Action};
+ghost use Rattle.cell_sequence.specs.Run.{hits};
+ghost use Rattle.event_log.specs.Logged.{entries_in, native_at};
+ghost use Rattle.commit_horizon.specs.Merging.{head_in, heads_in};
+ghost use Rattle.commit_horizon.specs.Telling.{MayBeToldBy, IsHitAwaited, HitRefused};
+ghost use Rattle.commit_horizon.specs.Untold.{actions_in, BeginsInRange, AllBeginInRange, IsNextHead, AreFirstHeads, CanBeTellings};
+ghost use Rattle.commit_horizon.specs.TellingOn.{TellsFirst, TellsTorn};
+
+use crate::leading::{find_leader, leader_after};
+use crate::merging::no_head;
+use crate::telling::tell_hit;
+use event_rules::{Deaf, Listener};
+use event_stamps::Kind;
+use event_tree::Packed;
+use region_view::Action;
+use std::alloc::{AllocError, Global};
+use std::mem::replace;
+
+impl Untold {
+    /// Nothing.
+    pub fn new(alloc: Global) -> Untold
+        ensures { result ≡ [] }
+    {
+        Untold {
+            logs: Vec::new(alloc),
+            heads: Vec::new(alloc),
+            first: find_leader(&[]),
+        }
+    }
+
+    /// Takes the logs out, to be filled anew. Nothing is untold then.
+    pub(crate) fn take_logs(&mut self, alloc: Global) -> Vec<EventLog>
+        ensures { self.new ≡ [] }
+    {
+        let Untold {
+            logs,
+            heads: _,
+            first: _,
+        } = replace(self, Untold::new(alloc));
+        logs
+    }
+
+    /// Takes logs in: their actions are untold, and nothing else is.
+    ///
+    /// # Errors
+    /// Out of memory: nothing changes.
+    pub(crate) fn begin(&mut self, alloc: Global, logs: Vec<EventLog>) -> Result<(), AllocError>
+        requires { (xs : List Action) × CanBeTellings (map actions_in (map entries_in logs.items)) xs }
+        ensures begun { OnOk result ((xs : List Action) →
+            CanBeTellings (map actions_in (map entries_in logs.items)) xs → self.new ≡ xs) }
+        ensures unchanged { OnErr result (self.new ≡ self.old) }
+    {
+        let heads = first_heads(alloc, &logs)?;
+        let first = find_leader(&heads);
+        drop(replace(self, Untold { logs, heads, first }));
+        Ok(())
+    }
+
+    /// Tells the collisions among the next actions, so many of these at most. Whether any action is left.
+    ///
+    /// # Errors
+    /// The listener refused a collision, and its count of refusals rose.
+    #[inline(always)]
+    pub fn tell_some<L: Listener>(&mut self, listener: &mut L, most: u32) -> Result<bool, Deaf>
+        requires { AwaitsAll L.after L.awaits (L.meaning listener.old) (hits self.old) }
+        ensures told { OnOk result (TellsFirst L.after self.old (L.meaning listener.old) (L.faults listener.old)
+            self.new (L.meaning listener.new) (L.faults listener.new)) }
+        ensures awaits { OnOk result (AwaitsAll L.after L.awaits (L.meaning listener.new) (hits self.new)) }
+        ensures rest { IfOk result (λ more. more ≡ false → self.new ≡ []) }
+        ensures torn { OnErr result (TellsTorn L.after L.torn self.old (L.meaning listener.old)
+            (L.faults listener.old) (L.meaning listener.new) (L.faults listener.new)) }
+    {
+        for _ in 0..most {
+            match self.tell_one(listener) {
+                Ok(true) => {}
+                Ok(false) => return Ok(false),
+                Err(deaf) => return Err(deaf),
+            }
+        }
+        Ok(true)
+    }
+
+    /// Tells the collisions among all that is left.
+    ///
+    /// # Errors
+    /// The listener refused a collision, and its count of refusals rose.
+    pub fn tell_rest<L: Listener>(&mut self, listener: &mut L) -> Result<(), Deaf>
+        requires { AwaitsAll L.after L.awaits (L.meaning listener.old) (hits self.old) }
+        ensures told { OnOk result (TellsFirst L.after self.old (L.meaning listener.old) (L.faults listener.old)
+            self.new (L.meaning listener.new) (L.faults listener.new)) }
+        ensures rest { OnOk result (self.new ≡ []) }
+        ensures torn { OnErr result (TellsTorn L.after L.torn self.old (L.meaning listener.old)
+            (L.faults listener.old) (L.meaning listener.new) (L.faults listener.new)) }
+    {
+        'actions: loop {
+            match self.tell_one(listener) {
+                Ok(true) => {}
+                Ok(false) => return Ok(()),
+                Err(deaf) => return Err(deaf),
+            }
+        }
+    }
+
+    // Passes the next action, and tells it if it is a collision. Whether there was one.
+    #[inline(always)]
+    fn tell_one<L: Listener>(&mut self, listener: &mut L) -> Result<bool, Deaf>
+        requires { AwaitsAll L.after L.awaits (L.meaning listener.old) (hits self.old) }
+        ensures told { OnOk result (TellsFirst L.after self.old (L.meaning listener.old) (L.faults listener.old)
+            self.new (L.meaning listener.new) (L.faults listener.new)) }
+        ensures rest { IfOk result (λ more. more ≡ false → self.new ≡ []) }
+        ensures fewer { IfOk result (λ more. more ≡ true → length self.new < length self.old) }
+        ensures torn { OnErr result (TellsTorn L.after L.torn self.old (L.meaning listener.old)
+            (L.faults listener.old) (L.meaning listener.new) (L.faults listener.new)) }
+    {
+        let first = self.first;
+        let Some(stamp) = first.stamp.key() else {
+            return Ok(false);
+        };
+        let log = &self.logs[first.number];
+        match tell_in(log, first.place, stamp.kind, listener) {
+            Ok(()) => {}
+            Err(deaf) => return Err(deaf),
+        }
+        self.heads[first.number] = head_after(log, first.place);
+        self.first = leader_after(&self.heads, &first);
+        Ok(true)
+    }
+}
+
+// Tells the collision at a place of a log, where there is one by the kind of its stamp: a crossing isn't even read.
+#[inline(always)]
+fn tell_in<L: Listener>(
+    log: &EventLog,
+    place: usize,
+    kind: Kind,
+    listener: &mut L,
+) -> Result<(), Deaf>
+    requires there { IsSome (native_at log.now place) }
+    requires kind { IfSome (native_at log.now place) (MayBeToldBy kind) }
+    requires awaited { IfSome (native_at log.now place) (IsHitAwaited L.awaits (L.meaning listener.old)) }
+    ensures told { OnOk result (IfSome (native_at log.now place)
+        (λ x. Told L.after (L.meaning listener.old) (hits (x ∷ [])) (L.meaning listener.new))) }
+    ensures refused { OnErr result (IfSome (native_at log.now place)
+        (λ x. HitRefused L.torn (L.meaning listener.old) x (L.meaning listener.new))) }
+    ensures counts { CountsRefusal (L.faults listener.old) (L.faults listener.new) result }
+{
+    match kind {
+        Kind::Cross => Ok(()),
+        Kind::Wall | Kind::Pair => tell_hit(&action_in(log, place), listener),
+    }
+}
+
+// The action at a place of a log, which has one there.
+#[inline(always)]
+fn action_in(log: &EventLog, place: usize) -> Action
+    requires { IsSome (native_at log.now place) }
+    ensures { native_at log.now place ≡ Some result }
+{
+    log.native(place).unwrap()
+}
+
+// The head of each log.
+fn first_heads(alloc: Global, logs: &[EventLog]) -> Result<Vec<PackedHead>, AllocError>
+    requires { AllBeginInRange (map entries_in logs.now) }
+    ensures { IfOk result (λ heads. AreFirstHeads (map entries_in logs.now) (length logs.now) (heads_in heads.items)) }
+{
+    let mut heads = Vec::new(alloc);
+    for log in logs {
+        heads.push(head_from(log, 0, log.len()))?;
+    }
+    Ok(heads)
+}
+
+// The head after the one at a place.
+#[inline(always)]
+fn head_after(log: &EventLog, place: usize) -> PackedHead
+    requires within { place < length log.now }
+    requires range { BeginsInRange (actions_in (drop (place + 1) (entries_in log.now))) }
+    ensures { IsNextHead (entries_in log.now) (place + 1) (head_in result) }
+{
+    let end = log.len();
+    head_from(log, place + 1, end)
+}
+
+// The first action from a place on, up to the end of the log.
+#[inline(always)]
+fn head_from(log: &EventLog, done: usize, end: usize) -> PackedHead
+    requires end { end ≡ length log.now }
+    requires range { BeginsInRange (actions_in (drop done (entries_in log.now))) }
+    ensures { IsNextHead (entries_in log.now) done (head_in result) }
+{
+    for place in done..end {
+        if let Some(stamp) = log.native_stamp(place) {
+            return PackedHead {
+                stamp: Packed::new(Some(stamp)),
+                place,
+            };
+        }
+    }
+    no_head()
+}
