@@ -22,7 +22,7 @@ use Rattle.commit_horizon.proofs.Offered.{cell_laws}
 use Rattle.commit_horizon.proofs.Bounds.{all_go_on}
 
 -- the first of the merged entries is the least of all
-least_of : (state : CellStateData) (runs : Runs) (h : Stamp) (x : Action) (xs : List Action)
+pub least_of : (state : CellStateData) (runs : Runs) (h : Stamp) (x : Action) (xs : List Action)
     (merged : IsMerged state runs h (x ∷ xs)) →
     IsLeastEntry state runs (merged.are x (inl refl)).home x
 least_of state runs h x xs merged =
@@ -45,7 +45,7 @@ least_of state runs h x xs merged =
         (before_trans (stamp_of x) (stamp_of y) (stamp_of x) (merged.rise.0 y more) less)
 
 -- the others are those of what is left
-rest_merged : (state : CellStateData) (runs : Runs) (h : Stamp) (x : Action) (xs : List Action) →
+pub rest_merged : (state : CellStateData) (runs : Runs) (h : Stamp) (x : Action) (xs : List Action) →
     AllGoOn state h runs → IsMerged state runs h (x ∷ xs) →
     ((q : ℕ) → IsRegion state.grid q → HeadNotBefore (stamp_of x) (runs q).log) →
     IsMerged (followed state x) (λ q. past (stamp_of x) (runs q)) h xs
