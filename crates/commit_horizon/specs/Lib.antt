@@ -8,3 +8,4 @@ pub mod Commits
 pub mod Telling
 pub mod Untold
 pub mod TellingOn
+pub mod Cutting
