@@ -43,7 +43,7 @@ ghost use Rattle.run_core.specs.Standing.{GoesOnTo, row_among};
 
 use event_rules::{FinalState, Spot};
 use fixed_motion::{Disk, Rules, Scene};
-use region_core::Burst;
+use region_core::{Beside, Burst};
 use region_view::Placed;
 use std::alloc::{AllocError, Global};
 use std::sync::Wait;
@@ -97,30 +97,38 @@ impl Standing {
     ///
     /// # Errors
     /// Out of memory.
-    pub(crate) fn work<R: Threads + Wait + Sync, B: Burst>(
+    pub(crate) fn work<R: Threads + Wait + Sync, S: Beside<W>, W, B: Burst<S, W>>(
         self,
         rt: &R,
         alloc: Global,
         burst: &mut B,
+        beside: &mut S,
+        lent: &mut W,
     ) -> Result<Standing, AllocError>
-        ensures { IfOk result (λ worked. worked ≡ self) }
+        requires fits { S.fits beside.old lent.old }
+        ensures state { IfOk result (λ worked. worked ≡ self) }
+        ensures beside { S.goes beside.old lent.old beside.new lent.new }
     {
         if burst.keeps() {
-            self.work_keeping(rt, alloc, burst)
+            self.work_keeping(rt, alloc, burst, beside, lent)
         } else {
-            self.work_adopting(rt, alloc, burst)
+            self.work_adopting(rt, alloc, burst, beside, lent)
         }
     }
 
     // Lets a burst that keeps the regions work on them.
-    fn work_keeping<R: Threads + Wait + Sync, B: Burst>(
+    fn work_keeping<R: Threads + Wait + Sync, S: Beside<W>, W, B: Burst<S, W>>(
         self,
         rt: &R,
         alloc: Global,
         burst: &mut B,
+        beside: &mut S,
+        lent: &mut W,
     ) -> Result<Standing, AllocError>
-        requires { B.keeping burst.old }
-        ensures { IfOk result (λ worked. worked ≡ self) }
+        requires keeping { B.keeping burst.old }
+        requires fits { S.fits beside.old lent.old }
+        ensures state { IfOk result (λ worked. worked ≡ self) }
+        ensures beside { S.goes beside.old lent.old beside.new lent.new }
     {
         let Standing {
             earlier,
@@ -128,21 +136,25 @@ impl Standing {
             floor,
             regions,
         } = self;
-        let worked = burst.burst(rt, alloc, regions)?;
+        let worked = burst.burst(rt, alloc, regions, beside, lent)?;
         Ok(Standing::after(earlier, last, floor, worked))
     }
 
     // Lets a burst work on the regions, and adopts what it gives back.
-    fn work_adopting<R: Threads + Wait + Sync, B: Burst>(
+    fn work_adopting<R: Threads + Wait + Sync, S: Beside<W>, W, B: Burst<S, W>>(
         self,
         rt: &R,
         alloc: Global,
         burst: &mut B,
+        beside: &mut S,
+        lent: &mut W,
     ) -> Result<Standing, AllocError>
-        ensures { IfOk result (λ worked. worked ≡ self) }
+        requires fits { S.fits beside.old lent.old }
+        ensures state { IfOk result (λ worked. worked ≡ self) }
+        ensures beside { S.goes beside.old lent.old beside.new lent.new }
     {
         let (committed, regions) = self.settle(alloc)?;
-        let worked = burst.burst(rt, alloc, regions)?;
+        let worked = burst.burst(rt, alloc, regions, beside, lent)?;
         Standing::adopting(alloc, committed, worked)
     }
 

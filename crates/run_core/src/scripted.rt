@@ -23,7 +23,7 @@ ghost use Rattle.run_core.specs.declared.playing.Answer.{Answer};
 ghost use Rattle.run_core.specs.Plays.{Plays};
 
 use crate::playing::play;
-use region_core::{Burst, Region};
+use region_core::{Beside, Burst, Region};
 use std::alloc::{AllocError, Global};
 use std::sync::Wait;
 use std::thread::Threads;
@@ -42,17 +42,20 @@ impl Scripted {
     }
 }
 
-impl Burst for Scripted {
+impl<S: Beside<W>, W> Burst<S, W> for Scripted {
     fn burst<R: Threads + Wait + Sync>(
         &mut self,
         _rt: &R,
         alloc: Global,
         mut regions: Vec<Region>,
+        _beside: &mut S,
+        _lent: &mut W,
     ) -> Result<Vec<Region>, AllocError>
         ensures count { IfOk result (λ worked. length worked.items ≡ length regions.items) }
         ensures plays { IfOk result (λ worked.
             (answers : List Answer) × Plays regions.items self.old answers worked.items) }
         ensures empty { OnOk result (self.new ≡ []) }
+        ensures beside { S.goes _beside.old _lent.old _beside.new _lent.new }
     {
         play(alloc, &mut regions, &self.steps)?;
         self.steps.clear();

@@ -9,7 +9,7 @@ pub burst-requires : goal.burst-requires
 burst-requires g c =
     let goes = subst (GoesOnTo c.self.inside.earlier c.self.inside.last c.self.inside.floor
     c.self.inside.regions.items) c.self.view_is c.self.invariant in
-    record { together = stand_together c.args.self c.self.inside.regions.items goes.stand }
+    record { together = stand_together c.args.self c.self.inside.regions.items goes.stand; fits = c.requires.fits }
 
 pub after-requires : goal.after-requires
 after-requires g c =
@@ -19,14 +19,14 @@ after-requires g c =
       still_goes c.self.inside.earlier c.self.inside.last c.self.inside.floor c.self.inside.regions.items
           c.in_ok-worked.worked.items c.args.self goes (run_on_still_stand c.args.self c.self.inside.regions.items
           c.in_ok-worked.worked.items goes.stand c.in_ok-worked.ensures.count
-          (c.in_ok-worked.ensures.kept c.requires)),
+          (c.in_ok-worked.ensures.kept c.requires.keeping)),
     )
 
-pub returns : goal.returns
-returns g c =
+pub returns-clause-state : goal.returns-clause-state
+returns-clause-state g c =
     let goes = subst (GoesOnTo c.self.inside.earlier c.self.inside.last c.self.inside.floor
     c.self.inside.regions.items) c.self.view_is c.self.invariant in
     c.after.ensures c.args.self (still_goes c.self.inside.earlier c.self.inside.last c.self.inside.floor
     c.self.inside.regions.items c.in_ok-worked.worked.items c.args.self goes
     (run_on_still_stand c.args.self c.self.inside.regions.items c.in_ok-worked.worked.items goes.stand
-    c.in_ok-worked.ensures.count (c.in_ok-worked.ensures.kept c.requires)))
+    c.in_ok-worked.ensures.count (c.in_ok-worked.ensures.kept c.requires.keeping)))
