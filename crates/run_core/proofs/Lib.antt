@@ -18,4 +18,5 @@ pub mod OneState
 pub mod SoFar
 pub mod Spots
 pub mod Prefixes
-pub mod TellingOn
+pub mod Untold
+pub mod ToldOn

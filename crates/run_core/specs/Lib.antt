@@ -7,5 +7,5 @@ pub mod Turns
 pub mod Plays
 pub mod Passing
 pub mod Taking
-pub mod AdvancesTold
+pub mod AdvancesUntold
 pub mod Standing

@@ -1,7 +1,7 @@
 //! The run over all regions: they hear each other, and what they did before the commit horizon is taken over.
 #![tactic(auto)]
 
-mod advance_telling;
+mod advance_untold;
 mod answers;
 mod laws;
 mod one_event;
@@ -12,6 +12,7 @@ mod playing;
 mod progress;
 mod scripted;
 mod simulation;
+mod telling;
 
 pub use answers::Advance;
 pub use laws::{
@@ -21,3 +22,4 @@ pub use playing::{Answer, CoreStep, Played, play};
 pub use progress::advance;
 pub use scripted::Scripted;
 pub use simulation::simulate;
+pub use telling::Telling;

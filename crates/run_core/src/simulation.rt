@@ -1,14 +1,18 @@
 //! The run of a scene over regions.
 
-ghost use Rattle.std.specs.Prelude.{IfOk, IfErr};
+ghost use Rattle.std.specs.Prelude.{◌≡◌, None, IfOk, IfErr};
+ghost use Rattle.event_rules.specs.Told.{Told, AwaitsAll};
 ghost use Rattle.event_rules.specs.Tellings.{AwaitsRun, RunTold, RunCutShort, CountsRun};
 ghost use Rattle.cell_grid.specs.Grid.{IsAsked};
-ghost use Rattle.commit_horizon.specs.Telling.{AwaitsNext};
-ghost use Rattle.run_core.specs.AdvancesTold.{AdvancesTold, NextCutShort};
+ghost use Rattle.cell_sequence.specs.Run.{hits};
+ghost use Rattle.commit_horizon.specs.Telling.{HitsCutShort};
+ghost use Rattle.run_core.specs.AdvancesUntold.{answer_with};
+ghost use Rattle.run_core.specs.Simulates.{Advances};
 
-use crate::advance_telling::advance_telling;
+use crate::advance_untold::advance_untold;
 use crate::answers::Course;
 use crate::one_state::Standing;
+use crate::telling::Telling;
 use event_rules::{Listener, Outcome, RunFault};
 use fixed_motion::Scene;
 use region_core::Burst;
@@ -17,11 +21,12 @@ use std::sync::Wait;
 use std::thread::Threads;
 
 /// Runs a scene over so many regions, 1 to [`MAX_REGIONS`](cell_grid::MAX_REGIONS), and tells each change in
-/// the order of the stamps. The burst may do with the regions what it will: the run is the same.
+/// the order of the stamps: what a burst made final is told beside the next one, and what is left of it after that.
+/// The burst may do with the regions what it will: the run is the same.
 ///
 /// # Errors
 /// The listener refused a change, and its count of refusals rose; or out of memory.
-pub fn simulate<B: Burst, R: Threads + Wait + Sync, L: Listener>(
+pub fn simulate<B: Burst<Telling, L>, R: Threads + Wait + Sync, L: Listener>(
     rt: &R,
     alloc: Global,
     scene: &Scene,
@@ -40,35 +45,55 @@ pub fn simulate<B: Burst, R: Threads + Wait + Sync, L: Listener>(
 {
     let _rules = &scene.rules;
     let mut standing = Standing::open(alloc, scene, regions)?;
+    let mut telling = Telling::new(alloc);
     'bursts: loop {
-        let (course, left) = work(rt, alloc, standing, burst, listener)?;
+        let (course, left) = work(rt, alloc, standing, burst, &mut telling, listener)?;
         match course {
             Course::Raised => standing = left,
             Course::End => {
+                telling.tell_rest(listener)?;
                 let spots = left.final_state(alloc)?;
                 return Ok(Outcome::Done(spots));
             }
-            Course::Limit(limit) => return Ok(Outcome::Limit(limit)),
+            Course::Limit(limit) => {
+                telling.tell_rest(listener)?;
+                return Ok(Outcome::Limit(limit));
+            }
         }
     }
 }
 
-// Lets a burst work on regions, and advances by those that stand on their state. What is made final is told before
-// it returns.
-fn work<R: Threads + Wait + Sync, B: Burst, L: Listener>(
+// Lets a burst work on regions, beside which what is untold is told, and advances by those that stand on their state.
+// What was untold is told then, and what this made final is untold.
+fn work<B: Burst<Telling, L>, R: Threads + Wait + Sync, L: Listener>(
     rt: &R,
     alloc: Global,
     standing: Standing,
     burst: &mut B,
+    telling: &mut Telling,
     listener: &mut L,
 ) -> Result<(Course, Standing), RunFault>
-    requires { AwaitsNext L.after L.awaits standing (L.meaning listener.old) }
-    ensures told { IfOk result (λ advanced. AdvancesTold L.after standing advanced.0 advanced.1
-        (L.meaning listener.old) (L.meaning listener.new)) }
-    ensures cut_short { IfErr result (λ fault. NextCutShort L.after L.torn standing fault
+    requires heard { telling.old.fault ≡ None }
+    requires awaited { AwaitsAll L.after L.awaits (L.meaning listener.old) (hits telling.old.untold) }
+    ensures advances { IfOk result (λ advanced.
+        Advances standing (answer_with advanced.0 telling.new.untold) advanced.1) }
+    ensures told { IfOk result (λ _.
+        Told L.after (L.meaning listener.old) (hits telling.old.untold) (L.meaning listener.new)) }
+    ensures heard { IfOk result (λ _. telling.new.fault ≡ None) }
+    ensures cut_short { IfErr result (λ fault. HitsCutShort L.after L.torn telling.old.untold fault
         (L.meaning listener.old) (L.meaning listener.new)) }
     ensures counts { CountsRun (L.faults listener.old) (L.faults listener.new) result }
 {
-    let worked = standing.work(rt, alloc, burst)?;
-    advance_telling(alloc, worked, listener)
+    match standing.work(rt, alloc, burst, telling, listener) {
+        Ok(worked) => {
+            telling.tell_rest(listener)?;
+            let advanced = advance_untold(alloc, worked, &mut telling.untold)?;
+            Ok(advanced)
+        }
+        // A refusal comes first: once it is counted, want of memory isn't the answer.
+        Err(_) => match telling.fault {
+            Some(_) => Err(RunFault::Listener),
+            None => Err(RunFault::NoMemory),
+        },
+    }
 }

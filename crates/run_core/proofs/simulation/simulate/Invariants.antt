@@ -1,4 +1,4 @@
-use Rattle.std.proofs.Common.{◌≡◌}
+use Rattle.std.proofs.Common.{◌≡◌, None}
 use Rattle.cell_sequence.specs.State.{IsCellState}
 use Rattle.run_core.specs.Simulates.{work_left}
 use Rattle.run_core.proofs.Simulating.{IsTold}
@@ -7,7 +7,8 @@ use Rattle.run_core.proofs.simulation.simulate.Given as goal
 abbrev pub invariant-bursts : goal.invariant-bursts
 invariant-bursts g l = let L = g.L.Listener in record {
   cell : IsCellState l.standing;
-  told : IsTold L.after l.fn.scene l.fn.regions l.standing (L.meaning l.fn.listener)
+  heard : l.telling.fault ≡ None;
+  told : IsTold L.after l.fn.scene l.fn.regions l.standing l.telling.untold (L.meaning l.fn.listener)
       (L.meaning l.listener);
   count : L.faults l.listener ≡ L.faults l.fn.listener;
 }

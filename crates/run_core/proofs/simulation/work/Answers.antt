@@ -1,48 +1,96 @@
-use Rattle.std.proofs.Common.{Result, refl, sym, subst}
-use Rattle.std.specs.Prelude.{IfOk, IfErr}
+use Rattle.std.proofs.Common.{Result, [], None, refl}
+use Rattle.std.specs.Prelude.{IfErr}
 use Rattle.std.proofs.lemmas.Result.{err_from_is_err_and}
 use Rattle.event_rules.specs.declared.outcome.RunFault.{RunFault}
-use Rattle.event_rules.specs.declared.outcome.RunFault.TheVariants.{NoMemory}
-use Rattle.event_rules.specs.Tellings.{CountsRun}
+use Rattle.event_rules.specs.declared.outcome.RunFault.TheVariants.{Listener, NoMemory}
 use Rattle.cell_sequence.specs.State.{CellStateData}
-use Rattle.commit_horizon.specs.Telling.{AwaitsNext}
+use Rattle.commit_horizon.specs.Telling.{HitsCutShort}
+use Rattle.commit_horizon.proofs.Goes.{still_awaited, tells_further, torn_prefix}
 use Rattle.run_core.specs.declared.answers.Course.{Course}
-use Rattle.run_core.specs.AdvancesTold.{AdvancesTold, NextCutShort}
-use Rattle.run_core.proofs.TellingOn.{at_fault, nothing_cut}
+use Rattle.run_core.proofs.ToldOn.{fits_unheard, first_all, first_cut, first_on, torn_on}
+use Rattle.run_core.proofs.Untold.{at_fault}
 use Rattle.run_core.proofs.simulation.work.Goals as goal
 
-pub returns-in_err-worked-clause-cut_short : goal.returns-in_err-worked-clause-cut_short
-returns-in_err-worked-clause-cut_short g c =
+pub tell_rest-requires : goal.tell_rest-requires
+tell_rest-requires g c =
     let L = g.L.Listener in
+    still_awaited L.after L.torn L.awaits _ _ _ _ _ _ _ _ (fits_unheard L.after L.awaits c.args.telling.now.untold
+    c.args.telling.now.fault _ c.requires.heard c.requires.awaited) c.work.ensures.beside
+
+pub returns-in_err-tell_rest-in-Ok-clause-cut_short : goal.returns-in_err-tell_rest-in-Ok-clause-cut_short
+returns-in_err-tell_rest-in-Ok-clause-cut_short g c =
+    let L = g.L.Listener in
+    let untold = c.args.telling.now.untold in
     let old = L.meaning c.args.listener.now in
+    let new = L.meaning c.tell_rest.new.listener in
+    let f = L.faults c.args.listener.now in
+    let h = L.faults c.tell_rest.new.listener in
+    let on = tells_further L.after L.torn _ _ _ _ _ _ _ _ _ _ _ _ c.work.ensures.beside
+    c.in_err-tell_rest-in-Ok.ensures.refused in
     let r = c.from_residual.result in
     let fault = err_from_is_err_and r c.from_residual.ensures.1 in
-    at_fault (λ (v : Result (Course × CellStateData) RunFault). IfErr v (λ e. NextCutShort L.after L.torn
-    c.args.standing e old old)) r fault.0 NoMemory fault.1 fault.2 (nothing_cut L.after L.torn c.args.standing old)
+    at_fault (λ (v : Result (Course × CellStateData) RunFault). IfErr v (λ e. HitsCutShort L.after L.torn untold e
+    old new)) r fault.0 Listener fault.1 fault.2 (torn_prefix L.after L.torn untold old new f h
+    (torn_on L.after L.torn untold _ _ _ old new f h on c.requires.heard _ refl))
 
-pub returns-in_err-worked-clause-counts : goal.returns-in_err-worked-clause-counts
-returns-in_err-worked-clause-counts g c =
-    let faults = g.L.Listener.faults c.args.listener.now in
-    let r = c.from_residual.result in
-    let fault = err_from_is_err_and r c.from_residual.ensures.1 in
-    at_fault (CountsRun {T = Course × CellStateData} faults faults) r fault.0 NoMemory fault.1 fault.2 refl
-
-pub advance_telling-requires : goal.advance_telling-requires
-advance_telling-requires g c =
+pub returns-in_err-advanced-in-Ok-clause-cut_short : goal.returns-in_err-advanced-in-Ok-clause-cut_short
+returns-in_err-advanced-in-Ok-clause-cut_short g c =
     let L = g.L.Listener in
-    subst (λ (v : CellStateData). AwaitsNext L.after L.awaits v (L.meaning c.args.listener.now))
-    (sym c.in_ok-worked.ensures) c.requires
-
-pub returns : goal.returns
-returns g c =
-    let L = g.L.Listener in
-    let r = c.advance_telling.result in
+    let untold = c.args.telling.now.untold in
     let old = L.meaning c.args.listener.now in
-    let new = L.meaning c.advance_telling.new.listener in
-    record {
-      told = subst (λ (v : CellStateData). IfOk r (λ advanced. AdvancesTold L.after v advanced.0 advanced.1 old new))
-          c.in_ok-worked.ensures c.advance_telling.ensures.told;
-      cut_short = subst (λ (v : CellStateData). IfErr r (λ fault. NextCutShort L.after L.torn v fault old new))
-          c.in_ok-worked.ensures c.advance_telling.ensures.cut_short;
-      counts = c.advance_telling.ensures.counts;
-    }
+    let new = L.meaning c.tell_rest.new.listener in
+    let f = L.faults c.args.listener.now in
+    let h = L.faults c.tell_rest.new.listener in
+    let on = tells_further L.after L.torn _ _ _ _ _ _ _ _ _ _ _ _ c.work.ensures.beside
+    c.in_ok-tell_rest-in-Ok.ensures.told in
+    let r = c.from_residual-in_err-advanced-in-Ok.result in
+    let fault = err_from_is_err_and r c.from_residual-in_err-advanced-in-Ok.ensures.1 in
+    at_fault (λ (v : Result (Course × CellStateData) RunFault). IfErr v (λ e. HitsCutShort L.after L.torn untold e
+    old new)) r fault.0 NoMemory fault.1 fault.2 (first_cut L.after L.torn untold [] old new f h
+    (first_on L.after L.torn untold [] _ None old new f h on c.requires.heard refl))
+
+pub returns-in_ok-advanced-in-Ok-clause-told : goal.returns-in_ok-advanced-in-Ok-clause-told
+returns-in_ok-advanced-in-Ok-clause-told g c =
+    let L = g.L.Listener in
+    let untold = c.args.telling.now.untold in
+    let old = L.meaning c.args.listener.now in
+    let new = L.meaning c.tell_rest.new.listener in
+    let f = L.faults c.args.listener.now in
+    let h = L.faults c.tell_rest.new.listener in
+    let on = tells_further L.after L.torn _ _ _ _ _ _ _ _ _ _ _ _ c.work.ensures.beside
+    c.in_ok-tell_rest-in-Ok.ensures.told in
+    first_all L.after L.torn untold [] old new f h
+    (first_on L.after L.torn untold [] _ None old new f h on c.requires.heard refl) refl
+
+pub returns-in_ok-advanced-in-Ok-clause-counts : goal.returns-in_ok-advanced-in-Ok-clause-counts
+returns-in_ok-advanced-in-Ok-clause-counts g c =
+    let L = g.L.Listener in
+    let on = tells_further L.after L.torn _ _ _ _ _ _ _ _ _ _ _ _ c.work.ensures.beside
+    c.in_ok-tell_rest-in-Ok.ensures.told in
+    (first_on L.after L.torn c.args.telling.now.untold [] _ None (L.meaning c.args.listener.now)
+    (L.meaning c.tell_rest.new.listener) (L.faults c.args.listener.now) (L.faults c.tell_rest.new.listener) on
+    c.requires.heard refl).3
+
+pub returns-in-Some-clause-cut_short : goal.returns-in-Some-clause-cut_short
+returns-in-Some-clause-cut_short g c =
+    let L = g.L.Listener in
+    let untold = c.args.telling.now.untold in
+    let old = L.meaning c.args.listener.now in
+    let new = L.meaning c.work.new.lent in
+    let f = L.faults c.args.listener.now in
+    let h = L.faults c.work.new.lent in
+    torn_prefix L.after L.torn untold old new f h
+    (torn_on L.after L.torn untold c.work.new.beside.untold c.args.telling.now.fault c.work.new.beside.fault old new
+    f h c.work.ensures.beside c.requires.heard c.in-Some.field-0 c.in-Some.is)
+
+pub returns-in-None-clause-cut_short : goal.returns-in-None-clause-cut_short
+returns-in-None-clause-cut_short g c =
+    let L = g.L.Listener in
+    let untold = c.args.telling.now.untold in
+    let old = L.meaning c.args.listener.now in
+    let new = L.meaning c.work.new.lent in
+    let f = L.faults c.args.listener.now in
+    let h = L.faults c.work.new.lent in
+    first_cut L.after L.torn untold c.work.new.beside.untold old new f h
+    (first_on L.after L.torn untold c.work.new.beside.untold c.args.telling.now.fault c.work.new.beside.fault old new
+    f h c.work.ensures.beside c.requires.heard c.in-None.is)

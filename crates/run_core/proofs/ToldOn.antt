@@ -1,0 +1,56 @@
+-- What was told of what is untold, beside a burst and after it.
+use Rattle.std.proofs.Common.{◌≡◌, Err, ℕ, List, [], ◌++◌, append-nil, take, sym, ap, ◌∙◌, subst}
+use Rattle.std.proofs.Common.{Option, Some, None}
+use Rattle.event_rules.specs.declared.change.Change.{Change}
+use Rattle.event_rules.specs.declared.listener.Deaf.{Deaf}
+use Rattle.event_rules.specs.declared.outcome.RunFault.TheVariants.{Listener, NoMemory}
+use Rattle.event_rules.specs.Tellings.{CountsRun}
+use Rattle.event_rules.specs.Told.{Told, AwaitsAll}
+use Rattle.event_rules.proofs.Telling.{all_told, whole_longer}
+use Rattle.region_view.specs.declared.action.Action.{Action}
+use Rattle.cell_sequence.specs.Run.{hits}
+use Rattle.cell_sequence.proofs.Joins.{hits_join}
+use Rattle.commit_horizon.specs.Telling.{HitsCutShort}
+use Rattle.commit_horizon.specs.TellingOn.{TellsFirst, TellsTorn, TellsOn, AwaitsUntold}
+
+-- where no refusal is kept, what is untold has to be awaited
+pub fits_unheard : {M : Type 0} (after : M → Change → M) (awaits : M → Change → Type 0) (untold : List Action)
+    (fault : Option Deaf) (m : Option M) → fault ≡ None → AwaitsAll after awaits m (hits untold) →
+    AwaitsUntold after awaits untold fault m
+fits_unheard after awaits untold None m heard each = each
+fits_unheard after awaits untold (Some deaf) m heard each = tt
+
+module _ {M : Type 0} (after : M → Change → M) (torn : M → Change → M → Type 0) where
+  -- ---- the first of some actions
+  -- all, where none is left
+  pub first_all : (old new : List Action) (m n : Option M) (f g : ℕ) → TellsFirst after old m f new n g → new ≡ [] →
+      Told after m (hits old) n
+  first_all old new m n f g (gone, is, told, count) none =
+      subst (λ (v : List Action). Told after m (hits v) n)
+      (sym (is ∙ ap (λ (v : List Action). gone ++ v) none ∙ append-nil gone)) told
+
+  -- or exactly a prefix
+  pub first_cut : (old new : List Action) (m n : Option M) (f g : ℕ) → TellsFirst after old m f new n g →
+      HitsCutShort after torn old NoMemory m n
+  first_cut old new m n f g (gone, is, told, count) =
+      let part = all_told after m n (hits gone) told in
+      subst (λ (v : List Change). (k : ℕ) × Told after m (take k v) n)
+      (sym (hits_join gone new) ∙ ap hits (sym is))
+      (whole_longer after m n (hits gone) (hits new) part.0 part.1)
+
+  -- ---- a refusal
+  pub torn_counts : (T : Type 0) (old : List Action) (m n : Option M) (f g : ℕ) →
+      TellsTorn after torn old m f n g → CountsRun {T = T} f g (Err Listener)
+  torn_counts T old m n f g (gone, change, rest, is, refused, le, rose) = (le, rose)
+
+  -- ---- with a refusal that is kept, or none
+  module _ (old new : List Action) (before kept : Option Deaf) (m n : Option M) (f g : ℕ)
+      (on : TellsOn after torn old before m f new kept n g) (heard : before ≡ None) where
+    unheard : TellsOn after torn old None m f new kept n g
+    unheard = subst (λ (v : Option Deaf). TellsOn after torn old v m f new kept n g) heard on
+
+    pub first_on : kept ≡ None → TellsFirst after old m f new n g
+    first_on none = subst (λ (v : Option Deaf). TellsOn after torn old None m f new v n g) none unheard
+
+    pub torn_on : (deaf : Deaf) → kept ≡ Some deaf → TellsTorn after torn old m f n g
+    torn_on deaf some = subst (λ (v : Option Deaf). TellsOn after torn old None m f new v n g) some unheard

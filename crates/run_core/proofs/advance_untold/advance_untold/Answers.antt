@@ -1,0 +1,65 @@
+use Rattle.std.proofs.Common.{List, length, sym, ap, ◌∙◌, subst, Option}
+use Rattle.event_stamps.specs.declared.Stamp.{Stamp}
+use Rattle.local_run.specs.Opening.{RegionData}
+use Rattle.run_core.specs.Standing.{GoesOnTo}
+use Rattle.run_core.proofs.OneState.{comes_of, written_back}
+use Rattle.run_core.proofs.Untold.{goes_to, advances_to}
+use Rattle.run_core.proofs.advance_untold.advance_untold.Goals as goal
+
+pub make_final-requires-clause-stand : goal.make_final-requires-clause-stand
+make_final-requires-clause-stand c =
+    let state = c.args.standing in
+    let earlier = c.standing.inside.earlier in
+    let last = c.standing.inside.last in
+    let floor = c.standing.inside.floor in
+    let goes = subst (λ (v : List RegionData). GoesOnTo earlier last floor v state) (sym c.deref_mut.ensures.value)
+    (subst (GoesOnTo earlier last floor c.standing.inside.regions.items) c.standing.view_is c.standing.invariant) in
+    (state, comes_of earlier c.state.result.now last floor c.deref_mut.result.now state c.state.ensures.value goes)
+
+pub after-standing-requires : goal.after-standing-requires
+after-standing-requires c =
+    let state = c.args.standing in
+    let earlier = c.standing.inside.earlier in
+    let last = c.standing.inside.last in
+    let floor = c.standing.inside.floor in
+    let items = c.standing.inside.regions.items in
+    let given = c.deref_mut.result.now in
+    let goes = subst (λ (v : List RegionData). GoesOnTo earlier last floor v state) (sym c.deref_mut.ensures.value)
+    (subst (GoesOnTo earlier last floor items) c.standing.view_is c.standing.invariant) in
+    let left = c.make_final.new.regions in
+    let made = c.in_ok-course.made in
+    let advance = c.in_ok-course.ensures state
+    (comes_of earlier c.state.result.now last floor given state c.state.ensures.value goes) in
+    let back = written_back left items c.standing.inside.regions.len
+    (c.make_final.auto.regions ∙ c.deref_mut.ensures.len)
+    (ap length (sym c.deref_mut.ensures.value) ∙ c.deref_mut.ensures.len) in (
+      advance.new,
+      subst (λ (v : List RegionData). GoesOnTo earlier c.or.result made.floor v advance.new) back
+          (subst (λ (v : Option Stamp). GoesOnTo earlier v made.floor left advance.new) (sym c.or.ensures)
+          (goes_to earlier last floor given state goes left c.in_ok-course.course c.make_final.new.untold made
+          advance)),
+    )
+
+pub returns : goal.returns
+returns c =
+    let state = c.args.standing in
+    let earlier = c.standing.inside.earlier in
+    let last = c.standing.inside.last in
+    let floor = c.standing.inside.floor in
+    let items = c.standing.inside.regions.items in
+    let given = c.deref_mut.result.now in
+    let goes = subst (λ (v : List RegionData). GoesOnTo earlier last floor v state) (sym c.deref_mut.ensures.value)
+    (subst (GoesOnTo earlier last floor items) c.standing.view_is c.standing.invariant) in
+    let left = c.make_final.new.regions in
+    let made = c.in_ok-course.made in
+    let batch = c.make_final.new.untold in
+    let advance = c.in_ok-course.ensures state
+    (comes_of earlier c.state.result.now last floor given state c.state.ensures.value goes) in
+    let back = written_back left items c.standing.inside.regions.len
+    (c.make_final.auto.regions ∙ c.deref_mut.ensures.len)
+    (ap length (sym c.deref_mut.ensures.value) ∙ c.deref_mut.ensures.len) in
+    let to = subst (λ (v : List RegionData). GoesOnTo earlier c.or.result made.floor v advance.new) back
+    (subst (λ (v : Option Stamp). GoesOnTo earlier v made.floor left advance.new) (sym c.or.ensures)
+    (goes_to earlier last floor given state goes left c.in_ok-course.course batch made advance)) in
+    advances_to earlier last floor given state goes left c.in_ok-course.course batch made advance
+    c.after-standing.result (c.after-standing.ensures advance.new to)

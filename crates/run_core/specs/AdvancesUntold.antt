@@ -1,0 +1,37 @@
+-- What an advance comes to whose batch is left to be told.
+use Rattle.std.specs.Prelude.{◌≡◌, List}
+use Rattle.region_view.specs.declared.action.Action.{Action}
+use Rattle.cell_sequence.specs.State.{CellStateData, followed_by, raised, last_stamp}
+use Rattle.local_run.specs.Opening.{RegionData}
+use Rattle.commit_horizon.specs.declared.telling.Final.{Final}
+use Rattle.commit_horizon.specs.Horizon.{runs_of, AllStand}
+use Rattle.run_core.specs.declared.answers.Advance.{Advance}
+use Rattle.run_core.specs.declared.answers.Advance.TheVariants.{Raised, End, Limit}
+use Rattle.run_core.specs.declared.answers.Course.{Course}
+use Rattle.run_core.specs.declared.answers.Course.TheVariants.{Raised as GoesOn, End as Ends, Limit as Fails}
+use Rattle.run_core.specs.Advances.{IsAdvance}
+use Rattle.run_core.specs.Taking.{MakesNext}
+
+-- the answer of an advance with this batch
+abbrev pub answer_with : Course → List Action → Advance
+answer_with GoesOn batch = Raised batch
+answer_with Ends batch = End batch
+answer_with (Fails limit) batch = Limit batch limit
+
+-- the second part of an advance, with this batch, and what is answered of the state that comes of it
+pub record EventMade (old : CellStateData) (regions : List RegionData) (course : Course) (batch : List Action)
+    (made : Final) (left : List RegionData) : Type 0 where
+  pub new : CellStateData
+  pub is : MakesNext old regions (answer_with course batch) new left
+  pub state : new ≡ raised made.floor (followed_by old batch)
+  pub is_last : made.last ≡ last_stamp batch
+  pub stand : AllStand new left
+
+-- an advance with this batch, and what is answered of the state that comes of it
+pub record AdvanceMade (old : CellStateData) (regions : List RegionData) (course : Course) (batch : List Action)
+    (made : Final) (left : List RegionData) : Type 0 where
+  pub new : CellStateData
+  pub is : IsAdvance old (runs_of regions) (answer_with course batch) new
+  pub state : new ≡ raised made.floor (followed_by old batch)
+  pub is_last : made.last ≡ last_stamp batch
+  pub stand : AllStand new left

@@ -1,0 +1,88 @@
+//! How the state on which regions stand goes on, while what is committed is left to be told.
+
+ghost use Rattle.std.specs.Prelude.{◌≡◌, [], IfOk};
+ghost use Rattle.cell_sequence.specs.State.{CellStateData};
+ghost use Rattle.run_core.specs.AdvancesUntold.{AdvanceMade, EventMade, answer_with};
+ghost use Rattle.run_core.specs.Simulates.{Advances};
+ghost use Rattle.run_core.specs.Standing.{ComesOf};
+
+use crate::answers::Course;
+use crate::one_event::{know, run_event};
+use crate::one_state::Standing;
+use crate::passes::agree;
+use cell_sequence::CellState;
+use commit_horizon::{Final, Untold, commit_cutting};
+use event_stamps::Stamp;
+use region_core::{Region, Step};
+use std::alloc::{AllocError, Global};
+
+/// Makes final what [`advance`](crate::advance) does. The batch is untold then, and the rows of the state stay with the
+/// regions.
+///
+/// # Errors
+/// Out of memory.
+pub(crate) fn advance_untold(
+    alloc: Global,
+    standing: Standing,
+    untold: &mut Untold,
+) -> Result<(Course, Standing), AllocError>
+    requires { untold.old ≡ [] }
+    ensures { IfOk result (λ advanced. Advances standing (answer_with advanced.0 untold.new) advanced.1) }
+{
+    let Standing {
+        earlier,
+        last,
+        floor: _,
+        mut regions,
+    } = standing;
+    let (course, made) = make_final(alloc, earlier.state(), &mut regions, untold)?;
+    let standing = Standing::after(earlier, made.last.or(last), made.floor, regions);
+    Ok((course, standing))
+}
+
+// The same of the regions themselves, which stand on a state with the rules and the grid of an earlier one.
+fn make_final(
+    alloc: Global,
+    earlier: &CellState,
+    regions: &mut [Region],
+    untold: &mut Untold,
+) -> Result<(Course, Final), AllocError>
+    requires stand { (state : CellStateData) × ComesOf earlier.now state.floor regions.old state }
+    requires told { untold.old ≡ [] }
+    ensures { IfOk result (λ advanced. (state : CellStateData) →
+        ComesOf earlier.now state.floor regions.old state →
+        AdvanceMade state regions.old advanced.0 untold.new advanced.1 regions.new) }
+{
+    know(regions);
+    agree(alloc, earlier.grid(), regions)?;
+    let made = commit_cutting(alloc, earlier.rules(), regions, untold)?;
+    if made.last.is_some() {
+        return Ok((Course::Raised, made));
+    }
+    make_event(alloc, earlier, made.floor, regions, untold)
+}
+
+// Runs the next event of the state on which regions stand, and commits it. The state has the rules and the grid of an
+// earlier one.
+fn make_event(
+    alloc: Global,
+    earlier: &CellState,
+    floor: Stamp,
+    regions: &mut [Region],
+    untold: &mut Untold,
+) -> Result<(Course, Final), AllocError>
+    requires stand { (state : CellStateData) × ComesOf earlier.now floor regions.old state }
+    requires told { untold.old ≡ [] }
+    ensures { IfOk result (λ advanced. (state : CellStateData) → ComesOf earlier.now floor regions.old state →
+        EventMade state regions.old advanced.0 untold.new advanced.1 regions.new) }
+{
+    let step = run_event(alloc, earlier.grid(), floor, regions)?;
+    match step {
+        Step::Ran(_) => {
+            let made = commit_cutting(alloc, earlier.rules(), regions, untold)?;
+            Ok((Course::Raised, made))
+        }
+        Step::Halted(limit) => Ok((Course::Limit(limit), Final { last: None, floor })),
+        _ => Ok((Course::End, Final { last: None, floor })),
+    }
+}
