@@ -6,7 +6,7 @@ ghost use Rattle.local_run.specs.RunOn.{AreRunOn};
 ghost use Rattle.command_words.specs.Ranges.{AreInRange};
 
 use command_words::{BurstKind, Settings};
-use region_core::{Gate, Region};
+use region_core::{Beside, Gate, Region};
 use region_table::TableWorkers;
 use region_workers::Workers;
 use std::alloc::{AllocError, Global};
@@ -44,26 +44,30 @@ impl<'g, G: Gate> Crew<'g, G> {
     }
 
     /// Works on the regions of a grid, as a burst does that keeps them: gives back each at its place, run on. Workers
-    /// with locks work by threads of the scope, which may end after it; those with a table by threads of their own,
-    /// which have ended then.
+    /// with locks work by threads of the scope, which may end after it, and the first of them goes on with what is beside
+    /// where it would wait; those with a table by threads of their own, which have ended then.
     ///
     /// # Errors
     /// Out of memory.
-    pub fn burst_in<'s, R: Threads + Wait + Sync, E>(
+    pub fn burst_in<'s, R: Threads + Wait + Sync, E, S: Beside<W>, W>(
         &self,
         rt: &'s R,
         alloc: Global,
         regions: Vec<Region>,
         scope: &Scope<'s, E>,
+        beside: &mut S,
+        lent: &mut W,
     ) -> Result<Vec<Region>, AllocError>
     where
         'g: 's,
         requires together { AreTogether regions.items }
+        requires fits { S.fits beside.old lent.old }
         ensures count { IfOk result (λ worked. length worked.items ≡ length regions.items) }
         ensures kept { IfOk result (λ worked. AreRunOn regions.items worked.items) }
+        ensures beside { S.goes beside.old lent.old beside.new lent.new }
     {
         match self {
-            Crew::Locks(workers) => workers.burst_in(rt, alloc, regions, scope),
+            Crew::Locks(workers) => workers.burst_in(rt, alloc, regions, scope, beside, lent),
             Crew::Table(workers) => workers.burst(rt, alloc, regions),
         }
     }

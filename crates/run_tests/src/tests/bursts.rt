@@ -1,9 +1,10 @@
 //! Runs over regions, whatever works on these between two commits.
 
-ghost use Rattle.std.specs.Prelude.{◌≡◌, length, IfOk};
+ghost use Rattle.std.specs.Prelude.{◌≡◌, length, None, IfOk};
 ghost use Rattle.cell_grid.specs.Grid.{IsAsked};
 ghost use Rattle.local_run.specs.Bursts.{AreTogether};
 ghost use Rattle.local_run.specs.RunOn.{AreRunOn};
+ghost use Rattle.commit_horizon.specs.TellingOn.{TellsOn};
 
 use super::cases::{Case, expect};
 use super::scenes::valid_scene;
@@ -11,9 +12,9 @@ use super::told::{Summing, Told, expect_plain, told_of};
 use cell_grid::MAX_REGIONS;
 use cell_sequence::CellState;
 use fixed_motion::Scene;
-use region_core::{Burst, OpenGate, Region};
+use region_core::{Beside, Burst, OpenGate, Region};
 use region_workers::{ByCall, Call, Workers};
-use run_core::{CoreStep, Scripted, play, simulate};
+use run_core::{CoreStep, Scripted, Telling, play, simulate};
 use std::alloc::{AllocError, Global};
 use std::mem;
 use std::process::Abort;
@@ -37,20 +38,23 @@ enum Deed {
     Replace(u32),
 }
 
-// Does the same deeds in each burst.
+// Goes on with what is beside and does the same deeds in each burst.
 #[derive(Drop)]
 struct Tampering<'a> {
     deeds: &'a [Deed],
     other: &'a CellState,
 }
 
-impl<'a> Burst for Tampering<'a> {
+impl<'a, S: Beside<W>, W> Burst<S, W> for Tampering<'a> {
     fn burst<R: Threads + Wait + Sync>(
         &mut self,
         _rt: &R,
         alloc: Global,
         mut regions: Vec<Region>,
+        beside: &mut S,
+        lent: &mut W,
     ) -> Result<Vec<Region>, AllocError> {
+        let _more = beside.go_on(lent);
         tamper(alloc, &mut regions, self.deeds, self.other)?;
         Ok(regions)
     }
@@ -129,7 +133,7 @@ fn replace(
 
 // What the run over so many regions tells, on which a burst works. Stops a test where the engine that looks at all
 // pairs tells something else.
-fn run_beside<B: Burst>(
+fn run_beside<B: Burst<Telling, Summing>>(
     rt: &(impl Threads + Wait + Sync + Abort),
     alloc: Global,
     case: Case<'_>,
@@ -144,7 +148,7 @@ fn run_beside<B: Burst>(
     Ok(found)
 }
 
-fn told_over<B: Burst>(
+fn told_over<B: Burst<Telling, Summing>>(
     rt: &(impl Threads + Wait + Sync),
     alloc: Global,
     scene: &Scene,
@@ -157,6 +161,9 @@ fn told_over<B: Burst>(
     let outcome = simulate(rt, alloc, scene, regions, burst, &mut listener);
     told_of(&listener, &outcome)
 }
+
+// What a burst gives back.
+type Worked = Result<Vec<Region>, AllocError>;
 
 // The sizes, the end and the disks of a scene.
 type Sketch = (&'static str, u32, &'static str);
@@ -176,7 +183,12 @@ fn run_under(
 {
     let mut burst = Tampering { deeds, other };
     let told = run_beside(rt, alloc, case, scene, regions, &mut burst)?;
-    Ok((told.0.0, burst.keeps()))
+    Ok((told.0.0, keeps(&burst)))
+}
+
+// Whether a burst says that it keeps the regions.
+fn keeps<B: Burst<Telling, Summing>>(burst: &B) -> bool {
+    burst.keeps()
 }
 
 // The same of a scene that is opened; the other state is the start of the same disks with a later end.
@@ -302,15 +314,34 @@ fn workers_keep<R: Threads + Wait + Sync + Abort>(
         alloc,
         (number, disks),
         &scene,
-        |regions: Vec<Region>| -> Result<Vec<Region>, AllocError>
+        |regions: Vec<Region>, telling: &mut Telling, summing: &mut Summing| -> Worked
             requires { AreTogether regions.items }
-            ensures { IfOk result (λ worked. (length worked.items ≡ length regions.items)
+            ensures given { IfOk result (λ worked. (length worked.items ≡ length regions.items)
                 × AreRunOn regions.items worked.items) }
-        { workers.burst(rt, alloc, regions) },
+            ensures beside { TellsOn (λ (m : Unit {0}) _. m) (λ _ _ _. Unit {0})
+                telling.old.untold telling.old.fault None 0 telling.new.untold telling.new.fault None 0 }
+        { work_alone(rt, alloc, &workers, regions, telling, summing) },
     )
 }
 
-fn call_keeps<C: Call + Drop>(
+// Lets workers work on the regions of a grid, and does nothing beside.
+fn work_alone<R: Threads + Wait + Sync, S: Beside<W>, W>(
+    rt: &R,
+    alloc: Global,
+    workers: &Workers<'_, OpenGate>,
+    regions: Vec<Region>,
+    _beside: &mut S,
+    _lent: &mut W,
+) -> Worked
+    requires { AreTogether regions.items }
+    ensures given { IfOk result (λ worked. (length worked.items ≡ length regions.items)
+        × AreRunOn regions.items worked.items) }
+    ensures beside { S.goes _beside.old _lent.old _beside.new _lent.new }
+{
+    workers.burst(rt, alloc, regions)
+}
+
+fn call_keeps<C: Call<Telling, Summing> + Drop>(
     rt: &(impl Threads + Wait + Sync + Abort),
     alloc: Global,
     case: Case<'_>,

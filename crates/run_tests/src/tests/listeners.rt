@@ -1,10 +1,10 @@
-//! What runs over regions tell a listener between two bursts.
+//! When runs over regions tell a listener what is final.
 
 use super::cases::expect;
 use super::scenes::valid_scene;
 use event_rules::{Change, Deaf, Listener, RunFault};
 use fixed_motion::Scene;
-use region_core::{Burst, Region};
+use region_core::{Beside, Burst, Region};
 use run_core::simulate;
 use std::alloc::{AllocError, Global};
 use std::process::Abort;
@@ -61,30 +61,36 @@ impl<'a> Listener for Ear<'a> {
     }
 }
 
-// Reads that word, and counts how often it was called.
+// Reads that word before and after it goes on with what is beside, and counts how often it was called.
 #[derive(Drop)]
 struct Reading<'a> {
     told: &'a AtomicU64,
     last: u64,
+    beside: u64,
     calls: u32,
 }
 
-impl<'a> Burst for Reading<'a> {
+impl<'a, S: Beside<W>, W> Burst<S, W> for Reading<'a> {
     fn burst<R: Threads + Wait + Sync>(
         &mut self,
         _rt: &R,
         _alloc: Global,
         regions: Vec<Region>,
+        beside: &mut S,
+        lent: &mut W,
     ) -> Result<Vec<Region>, AllocError> {
         self.last = self.told.load(Ordering::SeqCst);
+        let _more = beside.go_on(lent);
+        let now = self.told.load(Ordering::SeqCst);
+        self.beside = self.beside.wrapping_add(now.wrapping_sub(self.last));
         self.calls = self.calls.wrapping_add(1);
         Ok(regions)
     }
 }
 
-// Whether a run was cut short that was listened to, how often the burst was called, and how many changes had been
-// told at its last call.
-type Listened = (bool, u32, u64);
+// Whether a run was cut short that was listened to, how often the burst was called, how many changes had been told at
+// its last call, and how many were told beside.
+type Listened = (bool, u32, u64, u64);
 
 // Runs a scene over four regions, where the ear refuses this telling.
 fn listen(
@@ -98,11 +104,12 @@ fn listen(
     let mut burst = Reading {
         told: &told,
         last: 0,
+        beside: 0,
         calls: 0,
     };
     let answer = simulate(rt, alloc, scene, 4, &mut burst, &mut ear);
     let is_cut_short = matches!(&answer, Err(RunFault::Listener));
-    (is_cut_short, burst.calls, burst.last)
+    (is_cut_short, burst.calls, burst.last, burst.beside)
 }
 
 // What a run comes to with an ear that refuses nothing, and with one that refuses the second telling.
@@ -117,17 +124,18 @@ fn whole_and_part(
 }
 
 #[test]
-fn each_batch_is_told_before_the_next_burst(rt: HostRuntime) -> Result<(), Fail> {
+fn what_is_final_is_told_beside_the_next_burst(rt: HostRuntime) -> Result<(), Fail> {
     let (whole, part) = whole_and_part(&rt, rt.alloc())?;
-    let (is_cut_short, calls, told_before) = whole;
-    let (is_part, calls_of_part, _) = part;
+    let (is_cut_short, calls, told_before, told_beside) = whole;
+    let (is_part, calls_of_part, _, _) = part;
     let found = (
         is_cut_short,
         told_before > 0,
+        told_beside > 0,
         is_part,
         calls_of_part < calls,
     );
-    expect(&rt, (whole, part), found, (false, true, true, true));
+    expect(&rt, (whole, part), found, (false, true, true, true, true));
     Ok(())
 }
 
@@ -137,12 +145,14 @@ struct Counting {
     calls: u32,
 }
 
-impl Burst for Counting {
+impl<S: Beside<W>, W> Burst<S, W> for Counting {
     fn burst<R: Threads + Wait + Sync>(
         &mut self,
         _rt: &R,
         alloc: Global,
         mut regions: Vec<Region>,
+        _beside: &mut S,
+        _lent: &mut W,
     ) -> Result<Vec<Region>, AllocError> {
         self.calls = self.calls.wrapping_add(1);
         if let Some(region) = regions.first_mut() {

@@ -1,18 +1,19 @@
 //! What workers on a table do to regions, and that two of them work at once.
 
-ghost use Rattle.std.specs.Prelude.{◌≡◌, length, IfOk};
+ghost use Rattle.std.specs.Prelude.{◌≡◌, length, None, IfOk};
 ghost use Rattle.local_run.specs.Bursts.{AreTogether};
 ghost use Rattle.local_run.specs.RunOn.{AreRunOn};
+ghost use Rattle.commit_horizon.specs.TellingOn.{TellsOn};
 
 use super::cases::expect;
 use super::regions::{REGIONS, opened};
 use event_rules::{Change, Deaf, Listener};
 use event_stamps::{Kind, Stamp};
 use fixed_motion::Scene;
-use region_core::{Gate, OpenGate, Region};
+use region_core::{Beside, Gate, OpenGate, Region};
 use region_table::TableWorkers;
 use region_workers::{ByCall, Call};
-use run_core::simulate;
+use run_core::{Telling, simulate};
 use std::alloc::{AllocError, Global};
 use std::sync::Wait;
 use std::sync::atomic::{AtomicBool, Ordering};
@@ -170,15 +171,37 @@ fn changes_by<R: Threads + Wait + Sync, G: Gate>(
         rt,
         alloc,
         scene,
-        |regions: Vec<Region>| -> Result<Vec<Region>, AllocError>
+        |regions: Vec<Region>, telling: &mut Telling, counter: &mut Counter| -> Worked
             requires { AreTogether regions.items }
-            ensures { IfOk result (λ worked. (length worked.items ≡ length regions.items)
+            ensures given { IfOk result (λ worked. (length worked.items ≡ length regions.items)
                 × AreRunOn regions.items worked.items) }
-        { workers.burst(rt, alloc, regions) },
+            ensures beside { TellsOn (λ (m : Unit {0}) _. m) (λ _ _ _. Unit {0})
+                telling.old.untold telling.old.fault None 0 telling.new.untold telling.new.fault None 0 }
+        { work_alone(rt, alloc, workers, regions, telling, counter) },
     )
 }
 
-fn changes_by_call<R: Threads + Wait + Sync, C: Call + Drop>(
+// What a burst gives back.
+type Worked = Result<Vec<Region>, AllocError>;
+
+// Lets workers work on the regions of a grid, and does nothing beside.
+fn work_alone<R: Threads + Wait + Sync, G: Gate, S: Beside<W>, W>(
+    rt: &R,
+    alloc: Global,
+    workers: &TableWorkers<'_, G>,
+    regions: Vec<Region>,
+    _beside: &mut S,
+    _lent: &mut W,
+) -> Worked
+    requires { AreTogether regions.items }
+    ensures given { IfOk result (λ worked. (length worked.items ≡ length regions.items)
+        × AreRunOn regions.items worked.items) }
+    ensures beside { S.goes _beside.old _lent.old _beside.new _lent.new }
+{
+    workers.burst(rt, alloc, regions)
+}
+
+fn changes_by_call<R: Threads + Wait + Sync, C: Call<Telling, Counter> + Drop>(
     rt: &R,
     alloc: Global,
     scene: &Scene,
