@@ -1,5 +1,6 @@
 #!/usr/bin/env python3
-"""Tests of how a run ends from outside: by a signal, by Ctrl-C at a terminal, or by a reader that goes away.
+"""Tests of how a run ends from outside: by a signal, by Ctrl-C at a terminal, or by a reader that goes away; and of
+the line that says on a terminal how far a run is.
 
     python3 tools/test_signals.py [PROGRAM]
 
@@ -7,10 +8,13 @@ PROGRAM is the built one, crates/hard_disks_program/out/hard_disks_program, wher
 import os
 import pty
 import random
+import re
+import select
 import signal
 import subprocess
 import sys
 import tempfile
+import termios
 import time
 import unittest
 
@@ -30,6 +34,13 @@ FEW = ["--mode", "load", "--disks", "36"]
 # In mode `plain` each event of so many disks takes some milliseconds, and the first 65,536 bytes many seconds.
 SLOW_DISKS = 1_600
 DONE, WRITE_FAULT = 0, 7
+# Runs for some seconds, and writes little.
+LONG = ["--mode", "load", "--disks", "60000", "--format", "summary"]
+# The line is shown after a second, and some times in each that follows.
+SHOWN_FOR = 3
+# How long, in seconds, such a run may take.
+AGES = 100
+COLUMNS = 20
 
 
 def start(words=WORDS, stdin=subprocess.DEVNULL, **streams):
@@ -167,6 +178,131 @@ class Signals(unittest.TestCase):
         os.kill(pid, signal.SIGKILL)
         os.waitpid(pid, 0)
         raise AssertionError(f"it hadn't ended {SOON} seconds later")
+
+
+class Screen:
+    """What a terminal shows of what is written to it: no more of the control sequences than the program uses."""
+
+    def __init__(self, columns):
+        self.columns, self.wraps = columns, True
+        self.rows, self.row, self.column = [""], 0, 0
+
+    def take(self, text):
+        for piece in re.findall("\x1b\\[[?0-9]*[A-Za-z]|.", text, re.DOTALL):
+            self.take_piece(piece)
+
+    def take_piece(self, piece):
+        if piece == "\r":
+            self.column = 0
+        elif piece == "\n":
+            self.move_down()
+        elif piece == "\x1b[A":
+            self.row = max(self.row - 1, 0)
+        elif piece == "\x1b[K":
+            self.rows[self.row] = self.rows[self.row][: self.column]
+        elif piece in ("\x1b[?7l", "\x1b[?7h"):
+            self.wraps = piece.endswith("h")
+        elif piece.startswith("\x1b"):
+            raise AssertionError(f"it writes {piece!r}")
+        else:
+            self.put(piece)
+
+    def move_down(self):
+        self.row += 1
+        if self.row == len(self.rows):
+            self.rows.append("")
+
+    def put(self, letter):
+        if self.column == self.columns:
+            if self.wraps:
+                self.move_down()
+                self.column = 0
+            else:
+                self.column -= 1
+        row = self.rows[self.row].ljust(self.column)
+        self.rows[self.row] = row[: self.column] + letter + row[self.column + 1 :]
+        self.column += 1
+
+    def shown(self):
+        return [row for row in self.rows if row]
+
+
+def fork_at_terminal(words, is_behind=False):
+    """Starts the program at a terminal of its own, where its errors go: in the background, and where whoever writes from
+    there is stopped, if it is to be behind."""
+    pid, terminal = pty.fork()
+    if pid == 0:
+        nowhere = os.open(os.devnull, os.O_RDWR)
+        os.dup2(nowhere, 0)
+        os.dup2(nowhere, 1)
+        if is_behind:
+            modes = termios.tcgetattr(2)
+            modes[3] |= termios.TOSTOP
+            termios.tcsetattr(2, termios.TCSANOW, modes)
+            # The one that stays leads the foreground group, and ends with the status of the one behind.
+            if behind := os.fork():
+                _, status = os.waitpid(behind, os.WUNTRACED)
+                os._exit(os.WEXITSTATUS(status) if os.WIFEXITED(status) else 128)
+            os.setpgid(0, 0)
+        os.execv(PROGRAM, [PROGRAM, *words])
+    termios.tcsetwinsize(terminal, (8, COLUMNS))
+    return pid, terminal
+
+
+def read_for(terminal, seconds):
+    """What is written to a terminal in so many seconds, in pieces, or until nobody is there any more."""
+    end = time.monotonic() + seconds
+    while (left := end - time.monotonic()) > 0:
+        if select.select([terminal], [], [], left)[0]:
+            try:
+                yield os.read(terminal, 4096).decode()
+            except OSError:
+                return
+
+
+class Lines(unittest.TestCase):
+    def begin(self, words, **how):
+        pid, self.terminal = fork_at_terminal(words, **how)
+        self.screen = Screen(COLUMNS)
+        return pid
+
+    def end(self, pid):
+        os.close(self.terminal)
+        _, status = os.waitpid(pid, 0)
+        return os.waitstatus_to_exitcode(status)
+
+    def show_for(self, seconds):
+        for text in read_for(self.terminal, seconds):
+            self.screen.take(text)
+            self.assertLessEqual(len(self.screen.shown()), 1)
+
+    def test_the_line_is_one_row_of_a_narrow_terminal(self):
+        pid = self.begin(LONG)
+        self.show_for(SHOWN_FOR)
+        os.kill(pid, signal.SIGKILL)
+        self.end(pid)
+        self.assertRegex(self.screen.rows[0], r"^tick [0-9]+ of 1000 \(")
+
+    def test_it_is_gone_once_the_run_is_over(self):
+        pid = self.begin(LONG)
+        self.show_for(AGES)
+        self.assertEqual(self.end(pid), DONE)
+        self.assertEqual((self.screen.shown(), self.screen.row, self.screen.column), ([], 0, 0))
+
+    def test_whoever_writes_after_a_request_to_end_begins_a_row(self):
+        for number in (signal.SIGINT, signal.SIGTERM, signal.SIGHUP):
+            with self.subTest(number):
+                pid = self.begin(LONG)
+                self.show_for(SHOWN_FOR)
+                os.kill(pid, number)
+                self.show_for(SOON)
+                self.assertEqual(self.end(pid), -number)
+                self.assertEqual((self.screen.row, self.screen.column), (1, 0))
+
+    def test_nothing_is_shown_from_the_background(self):
+        pid = self.begin(LONG, is_behind=True)
+        self.assertEqual("".join(read_for(self.terminal, AGES)), "")
+        self.assertEqual(self.end(pid), DONE)
 
 
 def main():

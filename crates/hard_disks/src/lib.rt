@@ -10,6 +10,8 @@ mod calls;
 mod crew;
 mod cut;
 mod engines;
+mod forecast;
+mod foreground;
 mod gathering;
 mod laws;
 mod moments;
@@ -24,6 +26,7 @@ mod timely;
 mod verdicts;
 
 pub use calls::{refuse_words, top, top_watched};
+pub use foreground::{Terminal, is_in_foreground};
 pub use gathering::top_gathered;
 pub use laws::{
     audits_accept, audits_keep_refusals, audits_refuse, checks_stay, cuts_add_up, cuts_resume,

@@ -7,6 +7,7 @@ ghost use Rattle.hard_disks.specs.Answers.{Answers};
 ghost use Rattle.command_words.specs.Words.{settings_of};
 
 use crate::calls::top_watched;
+use crate::foreground::Terminal;
 use crate::gathering::{finish, top_gathered};
 use crate::progress_line::{BesideLine, ProgressLine};
 use crate::status::Status;
@@ -34,14 +35,14 @@ pub struct Terminals {
 
 /// Does what the words ask for, which follow the program's name: reads standard input, and writes standard output.
 /// Where standard error is a terminal, a line there says how far the run is. Where standard output is none, the output
-/// is written in larger pieces, and no line is held for long while others follow.
+/// is written in larger pieces, and no line is held for long while others follow. `terminal` is asked whether the line
+/// may be shown.
 ///
 /// What is read and written is what [`top`] says.
-pub fn run_process<R: AllocGlobal + Input + Print + Eprint + Threads + Wait + Clock + Sync>(
-    rt: &R,
-    words: &[String],
-    terminals: Terminals,
-) -> Status
+pub fn run_process<
+    R: AllocGlobal + Input + Print + Eprint + Threads + Wait + Clock + Sync,
+    T: Terminal + Sync,
+>(rt: &R, words: &[String], terminals: Terminals, terminal: &T) -> Status
     ensures { Answers (settings_of (map string_bytes words.now)) None None None result }
 {
     match words
@@ -49,20 +50,19 @@ pub fn run_process<R: AllocGlobal + Input + Print + Eprint + Threads + Wait + Cl
         .map(|word| word.as_str())
         .collect::<Vec<&str>>(rt.alloc())
     {
-        Ok(words) => run_words(rt, &words, terminals),
+        Ok(words) => run_words(rt, &words, terminals, terminal),
         Err(_) => Status::NoMemory,
     }
 }
 
-fn run_words<R: AllocGlobal + Input + Print + Eprint + Threads + Wait + Clock + Sync>(
-    rt: &R,
-    words: &[&str],
-    terminals: Terminals,
-) -> Status
+fn run_words<
+    R: AllocGlobal + Input + Print + Eprint + Threads + Wait + Clock + Sync,
+    T: Terminal + Sync,
+>(rt: &R, words: &[&str], terminals: Terminals, terminal: &T) -> Status
     ensures { Answers (settings_of (map (λ w. w.now) words.now)) None None None result }
 {
     if terminals.errors {
-        run_shown(rt, words, terminals.output)
+        run_shown(rt, words, terminals.output, terminal)
     } else {
         run_unshown(rt, words, terminals.output)
     }
@@ -96,11 +96,10 @@ fn room_of(is_terminal: bool) -> usize {
 }
 
 // Another thread shows the line while the run goes on.
-fn run_shown<R: AllocGlobal + Input + Print + Eprint + Threads + Wait + Clock + Sync>(
-    rt: &R,
-    words: &[&str],
-    is_shared: bool,
-) -> Status
+fn run_shown<
+    R: AllocGlobal + Input + Print + Eprint + Threads + Wait + Clock + Sync,
+    T: Terminal + Sync,
+>(rt: &R, words: &[&str], is_shared: bool, terminal: &T) -> Status
     ensures { Answers (settings_of (map (λ w. w.now) words.now)) None None None result }
 {
     let Ok((board, mut pen)) = Board::open(rt.alloc()) else {
@@ -110,7 +109,7 @@ fn run_shown<R: AllocGlobal + Input + Print + Eprint + Threads + Wait + Clock + 
     let line = ProgressLine::new();
     let (_, status) = thread::join(
         rt,
-        || line.show(rt, &board, glass),
+        || line.show(rt, terminal, &board, glass),
         || -> Status
             requires { (pen.board ≡ board) × (pen.list ≡ []) }
             ensures { Answers (settings_of (map (λ w. w.now) words.entry.now)) None None None result }

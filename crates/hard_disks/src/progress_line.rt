@@ -1,17 +1,42 @@
 //! The line on a terminal that says how far a run is.
+//!
+//! The cursor waits on the row below it, so that whoever writes there next, as a shell after an interrupt, begins a row
+//! of its own. The terminal cuts the line at its width. Nothing is shown while the process is in the background.
 
 ghost use Rattle.std.specs.Prelude.{◌≡◌};
 
-use live_progress::{Board, Glass};
+use crate::forecast::Forecast;
+use crate::foreground::Terminal;
+use crate::moments::micros;
+use live_progress::{Board, Glass, Progress};
 use report_ports::{Given, Sink};
+use std::fmt;
+use std::fmt::{Display, Formatter, Write};
 use std::sync::{Mutex, Wait};
 use std::thread::Parker;
-use std::time::Duration;
+use std::time::{Clock, Duration};
 
 // How many milliseconds a run goes on before the line is shown, and how many pass between two of its forms.
 const PATIENCE: u64 = 1_000;
 
 const PAUSE: u64 = 250;
+
+// After so many microseconds without a new form the process was stopped, and somebody else may have written.
+const LOST: u64 = 5_000_000;
+
+// From how many seconds on minutes are told, and from how many on hours.
+const MINUTES: u64 = 120;
+
+const HOURS: u64 = 7_200;
+
+// To the row above; to its beginning, with nothing on it; the terminal cuts what is too long; it breaks it again.
+const BACK: &str = "\x1b[A";
+
+const CLEAR: &str = "\r\x1b[K";
+
+const CUT: &str = "\x1b[?7l";
+
+const WRAP: &str = "\x1b[?7h";
 
 /// A line on standard error, which one thread rewrites until another ends it.
 #[derive(Drop)]
@@ -20,62 +45,143 @@ pub struct ProgressLine {
     sleeper: Parker,
 }
 
-// Whether anything stands on the line.
+// Whether the line stands on the row above the cursor.
 #[derive(Clone, Copy, Debug, PartialEq, Eq)]
 enum Stage {
-    Empty,
+    Hidden,
     Shown,
     Ended,
 }
 
 impl ProgressLine {
-    /// A line on which nothing stands yet.
+    /// A line that isn't shown yet.
     pub fn new() -> ProgressLine {
         ProgressLine {
-            stage: Mutex::new(Stage::Empty),
+            stage: Mutex::new(Stage::Hidden),
             sleeper: Parker::new(),
         }
     }
 
-    /// Shows what the board shows, some times a second, until the line is ended. It stays empty in the first
-    /// second of the run, and where no event is published.
-    pub fn show<R: Eprint + Wait>(&self, rt: &R, board: &Board, mut glass: Glass)
+    /// Shows what the board shows, some times a second, until the line is ended. It stays hidden in the first
+    /// second, and as long as no scene was read.
+    pub fn show<R: AllocGlobal + Eprint + Wait + Clock, T: Terminal>(
+        &self,
+        rt: &R,
+        terminal: &T,
+        board: &Board,
+        mut glass: Glass,
+    )
         requires { glass.board ≡ board.now }
     {
         let mut pause = PATIENCE;
+        let mut last = micros(rt);
+        let mut forecast = Forecast::new(last);
         for _ in rt.forever() {
             self.sleeper.park_timeout(rt, Duration::from_millis(pause));
+            let now = micros(rt);
             let shown = board.look(rt, &mut glass);
-            if !self.rewrite(rt, shown.events, shown.tick) {
+            let sight = Sight {
+                shown,
+                end: board.end(),
+                seconds_left: forecast.seconds_left(now, shown.tick, board.end()),
+            };
+            let is_ours = terminal.is_ours();
+            if !is_ours || now.saturating_sub(last) > LOST {
+                self.lose(rt);
+            }
+            if !self.rewrite(rt, &sight, is_ours) {
                 break;
             }
+            last = now;
             pause = PAUSE;
         }
     }
 
-    // Whether the line isn't ended; then it shows these numbers, if there are events.
-    fn rewrite<R: Eprint + Wait>(&self, rt: &R, events: u64, tick: u64) -> bool {
+    // What stands above the cursor isn't the line any more.
+    fn lose<R: Wait>(&self, rt: &R) {
+        let mut stage = self.stage.lock(rt);
+        if *stage == Stage::Shown {
+            *stage = Stage::Hidden;
+        }
+    }
+
+    // Whether the line isn't ended; then it shows this, if there is anything to show and the terminal is ours.
+    fn rewrite<R: AllocGlobal + Eprint + Wait>(
+        &self,
+        rt: &R,
+        sight: &Sight,
+        is_ours: bool,
+    ) -> bool {
         let mut stage = self.stage.lock(rt);
         if *stage == Stage::Ended {
             return false;
         }
-        if events > 0 {
+        if is_ours && sight.is_any() {
+            let back = if *stage == Stage::Shown { BACK } else { "" };
             // What can't be shown is left out.
-            let _ = eprint!(rt; "\r\x1b[Ktick {tick}, {events} collisions");
-            *stage = Stage::Shown;
+            if let Ok(text) = format!(in rt.alloc(); "{back}{CLEAR}{CUT}{sight}{WRAP}\n") {
+                let _ = eprint!(rt; "{text}");
+                *stage = Stage::Shown;
+            }
         }
         true
     }
 
-    /// Clears the line, on which nothing is shown from now on.
+    /// Clears the line, which isn't shown from now on.
     pub fn end<R: Eprint + Wait>(&self, rt: &R) {
         let mut stage = self.stage.lock(rt);
         if *stage == Stage::Shown {
-            let _ = eprint!(rt; "\r\x1b[K");
+            let _ = eprint!(rt; "{BACK}{CLEAR}");
         }
         *stage = Stage::Ended;
         drop(stage);
         self.sleeper.unpark();
+    }
+}
+
+// What is seen of a run.
+#[derive(Drop)]
+struct Sight {
+    shown: Progress,
+    // The tick at which it ends; 0 where that isn't known.
+    end: u64,
+    seconds_left: Option<u64>,
+}
+
+impl Sight {
+    // Whether there is anything to see.
+    fn is_any(&self) -> bool {
+        self.end > 0 || self.shown.events > 0
+    }
+}
+
+impl Display for Sight {
+    fn fmt<W: Write>(&self, f: &mut Formatter<W>) -> fmt::Result {
+        let Progress { events, tick } = self.shown;
+        let end = self.end;
+        write!(f, "tick {tick}")?;
+        if let Some(percent) = tick.saturating_mul(100).checked_div(end) {
+            write!(f, " of {end} ({percent} %)")?;
+        }
+        write!(f, ", {events} collisions")?;
+        match self.seconds_left {
+            Some(seconds) => {
+                let (count, unit) = in_units(seconds);
+                write!(f, ", {count} {unit} to go")
+            }
+            None => Ok(()),
+        }
+    }
+}
+
+// So many seconds in the unit in which they are told.
+fn in_units(seconds: u64) -> (u64, &'static str) {
+    if seconds < MINUTES {
+        (seconds, "s")
+    } else if seconds < HOURS {
+        (seconds / 60, "min")
+    } else {
+        (seconds / 3_600, "h")
     }
 }
 

@@ -11,6 +11,7 @@ use crate::words::{pair_of, words_of};
 use std::alloc::{AllocError, Global};
 use std::marker::Model;
 use std::sync::Wait;
+use std::sync::atomic::{AtomicU64, Ordering};
 
 /// How far a run is.
 #[derive(Clone, Copy, Debug, PartialEq, Eq)]
@@ -21,12 +22,14 @@ pub struct Progress {
     pub tick: u64,
 }
 
-/// A board, which shows the last pair that its pen published, and (0, 0) before the first.
+/// A board, which shows the last pair that its pen published, and (0, 0) before the first. Beside it stands the tick
+/// at which the run ends, of which nothing is claimed.
 ///
 /// Contracts see its name.
 #[derive(Drop)]
 pub struct Board {
     cell: Cell,
+    end: AtomicU64,
 }
 
 impl Model for Board {
@@ -89,7 +92,18 @@ impl Board {
     {
         let (cell, token) = Cell::ruled(alloc, [0, 0])?;
         let last = Progress { events: 0, tick: 0 };
-        Ok((Board { cell }, Pen { token, last }))
+        let end = AtomicU64::new(0);
+        Ok((Board { cell, end }, Pen { token, last }))
+    }
+
+    /// Says at which tick the run ends that is shown.
+    pub fn announce(&self, end: u64) {
+        self.end.store(end, Ordering::SeqCst);
+    }
+
+    /// The tick at which the run ends; 0 as long as nobody has said it.
+    pub fn end(&self) -> u64 {
+        self.end.load(Ordering::SeqCst)
     }
 
     /// A glass that has seen what the pen has published.
