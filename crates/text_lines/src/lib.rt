@@ -1,10 +1,10 @@
 //! Lines of text, made on the stack.
 #![tactic(auto)]
 
-ghost use Rattle.std.specs.Prelude.{◌≡◌, ◌+◌, ◌≤◌, ◌∷◌, ◌++◌, [], decimal, length};
+ghost use Rattle.std.specs.Prelude.{◌≡◌, ◌+◌, ◌<◌, ◌≤◌, ◌∷◌, ◌++◌, [], decimal, length};
 ghost use Rattle.std.specs.Fmt.{signed_decimal};
 
-use itoa::Buffer;
+use itoa::{Buffer, write_digits};
 use std::marker::Model;
 
 /// The bytes of one line of text, in a buffer of 256 bytes.
@@ -61,6 +61,29 @@ impl Line {
         self.len = end;
     }
 
+    // Appends a byte, for which there is room.
+    #[inline(always)]
+    fn push_byte(&mut self, byte: u8)
+        requires { length self.old + 1 ≤ 256 }
+        ensures after { self.new ≡ self.old ++ byte ∷ [] }
+        ensures len { length self.new ≡ length self.old + 1 }
+    {
+        self.bytes[self.len] = byte;
+        self.len += 1;
+    }
+
+    // Appends the digits of a number, for which there is room. They are written where they stand.
+    #[inline(always)]
+    fn push_digits(&mut self, n: u64)
+        requires { length self.old + length (decimal n) ≤ 256 }
+        ensures after { self.new ≡ self.old ++ decimal n }
+        ensures len { length self.new ≡ length self.old + length (decimal n) }
+    {
+        let after = self.len + digit_count(n);
+        let _start = write_digits(n, &mut self.bytes, after);
+        self.len = after;
+    }
+
     /// Appends a text, for which there is room.
     pub fn push_text(&mut self, text: &str)
         requires { length self.old + length text.now ≤ 256 }
@@ -76,8 +99,7 @@ impl Line {
         ensures after { self.new ≡ self.old ++ decimal n }
         ensures len { length self.new ≤ length self.old + 20 }
     {
-        let mut buffer = Buffer::new();
-        self.push_text(buffer.format(n));
+        self.push_digits(n);
     }
 
     /// Appends the digits of a number, at most 39 bytes.
@@ -96,8 +118,10 @@ impl Line {
         ensures after { self.new ≡ self.old ++ signed_decimal n }
         ensures len { length self.new ≤ length self.old + 20 }
     {
-        let mut buffer = Buffer::new();
-        self.push_text(buffer.format(n));
+        if n < 0 {
+            self.push_byte(b'-');
+        }
+        self.push_digits(n.unsigned_abs());
     }
 
     /// Appends a space and the digits of a number, at most 21 bytes.
@@ -106,7 +130,7 @@ impl Line {
         ensures after { self.new ≡ self.old ++ (32 ∷ decimal n) }
         ensures len { length self.new ≤ length self.old + 21 }
     {
-        self.push_text(" ");
+        self.push_byte(b' ');
         self.push_number(n);
     }
 
@@ -116,7 +140,7 @@ impl Line {
         ensures after { self.new ≡ self.old ++ (32 ∷ signed_decimal n) }
         ensures len { length self.new ≤ length self.old + 21 }
     {
-        self.push_text(" ");
+        self.push_byte(b' ');
         self.push_signed(n);
     }
 
@@ -136,7 +160,7 @@ impl Line {
         ensures after { self.new ≡ self.old ++ (32 ∷ text.now) }
         ensures len { length self.new ≡ length self.old + length text.now + 1 }
     {
-        self.push_text(" ");
+        self.push_byte(b' ');
         self.push_text(text);
     }
 
@@ -146,6 +170,39 @@ impl Line {
         ensures after { self.new ≡ self.old ++ 10 ∷ [] }
         ensures len { length self.new ≡ length self.old + 1 }
     {
-        self.push_text("\n");
+        self.push_byte(b'\n');
+    }
+}
+
+// How many digits a number has, as they are when it is written.
+#[inline(always)]
+fn digit_count(n: u64) -> usize
+    ensures value { result ≡ length (decimal n) }
+    ensures most { result ≤ 20 }
+{
+    let mut left = n;
+    let mut count = 0;
+    while left >= 10_000 {
+        left /= 10_000;
+        count += 4;
+    }
+    count + short_count(left)
+}
+
+// The same of a number below 10,000.
+#[inline(always)]
+fn short_count(n: u64) -> usize
+    requires { n < 10000 }
+    ensures value { result ≡ length (decimal n) }
+    ensures most { result ≤ 4 }
+{
+    if n < 10 {
+        1
+    } else if n < 100 {
+        2
+    } else if n < 1_000 {
+        3
+    } else {
+        4
     }
 }

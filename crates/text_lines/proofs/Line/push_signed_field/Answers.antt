@@ -8,4 +8,4 @@ returns-clause-after c =
     let n = signed_decimal c.args.n in
     let fits : FitsSigned w64 c.args.n = search rules in
     let number = simp to_z-of_z at c.push_signed.ensures.after in
-    number ∙ ap (λ (l : List ℕ). l ++ n) c.push_text.ensures.after ∙ append_assoc _ (32 ∷ []) n
+    number ∙ ap (λ (l : List ℕ). l ++ n) c.push_byte.ensures.after ∙ append_assoc _ (32 ∷ []) n
