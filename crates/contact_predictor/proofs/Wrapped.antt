@@ -33,6 +33,17 @@ difference_exact z n d f e small =
     let same : int_wrap w64 (int_wrap w64 n -ℤ (d *ℤ d)) ≡ int_wrap w64 (n -ℤ (d *ℤ d)) = search (rules, wraps) in
     told ∙ rw e same ∙ int_wrap_fits w64 (n -ℤ (d *ℤ d)) whole
 
+-- the same of any number of 64 bits in place of the square
+pub less_exact : (z n k : ℤ) → FitsSigned w64 k → z ≡ int_wrap w64 n → nat_abs (n -ℤ k) < 2 ^ 63 →
+    to_z w64 ((of_z w64 z + (18446744073709551616 - of_z w64 k)) % 18446744073709551616) ≡ n -ℤ k
+less_exact z n k f e small =
+    let fits : FitsSigned w64 z = subst (λ (i : ℤ). FitsSigned w64 i) (sym e) (SFits-int_wrap w64 n) in
+    let whole : FitsSigned w64 (n -ℤ k) = omega (arith, ints) in
+    let told : to_z w64 ((of_z w64 z + (18446744073709551616 - of_z w64 k)) % 18446744073709551616) ≡ int_wrap w64 (z -ℤ k) =
+    search (rules, wraps, wrapping_sub-bits w64) in
+    let same : int_wrap w64 (int_wrap w64 n -ℤ k) ≡ int_wrap w64 (n -ℤ k) = search (rules, wraps) in
+    told ∙ rw e same ∙ int_wrap_fits w64 (n -ℤ k) whole
+
 pub wrapped_gap : (c b e x t : ℤ) → x ≡ int_wrap w64 (b +ℤ int_wrap w64 e) →
     int_wrap w64 (c +ℤ (x *ℤ t)) ≡ int_wrap w64 (c +ℤ ((b +ℤ e) *ℤ t))
 wrapped_gap c b e x t is =

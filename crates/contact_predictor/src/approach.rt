@@ -37,6 +37,18 @@ impl Approach {
         }
     }
 
+    /// The same, where `square` is that of the distance at which they touch.
+    #[inline(always)]
+    pub fn of_square(r: Vector, u: Vector, square: i64) -> Approach
+        ensures { (distance : ℤ) → square ≡ distance *ℤ distance → FitsApproach r u distance → IsApproachOf r u distance result }
+    {
+        Approach {
+            square: wrapping_dot(u, u),
+            closing: wrapping_dot(r, u),
+            gap: wrapping_dot(r, r).wrapping_sub(square),
+        }
+    }
+
     /// Whether the disks approach each other on paths that cross, if they don't overlap. Nothing is said where
     /// the products are great.
     #[inline(always)]
@@ -66,9 +78,25 @@ impl Approach {
             IsOnlyContactAfter r u distance ticks) }
         ensures near { IfSome result (λ ticks. ticks ≤ 2 ^ 30) }
     {
+        match self.quick_contact() {
+            Some(ticks) => Some(ticks),
+            None => self.contact_by_integers(),
+        }
+    }
+
+    /// The same as [`contact`](Approach::contact), by floats alone: None also where a float doesn't hold the numbers.
+    #[inline(always)]
+    pub fn quick_contact(self) -> Option<u64>
+        requires small { IsSmall self }
+        requires apart { pos 0 ≤ℤ self.gap }
+        requires course { IsCourse self }
+        ensures found { IfSome result (λ ticks. (r u : Vector) (distance : ℤ) → IsApproachOf r u distance self →
+            IsOnlyContactAfter r u distance ticks) }
+        ensures near { IfSome result (λ ticks. ticks ≤ 2 ^ 30) }
+    {
         match self.float_guess() {
             Some(ticks) if self.ends_after(ticks) => Some(ticks),
-            _ => self.contact_by_integers(),
+            _ => None,
         }
     }
 

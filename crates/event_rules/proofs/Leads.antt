@@ -105,7 +105,7 @@ apart_second rules a b lead pair e le =
     λ i. vector (x i) (y i)
 
 -- ---- sizes
-two_halves : (d : ℤ) → pos 2 ≤ℤ d → nat_abs d % 2 ≡ 0 → half_of d +ℤ half_of d ≡ d
+pub two_halves : (d : ℤ) → pos 2 ≤ℤ d → nat_abs d % 2 ≡ 0 → half_of d +ℤ half_of d ≡ d
 unfolding half_of
 two_halves (pos d) h even = grind (arith, ints)
 two_halves (negsuc d) h even = absurd (omega (arith, ints))

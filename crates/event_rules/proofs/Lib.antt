@@ -1,28 +1,30 @@
 pub mod Apart
 pub mod Between
-pub mod Conserved
-pub mod Courses
+mod Conserved
+mod Courses
 pub mod Decided
-pub mod Effects
+mod Effects
 pub mod Exists
 pub mod Fits
-pub mod Joins
-pub mod Leads
-pub mod Levels
-pub mod MayHit
+mod Greatest
+mod Joins
+mod Leads
+mod Levels
+mod MayHit
 pub mod OneRun
 pub mod OneTick
 pub mod Ran
 pub mod Ranges
 pub mod Rise
 pub mod RunsTold
-pub mod Separations
-pub mod SmallProducts
+mod Separations
+mod Sides
+mod SmallProducts
 pub mod States
 pub mod Steps
-pub mod Swapped
+mod Swapped
 pub mod Telling
-pub mod Together
+mod Together
 pub mod Valid
 pub mod Walls
 pub mod Within

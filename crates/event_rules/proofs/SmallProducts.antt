@@ -2,7 +2,7 @@
 use Rattle.std.proofs.Common.{◌≡◌, ◌↔◌, ℕ, ◌+◌, ◌-◌, ◌*◌, ◌^◌, ◌<◌, ◌≤◌, Bool, true, false, IsTrue, arith, sym, subst}
 use Rattle.std.specs.Prelude.{ℤ, pos, negsuc, nat_abs, ◌+ℤ◌, ◌-ℤ◌, ◌*ℤ◌, ◌≤ℤ◌, ◌<ℤ◌, FitsSigned}
 use Rattle.std.proofs.lemmas.Int.{ints}
-use Rattle.std.proofs.Math.Nat.{mul-le-mul}
+use Rattle.std.proofs.Math.Nat.{mul-le-mul, mul-le-mul_left}
 use lib.Signed.{lt_z}
 use mir.Syntax.{w64}
 use Rattle.plane_vectors.specs.declared.Vector.{Vector}
@@ -21,7 +21,7 @@ use Rattle.contact_predictor.proofs.Approaching.{speed_not_negative, touch_from_
 use Rattle.event_rules.specs.declared.predict.Separation.{Separation}
 use Rattle.event_rules.specs.Events.{IsContactTick}
 use Rattle.event_rules.specs.Predict.{IsSeparation, separation_of}
-use Rattle.event_rules.specs.Small.{IsSmallPair, FitsTheBox, DoCoursesCross, IsSmallApproach, IsApproachAt}
+use Rattle.event_rules.specs.Small.{IsSmallPair, FitsTheBox, DoCoursesCross, DoCoursesCrossAt, IsSmallApproach, IsApproachAt}
 use Rattle.event_rules.proofs.Courses.{inside_until}
 use Rattle.event_rules.proofs.MayHit.{places_are}
 use Rattle.event_rules.proofs.Separations.{small_same, ticks_until}
@@ -58,6 +58,27 @@ pub product_of : (rules : Rules) → IsChecked rules → IsProduct rules.speed_l
 product_of rules checked =
     product_is rules.speed_limit rules.width rules.height (up_to rules.speed_limit 1 (2 ^ 20) checked.speed_limit.0 checked.speed_limit.1)
     (up_to rules.width 2 (2 ^ 30) checked.width.0 checked.width.1) (up_to rules.height 2 (2 ^ 30) checked.height.0 checked.height.1)
+
+-- the code's square of the greatest diameter
+pub record IsSquare (d : ℤ) : Type 0 where
+  pub fits : FitsSigned w64 (sent d *ℤ sent d)
+  pub value : sent (sent d *ℤ sent d) ≡ (d *ℤ d)
+
+square_is : (d : ℤ) → nat_abs d ≤ 2 ^ 30 → IsSquare d
+square_is d h =
+    let same : sent d ≡ d = small_same d h in
+    let fits : FitsSigned w64 (d *ℤ d) = within (d *ℤ d) (size_of_product d d (2 ^ 30) (2 ^ 30) h h) in
+    record { fits = rw same fits; value = rw same (sent_same (d *ℤ d) fits) }
+  where
+    within : (z : ℤ) → nat_abs z ≤ 2 ^ 30 * 2 ^ 30 → FitsSigned w64 z
+    within z h = omega (arith, ints)
+
+pub square_of : (rules : Rules) → IsChecked rules → IsSquare rules.diameter
+square_of rules checked =
+    square_is rules.diameter (between rules.diameter rules.width checked.diameter.0 checked.diameter.1 checked.width.1)
+  where
+    between : (d w : ℤ) → pos 2 ≤ℤ d → d ≤ℤ w → w ≤ℤ pos 1073741824 → nat_abs d ≤ 2 ^ 30
+    between d w h k l = omega (arith, ints)
 
 pub less : (x y : ℤ) → IsTrue (lt_z x y) ↔ (x <ℤ y)
 less x y = (λ h. grind (arith, ints), λ h. grind (arith, ints))
@@ -164,18 +185,22 @@ whole_product (pos s) (pos w) (negsuc h) k l m lt = absurd (omega (arith, ints))
 relative : (m n : ℤ) (k : ℕ) → nat_abs m ≤ k → nat_abs n ≤ k → nat_abs (m -ℤ n) ≤ 2 * k
 relative m n k p q = omega (arith, ints)
 
-within_side : (d most side : ℤ) → pos 2 ≤ℤ d → d ≤ℤ most → most ≤ℤ side → nat_abs d ≤ nat_abs side
-within_side d most side k l m = omega (arith, ints)
+within_side : (c d most side : ℤ) → pos 2 ≤ℤ c → c ≤ℤ d → d ≤ℤ most → most ≤ℤ side → nat_abs d ≤ nat_abs side
+within_side c d most side k h l m = omega (arith, ints)
 
 at_least : (n : ℤ) → pos 1 ≤ℤ n → 1 ≤ nat_abs n
 at_least n h = omega (arith, ints)
 
-slight : (rules : Rules) (a b : Disk) (s : Separation) → IsSmallPair rules a b → IsSeparation a b s → FitsTheBox rules s.places →
-    AreSlight (nat_abs rules.width) (nat_abs rules.height) (nat_abs rules.speed_limit) s.places s.velocities s.distance
-slight rules a b s pair sep near =
+-- no less than the distance at which two disks touch, and no more than the greatest diameter
+record IsReach (rules : Rules) (a b : Disk) (distance : ℤ) : Type 0 where
+  pub least : contact_distance a b ≤ℤ distance
+  pub most : distance ≤ℤ rules.diameter
+
+slight : (rules : Rules) (a b : Disk) (s : Separation) (d : ℤ) → IsSmallPair rules a b → IsSeparation a b s → IsReach rules a b d →
+    FitsTheBox rules s.places → AreSlight (nat_abs rules.width) (nat_abs rules.height) (nat_abs rules.speed_limit) s.places s.velocities d
+slight rules a b s d pair sep reach near =
     let checked = pair.checked in
     let least = contact_least rules a b pair.first_valid.size pair.second_valid.size in
-    let most = contact_most rules a b pair.first_valid.size pair.second_valid.size in
     let limit = nat_abs rules.speed_limit in
     record {
       rx = near.x;
@@ -184,32 +209,56 @@ slight rules a b s pair sep near =
           (relative a.vx b.vx limit pair.first_valid.velocity.x pair.second_valid.velocity.x);
       uy = subst (λ (u : Vector). nat_abs u.y ≤ 2 * limit) (sym sep.velocities)
           (relative a.vy b.vy limit pair.first_valid.velocity.y pair.second_valid.velocity.y);
-      distance = subst (λ (d : ℤ). nat_abs d ≤ nat_abs rules.width) (sym sep.distance)
-          (within_side (contact_distance a b) rules.diameter rules.width least most checked.diameter.1);
+      distance = within_side (contact_distance a b) d rules.diameter rules.width least reach.least reach.most checked.diameter.1;
       least = at_least rules.speed_limit checked.speed_limit.0;
       most = up_to rules.speed_limit 1 (2 ^ 20) checked.speed_limit.0 checked.speed_limit.1;
       product = whole_product rules.speed_limit rules.width rules.height checked.speed_limit.0 checked.width.0 checked.height.0 pair.products;
     }
 
-distance_same : (rules : Rules) (a b : Disk) (s : Separation) → IsSmallPair rules a b → IsSeparation a b s → FitsTheBox rules s.places →
-    sent s.distance ≡ s.distance
-distance_same rules a b s pair sep near =
-    let most = (slight rules a b s pair sep near).distance in
-    small_same s.distance (short s.distance rules.width most pair.checked.width.0 pair.checked.width.1)
+distance_same : (rules : Rules) (a b : Disk) (s : Separation) (d : ℤ) → IsSmallPair rules a b → IsSeparation a b s → IsReach rules a b d →
+    FitsTheBox rules s.places → sent d ≡ d
+distance_same rules a b s d pair sep reach near =
+    let most = (slight rules a b s d pair sep reach near).distance in
+    small_same d (short d rules.width most pair.checked.width.0 pair.checked.width.1)
   where
     short : (d side : ℤ) → nat_abs d ≤ nat_abs side → pos 2 ≤ℤ side → side ≤ℤ pos 1073741824 → nat_abs d ≤ 2 ^ 30
     short d side h k l = omega (arith, ints)
 
+-- a quadratic, where its numbers fit, is that of the separation, as if the disks touched at this distance
+abbrev Told : Separation → ℤ → Approach → Type 0
+Told s d q = FitsApproach s.places s.velocities d → IsApproachOf s.places s.velocities d q
+
 -- the code's quadratic is that of the disks
-pub small_approach : (s : Separation) (q : Approach) → (FitsApproach s.places s.velocities (sent s.distance) →
-    IsApproachOf s.places s.velocities (sent s.distance) q) → IsApproachAt s q
+near_approach : (rules : Rules) (a b : Disk) (s : Separation) (d : ℤ) (q : Approach) → IsSmallPair rules a b → IsSeparation a b s →
+    IsReach rules a b d → FitsTheBox rules s.places → Told s d q → IsApproachOf s.places s.velocities d q × IsSmall q
+near_approach rules a b s d q pair sep reach near told =
+    let numbers = few (nat_abs rules.width) (nat_abs rules.height) (nat_abs rules.speed_limit) s.places s.velocities d
+    (slight rules a b s d pair sep reach near) in
+    let of = told (fits_few s.places s.velocities d numbers) in
+    (of, small_few s.places s.velocities d q numbers of)
+
+same_size : (d : ℤ) → d ≤ℤ d
+same_size d = omega (arith, ints)
+
+own_reach : (rules : Rules) (a b : Disk) (s : Separation) → IsSmallPair rules a b → IsSeparation a b s → IsReach rules a b s.distance
+own_reach rules a b s pair sep =
+    subst (λ (d : ℤ). IsReach rules a b d) (sym sep.distance) (record {
+      least = same_size (contact_distance a b);
+      most = contact_most rules a b pair.first_valid.size pair.second_valid.size;
+    })
+
+greatest_reach : (rules : Rules) (a b : Disk) → IsSmallPair rules a b → IsReach rules a b rules.diameter
+greatest_reach rules a b pair = record {
+  least = contact_most rules a b pair.first_valid.size pair.second_valid.size;
+  most = same_size rules.diameter;
+}
+
+pub small_approach : (s : Separation) (q : Approach) → Told s (sent s.distance) q → IsApproachAt s q
 small_approach s q told rules a b pair sep near =
-    let numbers = few (nat_abs rules.width) (nat_abs rules.height) (nat_abs rules.speed_limit) s.places s.velocities s.distance
-    (slight rules a b s pair sep near) in
-    let same = distance_same rules a b s pair sep near in
-    let of = subst (λ (d : ℤ). IsApproachOf s.places s.velocities d q) same
-    (told (subst (λ (d : ℤ). FitsApproach s.places s.velocities d) (sym same) (fits_few s.places s.velocities s.distance numbers))) in
-    record { of = of; small = small_few s.places s.velocities s.distance q numbers of }
+    let reach = own_reach rules a b s pair sep in
+    let same = distance_same rules a b s s.distance pair sep reach near in
+    let are = near_approach rules a b s s.distance q pair sep reach near (subst (λ (d : ℤ). Told s d q) same told) in
+    record { of = are.0; small = are.1 }
 
 -- ---- contacts
 inside_fits : (rules : Rules) (a b : Disk) (p q : Vector) → IsValidDisk rules a → IsValidDisk rules b → IsInside rules a p → IsInside rules b q →
@@ -251,18 +300,18 @@ contact_course rules a b s q tick sep at contact =
     )
 
 -- the test tells exactly whether the courses cross
-courses_cross : (a b : Disk) (s : Separation) (q : Approach) → IsSeparation a b s → IsApproachOf s.places s.velocities s.distance q →
-    IsCourse q ↔ DoCoursesCross a b
-courses_cross a b s q sep of =
-    let told = alike s.places (separation_of a b) s.velocities (difference (velocity_of a) (velocity_of b)) s.distance (contact_distance a b) q of
-    (places_are a b s sep) sep.velocities sep.distance in (
+courses_cross : (a b : Disk) (s : Separation) (d : ℤ) (q : Approach) → IsSeparation a b s → IsApproachOf s.places s.velocities d q →
+    IsCourse q ↔ DoCoursesCrossAt d a b
+courses_cross a b s d q sep of =
+    let told = alike s.places (separation_of a b) s.velocities (difference (velocity_of a) (velocity_of b)) d q of
+    (places_are a b s sep) sep.velocities in (
       λ h. record { nearing = (told.0 h).0; crossing = (told.0 h).1 },
       λ h. told.1 (h.nearing, h.crossing),
     )
   where
-    alike : (r r' u u' : Vector) (d d' : ℤ) (q : Approach) → IsApproachOf r u d q → r ≡ r' → u ≡ u' → d ≡ d' →
-        IsCourse q ↔ ((dot r' u' <ℤ pos 0) × IsCollisionCourse r' u' d')
-    alike r r' u u' d d' q of er eu ed = rw (of.square, of.closing, of.gap, er, eu, ed) (λ h. h, λ h. h)
+    alike : (r r' u u' : Vector) (d : ℤ) (q : Approach) → IsApproachOf r u d q → r ≡ r' → u ≡ u' →
+        IsCourse q ↔ ((dot r' u' <ℤ pos 0) × IsCollisionCourse r' u' d)
+    alike r r' u u' d q of er eu = rw (of.square, of.closing, of.gap, er, eu) (λ h. h, λ h. h)
 
 -- a test of the quadratic that says no
 pub never_small : (rules : Rules) (a b : Disk) (s : Separation) (q : Approach) (tells : Bool) → IsSmallPair rules a b → IsSeparation a b s →
@@ -278,14 +327,74 @@ never_overlapping rules a b s q pair sep approach overlap tick contact =
     let apart = (contact_course rules a b s q tick sep at contact).0 in
     omega (arith, ints)
 
+-- of a greater distance the discriminant is greater
+times_less : (k : ℕ) (x y : ℤ) → x ≤ℤ y → (pos k *ℤ x) ≤ℤ (pos k *ℤ y)
+times_less k (pos m) (pos n) le =
+    let order : m ≤ n = omega (arith, ints) in
+    let most : k * m ≤ k * n = mul-le-mul_left k order in
+    omega (arith, ints)
+times_less k (negsuc m) (pos n) le = omega (arith, ints)
+times_less k (pos m) (negsuc n) le = absurd (omega (arith, ints))
+times_less k (negsuc m) (negsuc n) le =
+    let order : n ≤ m = omega (arith, ints) in
+    let most : k * n ≤ k * m = mul-le-mul_left k order in
+    omega (arith, ints)
+
+less_gap : (z c d : ℤ) → pos 0 ≤ℤ c → c ≤ℤ d → (z -ℤ (d *ℤ d)) ≤ℤ (z -ℤ (c *ℤ c))
+less_gap z (pos m) (pos n) p le =
+    let greater : m ≤ n = omega (arith, ints) in
+    let squares : m * m ≤ n * n = mul-le-mul greater greater in
+    omega (arith, ints)
+less_gap z (negsuc m) d p le = absurd (omega (arith, ints))
+less_gap z (pos m) (negsuc n) p le = absurd (omega (arith, ints))
+
+wider : (a x y e : ℤ) → pos 0 ≤ℤ a → y ≤ℤ x → (a *ℤ x) <ℤ e → (a *ℤ y) <ℤ e
+wider (pos k) x y e p le lt = let less = times_less k y x le in omega (arith, ints)
+wider (negsuc k) x y e p le lt = absurd (omega (arith, ints))
+
+-- so disks that touch at a distance are on a course if they touched at a greater one
+course_near : (r u : Vector) (c d : ℤ) (q : Approach) → IsApproachOf r u d q → pos 0 ≤ℤ c → c ≤ℤ d → MayTouch r u c → IsCourse q
+course_near r u c d q of positive le may = (
+  rw of.closing may.approaching.approaching,
+  rw (of.square, of.gap, of.closing) (wider (dot u u) (gap r c) (gap r d) (dot r u *ℤ dot r u) (speed_not_negative u) (less_gap (dot r r) c d positive le) may.crossing),
+)
+
+pub never_near : (rules : Rules) (a b : Disk) (s : Separation) (q : Approach) (tells : Bool) → IsSmallPair rules a b →
+    IsSeparation a b s → Told s rules.diameter q → (IsSmall q → IsTrue tells ↔ IsCourse q) → tells ≡ false →
+    (tick : ℕ) → IsContactTick rules a b tick → ⊥
+never_near rules a b s q tells pair sep told test is tick contact =
+    let d = rules.diameter in
+    let reach = greatest_reach rules a b pair in
+    let are = near_approach rules a b s d q pair sep reach (contact_fits rules a b s tick pair sep contact) told in
+    let least = contact_least rules a b pair.first_valid.size pair.second_valid.size in
+    let n = ticks_until rules a b s tick sep contact in
+    let may : MayTouch s.places s.velocities (contact_distance a b) =
+    subst (λ (c : ℤ). MayTouch s.places s.velocities c) sep.distance (touch_from_now s.places s.velocities s.distance _ n.1) in
+    let course = course_near s.places s.velocities (contact_distance a b) d q are.0 (positive (contact_distance a b) least) reach.least may in
+    let yes : tells ≡ true = (test are.1).1 course in cc
+  where
+    positive : (c : ℤ) → pos 2 ≤ℤ c → pos 0 ≤ℤ c
+    positive c h = omega (arith, ints)
+
 -- and within the box it is exact
 pub exact_small : (rules : Rules) (a b : Disk) (s : Separation) (q : Approach) (tells : Bool) → IsSmallPair rules a b → IsSeparation a b s →
     IsApproachAt s q → (IsSmall q → IsTrue tells ↔ IsCourse q) → FitsTheBox rules (separation_of a b) → IsTrue tells ↔ DoCoursesCross a b
 exact_small rules a b s q tells pair sep approach test near =
     let at = approach rules a b pair sep (subst (λ (r : Vector). FitsTheBox rules r) (sym (places_are a b s sep)) near) in
     let told = test at.small in
-    let same = courses_cross a b s q sep at.of in
+    let same = subst (λ (d : ℤ). IsCourse q ↔ DoCoursesCrossAt d a b) sep.distance (courses_cross a b s s.distance q sep at.of) in
     (λ h. same.0 (told.0 h), λ h. told.1 (same.1 h))
+
+pub exact_near : (rules : Rules) (a b : Disk) (s : Separation) (q : Approach) (tells : Bool) → IsSmallPair rules a b →
+    IsSeparation a b s → Told s rules.diameter q → (IsSmall q → IsTrue tells ↔ IsCourse q) →
+    FitsTheBox rules (separation_of a b) → IsTrue tells ↔ DoCoursesCrossAt rules.diameter a b
+exact_near rules a b s q tells pair sep told test near =
+    let d = rules.diameter in
+    let reach = greatest_reach rules a b pair in
+    let are = near_approach rules a b s d q pair sep reach (subst (λ (r : Vector). FitsTheBox rules r) (sym (places_are a b s sep)) near) told in
+    let tests = test are.1 in
+    let same = courses_cross a b s d q sep are.0 in
+    (λ h. same.0 (tests.0 h), λ h. tests.1 (same.1 h))
 
 -- no side of the box is longer
 pub within_box : (rules : Rules) (r : Vector) → IsChecked rules → FitsTheBox rules r → IsWithin (2 ^ 30) r

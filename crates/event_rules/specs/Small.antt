@@ -1,16 +1,18 @@
 -- Rules under which what tells of two disks whether their paths cross has 64 bits.
-use Rattle.std.specs.Prelude.{◌≤◌, pos, nat_abs, ◌+ℤ◌, ◌*ℤ◌, ◌<ℤ◌}
+use Rattle.std.specs.Prelude.{◌≡◌, ◌↔◌, ◌≤◌, Bool, IsTrue, false, ℤ, pos, nat_abs, ◌+ℤ◌, ◌*ℤ◌, ◌<ℤ◌, ◌≤ℤ◌}
 use Rattle.plane_vectors.specs.declared.Vector.{Vector}
-use Rattle.plane_vectors.specs.Vectors.{difference, dot}
+use Rattle.std.specs.Int.{int_wrap, w64}
+use Rattle.plane_vectors.specs.Vectors.{vector, difference, dot}
 use Rattle.fixed_motion.specs.declared.rules.Rules.{Rules}
 use Rattle.fixed_motion.specs.declared.disk.Disk.{Disk}
 use Rattle.fixed_motion.specs.Rules.{IsChecked}
 use Rattle.fixed_motion.specs.Motion.{IsValidDisk, velocity_of, contact_distance}
 use Rattle.contact_predictor.specs.declared.approach.Approach.{Approach}
 use Rattle.contact_predictor.specs.Contact.{IsCollisionCourse}
-use Rattle.contact_predictor.specs.Approach.{IsApproachOf, IsSmall}
+use Rattle.contact_predictor.specs.Approach.{IsApproachOf, IsSmall, IsCourse}
 use Rattle.event_rules.specs.declared.predict.Separation.{Separation}
-use Rattle.event_rules.specs.Predict.{IsSeparation, separation_of}
+use Rattle.event_rules.specs.Events.{NeverHit}
+use Rattle.event_rules.specs.Predict.{IsSeparation, separation_of, FitInABox}
 
 -- the greatest speed times half the outline of the box is below 2^30
 abbrev pub HaveSmallProducts : Rules → Type 0
@@ -34,10 +36,26 @@ pub record FitsTheBox (rules : Rules) (r : Vector) : Type 0 where
   pub x : nat_abs r.x ≤ nat_abs rules.width
   pub y : nat_abs r.y ≤ nat_abs rules.height
 
--- at the later of their base ticks two disks come nearer to each other, on paths that cross
-pub record DoCoursesCross (a b : Disk) : Type 0 where
+-- at the later of their base ticks two disks come nearer to each other, on paths that cross if they touch at this distance
+pub record DoCoursesCrossAt (distance : ℤ) (a b : Disk) : Type 0 where
   pub nearing : dot (separation_of a b) (difference (velocity_of a) (velocity_of b)) <ℤ pos 0
-  pub crossing : IsCollisionCourse (separation_of a b) (difference (velocity_of a) (velocity_of b)) (contact_distance a b)
+  pub crossing : IsCollisionCourse (separation_of a b) (difference (velocity_of a) (velocity_of b)) distance
+
+-- so of the distance at which they do touch
+abbrev pub DoCoursesCross : Disk → Disk → Type 0
+DoCoursesCross a b = DoCoursesCrossAt (contact_distance a b) a b
+
+-- what is told of two disks by the square of the greatest diameter, where products are small: where not, they never hit
+-- each other, and within the box it is whether their courses cross if they touch at that distance
+pub record TellsByGreatest (square : ℤ) (a b : Disk) (may : Bool) : Type 0 where
+  pub exact : (rules : Rules) → IsSmallPair rules a b → square ≡ rules.diameter *ℤ rules.diameter →
+      FitsTheBox rules (separation_of a b) → (IsTrue may ↔ DoCoursesCrossAt rules.diameter a b)
+  pub never : (rules : Rules) → IsSmallPair rules a b → square ≡ rules.diameter *ℤ rules.diameter → may ≡ false → NeverHit rules a b
+  pub never_turned : (rules : Rules) → IsSmallPair rules a b → square ≡ rules.diameter *ℤ rules.diameter → may ≡ false → NeverHit rules b a
+
+-- where a disk is so many ticks on, in 64 bits
+abbrev pub wrapped_after : Disk → ℤ → Vector
+wrapped_after a ticks = vector (int_wrap w64 (a.x +ℤ (a.vx *ℤ ticks))) (int_wrap w64 (a.y +ℤ (a.vy *ℤ ticks)))
 
 -- their quadratic, of which all products have 64 bits
 pub record IsSmallApproach (s : Separation) (q : Approach) : Type 0 where
@@ -48,3 +66,11 @@ pub record IsSmallApproach (s : Separation) (q : Approach) : Type 0 where
 abbrev pub IsApproachAt : Separation → Approach → Type 0
 IsApproachAt s q = (rules : Rules) (a b : Disk) → IsSmallPair rules a b → IsSeparation a b s → FitsTheBox rules s.places →
     IsSmallApproach s q
+
+-- the quadratic of two disks in a box that are apart, and approach each other on paths that cross
+pub record IsSmallCourse (s : Separation) (q : Approach) : Type 0 where
+  pub near : FitInABox s
+  pub of : IsApproachOf s.places s.velocities s.distance q
+  pub small : IsSmall q
+  pub apart : pos 0 ≤ℤ q.gap
+  pub course : IsCourse q

@@ -1,17 +1,18 @@
 //! When disks hit each other and the sides of the box next.
 
-ghost use Rattle.std.specs.Prelude.{◌≡◌, ◌↔◌, ℕ, ◌+◌, ◌^◌, ◌<◌, ◌≤◌, pos, nat_abs, ◌-ℤ◌, ◌*ℤ◌, IsTrue, false, IsNone, IfSome, MatchOption};
+ghost use Rattle.std.specs.Prelude.{◌≡◌, ◌↔◌, ℕ, ◌+◌, ◌^◌, ◌<◌, ◌≤◌, pos, nat_abs, ◌+ℤ◌, ◌-ℤ◌, ◌*ℤ◌, IsTrue, false, IsNone, IfSome, MatchOption, ◌%◌, max, ◌≤ℤ◌};
 ghost use Rattle.std.specs.Int.{int_wrap, w64};
 ghost use Rattle.plane_vectors.specs.Vectors.{vector, IsWithin};
 ghost use Rattle.fixed_motion.specs.declared.rules.Rules.{Rules};
 ghost use Rattle.fixed_motion.specs.Rules.{IsChecked};
-ghost use Rattle.fixed_motion.specs.Motion.{IsValidDisk, IsInside, contact_distance};
+ghost use Rattle.fixed_motion.specs.Motion.{IsValidDisk, IsInside, contact_distance, half_of, mark_at, place_of};
+ghost use Rattle.contact_predictor.specs.Contact.{IsBetween};
 ghost use Rattle.event_stamps.specs.declared.Stamp.{Stamp};
 ghost use Rattle.event_stamps.specs.declared.Kind.TheVariants.{Pair};
 ghost use Rattle.event_stamps.specs.Least.{IsOnly, IsLeastOf};
 ghost use Rattle.event_rules.specs.Events.{IsWallEvent, IsWallBelow, IsPairEvent, NeverHit, IsContactTick, TouchAt, IsPast, IsLastInside, wall_stamp};
-ghost use Rattle.event_rules.specs.Predict.{IsUpTo, HaveBegun, TouchInside, IsFirstPast, IsLastTogether, IsOnlyContactTick, IsTouch, IsSeparation, FitInABox, AreOnCourse, MayHit, IsOnCollisionCourse, PathsTouchAfter, separation_of};
-ghost use Rattle.event_rules.specs.Small.{HaveSmallProducts, IsValidPair, IsSmallPair, FitsTheBox, DoCoursesCross, IsApproachAt};
+ghost use Rattle.event_rules.specs.Predict.{IsUpTo, HaveBegun, TouchInside, IsFirstPast, IsLastTogether, IsOnlyContactTick, IsTouch, IsSeparation, FitInABox, AreOnCourse, MayHit, IsOnCollisionCourse, PathsTouchAfter, separation_of, AreInside};
+ghost use Rattle.event_rules.specs.Small.{HaveSmallProducts, IsValidPair, IsSmallPair, FitsTheBox, DoCoursesCross, TellsByGreatest, IsApproachAt, wrapped_after, IsSmallCourse};
 
 use contact_predictor::{Approach, contact_between, is_contact, may_touch, quick_contact, stay};
 use event_stamps::{Kind, Stamp};
@@ -105,15 +106,62 @@ pub fn event_between(rules: &Rules, i: u32, a: &Disk, j: u32, b: &Disk) -> Optio
     ensures falling { j < i → MatchOption result ((s : Stamp) → IsPairEvent rules.now j b.now i a.now s → ⊥)
         (IsOnly (IsPairEvent rules.now j b.now i a.now)) }
 {
+    event_at(rules, i, a, j, b, touching_tick(rules, a, b))
+}
+
+// The event of two disks that hit each other at this tick, or never.
+#[inline(always)]
+fn event_at(rules: &Rules, i: u32, a: &Disk, j: u32, b: &Disk, found: Option<u64>) -> Option<Stamp>
+    requires { MatchOption found ((tick : ℕ) → tick < rules.now.end → IsContactTick rules.now a.now b.now tick → ⊥)
+        (IsTouch rules.now a.now b.now) }
+    ensures rising { i < j → MatchOption result ((s : Stamp) → IsPairEvent rules.now i a.now j b.now s → ⊥)
+        (IsOnly (IsPairEvent rules.now i a.now j b.now)) }
+    ensures falling { j < i → MatchOption result ((s : Stamp) → IsPairEvent rules.now j b.now i a.now s → ⊥)
+        (IsOnly (IsPairEvent rules.now j b.now i a.now)) }
+{
+    let _rules = rules;
     // Which number is lower can't be foretold, and is asked only where they meet: that is the same in either order.
-    let tick = touching_tick(rules, a, b)?;
+    let tick = found?;
     Some(Stamp {
         tick,
-        round: a.mark_at(tick).max(b.mark_at(tick)),
+        round: round_at(a, b, tick),
         kind: Kind::Pair,
         first: i.min(j),
         second: i.max(j),
     })
+}
+
+/// What [`event_between`] tells where products are small, with all that is seldom asked left out. None says nothing:
+/// then `event_between` has to be asked.
+#[inline(always)]
+pub fn quick_event_between(
+    rules: &Rules,
+    i: u32,
+    a: &Disk,
+    j: u32,
+    b: &Disk,
+) -> Option<Option<Stamp>>
+    requires { IsSmallPair rules.now a.now b.now }
+    ensures rising { i < j → IfSome result (λ event. MatchOption event ((s : Stamp) → IsPairEvent rules.now i a.now j b.now s → ⊥)
+        (IsOnly (IsPairEvent rules.now i a.now j b.now))) }
+    ensures falling { j < i → IfSome result (λ event. MatchOption event ((s : Stamp) → IsPairEvent rules.now j b.now i a.now s → ⊥)
+        (IsOnly (IsPairEvent rules.now j b.now i a.now))) }
+{
+    let found = quick_tick(rules, a, b)?;
+    Some(event_at(rules, i, a, j, b, found))
+}
+
+// The greater of the marks of two disks, which are 0 but at the later of their base ticks.
+#[inline(always)]
+fn round_at(a: &Disk, b: &Disk, tick: u64) -> u32
+    requires { HaveBegun a.now b.now tick }
+    ensures { result ≡ max (mark_at a.now tick) (mark_at b.now tick) }
+{
+    if tick == a.base.max(b.base) {
+        a.mark_at(tick).max(b.mark_at(tick))
+    } else {
+        0
+    }
 }
 
 /// Whether a stamp of a pair is that of the next event of two disks: by what such an event is, with nothing
@@ -232,6 +280,85 @@ pub fn may_hit_by_small(a: &Disk, b: &Disk) -> bool
     approach_at(&separated(a, b)).is_course()
 }
 
+/// The square of the greatest diameter, and so the greatest square of a distance at which two disks touch.
+#[inline(always)]
+pub fn greatest_square(rules: &Rules) -> i64
+    requires { IsChecked rules.now }
+    ensures { result ≡ rules.now.diameter *ℤ rules.now.diameter }
+{
+    rules.diameter * rules.diameter
+}
+
+/// The same as [`may_hit_by_small`], as if both disks had the greatest diameter, the square of which is told: so one
+/// number serves for all disks. Disks that wouldn't hit each other then don't.
+#[inline(always)]
+pub fn may_hit_by_greatest(a: &Disk, b: &Disk, square: i64) -> bool
+    ensures { TellsByGreatest square a.now b.now result }
+{
+    let s = separated(a, b);
+    Approach::of_square(s.places, s.velocities, square).is_course()
+}
+
+/// What [`may_hit_by_greatest`] tells of each of two disks of one base tick with a third one. Mostly that has begun its
+/// course before, and where it is at this tick is found once for both.
+#[inline(always)]
+pub fn may_hit_either(a: &Disk, b: &Disk, other: &Disk, square: i64) -> (bool, bool)
+    requires { a.now.base ≡ b.now.base }
+    ensures first { TellsByGreatest square a.now other.now result.0 }
+    ensures second { TellsByGreatest square b.now other.now result.1 }
+{
+    if other.base > a.base {
+        return each_may_hit(*a, *b, *other, square);
+    }
+    let place = wrapped_place(other, lead_of(a, other));
+    (
+        may_hit_from(a, other, place, square),
+        may_hit_from(b, other, place, square),
+    )
+}
+
+// The same, one after the other. Seldom asked, so it is kept apart, and told all by value.
+#[inline(never)]
+fn each_may_hit(a: Disk, b: Disk, other: Disk, square: i64) -> (bool, bool)
+    ensures first { TellsByGreatest square a other result.0 }
+    ensures second { TellsByGreatest square b other result.1 }
+{
+    (
+        may_hit_by_greatest(&a, &other, square),
+        may_hit_by_greatest(&b, &other, square),
+    )
+}
+
+// The same of a disk `b` that has begun its course no later than `a`, by its place at the base tick of `a`.
+#[inline(always)]
+fn may_hit_from(a: &Disk, b: &Disk, place: Vector, square: i64) -> bool
+    requires begun { b.now.base ≤ a.now.base }
+    requires place { a.now.base ≤ 2 ^ 40 → b.now.base ≤ 2 ^ 40 → place ≡ wrapped_after b.now (pos a.now.base -ℤ pos b.now.base) }
+    ensures { TellsByGreatest square a.now b.now result }
+{
+    let places = wrapping_difference(Vector { x: a.x, y: a.y }, place);
+    let velocities = wrapping_difference(a.velocity(), b.velocity());
+    Approach::of_square(places, velocities, square).is_course()
+}
+
+// Where a disk is so many ticks on, but for what goes beyond 64 bits.
+#[inline(always)]
+fn wrapped_place(a: &Disk, ticks: i64) -> Vector
+    ensures { result ≡ wrapped_after a.now ticks }
+{
+    Vector {
+        x: wrapping_way(a.x, a.vx, ticks),
+        y: wrapping_way(a.y, a.vy, ticks),
+    }
+}
+
+#[inline(always)]
+fn wrapping_way(x: i64, v: i64, ticks: i64) -> i64
+    ensures { result ≡ int_wrap w64 (x +ℤ (v *ℤ ticks)) }
+{
+    x.wrapping_add(v.wrapping_mul(ticks))
+}
+
 // Where one disk is from another at the later of their base ticks, how fast that changes, and how far
 // apart they are where they touch.
 #[derive(Clone, Copy)]
@@ -267,6 +394,38 @@ fn small_tick(rules: &Rules, a: &Disk, b: &Disk, s: &Separation) -> Option<u64>
     ensures { MatchOption result ((tick : ℕ) → tick < rules.now.end → IsContactTick rules.now a.now b.now tick → ⊥)
         (IsTouch rules.now a.now b.now) }
 {
+    let approach = small_course(rules, a, b, s)?;
+    match approach.contact() {
+        Some(ticks) => tick_inside(rules, a, b, s, ticks),
+        None => searched_tick(rules, *a, *b, *s),
+    }
+}
+
+// The same, but for None, which says nothing: it is seldom.
+#[inline(always)]
+fn quick_tick(rules: &Rules, a: &Disk, b: &Disk) -> Option<Option<u64>>
+    requires { IsSmallPair rules.now a.now b.now }
+    ensures { IfSome result (λ found. MatchOption found ((tick : ℕ) → tick < rules.now.end → IsContactTick rules.now a.now b.now tick → ⊥)
+        (IsTouch rules.now a.now b.now)) }
+{
+    let s = separated(a, b);
+    let Some(approach) = small_course(rules, a, b, &s) else {
+        return Some(None);
+    };
+    let ticks = approach.quick_contact()?;
+    Some(tick_inside(rules, a, b, &s, ticks))
+}
+
+// The quadratic of two disks that approach each other on paths that cross. None where they never hit each other.
+#[inline(always)]
+fn small_course(rules: &Rules, a: &Disk, b: &Disk, s: &Separation) -> Option<Approach>
+    requires pair { IsSmallPair rules.now a.now b.now }
+    requires separation { IsSeparation a.now b.now s.now }
+    ensures { MatchOption result ((tick : ℕ) → tick < rules.now.end → IsContactTick rules.now a.now b.now tick → ⊥)
+        (IsSmallCourse s.now) }
+{
+    let _first = a;
+    let _second = b;
     if !fits_the_box(rules, s.places) {
         // One of them isn't inside the box at the later base tick, and so at no later tick.
         return None;
@@ -275,10 +434,7 @@ fn small_tick(rules: &Rules, a: &Disk, b: &Disk, s: &Separation) -> Option<u64>
     if approach.overlap() || !approach.is_course() {
         return None;
     }
-    match approach.contact() {
-        Some(ticks) => tick_inside(rules, a, b, s, ticks),
-        None => searched_tick(rules, *a, *b, *s),
-    }
+    Some(approach)
 }
 
 // Where products are great. Scenes of such numbers are seldom, so it is kept apart, and told all by value.
@@ -425,14 +581,63 @@ fn tick_inside(rules: &Rules, a: &Disk, b: &Disk, s: &Separation, ticks: u64) ->
         (IsTouch rules.now a.now b.now) }
 {
     let tick = s.start + ticks;
-    if tick < rules.end
-        && a.is_inside(rules, a.centre_at(rules, tick))
-        && b.is_inside(rules, b.centre_at(rules, tick))
-    {
+    if tick < rules.end && are_inside_at(rules, a, b, tick) {
         Some(tick)
     } else {
         None
     }
+}
+
+// Whether two disks are inside the box at a tick. They mostly are, so there is no branch between.
+#[inline(always)]
+fn are_inside_at(rules: &Rules, a: &Disk, b: &Disk, tick: u64) -> bool
+    requires checked { IsChecked rules.now }
+    requires first_valid { IsValidDisk rules.now a.now }
+    requires second_valid { IsValidDisk rules.now b.now }
+    requires begun { HaveBegun a.now b.now tick }
+    requires tick { tick ≤ 2 ^ 40 }
+    ensures { IsTrue result ↔ AreInside rules.now a.now b.now tick }
+{
+    is_inside_at(rules, a, tick) & is_inside_at(rules, b, tick)
+}
+
+// Whether a disk is inside the box at a tick.
+#[inline(always)]
+fn is_inside_at(rules: &Rules, a: &Disk, tick: u64) -> bool
+    requires checked { IsChecked rules.now }
+    requires valid { IsValidDisk rules.now a.now }
+    requires base { a.now.base ≤ tick }
+    requires tick { tick ≤ 2 ^ 40 }
+    ensures { IsTrue result ↔ IsInside rules.now a.now (place_of a.now tick) }
+{
+    let place = a.centre_at(rules, tick);
+    fits_between(a.size, rules.width, place.x) & fits_between(a.size, rules.height, place.y)
+}
+
+// Whether a disk of this size is between the ends of a side of the box, where this is the coordinate of its centre: one
+// comparison without signs tells both.
+#[inline(always)]
+fn fits_between(size: i64, side: i64, coordinate: i64) -> bool
+    requires size { pos 2 ≤ℤ size }
+    requires even { nat_abs size % 2 ≡ 0 }
+    requires fits { size ≤ℤ side }
+    requires side { side ≤ℤ pos 1073741824 }
+    requires near { nat_abs coordinate ≤ 2 ^ 62 }
+    ensures { IsTrue result ↔ IsBetween (half_of size) (side -ℤ half_of size) coordinate }
+{
+    let above = coordinate - half(size);
+    let room = side - size;
+    above.cast_unsigned() <= room.cast_unsigned()
+}
+
+// Half a size, with no question for its sign.
+#[inline(always)]
+fn half(size: i64) -> i64
+    requires least { pos 2 ≤ℤ size }
+    requires most { size ≤ℤ pos 1073741824 }
+    ensures { result ≡ half_of size }
+{
+    (size.cast_unsigned() / 2).cast_signed()
 }
 
 // The contact tick of any two disks, by the last tick at which both are inside. Seldom asked, so it is kept apart,

@@ -1,5 +1,4 @@
 -- What a contact tick is, part by part.
-use Rattle.std.proofs.Common.{true}
 use Rattle.std.proofs.lemmas.Bool.{both_ways}
 use Rattle.event_rules.proofs.predict.is_contact_tick.Goals as goal
 

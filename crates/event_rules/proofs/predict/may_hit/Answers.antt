@@ -1,5 +1,4 @@
 -- Disks that aren't near are never both inside, and those that are off course never touch.
-use Rattle.std.proofs.Common.{true}
 use Rattle.std.proofs.lemmas.Bool.{both_ways}
 use Rattle.event_rules.proofs.MayHit.{may_hit_from, near_from, course_from}
 use Rattle.event_rules.proofs.Separations.{never_far}

@@ -1,45 +1,21 @@
--- Disks that hit each other are in the box at the later base tick, and there all is exact.
-use Rattle.std.proofs.lemmas.Bool.{both_ways}
-use Rattle.event_rules.proofs.SmallProducts.{within_box, contact_fits, never_small, never_overlapping}
+-- The quadratic is that of the two disks.
 use Rattle.event_rules.proofs.predict.small_tick.Goals as goal
-use Rattle.event_rules.proofs.predict.small_tick.Goals.{then-overlap-via-then-overlap, then-overlap-via-else-overlap+then-not-is_course}
 
-pub returns-then-not-fits_the_box : goal.returns-then-not-fits_the_box
-returns-then-not-fits_the_box c = λ tick before contact.
-    both_ways c.fits_the_box.result c.if-not-fits_the_box.true (c.fits_the_box.ensures.1
-    (contact_fits c.args.rules.now c.args.a.now c.args.b.now c.args.s.now tick c.requires.pair c.requires.separation contact))
-
-pub returns-then-overlap : goal.returns-then-overlap
-returns-then-overlap c = λ tick before contact.
-    let rules = c.args.rules.now in
-    let a = c.args.a.now in
-    let b = c.args.b.now in
-    let s = c.args.s.now in
-    let q = c.approach_at-approach.result in
-    elim c.then-overlap.branch [
-      | then-overlap-via-then-overlap w ↦
-          never_overlapping rules a b s q c.requires.pair c.requires.separation c.approach_at-approach.ensures
-          (c.overlap.ensures.0 w.if-overlap.true) tick contact
-      | then-overlap-via-else-overlap+then-not-is_course w ↦
-          never_small rules a b s q w.is_course.result c.requires.pair c.requires.separation c.approach_at-approach.ensures
-          w.is_course.ensures w.if-not-is_course.true tick contact
-    ]
+pub returns-in_err-approach : goal.returns-in_err-approach
+returns-in_err-approach c = rw c.from_residual.ensures c.in_err-approach.ensures
 
 pub contact-requires-clause-small : goal.contact-requires-clause-small
-contact-requires-clause-small c =
-    (c.approach_at-approach.ensures c.args.rules.now c.args.a.now c.args.b.now c.requires.pair c.requires.separation
-    (c.fits_the_box.ensures.0 c.if-not-fits_the_box.false)).small
+contact-requires-clause-small c = c.in_ok-approach.ensures.small
+
+pub contact-requires-clause-apart : goal.contact-requires-clause-apart
+contact-requires-clause-apart c = c.in_ok-approach.ensures.apart
 
 pub contact-requires-clause-course : goal.contact-requires-clause-course
-contact-requires-clause-course c =
-    (c.is_course.ensures (contact-requires-clause-small c)).0 c.if-not-is_course.false
+contact-requires-clause-course c = c.in_ok-approach.ensures.course
 
 pub tick_inside-requires-clause-found : goal.tick_inside-requires-clause-found
 tick_inside-requires-clause-found c =
-    let at = c.approach_at-approach.ensures c.args.rules.now c.args.a.now c.args.b.now c.requires.pair c.requires.separation
-    (c.fits_the_box.ensures.0 c.if-not-fits_the_box.false) in
-    c.in-Some.ensures.found c.args.s.now.places c.args.s.now.velocities c.args.s.now.distance at.of
+    c.in-Some.ensures.found c.args.s.now.places c.args.s.now.velocities c.args.s.now.distance c.in_ok-approach.ensures.of
 
 pub searched_tick-requires-clause-near : goal.searched_tick-requires-clause-near
-searched_tick-requires-clause-near c =
-    within_box c.args.rules.now c.args.s.now.places c.requires.pair.checked (c.fits_the_box.ensures.0 c.if-not-fits_the_box.false)
+searched_tick-requires-clause-near c = c.in_ok-approach.ensures.near

@@ -1,5 +1,5 @@
 -- The places are those at the tick.
-use Rattle.std.proofs.Common.{true, sym, subst}
+use Rattle.std.proofs.Common.{sym, subst}
 use Rattle.std.proofs.lemmas.Bool.{both_ways}
 use Rattle.plane_vectors.specs.declared.Vector.{Vector}
 use Rattle.fixed_motion.specs.Motion.{IsInside}
