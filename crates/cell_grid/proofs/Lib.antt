@@ -1,3 +1,4 @@
+mod AfterBase
 mod Along
 pub mod Cells
 mod Columns

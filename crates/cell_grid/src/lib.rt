@@ -6,10 +6,12 @@
 mod bounds;
 mod crossing;
 mod grid;
+mod later;
 mod laws;
 mod room;
 
 pub use grid::{Grid, MAX_CELLS_ALONG, MAX_REGIONS, Strip};
+pub use later::Departure;
 pub use laws::{
     crosses_later, each_cell_has_one_owner, far_unless_adjacent, grids_have_sizes,
     leaves_after_last, links_are_mutual, moves_to_adjacent, neighbours_are_in_reach, one_crossing,

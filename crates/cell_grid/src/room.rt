@@ -36,6 +36,7 @@ impl Room {
 
     // After how many ticks the disk is past the end of the room that it goes towards, on either
     // axis; none where it stands still.
+    #[inline(always)]
     pub(crate) fn ticks_until_past(self, a: &Disk) -> Option<u64>
         requires small { IsSmallRoom self }
         requires slow { IsSlowDisk a.now }
@@ -59,6 +60,7 @@ impl Room {
 
 impl Grid {
     // The room of a disk in a cell.
+    #[inline(always)]
     pub(crate) fn room(&self, rules: &Rules, a: &Disk, cell: u32) -> Room
         requires checked { IsChecked rules.now }
         requires grid { IsGridOf rules.now self.now }
@@ -73,6 +75,7 @@ impl Grid {
         }
     }
 
+    #[inline(always)]
     fn across(&self, rules: &Rules, a: &Disk, cell: u32) -> Bounds
         requires checked { IsChecked rules.now }
         requires grid { IsGridOf rules.now self.now }
@@ -86,6 +89,7 @@ impl Grid {
         Bounds::across_box(rules, a).shared(column)
     }
 
+    #[inline(always)]
     fn upwards(&self, rules: &Rules, a: &Disk, cell: u32) -> Bounds
         requires checked { IsChecked rules.now }
         requires grid { IsGridOf rules.now self.now }

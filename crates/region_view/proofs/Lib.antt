@@ -2,7 +2,7 @@ mod Added
 pub mod After
 mod CompactRows
 mod Crossed
-mod First
+pub mod First
 pub mod Homes
 mod InSlots
 pub mod Naming

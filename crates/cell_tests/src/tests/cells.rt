@@ -2,7 +2,7 @@
 //! tries each tick.
 
 use super::helpers::expect;
-use cell_grid::Grid;
+use cell_grid::{Departure, Grid};
 use cell_lists::{Gathered, Lists, block_around};
 use event_stamps::Stamp;
 use fixed_motion::{Disk, Rules};
@@ -47,69 +47,117 @@ fn disk_of((x, y, vx, vy, base, mark): Record) -> Disk {
 // A tick and a round, where there is an event.
 type Event = Option<(u64, u32)>;
 
-// When the disk 7 leaves a cell; none where the rules, the disk or the cell are not valid.
-fn crossing_of(rules: &Rules, a: &Disk, cell: u32) -> Option<Event> {
+// When the disk 7 leaves a cell, and what is told of that at once, if it is; none where the rules, the disk or the cell
+// are not valid.
+fn crossing_of(rules: &Rules, a: &Disk, cell: u32) -> Option<(Event, Option<Event>)> {
     match rules.check() {
         Ok(()) => {
             let grid = Grid::new(rules, 4);
             if !a.is_valid(rules) || cell >= grid.rows() * grid.columns() {
                 return None;
             }
-            Some(event_of(grid.crossing(rules, 7, a, cell)))
+            let event = event_of(grid.crossing(rules, 7, a, cell));
+            Some((event, event_told(grid.leaving(rules, a, cell))))
         }
         Err(_) => None,
     }
 }
 
-// Rules, a record, a cell, and the tick and round of the crossing.
-type CrossingRow = (Rules, Record, u32, Event);
+fn event_told(found: Departure) -> Option<Event> {
+    match found {
+        Departure::At(tick) => Some(Some((tick, 0))),
+        Departure::Never => Some(None),
+        Departure::Unknown => None,
+    }
+}
+
+// A box of 511 columns and rows of 2,101,256 units, with 8 left over, of the greatest speed and the latest end.
+const GREAT: Rules = Rules {
+    width: 1_073_741_824,
+    height: 1_073_741_824,
+    diameter: 4,
+    speed_limit: 1_048_576,
+    round_limit: 8,
+    end: 1_099_511_627_776,
+};
+
+// Rules, a record, a cell, the tick and round of the crossing, and whether they are told at once.
+type CrossingRow = (Rules, Record, u32, Event, bool);
 
 const CROSSINGS: &[CrossingRow] = &[
     // x = 100 is in the next column, and the disk is there at tick 4
-    (LONG, (96, 10, 1, 0, 0, 0), 4, Some((4, 0))),
-    (LONG, (100, 10, 1, 0, 4, 0), 5, None),
+    (LONG, (96, 10, 1, 0, 0, 0), 4, Some((4, 0)), true),
+    (LONG, (100, 10, 1, 0, 4, 0), 5, None, true),
     // the same backwards: 99 is in column 4
-    (LONG, (104, 10, -1, 0, 0, 0), 5, Some((5, 0))),
+    (LONG, (104, 10, -1, 0, 0, 0), 5, Some((5, 0)), true),
     // up and down in one row
-    (LONG, (190, 10, 0, 8, 0, 0), 9, None),
+    (LONG, (190, 10, 0, 8, 0, 0), 9, None, true),
     // due at the end, and one tick before it
-    (Rules { end: 4, ..LONG }, (96, 10, 1, 0, 0, 0), 4, None),
+    (
+        Rules { end: 4, ..LONG },
+        (96, 10, 1, 0, 0, 0),
+        4,
+        None,
+        true,
+    ),
     (
         Rules { end: 5, ..LONG },
         (96, 10, 1, 0, 0, 0),
         4,
         Some((4, 0)),
+        true,
     ),
     // at rest, in the cell and in another one, of which it has left the recorded cell at once
-    (LONG, (100, 10, 0, 0, 3, 2), 5, None),
-    (LONG, (100, 10, 0, 0, 3, 2), 4, Some((3, 2))),
+    (LONG, (100, 10, 0, 0, 3, 2), 5, None, false),
+    (LONG, (100, 10, 0, 0, 3, 2), 4, Some((3, 2)), false),
     // into the recorded cell at tick 4, and out of it at tick 24
     (
         Rules { end: 40, ..LONG },
         (96, 10, 1, 0, 0, 0),
         5,
         Some((24, 0)),
+        true,
     ),
     // away from the recorded cell, and past it
-    (LONG, (96, 10, -1, 0, 2, 1), 5, Some((2, 1))),
+    (LONG, (96, 10, -1, 0, 2, 1), 5, Some((2, 1)), false),
     // through the recorded cell, and out of it where it is out of the box too
-    (BLOCK, (18, 14, 1, 8, 1, 1), 4, None),
+    (BLOCK, (18, 14, 1, 8, 1, 1), 4, None, true),
     // past the row of the recorded cell before it comes to its column
-    (BLOCK, (12, 14, 1, 8, 1, 1), 4, Some((1, 1))),
+    (BLOCK, (12, 14, 1, 8, 1, 1), 4, Some((1, 1)), false),
     // column and row at one tick
-    (BLOCK, (18, 18, 2, 2, 0, 0), 0, Some((2, 0))),
+    (BLOCK, (18, 18, 2, 2, 0, 0), 0, Some((2, 0)), true),
     // the last column has what is left over, and ends at the wall: no crossing
-    (BLOCK, (41, 10, 1, 0, 0, 0), 2, None),
-    (BLOCK, (59, 10, -1, 0, 0, 0), 2, Some((18, 0))),
+    (BLOCK, (41, 10, 1, 0, 0, 0), 2, None, true),
+    (BLOCK, (59, 10, -1, 0, 0, 0), 2, Some((18, 0)), true),
     // the top row likewise
-    (BLOCK, (10, 21, 0, 1, 0, 0), 3, None),
+    (BLOCK, (10, 21, 0, 1, 0, 0), 3, None, true),
+    // as fast as may be, and as late; to the last tick before the end, and to the end
+    (GREAT, (2, 2, 1_048_576, 0, 0, 0), 0, Some((3, 0)), true),
+    (
+        GREAT,
+        (2, 2, 1, 0, 1_099_508_627_776, 1),
+        0,
+        Some((1_099_510_729_030, 0)),
+        true,
+    ),
+    (
+        GREAT,
+        (2, 2, 0, 1, 1_099_509_526_521, 1),
+        0,
+        Some((1_099_511_627_775, 0)),
+        true,
+    ),
+    (GREAT, (2, 2, 0, 1, 1_099_509_526_522, 1), 0, None, true),
+    // into the recorded cell at tick 3, and out of it two ticks later
+    (GREAT, (2, 2, 1_048_576, 0, 0, 0), 1, Some((5, 0)), true),
 ];
 
 #[test]
 fn disks_leave_their_cells(rt: HostRuntime) {
-    for (row, &(rules, record, cell, want)) in CROSSINGS.iter().enumerate() {
+    for (row, &(rules, record, cell, want, is_told)) in CROSSINGS.iter().enumerate() {
         let found = crossing_of(&rules, &disk_of(record), cell);
-        expect(&rt, row, found, Some(want));
+        let told = if is_told { Some(want) } else { None };
+        expect(&rt, row, found, Some((want, told)));
     }
 }
 
@@ -132,9 +180,10 @@ fn finds_what_trying_each_tick_finds(rt: HostRuntime) {
     for number in 0..DISKS {
         let (rules, disk) = generated(&mut numbers);
         let cell = number % 6;
-        if let Some(found) = crossing_of(&rules, &disk, cell) {
+        if let Some((found, told)) = crossing_of(&rules, &disk, cell) {
             let want = crossing_by_trying(&rules, &disk, cell);
             expect(&rt, number as usize, found, want);
+            expect(&rt, number as usize, told.unwrap_or(want), want);
             crossings = crossings.wrapping_add(u32::from(found.is_some()));
         }
     }
