@@ -1,5 +1,5 @@
 -- Nodes that are read and written, as the two lists that they are seen as.
-use Rattle.std.proofs.Common.{◌≡◌, ℕ, zero, suc, ◌^◌, ◌<◌, List, ◌∷◌, length, get_or, set, refl, sym, ap, subst, ◌∙◌, arith}
+use Rattle.std.proofs.Common.{◌≡◌, ℕ, zero, suc, ◌+◌, ◌%◌, ◌^◌, ◌<◌, List, ◌∷◌, length, get_or, set, refl, sym, ap, subst, ◌∙◌, arith}
 use Rattle.std.specs.Prelude.{Bool, Option, Some, None, IfSome, IsSome, replicate}
 use Rattle.std.proofs.lemmas.List.{map-set, length-map, length-replicate, get_or_default}
 use Rattle.std.proofs.lemmas.Bool.{false≢true}
@@ -9,7 +9,8 @@ use Rattle.cell_lists.specs.declared.chains.Node.{Node}
 use Rattle.cell_lists.specs.declared.pointer.Pointer.{Pointer}
 use Rattle.cell_lists.specs.Pointer.{no_pointer, pointer_at}
 use Rattle.cell_lists.specs.Nodes.{pointers_of, cells_of}
-use Rattle.cell_lists.specs.Chain.{ChainsData, chains_of, with_cell, at, InBucket, IsLast, pointer_from, IsPointed, IsMarkedAnew, IsChained, IsLinked, IsUnlinked}
+use Rattle.cell_lists.specs.Chain.{ChainsData, chains_of, with_cell, at, IsIn, InBucket, IsLast, pointer_from, IsPointed, IsMarkedAnew, IsChained, IsLinked, IsUnlinked}
+use Rattle.cell_lists.specs.Gathering.{LeadsIn}
 use Rattle.cell_lists.proofs.Chaining.{within, chained_none, pointed_count, marked_count}
 
 -- ---- what is read
@@ -22,6 +23,21 @@ cell_read nodes i node e = ap (λ (n : Node). n.cell) e ∙ sym (get_or-map (λ 
 pub next_at : (nodes : List Node) (i : ℕ) (node : Node) → i < length nodes → node ≡ get_or nodes i node → node.next ≡ pointer_at (pointers_of nodes) i
 next_at nodes i node lt e = next_read nodes i node e
     ∙ get_or_default (pointers_of nodes) i node.next no_pointer (subst (λ (n : ℕ). i < n) (sym (length-map nodes (λ n. n.next))) lt)
+
+-- where the node of a listed disk leads
+pub node_leads : (cells : List (Option ℕ)) (nodes : List Node) (disk : ℕ) (d : Node) → length nodes ≡ length cells →
+    ((i cell : ℕ) → IsIn cells cell i → LeadsIn cells cell (i + 1) (pointer_at (pointers_of nodes) i)) → (cell : ℕ) → IsIn cells cell disk →
+    (disk < length nodes) × LeadsIn cells cell (disk + 1) (get_or nodes disk d).next
+node_leads cells nodes disk d as_many leads cell here = (
+  lt,
+  subst (LeadsIn cells cell (disk + 1)) (sym (next_at nodes disk node lt (get_or_default nodes disk d node lt))) (leads disk cell here),
+)
+  where
+    node : Node
+    node = get_or nodes disk d
+
+    lt : disk < length nodes
+    lt = subst (λ (n : ℕ). disk < n) (sym as_many) (within cells 1 (cell % 1) disk (cell, here, refl))
 
 pub head_at : (heads : List Pointer) (i : ℕ) (head : Pointer) → i < length heads → head ≡ get_or heads i head → head ≡ pointer_at heads i
 head_at heads i head lt e = e ∙ get_or_default heads i head no_pointer lt

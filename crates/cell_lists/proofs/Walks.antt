@@ -17,7 +17,7 @@ use Rattle.cell_lists.specs.Nearby.{IsWithin}
 use Rattle.cell_lists.specs.Pointer.{disk_of, SaysMore}
 use Rattle.cell_lists.specs.Places.{Holds}
 use Rattle.cell_lists.specs.Chain.{ChainsData, IsIn, InBucket, IsFirst, LeadsOn}
-use Rattle.cell_lists.specs.Gathering.{with_offered, HaveOwnBuckets, AreListed, IsFromOneOf, StartsAdded, HasLater, SaysLater, ArePending, AreFollowed, AreGatheredIn}
+use Rattle.cell_lists.specs.Gathering.{with_offered, HaveOwnBuckets, AreListed, IsFromOneOf, StartsAdded, HasLater, SaysLater, LeadsIn, ArePending, AreFollowed, AreGatheredIn}
 use Rattle.cell_lists.proofs.Firsts.{first_kept}
 use Rattle.cell_lists.proofs.Chaining.{same_or_not}
 
@@ -52,7 +52,7 @@ own_bucket chains cell own lt j = (
   λ here. (cell, here, mod-eq_of_lt lt),
 )
 
-pub own_first : (chains : ChainsData) (cell from : ℕ) (o : Option ℕ) → HaveOwnBuckets chains → cell < chains.buckets →
+own_first : (chains : ChainsData) (cell from : ℕ) (o : Option ℕ) → HaveOwnBuckets chains → cell < chains.buckets →
     IsFirst chains.cells chains.buckets cell from o → IsFirstOf (IsIn chains.cells cell) from o
 own_first chains cell from o own lt h =
     first_kept (InBucket chains.cells chains.buckets cell) (IsIn chains.cells cell) from o (λ j le. own_bucket chains cell own lt j) h
@@ -132,7 +132,7 @@ cell_added cells first cell a b o le h is =
 
 -- ---- disks that have a greater one in their cell
 -- a pointer of a bucket of one cell says of that cell what it says
-pub own_later : (chains : ChainsData) (cell from : ℕ) (x : Pointer) → HaveOwnBuckets chains → cell < chains.buckets →
+own_later : (chains : ChainsData) (cell from : ℕ) (x : Pointer) → HaveOwnBuckets chains → cell < chains.buckets →
     LeadsOn chains.cells chains.buckets cell from x → SaysLater chains.cells x
 own_later chains cell from x own lt leads = says (disk_of x) leads.0 leads.1
   where
@@ -193,6 +193,13 @@ pending_more cells first disks before after x some says step pending = more (dis
         backward h (inr past) =
             let e : p ≡ length disks = (let lt = h.1 in let count = one_more disks d in omega arith) in
             (step p).1 (inr (e, says.1 (subst (HasLater cells) (at_end disks d p e) h.2)))
+
+pub leads_in : (chains : ChainsData) (cell from : ℕ) (x : Pointer) → HaveOwnBuckets chains → cell < chains.buckets →
+    LeadsOn chains.cells chains.buckets cell from x → LeadsIn chains.cells cell from x
+leads_in chains cell from x own lt leads = (
+  own_first chains cell from (disk_of x) own lt leads.0,
+  own_later chains cell from x own lt leads,
+)
 
 -- ---- the next disks
 -- the disk is in the cell of this one, and after it

@@ -7,6 +7,7 @@ use Rattle.cell_lists.specs.declared.pointer.Pointer.{Pointer}
 use Rattle.cell_lists.specs.declared.places.Places.{Places}
 use Rattle.cell_lists.specs.Pointer.{disk_of, SaysMore}
 use Rattle.cell_lists.specs.Places.{Holds}
+use Rattle.cell_lists.specs.Firsts.{IsFirstOf}
 use Rattle.cell_lists.specs.Chain.{ChainsData, IsIn}
 use Rattle.cell_lists.specs.Nearby.{IsWithin}
 
@@ -44,6 +45,10 @@ HasLater cells disk = (cell : ℕ) × (later : ℕ) × IsIn cells cell disk × I
 -- the pointer says that its disk has a next one exactly where a greater disk is in its cell
 abbrev pub SaysLater : List (Option ℕ) → Pointer → Type 0
 SaysLater cells pointer = SaysMore pointer ↔ IsSomeAnd (disk_of pointer) (HasLater cells)
+
+-- the pointer leads to the first disk of the cell from a number on, and says whether a greater one is in the cell
+abbrev pub LeadsIn : List (Option ℕ) → ℕ → ℕ → Pointer → Type 0
+LeadsIn cells cell from pointer = IsFirstOf (IsIn cells cell) from (disk_of pointer) × SaysLater cells pointer
 
 -- these are the places, from the first on, of the disks that have a greater one in their cell
 abbrev pub ArePending : List (Option ℕ) → ℕ → List ℕ → Places → Type 0

@@ -24,9 +24,9 @@ const MOST_BUCKETS_A_DISK: usize = 4;
 
 // Of one disk: the cell in which it is listed, or none, and if it is listed, the next one of its bucket.
 #[derive(Clone, Copy)]
-struct Node {
+pub(crate) struct Node {
     cell: Slot,
-    next: Pointer,
+    pub(crate) next: Pointer,
 }
 
 // The greatest two disks of a bucket that are less than one of it.
@@ -62,9 +62,9 @@ impl Model for Chains {
 ghost use Rattle.std.specs.Prelude.{◌≡◌, ◌↔◌, ◌+◌, ◌%◌, ◌<◌, ◌≤◌, ◌^◌, ℕ, length, None, Some, replicate, IfOk, OnOk, IfSome, IsSome, IsTrue};
 ghost use Rattle.cell_lists.specs.Firsts.{IsFirstOf};
 ghost use Rattle.cell_lists.specs.Nodes.{pointers_of, cells_of};
-ghost use Rattle.cell_lists.specs.Pointer.{no_pointer, disk_of, SaysMore};
+ghost use Rattle.cell_lists.specs.Pointer.{no_pointer, disk_of, pointer_at, SaysMore};
 ghost use Rattle.cell_lists.specs.Chain.{chains_of, bucket_count, with_cell, at, IsIn, IsFirst, IsLast, pointer_from, IsPointed, IsMarkedAnew, IsLinked, IsUnlinked, HasRoom};
-ghost use Rattle.cell_lists.specs.Gathering.{HaveOwnBuckets, SaysLater};
+ghost use Rattle.cell_lists.specs.Gathering.{HaveOwnBuckets, LeadsIn};
 
 impl Chains {
     // No disk listed, with room for so many, in a grid of so many cells.
@@ -174,26 +174,25 @@ impl Chains {
         cell_count as usize <= self.heads.len()
     }
 
-    // The least disk listed in a cell that has a bucket of its own.
+    // What leads to the least disk of each cell, where cells have buckets of their own.
     #[inline(always)]
-    pub fn head_of(&self, cell: u32) -> Pointer
+    pub fn heads(&self) -> &[Pointer]
         requires own { HaveOwnBuckets self.now }
-        requires cell { cell < self.now.buckets }
-        ensures disk { IsFirstOf (IsIn self.now.cells cell) 0 (disk_of result) }
-        ensures more { SaysLater self.now.cells result }
+        ensures count { length result.now ≡ self.now.buckets }
+        ensures first { (cell : ℕ) → cell < self.now.buckets → LeadsIn self.now.cells cell 0 (pointer_at result.now cell) }
     {
-        self.heads[cell as usize]
+        &self.heads
     }
 
-    // The next disk after one in its cell, which has a bucket of its own.
+    // What leads from each listed disk to the next one in its cell, where cells have buckets of their own.
     #[inline(always)]
-    pub fn next_of(&self, disk: u32) -> Pointer
+    pub(crate) fn nodes(&self) -> &[Node]
         requires own { HaveOwnBuckets self.now }
-        requires listed { (cell : ℕ) × IsIn self.now.cells cell disk }
-        ensures disk { (cell : ℕ) → IsIn self.now.cells cell disk → IsFirstOf (IsIn self.now.cells cell) (disk + 1) (disk_of result) }
-        ensures more { SaysLater self.now.cells result }
+        ensures count { length result.now ≡ length self.now.cells }
+        ensures after { (disk cell : ℕ) → IsIn self.now.cells cell disk →
+            LeadsIn self.now.cells cell (disk + 1) (pointer_at (pointers_of result.now) disk) }
     {
-        self.nodes[disk as usize].next
+        &self.nodes
     }
 
     // The first disk of a cell, where `start` is the first of its bucket from a number on.

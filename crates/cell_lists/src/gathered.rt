@@ -25,7 +25,7 @@ impl Model for Gathered {
     ghost invariant = { λ g. g.count ≤ MOST_GATHERED };
 }
 
-ghost use Rattle.std.specs.Prelude.{◌≡◌, ◌⊎◌, ◌↔◌, ℕ, ◌<◌, ◌≤◌, [], length, take, slice_index, slice_set};
+ghost use Rattle.std.specs.Prelude.{◌≡◌, ◌⊎◌, ◌↔◌, ℕ, ◌+◌, ◌<◌, ◌≤◌, [], length, take, slice_index, slice_set};
 ghost use Rattle.cell_lists.specs.declared.gathered.TheConstants.{MOST_GATHERED};
 ghost use Rattle.cell_lists.specs.Pointer.{disk_of, SaysMore};
 ghost use Rattle.cell_lists.specs.Places.{Holds};
@@ -40,6 +40,17 @@ impl Gathered {
         Gathered {
             disks: [0; MOST_GATHERED],
             count: 0,
+        }
+    }
+
+    /// The same disks again.
+    #[inline(always)]
+    pub fn copy(&self) -> Gathered
+        ensures { result ≡ self.now }
+    {
+        Gathered {
+            disks: self.disks,
+            count: self.count,
         }
     }
 
@@ -104,6 +115,7 @@ impl SoFar {
         requires { self.count < MOST_GATHERED }
         ensures room { result.count ≤ MOST_GATHERED }
         ensures more { self.count ≤ result.count }
+        ensures one { result.count ≤ self.count + 1 }
         ensures offered { take result.count disks.new ≡ with_offered (take self.count disks.old) (disk_of pointer) }
         ensures pending { (p : ℕ) → (Holds result.pending p ↔ (Holds self.pending p ⊎ ((p ≡ self.count) × SaysMore pointer))) }
     {

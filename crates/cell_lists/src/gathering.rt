@@ -96,12 +96,14 @@ impl Chains {
             ArePending self.now.cells start (take before.count disks.old) before.pending →
             ArePending self.now.cells start (take r.count disks.new) r.pending) }
     {
+        // One question for all of them, rather than for each.
+        if (end - first) as usize > MOST_GATHERED - before.count {
+            return None;
+        }
+        let heads = self.heads();
         let mut so_far = before;
         for cell in first..end {
-            if so_far.count >= MOST_GATHERED {
-                return None;
-            }
-            so_far = so_far.offer(disks, self.head_of(cell));
+            so_far = so_far.offer(disks, heads[cell as usize]);
         }
         Some(so_far)
     }
@@ -124,12 +126,13 @@ impl Chains {
         ensures followed { IfSome result (λ n. AreFollowed self.now.cells first (take heads.count disks.old)
             (take n disks.new)) }
     {
+        let nodes = self.nodes();
         let mut so_far = heads;
         while let Some(place) = so_far.pending.first() {
             if so_far.count >= MOST_GATHERED {
                 return None;
             }
-            let next = self.next_of(disks[place]);
+            let next = nodes[disks[place] as usize].next;
             so_far.pending = so_far.pending.without(place);
             so_far = so_far.offer(disks, next);
         }
