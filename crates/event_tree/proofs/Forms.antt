@@ -26,12 +26,6 @@ entered_narrow done disk key bound short_key short_bound form narrow new now is 
     (subst (λ (e : Key × Key). OnOk done (IsEntered disk e narrow new)) (both_same short_key key short_bound bound same_key same_bound)
     put))
 
-pub entered_wide : {E : Type 0} (done : Result ⊤ E) (disk : ℕ) (entry : Key × Key) (form : Option EntriesData)
-    (wide narrow new now : EntriesData) → form ≡ Some wide → unwrap_or form narrow ≡ now →
-    OnOk done (IsEntered disk entry wide new) → OnOk done (IsEntered disk entry now new)
-entered_wide done disk entry form wide narrow new now is view put =
-    subst (λ (d : EntriesData). OnOk done (IsEntered disk entry d new)) (of_wide form wide narrow now is view) put
-
 pub entered_widened : (disk : ℕ) (entry : Key × Key) (form : Option EntriesData) (narrow wide new now : EntriesData) → form ≡ None →
     unwrap_or form narrow ≡ now → AreSame narrow wide → IsEntered disk entry wide new → IsEntered disk entry now new
 entered_widened disk entry form narrow wide new now is view same put =

@@ -179,11 +179,6 @@ entered entries now disk entry view within =
     subst (λ (d : EntriesData). IsEntered disk (entry.key, entry.bound) d (entries_in (set entries (disk + 3) entry))) view
     (entered_in entries disk entry (subst (λ (d : EntriesData). disk < length d.keys) (sym view) within))
 
-pub set_room : (entries : List Entry) (disk : ℕ) (entry : Entry) →
-    length (drop 3 (keys_in (set entries (disk + 3) entry))) ≡ length (drop 3 (keys_in entries))
-set_room entries disk entry =
-    room_in (set entries (disk + 3) entry) ∙ ap (λ (n : ℕ). n - 3) (length-set entries (disk + 3) entry) ∙ sym (room_in entries)
-
 -- its group is led again
 pub led_again : (entries : List Entry) (leads : List Key) (disk : ℕ) (entry : Entry) (least : Key) → AreLed entries leads →
     disk + 3 < length entries →
@@ -221,14 +216,6 @@ blank_least : (keys leads : List Key) (group : ℕ) → ((i : ℕ) → key_at ke
 blank_least keys leads group none free = record {
   one = (0, omega arith, none (4 * group + 3 + 0) ∙ sym (free group));
   least = λ i lt. rw (none (4 * group + 3 + i)) tt;
-}
-
-pub empty_led : AreLed [] []
-empty_led = record {
-  fours = λ some. absurd (omega (arith, some));
-  room = omega arith;
-  most = omega arith;
-  led = λ group. blank_least [] [] group (λ i. refl) (λ i. refl);
 }
 
 keys_blank : (n i : ℕ) (blank : Entry) → blank.key ≡ None → key_at (keys_in (replicate n blank)) i ≡ None

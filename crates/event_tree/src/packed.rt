@@ -127,6 +127,7 @@ impl Packed {
 }
 
 // The number of a key.
+#[inline(always)]
 fn pack(key: Option<Stamp>) -> u128
     requires { IfSome key IsInRange }
     ensures value { result ≡ pack key }
