@@ -1,5 +1,5 @@
 -- Loops that take what is kept of each disk again.
-use Rattle.std.proofs.Common.{◌≡◌, ◌≢◌, ◌⊎◌, inl, inr, ℕ, List, [], ◌∷◌, ◌++◌, length, take, ◌≤◌, arith, refl, sym, subst, ap, ◌∙◌, true, false, cond}
+use Rattle.std.proofs.Common.{◌≡◌, ◌≢◌, ◌⊎◌, inl, inr, ℕ, List, [], ◌∷◌, ◌++◌, length, take, get_or, ◌≤◌, arith, refl, sym, subst, ap, ◌∙◌, true, false, cond}
 use Rattle.std.specs.Option.{option_eq}
 use Rattle.std.specs.Prelude.{eqb, Option, Some, None, Result, Ok, Err, OnOk}
 use Rattle.std.specs.List.{Contains}
@@ -18,6 +18,13 @@ use Rattle.region_queue.specs.Finding.{Cells, cell_in, IsTakenOff, IsRelisted, A
 
 pub take_whole : (xs : List ℕ) (n : ℕ) → length xs ≤ n → take n xs ≡ xs
 take_whole xs n le = grind (arith, common_steps)
+
+-- a list of two
+pub two_of : (xs : List ℕ) → length xs ≡ 2 → get_or xs 0 0 ∷ get_or xs 1 0 ∷ [] ≡ xs
+two_of [] e = absurd (omega arith)
+two_of (x ∷ []) e = absurd (omega arith)
+two_of (x ∷ y ∷ []) e = refl
+two_of (x ∷ y ∷ z ∷ zs) e = absurd (omega arith)
 
 -- ---- one more disk
 -- of the disks so far P holds, and each other one is as it was, or P holds of it too

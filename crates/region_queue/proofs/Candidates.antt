@@ -189,7 +189,7 @@ pair_of finder view i j s found kind (inl e) = inl (found, (kind, e))
 pair_of finder view i j s found kind (inr e) = inr (found, (kind, e))
 
 -- a pair that names a disk has another one
-other_of : (s : Stamp) (disk : ℕ) → Names s disk → (other : ℕ) × IsPairOf s disk other
+pub other_of : (s : Stamp) (disk : ℕ) → Names s disk → (other : ℕ) × IsPairOf s disk other
 other_of s disk (inl first) = (s.second, inl (first, refl))
 other_of s disk (inr second) = (s.first, inr (refl, second.1))
 

@@ -11,4 +11,5 @@ mod Numbered
 mod Outside
 mod Settled
 mod Standing
+mod Together
 mod Unchanged

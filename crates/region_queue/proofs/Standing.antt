@@ -17,7 +17,7 @@ use Rattle.region_view.specs.Views.{ViewData, rows_in}
 use Rattle.region_queue.specs.declared.finder.Finder.{Finder}
 use Rattle.region_view.specs.Naming.{Names, IsSameBut, IsSameButBy, IsMoved}
 use Rattle.region_view.proofs.Naming.{native_stays, natives_stay}
-use Rattle.region_queue.specs.Finding.{Cells, cell_in, AreListed, AreRelisted, AreRelistedOf, AreRetaken, AreGiven, IsFound, IsReady}
+use Rattle.region_queue.specs.Finding.{Cells, cell_in, KeepCells, AreListed, AreRelisted, AreRelistedOf, AreRetaken, AreGiven, IsFound, IsReady}
 use Rattle.region_queue.specs.Queue.{QueueData, queue_of, StandsFor, IsSound}
 use Rattle.region_queue.specs.Covering.{Covers, IsSettled}
 use Rattle.region_queue.proofs.Covered.{covers_again}
@@ -59,6 +59,15 @@ stands_again finder before after was ids old mid relisted retaken same stands = 
   where
     listed : AreListed after finder.lists.cells
     listed = lists_again before after (λ i. Contains ids i) was finder.lists.cells stands.0 same relisted
+
+-- after changes of some disks that keep their cells
+pub stands_struck : (finder : Finder) (before after : ViewData) (ids : List ℕ) (old mid : EntriesData) →
+    (AreListed after finder.lists.cells → AreRetaken finder after ids old mid) → IsSameBut ids before after →
+    KeepCells before after → StandsFor (queue_of finder.rules finder.grid finder.region finder.lists.cells old.keys old.bounds) before →
+    AreListed after finder.lists.cells × Covers (IsFound finder after) mid.keys mid.bounds
+unfolding StandsFor
+stands_struck finder before after ids old mid retaken same kept stands =
+    stands_again finder before after finder.lists.cells ids old mid (λ i. inl (stands.0 i ∙ sym (kept i))) retaken same stands
 
 -- after an event is taken back
 pub stands_back : (finder : Finder) (s : Stamp) (later view : ViewData) (was : Cells) (old mid : EntriesData) →

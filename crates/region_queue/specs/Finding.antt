@@ -1,5 +1,5 @@
 -- What is found and kept of one disk.
-use Rattle.std.specs.Prelude.{◌≡◌, ◌≢◌, ◌⊎◌, ℕ, ◌<◌, Bool, IsTrue, List, Option, Some, IfSome, option_map}
+use Rattle.std.specs.Prelude.{◌≡◌, ◌≢◌, ◌⊎◌, ℕ, ◌<◌, ℤ, ◌*ℤ◌, Bool, IsTrue, List, Option, Some, IfSome, option_map}
 use Rattle.std.specs.Ordering.{nat_cmp}
 use Rattle.std.specs.FinMap as map
 use Rattle.std.specs.List.{Contains}
@@ -21,6 +21,7 @@ use Rattle.region_view.specs.declared.action.Placed.{Placed}
 use Rattle.region_view.specs.Events.{IsAlone, IsNear}
 use Rattle.region_view.specs.Placing.{IsNative, IsValidPlacing}
 use Rattle.region_view.specs.Views.{ViewData, rows_in}
+use Rattle.region_queue.specs.declared.finder.Best.{Best}
 use Rattle.region_queue.specs.declared.finder.Finder.{Finder}
 use Rattle.region_view.specs.Naming.{Names, IsPairOf}
 
@@ -35,6 +36,10 @@ cell_in view disk = option_map (λ p. p.cell) (rows_in view disk)
 -- each disk is listed where the view has it
 abbrev pub AreListed : ViewData → Cells → Type 0
 AreListed view cells = (disk : ℕ) → map.get cells disk ≡ cell_in view disk
+
+-- each disk is in the same cell before and after
+abbrev pub KeepCells : ViewData → ViewData → Type 0
+KeepCells before after = (disk : ℕ) → cell_in after disk ≡ cell_in before disk
 
 -- one disk is listed nowhere, and the others are where they were
 pub record IsTakenOff (disk : ℕ) (old new : ListsData) : Type 0 where
@@ -101,6 +106,14 @@ IsBlockBeside grid cell block = (other : ℕ) → IsCell grid other → IsWithin
 abbrev pub AreAllWithin : ListsData → Block → List ℕ → Type 0
 AreAllWithin lists block disks = (i : ℕ) → Contains disks i → IsListedWithin lists block i
 
+-- of the disks that the view has in cells adjacent to this one, each is among these
+abbrev pub HasNearby : Finder → ViewData → ℕ → List ℕ → Type 0
+HasNearby finder view cell disks = (i : ℕ) (q : Placed) → rows_in view i ≡ Some q → IsAdjacent finder.grid cell q.cell → Contains disks i
+
+-- each cell of a block is in the other one
+abbrev pub IsWider : Block → Block → Type 0
+IsWider block wider = (grid : GridData) (cell : ℕ) → IsWithin grid block cell → IsWithin grid wider cell
+
 -- two disks never hit each other
 abbrev pub NeverMeet : Rules → Disk → Disk → Type 0
 NeverMeet rules disk other = NeverHit rules disk other × NeverHit rules other disk
@@ -112,6 +125,11 @@ IsMissed rules disk row = IfSome row (λ q. NeverMeet rules disk q.disk)
 -- nor by any rules by which both are valid and products are small
 abbrev pub IsMissedBySmall : Disk → Option Placed → Type 0
 IsMissedBySmall disk row = IfSome row (λ q. (rules : Rules) → IsSmallPair rules disk q.disk → NeverMeet rules disk q.disk)
+
+-- nor by any such rules whose greatest diameter has this square
+abbrev pub IsMissedByGreatest : ℤ → Disk → Option Placed → Type 0
+IsMissedByGreatest square disk row = IfSome row (λ q. (rules : Rules) → IsSmallPair rules disk q.disk →
+    square ≡ rules.diameter *ℤ rules.diameter → NeverMeet rules disk q.disk)
 
 -- of some disks these are left, and of each that was left out this holds
 pub record AreKept (IsOut : ℕ → Type 0) (old new : List ℕ) : Type 0 where
@@ -152,6 +170,11 @@ IsBestPair finder view disk key = IsLeastOf (IsPaired finder view disk) key
 
 abbrev pub IsBestBeyond : Finder → ViewData → ℕ → ℕ → Key → Type 0
 IsBestBeyond finder view disk cell key = IsLeastOf (IsPairedBeyond finder view disk cell) key
+
+-- these are the least candidates of the disk, where the disks are listed as the view has them
+abbrev pub IsBestOf : Finder → ViewData → ℕ → Best → Type 0
+IsBestOf finder view disk best = IsBestSingle finder view disk best.single
+    × (AreListed view finder.lists.cells → IsBestPair finder view disk best.pair)
 
 -- ---- what is kept of the disks
 -- the least native candidate that names the disk, and the least pair

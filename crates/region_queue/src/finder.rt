@@ -9,16 +9,23 @@ ghost use Rattle.event_stamps.specs.declared.Kind.TheVariants.{Pair};
 ghost use Rattle.event_stamps.specs.Least.{IsLeastOf, HasNone, IsOnly};
 ghost use Rattle.event_stamps.specs.Order.{IsInRange};
 ghost use Rattle.cell_grid.specs.Grid.{IsCell, IsAdjacent, IsStripOf, Owns};
+ghost use Rattle.cell_grid.specs.Crossing.{IsCrossEvent};
 ghost use Rattle.cell_lists.specs.Listing.{IsListed};
 ghost use Rattle.cell_lists.specs.Nearby.{IsBlock, IsListedWithin, AreGathered, columns_to};
 ghost use Rattle.region_queue.specs.Outside.{IsListedOutside, IsListedInParts};
 ghost use Rattle.region_view.specs.declared.action.Placed.{Placed};
-ghost use Rattle.region_queue.specs.Finding.{IsReady, IsFound, IsAloneAt, IsEventOf, IsNativePair, IsNativeWith, IsBestSingle, IsBestPair, IsBestBeyond, IsBlockBeside, IsNearby, AreAllWithin, IsMissed, IsMissedBySmall, AreKept, AreListed};
+ghost use Rattle.region_view.specs.Events.{IsAlone};
+ghost use Rattle.region_queue.specs.Finding.{IsReady, IsFound, IsAloneAt, IsEventOf, IsNativePair, IsNativeWith, IsBestSingle, IsBestPair, IsBestBeyond, IsBlockBeside, IsNearby, AreAllWithin, IsMissed, IsMissedBySmall, IsMissedByGreatest, AreKept, AreListed};
+ghost use Rattle.region_view.specs.Views.{AreRowsOf};
+ghost use Rattle.event_rules.specs.Small.{HaveSmallProducts};
 
 use crate::parts::{Parts, parts_outside};
-use cell_grid::{Grid, Strip};
+use cell_grid::{Departure, Grid, Strip};
 use cell_lists::{Block, Gathered, Lists, block_around};
-use event_rules::{event_between, has_small_products, is_pair_event, may_hit, may_hit_by_small};
+use event_rules::{
+    event_between, first_wall, greatest_square, has_small_products, is_pair_event, may_hit,
+    may_hit_by_greatest, may_hit_by_small, quick_event_between,
+};
 use event_stamps::{Kind, Stamp};
 use event_tree::Packed;
 use fixed_motion::{Disk, Rules};
@@ -160,18 +167,52 @@ impl Finder {
         self.strip.first <= left && right <= self.strip.end
     }
 
-    // The least event of a disk by itself, if that is native. `own` tells whether the region owns its cell.
-    fn best_alone(&self, view: &View, disk: u32, placed: &Placed, own: bool) -> Packed
+    // The least event of a disk by itself, if that is native. `own` tells whether the region owns its cell. Nearly
+    // always it is a crossing, which is told here; what is seldom asked is kept apart.
+    #[inline(always)]
+    pub fn best_alone(&self, view: &View, disk: u32, placed: &Placed, own: bool) -> Packed
         requires ready { IsReady self.now view.now }
         requires placed { map.get view.now disk ≡ Some placed.now }
         requires own { IsTrue own ↔ Owns self.now.grid self.now.region placed.now.cell }
         ensures { IsLeastOf (IsAloneAt self.now disk placed.now) result }
     {
-        if own {
-            Packed::new(first_alone(&self.rules, &self.grid, disk, placed))
-        } else {
-            Packed::new(None)
+        if !own {
+            return Packed::new(None);
         }
+        match self.grid.leaving(&self.rules, &placed.disk, placed.cell) {
+            Departure::At(tick) => Packed::new(Some(Stamp {
+                tick,
+                round: 0,
+                kind: Kind::Cross,
+                first: disk,
+                second: 0,
+            })),
+            Departure::Never => self.first_side(view, disk, placed),
+            Departure::Unknown => self.first_by_parts(view, disk, placed),
+        }
+    }
+
+    // The first event by itself of a disk that has no crossing: it hits a side of the box.
+    #[inline(never)]
+    fn first_side(&self, view: &View, disk: u32, placed: &Placed) -> Packed
+        requires ready { IsReady self.now view.now }
+        requires placed { map.get view.now disk ≡ Some placed.now }
+        requires stays { HasNone (IsCrossEvent self.now.rules self.now.grid disk placed.now.disk placed.now.cell) }
+        ensures { IsLeastOf (IsAlone self.now.rules self.now.grid disk placed.now) result }
+    {
+        let _view = view;
+        Packed::new(first_wall(&self.rules, disk, &placed.disk))
+    }
+
+    // The first event of any disk by itself.
+    #[inline(never)]
+    fn first_by_parts(&self, view: &View, disk: u32, placed: &Placed) -> Packed
+        requires ready { IsReady self.now view.now }
+        requires placed { map.get view.now disk ≡ Some placed.now }
+        ensures { IsLeastOf (IsAlone self.now.rules self.now.grid disk placed.now) result }
+    {
+        let _view = view;
+        Packed::new(first_alone(&self.rules, &self.grid, disk, placed))
     }
 
     // The least native event of a disk with another that is listed in a block of cells beside its own.
@@ -257,6 +298,7 @@ impl Finder {
 
     // The least native event of a disk with one of some others, which are listed in a block of cells beside
     // its own. Of the others those are left that it may hit.
+    #[inline(always)]
     fn best_among(
         &self,
         view: &View,
@@ -285,7 +327,8 @@ impl Finder {
 
     // Leaves those of some disks with which a disk may have a native event, by their courses alone. Nearly all pairs
     // that are looked at are told by this. Which of them may hit can't be foretold, so all are asked first, with no
-    // branch on the answers.
+    // branch on the answers. For a disk of the greatest diameter it costs less to take all others for as great; for a
+    // smaller one that would leave too many.
     #[inline(always)]
     fn keep_candidates(&self, view: &View, disk: u32, placed: &Placed, near: &mut Gathered)
         requires ready { IsReady self.now view.now }
@@ -294,7 +337,13 @@ impl Finder {
     {
         let _disk = disk;
         match view.compact() {
-            Some(rows) if has_small_products(&self.rules) => keep_met(rows, &placed.disk, near),
+            Some(rows) if has_small_products(&self.rules) => {
+                if placed.disk.size == self.rules.diameter {
+                    keep_reached(rows, &placed.disk, greatest_square(&self.rules), near)
+                } else {
+                    keep_met(rows, &placed.disk, near)
+                }
+            }
             _ => self.keep_met_in(view, &placed.disk, near),
         }
     }
@@ -406,7 +455,35 @@ impl Finder {
     // column of this cell. Kept apart, and told of the other disk by its number alone, so that the loop over the
     // disks beside one, few of which come here, keeps its numbers in registers.
     #[inline(never)]
-    fn key_beside(
+    pub fn key_beside(
+        &self,
+        view: &View,
+        disk: u32,
+        placed: &Placed,
+        own: bool,
+        other: u32,
+        whole: bool,
+    ) -> Packed
+        requires ready { IsReady self.now view.now }
+        requires placed { map.get view.now disk ≡ Some placed.now }
+        requires own { IsTrue own ↔ Owns self.now.grid self.now.region placed.now.cell }
+        ensures { IsNearby self.now view.now placed.now.cell whole other →
+            IsLeastOf (IsNativePair self.now view.now disk other) result }
+    {
+        match view.compact() {
+            Some(rows) if has_small_products(&self.rules) => {
+                match self.quick_pair_beside(view, rows, disk, placed, own, other, whole) {
+                    Some(pair) => Packed::new(pair),
+                    None => self.key_beside_in(view, disk, placed, own, other, whole),
+                }
+            }
+            _ => self.key_beside_in(view, disk, placed, own, other, whole),
+        }
+    }
+
+    // The same of any rows. Seldom asked, so it is kept apart, and is told nothing of what was found before.
+    #[inline(never)]
+    fn key_beside_in(
         &self,
         view: &View,
         disk: u32,
@@ -422,6 +499,38 @@ impl Finder {
             IsLeastOf (IsNativePair self.now view.now disk other) result }
     {
         Packed::new(self.pair_beside(view, disk, placed, own, other, whole))
+    }
+
+    // The stamp of this event where rows are compact and products small, but for None, which says nothing: it is seldom.
+    #[inline(always)]
+    fn quick_pair_beside(
+        &self,
+        view: &View,
+        rows: &[Compact],
+        disk: u32,
+        placed: &Placed,
+        own: bool,
+        other: u32,
+        whole: bool,
+    ) -> Option<Option<Stamp>>
+        requires ready { IsReady self.now view.now }
+        requires products { HaveSmallProducts self.now.rules }
+        requires placed { map.get view.now disk ≡ Some placed.now }
+        requires own { IsTrue own ↔ Owns self.now.grid self.now.region placed.now.cell }
+        requires rows { AreRowsOf view.now rows.now }
+        ensures range { IfSome result (λ pair. IfSome pair IsInRange) }
+        ensures least { IsNearby self.now view.now placed.now.cell whole other →
+            IfSome result (IsLeastOf (IsNativePair self.now view.now disk other)) }
+    {
+        let _view = view;
+        let Some(near) = row_in(rows, other) else {
+            return Some(None);
+        };
+        let home = whole || self.owns(near.cell);
+        if !owns_lower(disk, own, other, home) {
+            return Some(None);
+        }
+        quick_event_between(&self.rules, disk, &placed.disk, other, &near.disk)
     }
 
     // The stamp of this event.
@@ -478,10 +587,47 @@ fn may_meet_row(rows: &[Compact], disk: &Disk, other: u32) -> bool
     }
 }
 
+// The same as if all disks had the greatest diameter, of which this is the square. It is told, as it is multiplied
+// again at each disk otherwise.
+#[inline(never)]
+fn keep_reached(rows: &[Compact], disk: &Disk, square: i64, near: &mut Gathered)
+    ensures { AreKept (λ i. IsMissedByGreatest square disk.now (slice_index_or rows.now i None)) near.old near.new }
+{
+    let mut kept = 0;
+    for place in 0..near.len() {
+        let other = near.at(place);
+        let may = may_reach_row(rows, disk, square, other);
+        near.put(kept, other);
+        kept += may as usize;
+    }
+    near.cut(kept);
+}
+
+#[inline(always)]
+fn may_reach_row(rows: &[Compact], disk: &Disk, square: i64, other: u32) -> bool
+    ensures { result ≡ false → IsMissedByGreatest square disk.now (slice_index_or rows.now other None) }
+{
+    match rows.get(other as usize) {
+        Some(row) => may_hit_by_greatest(disk, &row.disk(), square),
+        None => false,
+    }
+}
+
+// What stands at a number, by rows.
+#[inline(always)]
+fn row_in(rows: &[Compact], disk: u32) -> Option<Placed>
+    ensures { result ≡ slice_index_or rows.now disk None }
+{
+    match rows.get(disk as usize) {
+        Some(row) => row.get(),
+        None => None,
+    }
+}
+
 // Whether any number of some rows isn't 0, or there are none to look at. All rows are asked for without a branch on any
 // of the answers, so that they come side by side from memory before the first is looked at. That is its only
 // purpose: nothing need be known of the answer, and no clause speaks of it.
-fn have_rows(view: &View, near: &Gathered) -> bool {
+pub(crate) fn have_rows(view: &View, near: &Gathered) -> bool {
     let Some(rows) = view.compact() else {
         return true;
     };

@@ -1,17 +1,18 @@
 //! The keys of a region's disks, and when they are taken again.
 
-ghost use Rattle.std.specs.Prelude.{◌≡◌, ◌↔◌, Some, IsTrue, IfSome, OnOk};
+ghost use Rattle.std.specs.Prelude.{◌≡◌, ◌↔◌, [], ◌∷◌, Some, IsTrue, IfSome, OnOk};
 ghost use Rattle.event_stamps.specs.declared.Kind.TheVariants.{Pair};
 ghost use Rattle.event_stamps.specs.Order.{IsInRange};
 ghost use Rattle.cell_grid.specs.Grid.{IsCell, Owns};
 ghost use Rattle.region_view.specs.declared.action.Placed.{Placed};
 ghost use Rattle.region_view.specs.Views.{ViewData, rows_in};
 ghost use Rattle.region_view.specs.Naming.{IsMoved};
+ghost use Rattle.region_queue.specs.declared.finder.Finder.{Finder};
 ghost use Rattle.region_queue.specs.Covering.{Covers, IsSettled};
-ghost use Rattle.region_queue.specs.Finding.{IsReady, IsFound, AreListed, AreRetaken, AreRetakenOf, AreGiven};
+ghost use Rattle.region_queue.specs.Finding.{IsReady, IsFound, IsBestSingle, IsBestPair, AreListed, AreRetaken, AreRetakenOf, AreGiven};
 ghost use Rattle.region_queue.specs.Finding.{IsTakenAt, IsExtended, HasKey, IsHolder, cell_in};
 
-use crate::finder::{Finder, has_stamp};
+use crate::finder::{Best, Finder, has_stamp};
 use event_stamps::{Kind, Stamp};
 use event_tree::{Entries, Packed};
 use region_view::View;
@@ -29,10 +30,38 @@ pub(crate) fn take_keys(
     ensures { OnOk result (AreListed view.now finder.now.lists.cells →
         AreRetaken finder.now view.now disks.now keys.old keys.new) }
 {
+    if disks.len() == 2 {
+        return take_both(alloc, finder, keys, view, disks[0], disks[1]);
+    }
     for disk in disks {
         take_key(alloc, finder, keys, view, *disk)?;
     }
     Ok(())
+}
+
+// Takes the keys of two disks again, as of two that have hit each other, by one look around both.
+pub(crate) fn take_both(
+    alloc: Global,
+    finder: &Finder,
+    keys: &mut Entries,
+    view: &View,
+    first: u32,
+    second: u32,
+) -> Result<(), AllocError>
+    requires { IsReady finder.now view.now }
+    ensures { OnOk result (AreListed view.now finder.now.lists.cells →
+        AreRetaken finder.now view.now (first ∷ second ∷ []) keys.old keys.new) }
+{
+    match finder.best_both(view, first, second) {
+        Some((one, other)) => {
+            set_best(alloc, keys, first, one)?;
+            set_best(alloc, keys, second, other)
+        }
+        None => {
+            take_key(alloc, finder, keys, view, first)?;
+            take_key(alloc, finder, keys, view, second)
+        }
+    }
 }
 
 // Takes the key of a disk again.
@@ -48,6 +77,14 @@ fn take_key(
         IsTakenAt finder.now view.now disk keys.old keys.new) }
 {
     let best = finder.best(view, disk);
+    set_best(alloc, keys, disk, best)
+}
+
+// Makes what is found of a disk its key and its bound.
+fn set_best(alloc: Global, keys: &mut Entries, disk: u32, best: Best) -> Result<(), AllocError>
+    ensures { OnOk result ((finder : Finder) (view : ViewData) → IsBestSingle finder view disk best.single →
+        IsBestPair finder view disk best.pair → IsTakenAt finder view disk keys.old keys.new) }
+{
     let key = best.single.earlier(best.pair);
     keys.set(alloc, disk, key, best.pair)
 }

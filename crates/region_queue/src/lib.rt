@@ -10,6 +10,7 @@
 //! disks that are beside both cells are those that they were, so that only the others are looked for.
 #![tactic(auto)]
 
+mod both;
 mod finder;
 mod keys;
 mod listing;

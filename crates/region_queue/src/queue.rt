@@ -6,7 +6,7 @@ use crate::listing::{list_again, list_event};
 use cell_grid::Grid;
 use cell_lists::Lists;
 use event_stamps::Stamp;
-use event_tree::Entries;
+use event_tree::{Entries, Packed};
 use fixed_motion::Rules;
 use region_view::View;
 use std::alloc::{AllocError, Global};
@@ -36,7 +36,7 @@ impl Model for Queue {
     ghost invariant = { λ a. IsSound a.finder.rules a.finder.grid a.finder.region a.finder.strip a.finder.lists.grid };
 }
 
-ghost use Rattle.std.specs.Prelude.{◌≡◌, ℕ, ◌<◌, None, Some, IfOk, OnOk};
+ghost use Rattle.std.specs.Prelude.{◌≡◌, ℕ, ◌<◌, None, Some, IfOk, OnOk, [], ◌∷◌};
 ghost use Rattle.std.specs.FinMap as map;
 ghost use Rattle.std.specs.List.{Contains};
 ghost use Rattle.fixed_motion.specs.Rules.{IsChecked};
@@ -46,6 +46,7 @@ ghost use Rattle.region_view.specs.declared.action.Placed.{Placed};
 ghost use Rattle.region_view.specs.Placing.{IsNative, IsValidPlacing};
 ghost use Rattle.region_view.specs.Views.{ViewData, rows_in};
 ghost use Rattle.region_view.specs.Naming.{IsSameBut, IsSameButBy, IsMoved};
+ghost use Rattle.region_queue.specs.Finding.{KeepCells};
 ghost use Rattle.region_queue.specs.Queue.{IsOf, StandsFor};
 
 impl Queue {
@@ -90,6 +91,15 @@ impl Queue {
         self.keys.least()
     }
 
+    /// The same packed, to be compared at once.
+    #[inline(always)]
+    pub fn top(&self) -> Packed
+        ensures { (view : ViewData) → StandsFor self.now view →
+            IsLeastOf (IsNative self.now.rules self.now.grid self.now.region (rows_in view)) result }
+    {
+        self.keys.top()
+    }
+
     /// Takes in the changes of these disks, to what stands at their numbers in a view. The queue then stands
     /// for this view where it stood for one that is the same at all other numbers.
     ///
@@ -103,6 +113,27 @@ impl Queue {
     {
         list_again(alloc, &mut self.finder.lists, view, ids)?;
         take_keys(alloc, &self.finder, &mut self.keys, view, ids)?;
+        settle(alloc, &self.finder, &mut self.keys, view)
+    }
+
+    /// Takes in the changes of two disks that keep their cells, as those that hit each other do. The queue then
+    /// stands for this view where it stood for one that is the same at all other numbers.
+    ///
+    /// # Errors
+    /// Out of memory: the queue stands for no view that could be named, and has to be opened anew.
+    pub fn struck(
+        &mut self,
+        alloc: Global,
+        view: &View,
+        first: u32,
+        second: u32,
+    ) -> Result<(), AllocError>
+        requires valid { IsValidPlacing self.old.rules self.old.grid (rows_in view.now) }
+        ensures same { IsOf self.new self.old.rules self.old.grid self.old.region }
+        ensures stands { OnOk result ((before : ViewData) → StandsFor self.old before →
+            IsSameBut (first ∷ second ∷ []) before view.now → KeepCells before view.now → StandsFor self.new view.now) }
+    {
+        take_keys(alloc, &self.finder, &mut self.keys, view, &[first, second])?;
         settle(alloc, &self.finder, &mut self.keys, view)
     }
 

@@ -139,7 +139,7 @@ fn queue_of(alloc: Global, state: &CellState, region: u32) -> Result<Queue, Allo
     Queue::open(alloc, &view, state.grid(), state.rules(), region)
 }
 
-// Runs the next event, and has the queue take in what it changed; says whether there was one.
+// Runs the next event, and has the queue take in what it changed, by the call for its kind; says whether there was one.
 fn take_in_next(
     alloc: Global,
     state: &mut CellState,
@@ -151,12 +151,16 @@ fn take_in_next(
     ensures grid { state.new.grid ≡ state.old.grid }
     ensures queue { IsOf queue.new state.new.rules state.new.grid region }
 {
-    let Some((_, _, _, first, second, _)) = run_next(state) else {
+    let Some((_, _, kind, first, second, _)) = run_next(state) else {
         return Ok(false);
     };
     let view = view_of(alloc, state, region)?;
-    // A wall's number may be that of a disk that didn't change, at which the queue looks in vain.
-    queue.touched(alloc, &view, &[first, second])?;
+    match kind {
+        Kind::Pair => queue.struck(alloc, &view, first, second)?,
+        Kind::Cross => queue.crossed(alloc, &view, first)?,
+        // A wall's number may be that of a disk that didn't change, at which the queue looks in vain.
+        Kind::Wall => queue.touched(alloc, &view, &[first, second])?,
+    }
     Ok(true)
 }
 
@@ -194,8 +198,24 @@ const TICKS: &str = "width = 536870912\n\
     [16777216, 16777216, 1, 0], [167772159, 16777216, 0, 0], [16777216, 50331648, 1, 0], \
     [167772160, 50331648, 0, 0], [16777216, 83886080, 1, 0], [167772161, 83886080, 0, 0]]\n";
 
+// A box of three columns and rows of cells, in all of which there are more disks than are gathered at once, a sixth of
+// them of half the diameter.
+const DENSE: &str = "width = 66\n\
+    height = 66\n\
+    diameter = 4\n\
+    speed_limit = 8\n\
+    round_limit = 8\n\
+    end = 30\n\
+    disks = [\
+    [7, 8, 3, 3], [7, 17, 1, 3], [8, 26, -2, 3], [8, 37, 2, 1], [6, 46, 0, -1], [6, 56, 1, 3, 2], \
+    [18, 8, -3, 1], [17, 17, 2, 2], [18, 28, -2, 1], [16, 38, -3, -3], [16, 46, -2, 1], [16, 57, -1, 0, 2], \
+    [28, 6, 1, -2], [28, 17, 0, -3], [28, 26, 0, 2], [27, 37, 1, 3], [26, 48, -1, -1], [26, 58, -1, -3, 2], \
+    [36, 8, 3, -3], [37, 16, 3, -1], [37, 26, -3, 3], [38, 36, -2, -2], [36, 47, 0, 2], [37, 57, -3, 1, 2], \
+    [48, 6, 3, 2], [47, 17, -3, -1], [47, 26, 0, 3], [46, 36, -2, 2], [46, 46, -3, 0], [47, 56, 2, 1, 2], \
+    [56, 7, 1, -2], [58, 16, 0, 2], [57, 26, 0, 0], [56, 36, -1, 3], [58, 47, -3, -2], [56, 57, 3, 1, 2]]\n";
+
 // A row of the comparison is ten times the place of the scene, and the region.
-const SCENES: &[&str] = &[CROWD, ROUNDS, TICKS];
+const SCENES: &[&str] = &[CROWD, ROUNDS, TICKS, DENSE];
 
 // More events than a run has.
 const MOST_EVENTS: u32 = 10_000;

@@ -1,10 +1,8 @@
--- The events of the disk by itself, and with others near.
-use Rattle.std.proofs.Common.{sym, subst}
-use Rattle.event_tree.specs.Entries.{IsEntered}
-use Rattle.event_tree.specs.Keys.{Key}
-use Rattle.region_queue.specs.Finding.{AreListed, IsBest, IsTaken, IsTakenAt}
+-- What is found is set.
+use Rattle.region_view.specs.Views.{ViewData}
+use Rattle.region_queue.specs.declared.finder.Finder.{Finder}
+use Rattle.region_queue.specs.Finding.{AreListed, IsBestSingle, IsBestPair, IsTakenAt}
 use Rattle.region_queue.proofs.Again.{on_ok}
-use Rattle.region_queue.proofs.Candidates.{best_of_both}
 use Rattle.region_queue.proofs.keys.take_key.Goals as goal
 
 pub returns : goal.returns
@@ -12,18 +10,11 @@ returns c =
     let finder = c.args.finder.now in
     let view = c.args.view.now in
     let disk = c.args.disk in
-    let key = c.earlier-key.result in
-    let bound = c.best-best.result.pair in
+    let best = c.best-best.result in
     let old = c.args.keys.now in
-    let new = c.set.new.self in
-    on_ok c.set.result (IsEntered disk (key, bound) old new) (AreListed view finder.lists.cells → IsTakenAt finder view disk old new)
-    (λ entered listed.
-    let pairs = c.best-best.ensures.pair listed in
-    let best =
-    subst (λ (o : Key). IsBest finder view disk o) (sym c.earlier-key.ensures)
-    (best_of_both finder view disk c.best-best.result.single bound c.best-best.ensures.single pairs) in
-    record {
-      taken = subst (IsTaken finder view disk) (sym entered.set) (best, pairs);
-      others = entered.others;
-    })
-    c.set.ensures
+    let new = c.set_best.new.keys in
+    on_ok c.set_best.result
+    ((f : Finder) (v : ViewData) → IsBestSingle f v disk best.single → IsBestPair f v disk best.pair → IsTakenAt f v disk old new)
+    (AreListed view finder.lists.cells → IsTakenAt finder view disk old new)
+    (λ set listed. set finder view c.best-best.ensures.single (c.best-best.ensures.pair listed))
+    c.set_best.ensures

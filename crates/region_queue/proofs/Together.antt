@@ -1,0 +1,58 @@
+-- The pairs of two disks with those that were gathered near either.
+use Rattle.std.proofs.Common.{◌≡◌, inr, inl, ℕ, List, sym, subst}
+use Rattle.std.specs.Prelude.{Option, Some}
+use Rattle.std.specs.List.{Contains}
+use Rattle.event_stamps.specs.declared.Stamp.{Stamp}
+use Rattle.event_stamps.specs.Least.{IsLeastOf, HasNone}
+use Rattle.event_stamps.proofs.Least.{least_same}
+use Rattle.cell_grid.specs.Grid.{GridData, IsAdjacent}
+use Rattle.cell_lists.specs.declared.near.Block.{Block}
+use Rattle.cell_lists.specs.Nearby.{IsWithin, AreGathered}
+use Rattle.region_view.specs.declared.action.Placed.{Placed}
+use Rattle.region_view.specs.Views.{ViewData, rows_in}
+use Rattle.region_view.proofs.Naming.{near_pair}
+use Rattle.region_queue.specs.declared.finder.Finder.{Finder}
+use Rattle.region_queue.specs.Finding.{IsReady, IsNativePair, IsNativeWith, IsPaired, IsBestPair, AreKept, AreListed, HasNearby, IsWider}
+use Rattle.region_queue.proofs.Candidates.{IsAround, listed_at, pair_found, pair_of, pair_beside, other_of, names_pair}
+
+-- what is listed around a cell is gathered with a wider block
+pub near_gathered : (finder : Finder) (view : ViewData) (at : ℕ) (block wider : Block) (old near : List ℕ) → IsReady finder view →
+    AreListed view finder.lists.cells → IsAround finder.grid at block → IsWider block wider →
+    AreGathered finder.lists wider old near → HasNearby finder view at near
+near_gathered finder view at block wider old near ready listed around has gathered i q row beside =
+    (gathered i).1 (inr (
+      q.cell,
+      listed_at view finder.lists i q listed row,
+      subst (λ (g : GridData). IsWithin g wider q.cell) (sym ready.lists)
+          (has finder.grid q.cell ((around q.cell (ready.valid.cell i q row)).0 beside)),
+    ))
+
+-- no native event with a disk in a cell that isn't adjacent
+pub far_none : (finder : Finder) (view : ViewData) (disk other : ℕ) (p : Placed) → rows_in view disk ≡ Some p →
+    ((q : Placed) → rows_in view other ≡ Some q → ¬ IsAdjacent finder.grid p.cell q.cell) → HasNone (IsNativePair finder view disk other)
+far_none finder view disk other p row far s n =
+    let pair = pair_found finder view disk other s n in
+    let beside = pair_beside finder.rules finder.grid view disk other p s row
+    (near_pair finder.rules finder.grid finder.region view s pair.0 pair.1) pair.2 in
+    far beside.0 beside.1 beside.2
+
+-- the least event with one of those that are left of all that are near is the least pair
+pub best_kept : (finder : Finder) (view : ViewData) (disk : ℕ) (p : Placed) (near kept : List ℕ) (o : Option Stamp) →
+    rows_in view disk ≡ Some p → HasNearby finder view p.cell near → AreKept (λ i. HasNone (IsNativePair finder view disk i)) near kept →
+    IsLeastOf (IsNativeWith finder view disk (λ i. Contains kept i)) o → IsBestPair finder view disk o
+best_kept finder view disk p near kept o row has are h =
+    least_same (IsNativeWith finder view disk (λ i. Contains kept i)) (IsPaired finder view disk) o to from h
+  where
+    to : (s : Stamp) → IsNativeWith finder view disk (λ i. Contains kept i) s → IsPaired finder view disk s
+    to s x = let pair = pair_found finder view disk x.0 s x.2 in (pair.0, pair.1, names_pair s disk x.0 pair.1 pair.2)
+
+    from : (s : Stamp) → IsPaired finder view disk s → IsNativeWith finder view disk (λ i. Contains kept i) s
+    from s x =
+        let other = other_of s disk x.2 in
+        let beside = pair_beside finder.rules finder.grid view disk other.0 p s row
+        (near_pair finder.rules finder.grid finder.region view s x.0 x.1) other.1 in
+        let native = pair_of finder view disk other.0 s x.0 x.1 other.1 in
+        elim (are.out other.0 (has other.0 beside.0 beside.1 beside.2)) [
+          | inl y ↦ (other.0, y, native)
+          | inr none ↦ absurd (none s native)
+        ]

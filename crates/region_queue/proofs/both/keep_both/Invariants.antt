@@ -1,0 +1,10 @@
+-- Of the disks so far those are left in each list that may hit.
+use Rattle.std.specs.Prelude.{None, slice_index_or}
+use Rattle.region_queue.specs.Finding.{IsMissedByGreatest}
+use Rattle.region_queue.proofs.Keeping.{IsKeeping}
+use Rattle.region_queue.proofs.both.keep_both.Given as goal
+
+abbrev pub invariant-loop-place : goal.invariant-loop-place
+invariant-loop-place l =
+    IsKeeping (λ i. IsMissedByGreatest l.fn.square l.one (slice_index_or l.rows i None)) l.fn.near l.near l.place l.kept
+    × IsKeeping (λ i. IsMissedByGreatest l.fn.square l.other (slice_index_or l.rows i None)) l.fn.near l.near_other l.place l.kept_other

@@ -1,0 +1,63 @@
+-- Each disk has its own list of those that are left of all that are near either.
+use Rattle.std.proofs.Common.{◌≡◌, sym, arith, w64, FitsSigned, to_z, of_z}
+use Rattle.std.proofs.lemmas.Int.{ints, to_z-of_z}
+use Rattle.std.specs.Prelude.{None, slice_index_or}
+use Rattle.event_stamps.specs.Least.{HasNone}
+use Rattle.region_queue.specs.Finding.{IsNativePair, IsMissedByGreatest}
+use Rattle.region_queue.proofs.Together.{best_kept}
+use Rattle.region_queue.proofs.Keeping.{kept_as, none_by_greatest}
+use Rattle.region_queue.proofs.finder.Finder.best_both.Goals as goal
+
+pub returns-clause-first : goal.returns-clause-first
+returns-clause-first c = (
+  c.best_near.ensures.single,
+  λ listed.
+      let finder = c.args.self.now in
+      let view = c.args.view.now in
+      let p = c.in_ok-one.one in
+      let row = sym c.in_ok-one.ensures in
+      let rows = c.in_ok-rows.rows.now in
+      let square = c.greatest_square-square.result in
+      let fits : FitsSigned w64 c.greatest_square-square.result = omega (arith, ints, c.greatest_square-square.type_inv) in
+      let same : to_z w64 (of_z w64 square) ≡ square = to_z-of_z w64 square fits in
+      let small = c.are_alike.ensures.products c.if-not-are_alike.false in
+      let kept = kept_as (λ i. IsMissedByGreatest square p.disk (slice_index_or rows i None)) (λ i. HasNone (IsNativePair finder view c.args.first i))
+      c.gather_both.new.near c.keep_both.new.near
+      (none_by_greatest finder view c.args.first p rows square c.requires small c.greatest_square-square.ensures row c.in_ok-rows.ensures)
+      (rw same at c.keep_both.ensures.one) in
+      best_kept finder view c.args.first p c.gather_both.new.near c.keep_both.new.near c.best_near.result.pair row
+      (c.gather_both.ensures.one c.if-not-gather_both.false listed) kept c.best_near.ensures.pair,
+)
+
+pub returns-clause-second : goal.returns-clause-second
+returns-clause-second c = (
+  c.best_near-2.ensures.single,
+  λ listed.
+      let finder = c.args.self.now in
+      let view = c.args.view.now in
+      let p = c.in_ok-other.other in
+      let row = sym c.in_ok-other.ensures in
+      let rows = c.in_ok-rows.rows.now in
+      let square = c.greatest_square-square.result in
+      let fits : FitsSigned w64 c.greatest_square-square.result = omega (arith, ints, c.greatest_square-square.type_inv) in
+      let same : to_z w64 (of_z w64 square) ≡ square = to_z-of_z w64 square fits in
+      let small = c.are_alike.ensures.products c.if-not-are_alike.false in
+      let kept = kept_as (λ i. IsMissedByGreatest square p.disk (slice_index_or rows i None)) (λ i. HasNone (IsNativePair finder view c.args.second i))
+      c.gather_both.new.near c.keep_both.new.near_other
+      (none_by_greatest finder view c.args.second p rows square c.requires small c.greatest_square-square.ensures row c.in_ok-rows.ensures)
+      (rw same at c.keep_both.ensures.other) in
+      best_kept finder view c.args.second p c.gather_both.new.near c.keep_both.new.near_other c.best_near-2.result.pair row
+      (c.gather_both.ensures.other c.if-not-gather_both.false listed) kept c.best_near-2.ensures.pair,
+)
+
+pub are_alike-requires-clause-one : goal.are_alike-requires-clause-one
+are_alike-requires-clause-one c = c.requires.valid.cell c.args.first c.in_ok-one.one (sym c.in_ok-one.ensures)
+
+pub are_alike-requires-clause-other : goal.are_alike-requires-clause-other
+are_alike-requires-clause-other c = c.requires.valid.cell c.args.second c.in_ok-other.other (sym c.in_ok-other.ensures)
+
+pub gather_both-requires-clause-one : goal.gather_both-requires-clause-one
+gather_both-requires-clause-one c = c.requires.valid.cell c.args.first c.in_ok-one.one (sym c.in_ok-one.ensures)
+
+pub gather_both-requires-clause-other : goal.gather_both-requires-clause-other
+gather_both-requires-clause-other c = c.requires.valid.cell c.args.second c.in_ok-other.other (sym c.in_ok-other.ensures)

@@ -1,0 +1,215 @@
+//! The native candidates of two disks in adjacent cells, as two that have hit each other are.
+
+ghost use Rattle.std.specs.Prelude.{◌≡◌, ◌↔◌, None, IsTrue, IfSome, false, slice_index_or};
+ghost use Rattle.std.specs.FinMap as map;
+ghost use Rattle.std.specs.List.{Contains};
+ghost use Rattle.fixed_motion.specs.Rules.{IsChecked};
+ghost use Rattle.event_rules.specs.Small.{HaveSmallProducts};
+ghost use Rattle.event_stamps.specs.Least.{IsLeastOf};
+ghost use Rattle.cell_grid.specs.Grid.{GridData, IsCell, IsAdjacent, Owns};
+ghost use Rattle.cell_lists.specs.Nearby.{IsBlock};
+ghost use Rattle.region_view.specs.declared.action.Placed.{Placed};
+ghost use Rattle.region_view.specs.Views.{rows_in};
+ghost use Rattle.region_queue.specs.Finding.{IsReady, IsNativePair, IsNativeWith, IsNearby, IsBestSingle, IsBestOf, IsMissedByGreatest, AreKept, AreListed, HasNearby, IsWider};
+
+use crate::finder::{Best, Finder, have_rows};
+use cell_lists::{Block, Gathered, block_around};
+use event_rules::{greatest_square, has_small_products, may_hit_either};
+use event_tree::Packed;
+use fixed_motion::Disk;
+use region_view::{Compact, Placed, View};
+
+impl Finder {
+    // What `best` finds of each of two disks: those near either are gathered once, and tested with both. None says
+    // nothing: the two aren't alike, or too many disks are near.
+    pub fn best_both(&self, view: &View, first: u32, second: u32) -> Option<(Best, Best)>
+        requires { IsReady self.now view.now }
+        ensures first { IfSome result (λ both. IsBestOf self.now view.now first both.0) }
+        ensures second { IfSome result (λ both. IsBestOf self.now view.now second both.1) }
+    {
+        let rows = view.compact()?;
+        let one = view.get(first)?;
+        let other = view.get(second)?;
+        if !self.are_alike(&one, &other) {
+            return None;
+        }
+        let mut near = Gathered::new();
+        if !self.gather_both(view, &one, &other, &mut near) {
+            return None;
+        }
+        let mut near_other = near.copy();
+        let square = greatest_square(&self.rules);
+        keep_both(
+            rows,
+            &one.disk,
+            &other.disk,
+            square,
+            &mut near,
+            &mut near_other,
+        );
+        Some((
+            self.best_near(view, first, &one, &near),
+            self.best_near(view, second, &other, &near_other),
+        ))
+    }
+
+    // Whether two disks have the greatest diameter and one base tick and are in adjacent cells, as two mostly do that
+    // have hit each other, and products are small.
+    #[inline(always)]
+    fn are_alike(&self, one: &Placed, other: &Placed) -> bool
+        requires checked { IsChecked self.now.rules }
+        requires one { IsCell self.now.grid one.now.cell }
+        requires other { IsCell self.now.grid other.now.cell }
+        ensures base { IsTrue result → one.now.disk.base ≡ other.now.disk.base }
+        ensures products { IsTrue result → HaveSmallProducts self.now.rules }
+    {
+        one.disk.size == self.rules.diameter
+            && other.disk.size == self.rules.diameter
+            && one.disk.base == other.disk.base
+            && has_small_products(&self.rules)
+            && self.grid.adjacent(one.cell, other.cell)
+    }
+
+    // Gathers the disks near either of two, if there are so few of them.
+    #[inline(always)]
+    fn gather_both(&self, view: &View, one: &Placed, other: &Placed, near: &mut Gathered) -> bool
+        requires ready { IsReady self.now view.now }
+        requires one { IsCell self.now.grid one.now.cell }
+        requires other { IsCell self.now.grid other.now.cell }
+        ensures one { IsTrue result → AreListed view.now self.now.lists.cells → HasNearby self.now view.now one.now.cell near.new }
+        ensures other { IsTrue result → AreListed view.now self.now.lists.cells → HasNearby self.now view.now other.now.cell near.new }
+    {
+        let block = block_around(&self.grid, one.cell);
+        let beside = block_around(&self.grid, other.cell);
+        self.lists.gather(joined(block, beside), near) && have_rows(view, near)
+    }
+
+    // The least native candidate of a disk by itself, and its least native event with one of some others.
+    #[inline(always)]
+    fn best_near(&self, view: &View, disk: u32, placed: &Placed, others: &Gathered) -> Best
+        requires ready { IsReady self.now view.now }
+        requires placed { map.get view.now disk ≡ Some placed.now }
+        ensures single { IsBestSingle self.now view.now disk result.single }
+        ensures pair { IsLeastOf (IsNativeWith self.now view.now disk (λ i. Contains others.now i)) result.pair }
+    {
+        let own = self.owns(placed.cell);
+        Best {
+            single: self.best_alone(view, disk, placed, own),
+            pair: self.best_pair(view, disk, placed, own, others),
+        }
+    }
+
+    // The least native event of a disk with one of some others.
+    #[inline(always)]
+    fn best_pair(
+        &self,
+        view: &View,
+        disk: u32,
+        placed: &Placed,
+        own: bool,
+        others: &Gathered,
+    ) -> Packed
+        requires ready { IsReady self.now view.now }
+        requires placed { map.get view.now disk ≡ Some placed.now }
+        requires own { IsTrue own ↔ Owns self.now.grid self.now.region placed.now.cell }
+        ensures { IsLeastOf (IsNativeWith self.now view.now disk (λ i. Contains others.now i)) result }
+    {
+        let others = others.as_slice();
+        let mut best = Packed::new(None);
+        for other in others {
+            best = best.earlier(self.key_with(view, disk, placed, own, *other));
+        }
+        best
+    }
+
+    // The native event of a disk with another, wherever that is.
+    #[inline(always)]
+    fn key_with(&self, view: &View, disk: u32, placed: &Placed, own: bool, other: u32) -> Packed
+        requires ready { IsReady self.now view.now }
+        requires placed { map.get view.now disk ≡ Some placed.now }
+        requires own { IsTrue own ↔ Owns self.now.grid self.now.region placed.now.cell }
+        ensures { IsLeastOf (IsNativePair self.now view.now disk other) result }
+    {
+        if self.is_near(view, placed.cell, other) {
+            self.key_beside(view, disk, placed, own, other, false)
+        } else {
+            Packed::new(None)
+        }
+    }
+
+    // Whether a disk is in a cell adjacent to this one.
+    #[inline(always)]
+    fn is_near(&self, view: &View, cell: u32, disk: u32) -> bool
+        requires ready { IsReady self.now view.now }
+        requires cell { IsCell self.now.grid cell }
+        ensures near { IsTrue result → IsNearby self.now view.now cell false disk }
+        ensures far { result ≡ false → (q : Placed) → rows_in view.now disk ≡ Some q → ¬ IsAdjacent self.now.grid cell q.cell }
+    {
+        match view.get(disk) {
+            Some(placed) => self.grid.adjacent(cell, placed.cell),
+            None => false,
+        }
+    }
+}
+
+// A block that has the cells of both of two.
+#[inline(always)]
+fn joined(a: Block, b: Block) -> Block
+    ensures block { (grid : GridData) → IsBlock grid a → IsBlock grid b → IsBlock grid result }
+    ensures first { IsWider a result }
+    ensures second { IsWider b result }
+{
+    Block {
+        left: a.left.min(b.left),
+        right: a.right.max(b.right),
+        low: a.low.min(b.low),
+        high: a.high.max(b.high),
+    }
+}
+
+// Leaves in one list those of some disks that the first of two disks may hit, and in another one those that the second may.
+#[inline(never)]
+fn keep_both(
+    rows: &[Compact],
+    one: &Disk,
+    other: &Disk,
+    square: i64,
+    near: &mut Gathered,
+    near_other: &mut Gathered,
+)
+    requires base { one.now.base ≡ other.now.base }
+    requires same { near_other.old ≡ near.old }
+    ensures one { AreKept (λ i. IsMissedByGreatest square one.now (slice_index_or rows.now i None)) near.old near.new }
+    ensures other { AreKept (λ i. IsMissedByGreatest square other.now (slice_index_or rows.now i None)) near.old near_other.new }
+{
+    let mut kept = 0;
+    let mut kept_other = 0;
+    for place in 0..near.len() {
+        let disk = near.at(place);
+        let (may, other_may) = may_reach_either(rows, one, other, square, disk);
+        near.put(kept, disk);
+        kept += may as usize;
+        near_other.put(kept_other, disk);
+        kept_other += other_may as usize;
+    }
+    near.cut(kept);
+    near_other.cut(kept_other);
+}
+
+#[inline(always)]
+fn may_reach_either(
+    rows: &[Compact],
+    one: &Disk,
+    other: &Disk,
+    square: i64,
+    disk: u32,
+) -> (bool, bool)
+    requires { one.now.base ≡ other.now.base }
+    ensures one { result.0 ≡ false → IsMissedByGreatest square one.now (slice_index_or rows.now disk None) }
+    ensures other { result.1 ≡ false → IsMissedByGreatest square other.now (slice_index_or rows.now disk None) }
+{
+    match rows.get(disk as usize) {
+        Some(row) => may_hit_either(one, other, &row.disk(), square),
+        None => (false, false),
+    }
+}
