@@ -34,6 +34,7 @@ use Rattle.local_run.specs.LocalRun.{Local, now_of, IsInPlace, IsOwn, ComesTo}
 use Rattle.local_run.specs.Answers.{HasDue, IsInTurn, StepsTo, with_entry}
 use Rattle.local_run.specs.Moves.{Fits}
 use Rattle.local_run.proofs.Outcome.{pair_by, alone_by, alone_comes, pair_comes}
+use Rattle.local_run.proofs.Determined.{one_result}
 use Rattle.local_run.proofs.Choices.{not_shared}
 use Rattle.local_run.proofs.Valid.{valid_now, own_candidate}
 use Rattle.event_log.specs.declared.running.HitRows.{HitRows}
@@ -42,7 +43,8 @@ use Rattle.event_log.specs.Running.{collision, redisked_row, IsMoved}
 use Rattle.region_core.specs.declared.live.Live.{Live}
 use Rattle.region_core.specs.Border.{IsFar, IsFarRow, IsUntold}
 use Rattle.region_core.specs.Choices.{IsAtTurn}
-use Rattle.region_core.specs.Live.{run_in, now_in, IsLive}
+use Rattle.region_core.specs.Live.{run_in, now_in, IsLive, HasTrace}
+use Rattle.region_core.specs.RunsOn.{FailsLimit}
 use Rattle.region_core.proofs.Borders.{crossing_untold, pair_untold}
 use Rattle.region_core.proofs.Traced.{now_is}
 use Rattle.region_core.proofs.NextMove.{own_due, event_fits}
@@ -68,6 +70,13 @@ halted_is h r s limit at comes = (
   ),
   refl,
 )
+
+-- which limit, is known by what the newest view makes of the event
+pub fails_once : (h : Home) (live : Live) (s : Stamp) (r : Result Action Limit) → HasTrace live →
+    (fails : FailsLimit h (now_in live).view s) → ComesTo h live.view s r → r ≡ Err fails.0
+fails_once h live s r traced fails comes =
+    one_result h (now_in live).view s r (Err fails.0)
+    (subst (λ (v : ViewData). ComesTo h v s r) (sym (now_is live traced)) comes) fails.1
 
 -- ---- rows of the newest view
 pub own_at_turn : (h : Home) (floor : Stamp) (live : Live) (s : Stamp) → IsAtTurn h (run_in floor live) s →

@@ -1,10 +1,6 @@
 -- What a region does next, by the stamp alone where it is an event of its own.
-use Rattle.std.specs.Prelude.{Option, Some, None}
 use Rattle.event_stamps.specs.declared.Stamp.{Stamp}
-use Rattle.event_rules.specs.declared.change.Limit.{Limit}
 use Rattle.local_run.specs.declared.home.Home.{Home}
-use Rattle.local_run.specs.declared.answers.Step.{Step}
-use Rattle.local_run.specs.declared.answers.Step.TheVariants.{Ran, Halted}
 use Rattle.local_run.specs.declared.moves.Move.TheVariants.{TakeIn as TakesIn}
 use Rattle.local_run.specs.LocalRun.{Local, now_of, IsWaiting}
 use Rattle.local_run.specs.Answers.{HasDue, IsInTurn, StepsTo}
@@ -23,8 +19,3 @@ abbrev pub Chooses : Home → Local → Choice → Type 0
 Chooses h r (Answer step) = StepsTo h r step r
 Chooses h r (Run s) = IsAtTurn h r s
 Chooses h r (TakeIn q m) = Fits h r (TakesIn q m)
-
--- what a step answers that ran an event, or that failed at a limit
-abbrev pub answer_of : Stamp → Option Limit → Step
-answer_of s None = Ran s
-answer_of s (Some limit) = Halted limit

@@ -1,24 +1,34 @@
 -- Events of a region's own columns that run one after the other.
-use Rattle.std.specs.Prelude.{◌≡◌, ℕ, zero, suc, ◌+◌, Option}
+use Rattle.std.specs.Prelude.{◌≡◌, ℕ, zero, suc, ◌+◌, Bool, true, false, Option, Some, None, Err}
 use Rattle.event_stamps.specs.declared.Stamp.{Stamp}
 use Rattle.event_stamps.specs.Order.{Before}
+use Rattle.event_stamps.specs.Least.{IsLeast}
 use Rattle.event_rules.specs.declared.change.Limit.{Limit}
 use Rattle.local_run.specs.declared.home.Home.{Home}
 use Rattle.local_run.specs.declared.answers.Step.{Step}
 use Rattle.local_run.specs.declared.answers.Step.TheVariants.{Ran}
-use Rattle.local_run.specs.Answers.{StepsTo}
-use Rattle.local_run.specs.LocalRun.{Local, Trails, IsWaiting}
+use Rattle.local_run.specs.Answers.{IsInTurn, StepsTo}
+use Rattle.local_run.specs.LocalRun.{Local, Trails, now_of, IsOwn, IsWaiting, ComesTo}
+use Rattle.region_view.specs.Views.{ViewData}
 use Rattle.local_run.specs.Opening.{RegionData}
 use Rattle.local_run.specs.Running.{GoesOn, IsDueBefore}
 use Rattle.local_run.specs.Steps.{Steps}
 use Rattle.region_core.specs.declared.running_on.RunSoFar.{RunSoFar}
 use Rattle.region_core.specs.declared.live.Live.{Live}
-use Rattle.region_core.specs.Choices.{answer_of}
-use Rattle.region_core.specs.Live.{run_in}
+use Rattle.region_core.specs.Live.{run_in, now_in}
 
--- the event ran, or failed this limit
-abbrev pub RunsOrFails : Home → Stamp → Stamp → Live → Live → Option Limit → Type 0
-RunsOrFails h floor s old new limit = StepsTo h (run_in floor old) (answer_of s limit) (run_in floor new)
+-- in the view the event fails at a limit
+abbrev pub FailsLimit : Home → ViewData → Stamp → Type 0
+FailsLimit h view s = (limit : Limit) × ComesTo h view s (Err limit)
+
+-- the event ran, or it fails at a limit and nothing changed
+abbrev pub RunsOrFails : Home → Stamp → Stamp → Live → Live → Bool → Type 0
+RunsOrFails h floor s old new true = StepsTo h (run_in floor old) (Ran s) (run_in floor new)
+RunsOrFails h floor s old new false = (new ≡ old) × FailsLimit h (now_in old).view s
+
+-- the least native candidate, if there is one, is in turn
+abbrev pub IsOwnInTurn : Home → Local → Type 0
+IsOwnInTurn h r = (s : Stamp) → IsLeast (IsOwn h (now_of r).view) s → IsInTurn r s
 
 -- no message before this stamp waits, nor at it
 abbrev pub IsClear : Stamp → Trails → Type 0
@@ -27,6 +37,11 @@ IsClear limit waiting = (s : Stamp) → IsWaiting waiting s → ¬ Before s limi
 -- the step runs this event, which is before a stamp
 abbrev pub RunsNext : Home → Stamp → Stamp → Local → Local → Type 0
 RunsNext h limit s old new = Before s limit × StepsTo h old (Ran s) new
+
+-- what the last step answered, where the last event that ran is given, if one did
+abbrev pub answer_after : Step → Option Stamp → Step
+answer_after answer None = answer
+answer_after answer (Some s) = Ran s
 
 -- so many steps that did something, each where what is due is before a bound: from one answer to another
 abbrev pub Follow : Stamp → ℕ → Step → RegionData → Step → RegionData → Type 0

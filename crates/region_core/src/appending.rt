@@ -1,6 +1,7 @@
 //! One more entry of a log, and what it changes beside the log.
 
 ghost use Rattle.std.specs.Prelude.{◌≡◌, ◌<◌, ◌++◌, [], ℕ, length, OnOk, IfSome, IsTrue};
+ghost use Rattle.region_view.specs.declared.action.Action.TheVariants.{Cross, Hit};
 ghost use Rattle.region_view.specs.Placing.{IsValidPlacing};
 ghost use Rattle.region_view.specs.Views.{ViewData, rows_in};
 ghost use Rattle.region_view.specs.Acting.{stamp_of};
@@ -23,6 +24,7 @@ ghost use Rattle.local_run.specs.Moves.{Fits};
 use crate::border::Border;
 use crate::live::Live;
 use crate::{Entry, Home};
+use event_rules::Change;
 use event_stamps::Stamp;
 use region_messages::Trail;
 use region_queue::Queue;
@@ -115,6 +117,62 @@ pub(crate) fn send_if_told(
         return Ok(());
     }
     send(sent, home, before, action)
+}
+
+/// The same of a crossing.
+#[inline(always)]
+pub(crate) fn send_crossing(
+    sent: &mut Vec<Trail>,
+    home: &Home,
+    before: &View,
+    stamp: &Stamp,
+    cell: u32,
+    is_untold: bool,
+) -> Result<(), AllocError>
+    requires number { IsRegion home.now.grid home.now.number }
+    requires cells { HasCells home.now.grid (rows_in before.now) }
+    requires cell { RecordsCell home.now.grid (Cross stamp.now cell) }
+    requires untold { IsTrue is_untold → IsUntold home.now (rows_in before.now) (Cross stamp.now cell) }
+    requires size { length sent.old.items ≡ home.now.grid.regions }
+    requires after { (to : ℕ) → SendsTo home.now to → IsAfterAll (trail_of sent.old.items to) stamp.now }
+    ensures size { OnOk result (length sent.new.items ≡ length sent.old.items) }
+    ensures told { OnOk result ((to : ℕ) → SendsTo home.now to → trail_of sent.new.items to
+        ≡ trail_of sent.old.items to
+        ++ told (message_of home.now.grid to (rows_in before.now) (Cross stamp.now cell)) []) }
+{
+    // The action is put together only where it is sent.
+    if is_untold {
+        return Ok(());
+    }
+    let stamp = *stamp;
+    send(sent, home, before, &Action::Cross { stamp, cell })
+}
+
+/// The same of a collision.
+#[inline(always)]
+pub(crate) fn send_hit(
+    sent: &mut Vec<Trail>,
+    home: &Home,
+    before: &View,
+    change: &Change,
+    is_untold: bool,
+) -> Result<(), AllocError>
+    requires number { IsRegion home.now.grid home.now.number }
+    requires cells { HasCells home.now.grid (rows_in before.now) }
+    requires order { IsInOrder (Hit change.now) }
+    requires untold { IsTrue is_untold → IsUntold home.now (rows_in before.now) (Hit change.now) }
+    requires size { length sent.old.items ≡ home.now.grid.regions }
+    requires after { (to : ℕ) → SendsTo home.now to →
+        IsAfterAll (trail_of sent.old.items to) change.now.stamp }
+    ensures size { OnOk result (length sent.new.items ≡ length sent.old.items) }
+    ensures told { OnOk result ((to : ℕ) → SendsTo home.now to → trail_of sent.new.items to
+        ≡ trail_of sent.old.items to
+        ++ told (message_of home.now.grid to (rows_in before.now) (Hit change.now)) []) }
+{
+    if is_untold {
+        return Ok(());
+    }
+    send(sent, home, before, &Action::Hit(*change))
 }
 
 // Sends the messages of an action.

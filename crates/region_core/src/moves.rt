@@ -5,12 +5,14 @@ ghost use Rattle.event_stamps.specs.Order.{Before};
 ghost use Rattle.event_stamps.specs.Least.{IsLeastOf};
 ghost use Rattle.region_view.specs.Placing.{IsValidPlacing};
 ghost use Rattle.region_view.specs.Views.{rows_in};
+ghost use Rattle.local_run.specs.declared.answers.Step.TheVariants.{Halted};
 ghost use Rattle.local_run.specs.LocalRun.{At, IsInPlace, IsOwn, IsOffered, IsDue, IsDueOrEnd, IsWaiting, ComesTo};
 ghost use Rattle.local_run.specs.Answers.{HasDue, IsInTurn, StepsTo};
 ghost use Rattle.region_core.specs.Border.{IsBorderOf};
-ghost use Rattle.region_core.specs.Choices.{Chooses};
+ghost use Rattle.region_core.specs.Choices.{Chooses, IsAtTurn};
 ghost use Rattle.region_core.specs.Inbox.{head_stamp, IsLeastHead, IsFirstOf};
 ghost use Rattle.region_core.specs.Live.{run_in, now_in, IsLive, HasRun, HasDueBefore, IsHeldBack};
+ghost use Rattle.region_core.specs.RunsOn.{FailsLimit};
 ghost use Rattle.local_run.specs.Moves.{ComesAfter};
 
 use crate::border::Border;
@@ -137,16 +139,32 @@ impl Live {
         }
         match self.next_move(home, floor, head, due) {
             Choice::Answer(step) => Ok(Some(step)),
-            Choice::Run(due) => match self.run_event(alloc, home, border, floor, &due)? {
-                None => Ok(Some(Step::Ran(due))),
-                Some(limit) => Ok(Some(Step::Halted(limit))),
-            },
+            Choice::Run(due) => {
+                if self.run_event(alloc, home, border, &floor, &due)? {
+                    Ok(Some(Step::Ran(due)))
+                } else {
+                    Ok(Some(Step::Halted(self.limit_of(home, floor, &due))))
+                }
+            }
             Choice::TakeIn { from, message } => {
                 let stamp = message.stamp;
                 self.take_in(alloc, home, floor, from, message)?;
                 Ok(Some(Step::Heard(stamp)))
             }
         }
+    }
+
+    // The limit at which what is due fails.
+    #[cold]
+    fn limit_of(&self, home: &Home, floor: Stamp, due: &Stamp) -> Limit
+        requires place { IsInPlace home.now }
+        requires live { IsLive home.now floor self.now }
+        requires turn { IsAtTurn home.now (run_in floor self.now) due.now }
+        requires fails { FailsLimit home.now (now_in self.now).view due.now }
+        ensures { StepsTo home.now (run_in floor self.now) (Halted result) (run_in floor self.now) }
+    {
+        let _floor = floor;
+        outcome(home, &self.view, due).err().unwrap()
     }
 
     // Whether a bound is given, and the stamp that is due, or the end stamp, isn't before it.

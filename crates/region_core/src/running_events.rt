@@ -19,20 +19,20 @@ ghost use Rattle.region_core.specs.Live.{run_in, IsLive};
 ghost use Rattle.region_core.specs.RunsOn.{RunsOrFails};
 
 use crate::Home;
-use crate::appending::{send_if_told, tell};
+use crate::appending::{send_crossing, send_hit};
 use crate::border::Border;
 use crate::live::Live;
 use crate::moves::outcome;
 use event_log::HitRows;
-use event_rules::{Change, Limit, apply};
+use event_rules::{Change, apply};
 use event_stamps::{Kind, Stamp};
 use fixed_motion::Disk;
-use region_view::{Action, Compact, Placed, crossed_cell};
+use region_view::{Compact, Placed, crossed_cell};
 use std::alloc::{AllocError, Global};
 
 impl Live {
-    /// Runs the event of its own columns that is due, and sends its messages. None says that it ran; else it fails
-    /// at this limit, and nothing changes.
+    /// Runs the event of its own columns that is due, and sends its messages. It says whether it ran; else it fails
+    /// at a limit, and nothing changes.
     ///
     /// # Errors
     /// Out of memory: what is left is to be dropped.
@@ -42,15 +42,15 @@ impl Live {
         alloc: Global,
         home: &Home,
         border: &Border,
-        floor: Stamp,
+        floor: &Stamp,
         due: &Stamp,
-    ) -> Result<Option<Limit>, AllocError>
+    ) -> Result<bool, AllocError>
         requires place { IsInPlace home.now }
         requires border { IsBorderOf home.now border.now }
-        requires live { IsLive home.now floor self.old }
-        requires turn { IsAtTurn home.now (run_in floor self.old) due.now }
-        ensures live { OnOk result (IsLive home.now floor self.new) }
-        ensures steps { IfOk result (RunsOrFails home.now floor due.now self.old self.new) }
+        requires live { IsLive home.now floor.now self.old }
+        requires turn { IsAtTurn home.now (run_in floor.now self.old) due.now }
+        ensures live { OnOk result (IsLive home.now floor.now self.new) }
+        ensures steps { IfOk result (RunsOrFails home.now floor.now due.now self.old self.new) }
     {
         match due.kind {
             Kind::Cross => self.run_crossing(alloc, home, border, floor, due),
@@ -66,16 +66,16 @@ impl Live {
         alloc: Global,
         home: &Home,
         border: &Border,
-        floor: Stamp,
+        floor: &Stamp,
         due: &Stamp,
-    ) -> Result<Option<Limit>, AllocError>
+    ) -> Result<bool, AllocError>
         requires place { IsInPlace home.now }
         requires border { IsBorderOf home.now border.now }
-        requires live { IsLive home.now floor self.old }
-        requires turn { IsAtTurn home.now (run_in floor self.old) due.now }
+        requires live { IsLive home.now floor.now self.old }
+        requires turn { IsAtTurn home.now (run_in floor.now self.old) due.now }
         requires kind { due.now.kind ≡ Crossing }
-        ensures live { OnOk result (IsLive home.now floor self.new) }
-        ensures steps { IfOk result (RunsOrFails home.now floor due.now self.old self.new) }
+        ensures live { OnOk result (IsLive home.now floor.now self.new) }
+        ensures steps { IfOk result (RunsOrFails home.now floor.now due.now self.old self.new) }
     {
         let Some(before) = self.view.narrow(due.first) else {
             return self.run_any(alloc, home, border, floor, due);
@@ -85,9 +85,9 @@ impl Live {
             Some(cell) => {
                 let is_untold = border.are_far(home, row.cell, cell);
                 self.cross_and_send(alloc, home, floor, due, &before, cell, is_untold)?;
-                Ok(None)
+                Ok(true)
             }
-            None => Ok(Some(Limit::Rounds(*due))),
+            None => Ok(false),
         }
     }
 
@@ -98,16 +98,16 @@ impl Live {
         alloc: Global,
         home: &Home,
         border: &Border,
-        floor: Stamp,
+        floor: &Stamp,
         due: &Stamp,
-    ) -> Result<Option<Limit>, AllocError>
+    ) -> Result<bool, AllocError>
         requires place { IsInPlace home.now }
         requires border { IsBorderOf home.now border.now }
-        requires live { IsLive home.now floor self.old }
-        requires turn { IsAtTurn home.now (run_in floor self.old) due.now }
+        requires live { IsLive home.now floor.now self.old }
+        requires turn { IsAtTurn home.now (run_in floor.now self.old) due.now }
         requires kind { due.now.kind ≡ Pair }
-        ensures live { OnOk result (IsLive home.now floor self.new) }
-        ensures steps { IfOk result (RunsOrFails home.now floor due.now self.old self.new) }
+        ensures live { OnOk result (IsLive home.now floor.now self.new) }
+        ensures steps { IfOk result (RunsOrFails home.now floor.now due.now self.old self.new) }
     {
         let Some(before) = self.view.narrow(due.first) else {
             return self.run_any(alloc, home, border, floor, due);
@@ -124,9 +124,9 @@ impl Live {
                 let one = rows_of_hit(before, first.cell, change.first);
                 let other = rows_of_hit(beside, second.cell, partner);
                 self.collide_and_send(alloc, home, floor, &change, &one, &other, is_untold)?;
-                Ok(None)
+                Ok(true)
             }
-            Err(limit) => Ok(Some(limit)),
+            Err(_) => Ok(false),
         }
     }
 
@@ -137,22 +137,22 @@ impl Live {
         alloc: Global,
         home: &Home,
         border: &Border,
-        floor: Stamp,
+        floor: &Stamp,
         due: &Stamp,
-    ) -> Result<Option<Limit>, AllocError>
+    ) -> Result<bool, AllocError>
         requires place { IsInPlace home.now }
         requires border { IsBorderOf home.now border.now }
-        requires live { IsLive home.now floor self.old }
-        requires turn { IsAtTurn home.now (run_in floor self.old) due.now }
-        ensures live { OnOk result (IsLive home.now floor self.new) }
-        ensures steps { IfOk result (RunsOrFails home.now floor due.now self.old self.new) }
+        requires live { IsLive home.now floor.now self.old }
+        requires turn { IsAtTurn home.now (run_in floor.now self.old) due.now }
+        ensures live { OnOk result (IsLive home.now floor.now self.new) }
+        ensures steps { IfOk result (RunsOrFails home.now floor.now due.now self.old self.new) }
     {
         match outcome(home, &self.view, due) {
             Ok(action) => {
-                self.run(alloc, home, border, floor, action)?;
-                Ok(None)
+                self.run(alloc, home, border, *floor, action)?;
+                Ok(true)
             }
-            Err(limit) => Ok(Some(limit)),
+            Err(_) => Ok(false),
         }
     }
 
@@ -163,29 +163,25 @@ impl Live {
         &mut self,
         alloc: Global,
         home: &Home,
-        floor: Stamp,
+        floor: &Stamp,
         stamp: &Stamp,
         before: &Compact,
         cell: u32,
         is_untold: bool,
     ) -> Result<(), AllocError>
         requires place { IsInPlace home.now }
-        requires live { IsLive home.now floor self.old }
-        requires fits { Fits home.now (run_in floor self.old) (Run (Cross stamp.now cell)) }
+        requires live { IsLive home.now floor.now self.old }
+        requires fits { Fits home.now (run_in floor.now self.old) (Run (Cross stamp.now cell)) }
         requires before { IsRowThere (map.get self.old.view stamp.now.first) before.now }
         requires untold { IsTrue is_untold → IsUntold home.now (rows_in self.old.view) (Cross stamp.now cell) }
-        ensures live { OnOk result (IsLive home.now floor self.new) }
-        ensures run { OnOk result (run_in floor self.new
-            ≡ with_entry (run_in floor self.old) (Native (Cross stamp.now cell))) }
+        ensures live { OnOk result (IsLive home.now floor.now self.new) }
+        ensures run { OnOk result (run_in floor.now self.new
+            ≡ with_entry (run_in floor.now self.old) (Native (Cross stamp.now cell))) }
     {
         let _floor = floor;
-        let action = Action::Cross {
-            stamp: *stamp,
-            cell,
-        };
-        send_if_told(&mut self.sent, home, &self.view, &action, is_untold)?;
+        send_crossing(&mut self.sent, home, &self.view, stamp, cell, is_untold)?;
         self.log.cross(&mut self.view, stamp, before, cell)?;
-        tell(alloc, &mut self.queue, &self.view, &action)?;
+        self.queue.crossed(alloc, &self.view, stamp.first)?;
         Ok(())
     }
 
@@ -195,35 +191,29 @@ impl Live {
         &mut self,
         alloc: Global,
         home: &Home,
-        floor: Stamp,
+        floor: &Stamp,
         change: &Change,
         first: &HitRows,
         second: &HitRows,
         is_untold: bool,
     ) -> Result<(), AllocError>
         requires place { IsInPlace home.now }
-        requires live { IsLive home.now floor self.old }
-        requires fits { Fits home.now (run_in floor self.old) (Run (Hit change.now)) }
+        requires live { IsLive home.now floor.now self.old }
+        requires fits { Fits home.now (run_in floor.now self.old) (Run (Hit change.now)) }
         requires change { change.now ≡ collision change.now.stamp first.now second.now }
         requires first { IsMoved (map.get self.old.view change.now.stamp.first) (disk_or first.now.after) first.now }
         requires second { IsMoved (map.get self.old.view change.now.stamp.second) (disk_or second.now.after) second.now }
         requires untold { IsTrue is_untold → IsUntold home.now (rows_in self.old.view) (Hit change.now) }
-        ensures live { OnOk result (IsLive home.now floor self.new) }
-        ensures run { OnOk result (run_in floor self.new
-            ≡ with_entry (run_in floor self.old) (Native (Hit change.now))) }
+        ensures live { OnOk result (IsLive home.now floor.now self.new) }
+        ensures run { OnOk result (run_in floor.now self.new
+            ≡ with_entry (run_in floor.now self.old) (Native (Hit change.now))) }
     {
         let _floor = floor;
-        send_if_told(
-            &mut self.sent,
-            home,
-            &self.view,
-            &Action::Hit(*change),
-            is_untold,
-        )?;
+        send_hit(&mut self.sent, home, &self.view, change, is_untold)?;
         let stamp = change.stamp;
         self.log.collide(&mut self.view, &stamp, first, second)?;
         self.queue
-            .touched(alloc, &self.view, &[stamp.first, stamp.second])?;
+            .struck(alloc, &self.view, stamp.first, stamp.second)?;
         Ok(())
     }
 }

@@ -1,17 +1,19 @@
 //! Going on with events of a region's own columns, between which no message comes.
 
-ghost use Rattle.std.specs.Prelude.{◌≡◌, ◌+◌, IfOk, OnOk, MatchOption};
-ghost use Rattle.event_stamps.specs.Order.{Before};
-ghost use Rattle.local_run.specs.LocalRun.{IsInPlace};
+ghost use Rattle.std.specs.Prelude.{◌≡◌, ◌↔◌, ◌+◌, ◌≤◌, length, IfOk, OnOk, IsTrue};
+ghost use Rattle.event_stamps.specs.Order.{Before, IsInRange};
+ghost use Rattle.event_stamps.specs.Least.{IsLeastOf};
+ghost use Rattle.local_run.specs.LocalRun.{IsInPlace, IsOwn};
 ghost use Rattle.region_core.specs.Border.{IsBorderOf};
 ghost use Rattle.region_core.specs.Live.{run_in, now_in, region_in, IsLive, HasRun};
-ghost use Rattle.region_core.specs.RunsOn.{IsClear, RunsNext, RunsOn};
+ghost use Rattle.region_core.specs.RunsOn.{IsClear, IsOwnInTurn, RunsOn, answer_after};
 
 use crate::border::Border;
 use crate::live::Live;
 use crate::moves::{is_before, is_in_turn};
 use crate::{Home, MAX_ENTRIES, Step};
 use event_stamps::Stamp;
+use event_tree::Packed;
 use std::alloc::{AllocError, Global};
 
 /// What a run of steps came to so far.
@@ -47,16 +49,30 @@ impl Live {
             (region_in home.now floor self.new)) }
     {
         let limit = self.limit(home, bound);
-        let mut answer = so_far.answer;
-        let mut left = so_far.left;
-        while left > 0 {
-            match self.run_own(alloc, home, border, floor, &limit)? {
-                Some(due) => answer = Step::Ran(due),
-                None => break,
-            }
-            left -= 1;
+        if !is_in_range(&limit) || !self.is_own_in_turn(home, &floor) {
+            return Ok(so_far);
         }
-        Ok(RunSoFar { answer, left })
+        let limit_key = Packed::new(Some(limit));
+        let most = self.room(home).min(so_far.left);
+        let mut ran = 0;
+        let mut last = Packed::new(None);
+        let mut top = self.top_own(home);
+        while ran < most && top.is_before(limit_key) {
+            let Some(due) = top.key() else {
+                break;
+            };
+            if !self.run_event(alloc, home, border, &floor, &due)? {
+                break;
+            }
+            ran += 1;
+            last = top;
+            top = self.top_own(home);
+            // What comes next is later, or it isn't in turn.
+            if !last.is_before(top) {
+                break;
+            }
+        }
+        Ok(so_far.after(ran, last))
     }
 
     // The earlier one of a bound and of the first message that waits.
@@ -78,37 +94,59 @@ impl Live {
         }
     }
 
-    // Runs the event that comes next, where it is one of its own columns before this stamp, before which no message
-    // waits. The stamp of the event; none where it doesn't run, and nothing changes.
+    // The least stamp of its native candidates, packed.
     #[inline(always)]
-    fn run_own(
-        &mut self,
-        alloc: Global,
-        home: &Home,
-        border: &Border,
-        floor: Stamp,
-        limit: &Stamp,
-    ) -> Result<Option<Stamp>, AllocError>
-        requires place { IsInPlace home.now }
-        requires border { IsBorderOf home.now border.now }
-        requires live { IsLive home.now floor self.old }
-        requires clear { IsClear limit.now (now_in self.old).waiting }
-        ensures live { OnOk result (IsLive home.now floor self.new) }
-        ensures ran { IfOk result (λ due. MatchOption due (run_in floor self.new ≡ run_in floor self.old)
-            (λ s. RunsNext home.now limit.now s (run_in floor self.old) (run_in floor self.new))) }
+    fn top_own(&self, home: &Home) -> Packed
+        requires { HasRun home.now self.now }
+        ensures { IsLeastOf (IsOwn home.now (now_in self.now).view) result }
     {
-        if self.log.len() >= MAX_ENTRIES {
-            return Ok(None);
-        }
-        let Some(due) = self.least_own(home) else {
-            return Ok(None);
-        };
-        if !is_before(&due, limit) || !is_in_turn(&floor, self.log.last_stamp(), &due) {
-            return Ok(None);
-        }
-        match self.run_event(alloc, home, border, floor, &due)? {
-            None => Ok(Some(due)),
-            Some(_) => Ok(None),
+        let _home = home;
+        self.queue.top()
+    }
+
+    // Whether the least of its native candidates, if there is one, is in turn.
+    fn is_own_in_turn(&self, home: &Home, floor: &Stamp) -> bool
+        requires { IsLive home.now floor.now self.now }
+        ensures { IsTrue result → IsOwnInTurn home.now (run_in floor.now self.now) }
+    {
+        match self.least_own(home) {
+            Some(own) => is_in_turn(floor, self.log.last_stamp(), &own),
+            None => true,
         }
     }
+
+    // How many more entries the log has room for.
+    fn room(&self, home: &Home) -> u32
+        requires { HasRun home.now self.now }
+        ensures { length self.now.log + result ≡ MAX_ENTRIES }
+    {
+        let _home = home;
+        (MAX_ENTRIES - self.log.len()) as u32
+    }
+}
+
+impl RunSoFar {
+    // The same after so many more, the last of which ran an event, if one is given.
+    #[inline(always)]
+    fn after(self, steps: u32, event: Packed) -> RunSoFar
+        requires { steps ≤ self.left }
+        ensures answer { result.answer ≡ answer_after self.answer event }
+        ensures left { result.left + steps ≡ self.left }
+    {
+        let answer = match event.key() {
+            Some(event) => Step::Ran(event),
+            None => self.answer,
+        };
+        RunSoFar {
+            answer,
+            left: self.left - steps,
+        }
+    }
+}
+
+// Whether a stamp is in the ranges of the events of a run, so that it can be packed.
+fn is_in_range(stamp: &Stamp) -> bool
+    ensures { IsTrue result → IsInRange stamp.now }
+{
+    stamp.round <= 65536 && stamp.first < 65536 && stamp.second < 65536
 }

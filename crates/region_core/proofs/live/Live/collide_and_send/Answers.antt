@@ -8,37 +8,38 @@ use Rattle.local_run.specs.declared.entry.Entry.TheVariants.{Native}
 use Rattle.region_view.specs.Naming.{IsSameBut}
 use Rattle.event_log.specs.Running.{acted, collision}
 use Rattle.local_run.proofs.Aside.{here_first, later_still}
-use Rattle.region_core.proofs.Told.{hit_leaves}
+use Rattle.region_queue.specs.Finding.{KeepCells}
+use Rattle.region_core.proofs.Told.{hit_leaves, hit_keeps_cells}
 use Rattle.region_core.proofs.Traced.{stands_newest, as_many}
 use Rattle.region_core.proofs.Appended.{cells_are, acted_is_live, further_run, native_action, native_valid, after_what_was_sent}
 use Rattle.region_core.proofs.live.Live.collide_and_send.Goals as goal
 
-pub send_if_told-requires-clause-cells : goal.send_if_told-requires-clause-cells
-send_if_told-requires-clause-cells c =
-    cells_are c.args.home.now c.args.floor c.args.self.now c.requires.place c.requires.live
+pub send_hit-requires-clause-cells : goal.send_hit-requires-clause-cells
+send_hit-requires-clause-cells c =
+    cells_are c.args.home.now c.args.floor.now c.args.self.now c.requires.place c.requires.live
 
-pub send_if_told-requires-clause-order : goal.send_if_told-requires-clause-order
-send_if_told-requires-clause-order c = (native_action c.args.home.now c.args.floor c.args.self.now
+pub send_hit-requires-clause-order : goal.send_hit-requires-clause-order
+send_hit-requires-clause-order c = (native_action c.args.home.now c.args.floor.now c.args.self.now
     (Hit c.args.change.now) c.requires.place c.requires.live c.requires.fits).order
 
-pub send_if_told-requires-clause-after : goal.send_if_told-requires-clause-after
-send_if_told-requires-clause-after c = after_what_was_sent c.args.home.now c.args.floor c.args.self.now
+pub send_hit-requires-clause-after : goal.send_hit-requires-clause-after
+send_hit-requires-clause-after c = after_what_was_sent c.args.home.now c.args.floor.now c.args.self.now
     (Hit c.args.change.now) c.requires.live c.requires.fits
 
 pub collide-requires-clause-order : goal.collide-requires-clause-order
 collide-requires-clause-order c =
     subst (λ (x : Change). IsInOrder (Hit x)) c.requires.change
-    (native_action c.args.home.now c.args.floor c.args.self.now
+    (native_action c.args.home.now c.args.floor.now c.args.self.now
     (Hit c.args.change.now) c.requires.place c.requires.live c.requires.fits).order
 
-pub touched-requires : goal.touched-requires
-touched-requires c =
+pub struck-requires : goal.struck-requires
+struck-requires c =
     let live = c.args.self.now in
     record {
       valid = subst (λ (v : ViewData). IsValidPlacing live.queue.rules live.queue.grid (rows_in v))
           (sym (c.in_ok-collide.ensures.view ∙ ap (λ (x : Change). after_action live.view (Hit x))
           (sym c.requires.change)))
-          (native_valid c.args.home.now c.args.floor live (Hit c.args.change.now) c.requires.place c.requires.live
+          (native_valid c.args.home.now c.args.floor.now live (Hit c.args.change.now) c.requires.place c.requires.live
           c.requires.fits);
     }
 
@@ -48,27 +49,29 @@ returns-clause-live c =
     let live = c.args.self.now in
     let stamp = c.args.change.now.stamp in
     let ids = stamp.first ∷ stamp.second ∷ [] in
-    acted_is_live home c.args.floor live _ (Hit c.args.change.now) c.requires.live c.requires.fits
+    acted_is_live home c.args.floor.now live _ (Hit c.args.change.now) c.requires.live c.requires.fits
     record {
       inbox = refl;
       log = c.in_ok-collide.ensures.log
           ∙ ap (λ (x : Change). live.log ++ acted live.view (Hit x) ∷ []) (sym c.requires.change);
       view = c.in_ok-collide.ensures.view
           ∙ ap (λ (x : Change). after_action live.view (Hit x)) (sym c.requires.change);
-      queue = c.touched.ensures.same;
-      stands = c.in_ok-touched.ensures.stands live.view (stands_newest home c.args.floor live c.requires.live)
+      queue = c.struck.ensures.same;
+      stands = c.in_ok-struck.ensures.stands live.view (stands_newest home c.args.floor.now live c.requires.live)
           (subst (IsSameBut ids live.view) (sym c.in_ok-collide.ensures.view)
           (hit_leaves live.view (collision stamp c.args.first.now c.args.second.now) ids
           (here_first stamp.first (stamp.second ∷ []))
-          (later_still stamp.first (stamp.second ∷ []) stamp.second (here_first stamp.second []))));
-      size = c.in_ok-send_if_told.ensures.size;
-      told = c.in_ok-send_if_told.ensures.told;
+          (later_still stamp.first (stamp.second ∷ []) stamp.second (here_first stamp.second []))))
+          (subst (KeepCells live.view) (sym c.in_ok-collide.ensures.view)
+          (hit_keeps_cells live.view (collision stamp c.args.first.now c.args.second.now)));
+      size = c.in_ok-send_hit.ensures.size;
+      told = c.in_ok-send_hit.ensures.told;
     }
 
 pub returns-clause-run : goal.returns-clause-run
 returns-clause-run c =
     let live = c.args.self.now in
-    further_run c.args.floor live (record live { view = c.collide.new.view; log = c.collide.new.self })
+    further_run c.args.floor.now live (record live { view = c.collide.new.view; log = c.collide.new.self })
     (Native (Hit c.args.change.now)) c.requires.live.traced refl
     (c.in_ok-collide.ensures.log
     ∙ ap (λ (x : Change). live.log ++ acted live.view (Hit x) ∷ []) (sym c.requires.change))

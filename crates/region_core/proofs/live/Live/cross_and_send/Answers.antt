@@ -2,33 +2,34 @@ use Rattle.std.proofs.Common.{sym, subst, refl, arith}
 use Rattle.region_view.specs.declared.action.Action.TheVariants.{Cross}
 use Rattle.region_view.specs.Placing.{IsValidPlacing}
 use Rattle.region_view.specs.Views.{ViewData, rows_in}
+use Rattle.region_view.specs.Naming.{IsMoved}
+use Rattle.local_run.proofs.Untouched.{crossing_moves}
 use Rattle.local_run.specs.declared.entry.Entry.TheVariants.{Native}
 use Rattle.region_core.proofs.Traced.{stands_newest, as_many}
 use Rattle.region_core.proofs.Appended.{cells_are, acted_is_live, further_run, native_action, native_valid, after_what_was_sent}
 use Rattle.region_core.proofs.live.Live.cross_and_send.Goals as goal
 
-pub send_if_told-requires : goal.send_if_told-requires
-send_if_told-requires c =
+pub send_crossing-requires : goal.send_crossing-requires
+send_crossing-requires c =
     let home = c.args.home.now in
     let live = c.args.self.now in
-    let valid = native_action home c.args.floor live (Cross c.args.stamp.now c.args.cell) c.requires.place c.requires.live
+    let valid = native_action home c.args.floor.now live (Cross c.args.stamp.now c.args.cell) c.requires.place c.requires.live
     c.requires.fits in
     record {
       number = c.requires.place.number;
-      cells = cells_are home c.args.floor live c.requires.place c.requires.live;
-      order = valid.order;
+      cells = cells_are home c.args.floor.now live c.requires.place c.requires.live;
       cell = valid.cell;
       untold = c.requires.untold;
       size = c.requires.live.sent.regions;
-      after = after_what_was_sent home c.args.floor live (Cross c.args.stamp.now c.args.cell) c.requires.live c.requires.fits;
+      after = after_what_was_sent home c.args.floor.now live (Cross c.args.stamp.now c.args.cell) c.requires.live c.requires.fits;
     }
 
-pub tell-requires : goal.tell-requires
-tell-requires c =
+pub crossed-requires : goal.crossed-requires
+crossed-requires c =
     let queue = c.args.self.now.queue in
     record {
       valid = subst (λ (view : ViewData). IsValidPlacing queue.rules queue.grid (rows_in view))
-          (sym c.in_ok-cross.ensures.view) (native_valid c.args.home.now c.args.floor c.args.self.now
+          (sym c.in_ok-cross.ensures.view) (native_valid c.args.home.now c.args.floor.now c.args.self.now
           (Cross c.args.stamp.now c.args.cell) c.requires.place c.requires.live c.requires.fits);
     }
 
@@ -36,22 +37,23 @@ pub returns-clause-live : goal.returns-clause-live
 returns-clause-live c =
     let home = c.args.home.now in
     let live = c.args.self.now in
-    acted_is_live home c.args.floor live _ (Cross c.args.stamp.now c.args.cell) c.requires.live c.requires.fits
+    acted_is_live home c.args.floor.now live _ (Cross c.args.stamp.now c.args.cell) c.requires.live c.requires.fits
     record {
       inbox = refl;
       log = c.in_ok-cross.ensures.log;
       view = c.in_ok-cross.ensures.view;
-      queue = c.tell.ensures.queue;
-      stands = c.in_ok-tell.ensures.stands live.view (stands_newest home c.args.floor live c.requires.live)
-          c.in_ok-cross.ensures.view;
-      size = c.in_ok-send_if_told.ensures.size;
-      told = c.in_ok-send_if_told.ensures.told;
+      queue = c.crossed.ensures.same;
+      stands = c.in_ok-crossed.ensures.stands live.view (stands_newest home c.args.floor.now live c.requires.live)
+          (subst (IsMoved c.args.stamp.now.first live.view) (sym c.in_ok-cross.ensures.view)
+          (crossing_moves live.view c.args.stamp.now c.args.cell));
+      size = c.in_ok-send_crossing.ensures.size;
+      told = c.in_ok-send_crossing.ensures.told;
     }
 
 pub returns-clause-run : goal.returns-clause-run
 returns-clause-run c =
     let live = c.args.self.now in
-    further_run c.args.floor live (record live { view = c.cross.new.view; log = c.cross.new.self })
+    further_run c.args.floor.now live (record live { view = c.cross.new.view; log = c.cross.new.self })
     (Native (Cross c.args.stamp.now c.args.cell)) c.requires.live.traced refl c.in_ok-cross.ensures.log
     c.in_ok-cross.ensures.view
 

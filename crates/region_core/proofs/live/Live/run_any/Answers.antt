@@ -1,11 +1,11 @@
-use Rattle.std.proofs.Common.{Ok, Err, sym, subst}
+use Rattle.std.proofs.Common.{Ok, Err, sym, subst, refl}
 use Rattle.region_view.specs.Placing.{IsValidPlacing}
 use Rattle.region_view.specs.Views.{ViewData, rows_in}
 use Rattle.local_run.specs.LocalRun.{IsOwn, ComesTo}
 use Rattle.local_run.proofs.Valid.{valid_now}
 use Rattle.region_core.specs.Live.{run_in}
 use Rattle.region_core.proofs.Traced.{now_is}
-use Rattle.region_core.proofs.RunningEvents.{own_at_turn, turn_fits, turn_ran, halted_is}
+use Rattle.region_core.proofs.RunningEvents.{own_at_turn, turn_fits, turn_ran}
 use Rattle.region_core.proofs.live.Live.run_any.Goals as goal
 
 pub outcome-requires-clause-valid : goal.outcome-requires-clause-valid
@@ -13,20 +13,20 @@ outcome-requires-clause-valid c =
     let home = c.args.home.now in
     let live = c.args.self.now in
     subst (λ (v : ViewData). IsValidPlacing home.rules home.grid (rows_in v)) (now_is live c.requires.live.traced)
-    (valid_now home (run_in c.args.floor live) c.requires.place c.requires.live.right)
+    (valid_now home (run_in c.args.floor.now live) c.requires.place c.requires.live.right)
 
 pub outcome-requires-clause-own : goal.outcome-requires-clause-own
 outcome-requires-clause-own c =
     let home = c.args.home.now in
     let live = c.args.self.now in
     subst (λ (v : ViewData). IsOwn home v c.args.due.now) (now_is live c.requires.live.traced)
-    (own_at_turn home c.args.floor live c.args.due.now c.requires.turn)
+    (own_at_turn home c.args.floor.now live c.args.due.now c.requires.turn)
 
 pub run-requires-clause-fits : goal.run-requires-clause-fits
 run-requires-clause-fits c =
     let home = c.args.home.now in
     let live = c.args.self.now in
-    turn_fits home c.args.floor live c.args.due.now c.in-Ok.action c.requires.place c.requires.live c.requires.turn
+    turn_fits home c.args.floor.now live c.args.due.now c.in-Ok.action c.requires.place c.requires.live c.requires.turn
     (subst (λ (v : ViewData). ComesTo home v c.args.due.now (Ok c.in-Ok.action))
     (sym (now_is live c.requires.live.traced)) c.in-Ok.ensures)
 
@@ -34,7 +34,7 @@ pub returns-in_ok-run-in-Ok-clause-steps : goal.returns-in_ok-run-in-Ok-clause-s
 returns-in_ok-run-in-Ok-clause-steps c =
     let home = c.args.home.now in
     let live = c.args.self.now in
-    turn_ran home c.args.floor live c.args.due.now c.in-Ok.action (run_in c.args.floor c.run.new.self)
+    turn_ran home c.args.floor.now live c.args.due.now c.in-Ok.action (run_in c.args.floor.now c.run.new.self)
     c.requires.place c.requires.live c.requires.turn
     (subst (λ (v : ViewData). ComesTo home v c.args.due.now (Ok c.in-Ok.action))
     (sym (now_is live c.requires.live.traced)) c.in-Ok.ensures)
@@ -43,10 +43,14 @@ returns-in_ok-run-in-Ok-clause-steps c =
 pub returns-in-Err-clause-steps : goal.returns-in-Err-clause-steps
 returns-in-Err-clause-steps c =
     let home = c.args.home.now in
-    let live = c.args.self.now in
-    halted_is home (run_in c.args.floor live) c.args.due.now c.in-Err.limit c.requires.turn
-    (subst (λ (v : ViewData). ComesTo home v c.args.due.now (Err c.in-Err.limit))
-    (sym (now_is live c.requires.live.traced)) c.in-Err.ensures)
+    let live = c.args.self.now in (
+      refl,
+      (
+        c.in-Err.field-0,
+        subst (λ (v : ViewData). ComesTo home v c.args.due.now (Err c.in-Err.field-0))
+            (sym (now_is live c.requires.live.traced)) c.in-Err.ensures,
+      ),
+    )
 
 pub run-requires-clause-border : goal.run-requires-clause-border
 run-requires-clause-border c = c.requires.border

@@ -1,21 +1,21 @@
-use Rattle.std.proofs.Common.{◌∙◌, sym, Ok, Err}
+use Rattle.std.proofs.Common.{◌∙◌, sym, refl, Ok, Err}
 use Rattle.event_rules.specs.declared.change.Limit.TheVariants.{Rounds}
 use Rattle.region_view.specs.declared.action.Action.TheVariants.{Cross}
 use Rattle.region_view.specs.Views.{rows_in}
 use Rattle.region_core.specs.Live.{run_in}
-use Rattle.region_core.proofs.RunningEvents.{valid_row, crossing_event, crossing_in_range, crossing_comes, crossing_is_untold, turn_fits, turn_ran, halted_is}
+use Rattle.region_core.proofs.RunningEvents.{valid_row, crossing_event, crossing_in_range, crossing_comes, crossing_is_untold, turn_fits, turn_ran}
 use Rattle.region_core.proofs.live.Live.run_crossing.Goals as goal
 
 pub crossed_cell-requires-clause-valid : goal.crossed_cell-requires-clause-valid
 crossed_cell-requires-clause-valid c =
     let here = sym c.in-Some.ensures.0 ∙ sym c.get.ensures ∙ c.unwrap-row.ensures in
-    (valid_row c.args.home.now c.args.floor c.args.self.now c.args.due.now.first c.unwrap-row.result
+    (valid_row c.args.home.now c.args.floor.now c.args.self.now c.args.due.now.first c.unwrap-row.result
     c.requires.place c.requires.live here).0
 
 pub crossed_cell-requires-clause-base : goal.crossed_cell-requires-clause-base
 crossed_cell-requires-clause-base c =
     let here = sym c.in-Some.ensures.0 ∙ sym c.get.ensures ∙ c.unwrap-row.ensures in
-    (crossing_event c.args.home.now c.args.floor c.args.self.now c.args.due.now c.unwrap-row.result
+    (crossing_event c.args.home.now c.args.floor.now c.args.self.now c.args.due.now c.unwrap-row.result
     c.requires.live c.requires.turn c.requires.kind here).0.leaving.base
 
 pub crossed_cell-requires-clause-tick : goal.crossed_cell-requires-clause-tick
@@ -25,18 +25,18 @@ crossed_cell-requires-clause-tick c =
     let row = c.unwrap-row.result in
     let here = sym c.in-Some.ensures.0 ∙ sym c.get.ensures ∙ c.unwrap-row.ensures in
     crossing_in_range home due row c.requires.place
-    (crossing_event home c.args.floor c.args.self.now due row c.requires.live c.requires.turn c.requires.kind here)
+    (crossing_event home c.args.floor.now c.args.self.now due row c.requires.live c.requires.turn c.requires.kind here)
 
 pub crossed_cell-requires-clause-inside : goal.crossed_cell-requires-clause-inside
 crossed_cell-requires-clause-inside c =
     let here = sym c.in-Some.ensures.0 ∙ sym c.get.ensures ∙ c.unwrap-row.ensures in
-    (crossing_event c.args.home.now c.args.floor c.args.self.now c.args.due.now c.unwrap-row.result
+    (crossing_event c.args.home.now c.args.floor.now c.args.self.now c.args.due.now c.unwrap-row.result
     c.requires.live c.requires.turn c.requires.kind here).0.inside
 
 pub are_far-is_untold-requires-clause-cell : goal.are_far-is_untold-requires-clause-cell
 are_far-is_untold-requires-clause-cell c =
     let here = sym c.in-Some.ensures.0 ∙ sym c.get.ensures ∙ c.unwrap-row.ensures in
-    (valid_row c.args.home.now c.args.floor c.args.self.now c.args.due.now.first c.unwrap-row.result
+    (valid_row c.args.home.now c.args.floor.now c.args.self.now c.args.due.now.first c.unwrap-row.result
     c.requires.place c.requires.live here).1
 
 pub cross_and_send-requires-clause-fits : goal.cross_and_send-requires-clause-fits
@@ -46,8 +46,8 @@ cross_and_send-requires-clause-fits c =
     let due = c.args.due.now in
     let action = Cross due c.in-Some-crossed_cell.cell in
     let here = sym c.in-Some.ensures.0 ∙ sym c.get.ensures ∙ c.unwrap-row.ensures in
-    turn_fits home c.args.floor live due action c.requires.place c.requires.live c.requires.turn
-    (crossing_comes home c.args.floor live due c.unwrap-row.result (Ok action) c.requires.live c.requires.kind here
+    turn_fits home c.args.floor.now live due action c.requires.place c.requires.live c.requires.turn
+    (crossing_comes home c.args.floor.now live due c.unwrap-row.result (Ok action) c.requires.live c.requires.kind here
     c.in-Some-crossed_cell.ensures.crossed)
 
 pub cross_and_send-requires-clause-untold : goal.cross_and_send-requires-clause-untold
@@ -63,9 +63,9 @@ returns-in_ok-cross_and_send-in-Some-crossed_cell-clause-steps c =
     let due = c.args.due.now in
     let action = Cross due c.in-Some-crossed_cell.cell in
     let here = sym c.in-Some.ensures.0 ∙ sym c.get.ensures ∙ c.unwrap-row.ensures in
-    turn_ran home c.args.floor live due action (run_in c.args.floor c.cross_and_send.new.self)
+    turn_ran home c.args.floor.now live due action (run_in c.args.floor.now c.cross_and_send.new.self)
     c.requires.place c.requires.live c.requires.turn
-    (crossing_comes home c.args.floor live due c.unwrap-row.result (Ok action) c.requires.live c.requires.kind here
+    (crossing_comes home c.args.floor.now live due c.unwrap-row.result (Ok action) c.requires.live c.requires.kind here
     c.in-Some-crossed_cell.ensures.crossed)
     c.in_ok-cross_and_send-in-Some-crossed_cell.ensures.run
 
@@ -74,10 +74,14 @@ returns-in-None-clause-steps c =
     let home = c.args.home.now in
     let live = c.args.self.now in
     let due = c.args.due.now in
-    let here = sym c.in-Some.ensures.0 ∙ sym c.get.ensures ∙ c.unwrap-row.ensures in
-    halted_is home (run_in c.args.floor live) due (Rounds due) c.requires.turn
-    (crossing_comes home c.args.floor live due c.unwrap-row.result (Err (Rounds due)) c.requires.live c.requires.kind
-    here c.in-None.ensures.crossed)
+    let here = sym c.in-Some.ensures.0 ∙ sym c.get.ensures ∙ c.unwrap-row.ensures in (
+      refl,
+      (
+        Rounds due,
+        crossing_comes home c.args.floor.now live due c.unwrap-row.result (Err (Rounds due)) c.requires.live
+            c.requires.kind here c.in-None.ensures.crossed,
+      ),
+    )
 
 pub are_far-is_untold-requires-clause-border : goal.are_far-is_untold-requires-clause-border
 are_far-is_untold-requires-clause-border c = c.requires.border

@@ -1,15 +1,24 @@
--- The region is right, no message waits before the limit, and what ran so far are steps.
-use Rattle.region_core.specs.Live.{now_in, region_in, IsLive}
-use Rattle.region_core.specs.RunsOn.{IsClear, RunsOn}
+-- The region is right, no message waits before the limit, what comes next is known and in turn, and what ran so far are
+-- steps for which the log has room.
+use Rattle.std.specs.Prelude.{◌+◌, ◌-◌, ◌≤◌, length, IfSome}
+use Rattle.event_stamps.specs.Least.{IsLeastOf}
+use Rattle.local_run.specs.declared.entry.TheConstants.{MAX_ENTRIES}
+use Rattle.local_run.specs.LocalRun.{IsOwn}
+use Rattle.region_core.specs.Live.{run_in, now_in, region_in, IsLive}
+use Rattle.region_core.specs.RunsOn.{IsClear, IsOwnInTurn, Follow, answer_after}
 use Rattle.region_core.proofs.live.Live.run_on.Given as goal
 
-abbrev pub invariant-loop-left : goal.invariant-loop-left
-invariant-loop-left l = record {
+abbrev pub invariant-loop-ran : goal.invariant-loop-ran
+invariant-loop-ran l = record {
   live : IsLive l.home l.floor l.self;
-  clear : IsClear l.limit (now_in l.self).waiting;
-  ran : RunsOn l.bound l.fn.so_far (region_in l.home l.floor l.fn.self) (region_in l.home l.floor l.self)
-      (record { answer = l.answer; left = l.left });
+  clear : IfSome l.limit_key (λ limit. IsClear limit (now_in l.self).waiting);
+  top : IsLeastOf (IsOwn l.home (now_in l.self).view) l.top;
+  turn : IsOwnInTurn l.home (run_in l.floor l.self);
+  room : length l.self.log + l.most ≤ MAX_ENTRIES + l.ran;
+  within : l.ran ≤ l.most;
+  ran : Follow l.bound l.ran l.so_far.answer (region_in l.home l.floor l.fn.self)
+      (answer_after l.so_far.answer l.last) (region_in l.home l.floor l.self);
 }
 
-abbrev pub decreases-loop-left : goal.decreases-loop-left
-decreases-loop-left l = l.left
+abbrev pub decreases-loop-ran : goal.decreases-loop-ran
+decreases-loop-ran l = l.most - l.ran

@@ -6,7 +6,7 @@ use Rattle.event_stamps.specs.declared.Stamp.{Stamp}
 use Rattle.region_view.specs.declared.action.Action.TheVariants.{Hit}
 use Rattle.region_view.specs.Views.{rows_in}
 use Rattle.region_core.specs.Live.{run_in}
-use Rattle.region_core.proofs.RunningEvents.{valid_row, valid_is_small, pair_event, hit_comes, pair_is_untold, change_of_both, moved_has, moved_to, change_is, second_valid, turn_fits, turn_ran, halted_is}
+use Rattle.region_core.proofs.RunningEvents.{valid_row, valid_is_small, pair_event, hit_comes, pair_is_untold, change_of_both, moved_has, moved_to, change_is, second_valid, turn_fits, turn_ran}
 use Rattle.std.specs.Prelude.{IfSome, IsTrue, is_some}
 use Rattle.region_view.specs.declared.action.Placed.{Placed}
 use Rattle.region_core.proofs.live.Live.run_pair.Goals as goal
@@ -14,7 +14,7 @@ use Rattle.region_core.proofs.live.Live.run_pair.Goals as goal
 pub apply-requires-clause-first : goal.apply-requires-clause-first
 apply-requires-clause-first c =
     let here = sym c.in-Some.ensures.0 ∙ sym c.get.ensures ∙ c.unwrap-first.ensures in
-    (valid_row c.args.home.now c.args.floor c.args.self.now c.args.due.now.first c.unwrap-first.result
+    (valid_row c.args.home.now c.args.floor.now c.args.self.now c.args.due.now.first c.unwrap-first.result
     c.requires.place c.requires.live here).0
 
 pub apply-requires-clause-second : goal.apply-requires-clause-second
@@ -23,25 +23,25 @@ apply-requires-clause-second c =
     let q = c.unwrap-second.result in
     let there = sym c.in-Some-narrow.ensures.0 ∙ sym c.get-2.ensures ∙ c.unwrap-second.ensures in
     λ d is. subst (IsValidDisk home.rules) (same_Some q.disk d is)
-    (valid_row home c.args.floor c.args.self.now c.args.due.now.second q c.requires.place c.requires.live there).0
+    (valid_row home c.args.floor.now c.args.self.now c.args.due.now.second q c.requires.place c.requires.live there).0
 
 pub apply-requires-clause-event : goal.apply-requires-clause-event
 apply-requires-clause-event c =
     let here = sym c.in-Some.ensures.0 ∙ sym c.get.ensures ∙ c.unwrap-first.ensures in
     let there = sym c.in-Some-narrow.ensures.0 ∙ sym c.get-2.ensures ∙ c.unwrap-second.ensures in
-    pair_event c.args.home.now c.args.floor c.args.self.now c.args.due.now c.unwrap-first.result
+    pair_event c.args.home.now c.args.floor.now c.args.self.now c.args.due.now c.unwrap-first.result
     c.unwrap-second.result c.requires.live c.requires.turn c.requires.kind here there
 
 pub are_far-is_untold-requires-clause-cell : goal.are_far-is_untold-requires-clause-cell
 are_far-is_untold-requires-clause-cell c =
     let here = sym c.in-Some.ensures.0 ∙ sym c.get.ensures ∙ c.unwrap-first.ensures in
-    (valid_row c.args.home.now c.args.floor c.args.self.now c.args.due.now.first c.unwrap-first.result
+    (valid_row c.args.home.now c.args.floor.now c.args.self.now c.args.due.now.first c.unwrap-first.result
     c.requires.place c.requires.live here).1
 
 pub are_far-is_untold-requires-clause-other : goal.are_far-is_untold-requires-clause-other
 are_far-is_untold-requires-clause-other c =
     let there = sym c.in-Some-narrow.ensures.0 ∙ sym c.get-2.ensures ∙ c.unwrap-second.ensures in
-    (valid_row c.args.home.now c.args.floor c.args.self.now c.args.due.now.second c.unwrap-second.result
+    (valid_row c.args.home.now c.args.floor.now c.args.self.now c.args.due.now.second c.unwrap-second.result
     c.requires.place c.requires.live there).1
 
 pub rows_of_hit-one-requires-clause-small : goal.rows_of_hit-one-requires-clause-small
@@ -64,8 +64,8 @@ collide_and_send-requires-clause-fits c =
     let change = c.in-Ok.change in
     let here = sym c.in-Some.ensures.0 ∙ sym c.get.ensures ∙ c.unwrap-first.ensures in
     let there = sym c.in-Some-narrow.ensures.0 ∙ sym c.get-2.ensures ∙ c.unwrap-second.ensures in
-    turn_fits home c.args.floor live due (Hit change) c.requires.place c.requires.live c.requires.turn
-    (hit_comes home c.args.floor live due c.unwrap-first.result c.unwrap-second.result (Ok change) c.requires.live
+    turn_fits home c.args.floor.now live due (Hit change) c.requires.place c.requires.live c.requires.turn
+    (hit_comes home c.args.floor.now live due c.unwrap-first.result c.unwrap-second.result (Ok change) c.requires.live
     c.requires.kind here there c.in-Ok.ensures.exact)
 
 pub collide_and_send-requires-clause-change : goal.collide_and_send-requires-clause-change
@@ -124,9 +124,9 @@ returns-in_ok-collide_and_send-in-Ok-clause-steps c =
     let change = c.in-Ok.change in
     let here = sym c.in-Some.ensures.0 ∙ sym c.get.ensures ∙ c.unwrap-first.ensures in
     let there = sym c.in-Some-narrow.ensures.0 ∙ sym c.get-2.ensures ∙ c.unwrap-second.ensures in
-    turn_ran home c.args.floor live due (Hit change) (run_in c.args.floor c.collide_and_send.new.self)
+    turn_ran home c.args.floor.now live due (Hit change) (run_in c.args.floor.now c.collide_and_send.new.self)
     c.requires.place c.requires.live c.requires.turn
-    (hit_comes home c.args.floor live due c.unwrap-first.result c.unwrap-second.result (Ok change) c.requires.live
+    (hit_comes home c.args.floor.now live due c.unwrap-first.result c.unwrap-second.result (Ok change) c.requires.live
     c.requires.kind here there c.in-Ok.ensures.exact)
     c.in_ok-collide_and_send-in-Ok.ensures.run
 
@@ -135,12 +135,16 @@ returns-in-Err-clause-steps c =
     let home = c.args.home.now in
     let live = c.args.self.now in
     let due = c.args.due.now in
-    let limit = c.in-Err.limit in
+    let limit = c.in-Err.field-0 in
     let here = sym c.in-Some.ensures.0 ∙ sym c.get.ensures ∙ c.unwrap-first.ensures in
-    let there = sym c.in-Some-narrow.ensures.0 ∙ sym c.get-2.ensures ∙ c.unwrap-second.ensures in
-    halted_is home (run_in c.args.floor live) due limit c.requires.turn
-    (hit_comes home c.args.floor live due c.unwrap-first.result c.unwrap-second.result (Err limit) c.requires.live
-    c.requires.kind here there c.in-Err.ensures.exact)
+    let there = sym c.in-Some-narrow.ensures.0 ∙ sym c.get-2.ensures ∙ c.unwrap-second.ensures in (
+      refl,
+      (
+        limit,
+        hit_comes home c.args.floor.now live due c.unwrap-first.result c.unwrap-second.result (Err limit) c.requires.live
+            c.requires.kind here there c.in-Err.ensures.exact,
+      ),
+    )
 
 pub are_far-is_untold-requires-clause-border : goal.are_far-is_untold-requires-clause-border
 are_far-is_untold-requires-clause-border c = c.requires.border

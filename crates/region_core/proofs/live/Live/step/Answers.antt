@@ -1,6 +1,9 @@
-use Rattle.std.proofs.Common.{Option, refl, subst}
-use Rattle.event_rules.specs.declared.change.Limit.{Limit}
-use Rattle.region_core.specs.RunsOn.{RunsOrFails}
+use Rattle.std.proofs.Common.{refl, subst}
+use Rattle.local_run.specs.declared.answers.Step.TheVariants.{Halted}
+use Rattle.local_run.specs.Answers.{StepsTo}
+use Rattle.region_core.specs.declared.live.Live.{Live}
+use Rattle.region_core.specs.Live.{run_in}
+use Rattle.region_core.proofs.RunningOn.{failed_same}
 use Rattle.region_core.proofs.live.Live.step.Goals as goal
 
 pub returns-then-is_held_back-clause-steps : goal.returns-then-is_held_back-clause-steps
@@ -12,21 +15,17 @@ returns-in-Answer-clause-steps c = (c.is_held_back.ensures.free c.if-is_held_bac
 pub run_event-requires-clause-turn : goal.run_event-requires-clause-turn
 run_event-requires-clause-turn c = c.in-Run.ensures
 
-pub returns-in-None-clause-steps : goal.returns-in-None-clause-steps
-returns-in-None-clause-steps c = (
-  c.is_held_back.ensures.free c.if-is_held_back.false,
-  subst (λ (limit : Option Limit).
-      RunsOrFails c.args.home.now c.args.floor c.in-Run.due c.args.self.now c.run_event.new.self limit)
-      c.in-None.is c.in_ok-run_event-in-Run.ensures.steps,
-)
-
-pub returns-in-Some-clause-steps : goal.returns-in-Some-clause-steps
-returns-in-Some-clause-steps c = (
-  c.is_held_back.ensures.free c.if-is_held_back.false,
-  subst (λ (limit : Option Limit).
-      RunsOrFails c.args.home.now c.args.floor c.in-Run.due c.args.self.now c.run_event.new.self limit)
-      c.in-Some.is c.in_ok-run_event-in-Run.ensures.steps,
-)
+pub returns-else-branch-clause-steps : goal.returns-else-branch-clause-steps
+returns-else-branch-clause-steps c =
+    let home = c.args.home.now in
+    let floor = c.args.floor in
+    let new = c.run_event.new.self in
+    let same = failed_same home floor c.in-Run.due c.args.self.now new _ c.if-branch.false
+    c.in_ok-run_event-in-Run.ensures.steps in (
+      c.is_held_back.ensures.free c.if-is_held_back.false,
+      subst (λ (live : Live). StepsTo home (run_in floor live) (Halted c.limit_of.result) (run_in floor new)) same
+          c.limit_of.ensures,
+    )
 
 pub take_in-requires-clause-fits : goal.take_in-requires-clause-fits
 take_in-requires-clause-fits c = c.in-TakeIn.ensures
@@ -44,12 +43,6 @@ returns-in_ok-take_in-in-TakeIn-clause-steps c =
 
 pub run_event-requires-clause-border : goal.run_event-requires-clause-border
 run_event-requires-clause-border c = c.requires.border
-
-pub returns-in-Some-clause-live : goal.returns-in-Some-clause-live
-returns-in-Some-clause-live c = c.in_ok-run_event-in-Run.ensures.live
-
-pub returns-in-None-clause-live : goal.returns-in-None-clause-live
-returns-in-None-clause-live c = c.in_ok-run_event-in-Run.ensures.live
 
 pub returns-in_ok-take_in-in-TakeIn-clause-live : goal.returns-in_ok-take_in-in-TakeIn-clause-live
 returns-in_ok-take_in-in-TakeIn-clause-live c = c.in_ok-take_in-in-TakeIn.ensures.live
