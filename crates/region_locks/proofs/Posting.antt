@@ -1,5 +1,5 @@
 -- Posts of regions that were put under locks.
-use Rattle.std.proofs.Common.{◌≡◌, ◌≢◌, ℕ, List, [], Some, slice_get, None, sym, ap, ◌∙◌, subst}
+use Rattle.std.proofs.Common.{◌≡◌, ◌≢◌, ℕ, List, Some, slice_get, None, sym, ap, ◌∙◌, subst}
 use Rattle.event_stamps.specs.declared.Stamp.{Stamp}
 use Rattle.region_view.specs.declared.rows.Message.{Message}
 use Rattle.local_run.specs.declared.home.Home.{Home}
@@ -9,23 +9,6 @@ use Rattle.local_run.specs.Bursts.{AreTogether}
 use Rattle.region_core.specs.Posts.{home_at, IsPost}
 use Rattle.region_locks.specs.Holding.{IsHeld}
 use Rattle.region_locks.specs.Posting.{IsPosted}
-
--- nothing may be heard of whomever
-none_hearable : (h : Home) (floor : Stamp) (k : ℕ) → IsHearable h floor k []
-none_hearable h floor k = record {
-  rises = tt;
-  from_floor = λ m among. absurd among;
-  before_end = λ m among. absurd among;
-  rows = λ m among. absurd among;
-  linked = λ m among. absurd among;
-}
-
-pub none_posted : (given : List RegionData) (from to : ℕ) (ms : List Message) → AreTogether given → ms ≡ [] →
-    IsPosted given from to ms
-none_posted given from to ms together none = subst (IsPosted given from to) (sym none) (record {
-  together = together;
-  hearable = λ hearer at. none_hearable hearer.home hearer.floor from;
-})
 
 -- the hearer of a post as its sender knows it: of its own rules, grid and floor
 record IsHearerOf (region hearer : RegionData) (to : ℕ) : Type 0 where
@@ -67,13 +50,3 @@ still_posted given region from to old new was held alive number brings = record 
         subst (λ (k : ℕ). IsHearable (home_at region.home to) region.floor k old) (sym number)
         (subst (λ (f : Stamp). IsHearable (home_at region.home to) f from old) (sym is.floor)
         (subst (λ (x : Home). IsHearable x hearer.floor from old) (sym is.home) h))
-
--- the region to which it goes may hear it
-pub hearable_there : (given : List RegionData) (region : RegionData) (from to : ℕ) (ms : List Message) →
-    IsPosted given from to ms → IsHeld given region → region.run ≢ None → region.home.number ≡ to →
-    IsHearable region.home region.floor from ms
-hearable_there given region from to ms posted held alive number =
-    let was = held alive in
-    let at = ap (slice_get given) (sym number) ∙ was.1 in
-    subst (λ (f : Stamp). IsHearable region.home f from ms) (sym was.2.floor)
-    (subst (λ (x : Home). IsHearable x was.0.floor from ms) (sym was.2.home) (posted.hearable was.0 at))
