@@ -8,6 +8,12 @@ use std::sync::atomic::{AtomicU64, Ordering};
 /// In how many slices the regions settle at most.
 pub(crate) const SETTLING_SLICES: u32 = 12;
 
+// How many steps a burst has at least before it ends early.
+const SHORT_STEPS: u64 = 256;
+
+// What part of its turns a burst that ends early makes at least, as those that are left still pass the gate.
+const SHORT_PART: u64 = 16;
+
 /// The slices of a burst, one after another. All regions run each, whoever runs them. A slice may go over the end of a
 /// turn. Before the last half of the last turn the regions begin to settle, each slice with as many steps as that half:
 /// they only run to where any was to run, so that hardly anything is left of which they disagree.
@@ -33,7 +39,7 @@ impl Course {
     pub(crate) fn new(turns: u32, steps: u32, pace: &Pace) -> Course
         requires { 0 < steps }
     {
-        let all = (u64::from(turns) * u64::from(steps)).saturating_sub(u64::from(steps / 2));
+        let all = steps_of(turns, steps, pace).saturating_sub(u64::from(steps / 2));
         let course = Course {
             steps,
             all,
@@ -50,6 +56,11 @@ impl Course {
     /// The turn that they are at.
     pub(crate) fn turn(&self) -> u64 {
         self.turn.load(Ordering::SeqCst)
+    }
+
+    /// Whether less than half of the steps before the regions settle is still to be made.
+    pub(crate) fn is_half_made(&self) -> bool {
+        self.left.load(Ordering::SeqCst) < self.all / 2
     }
 
     /// The slice that they are at.
@@ -89,5 +100,16 @@ impl Course {
         self.left
             .store(left - u64::from(slice.steps), Ordering::SeqCst);
         slice
+    }
+}
+
+// How many steps a burst of so many turns has. One region alone has nobody to wait for; if it has so many disks that the
+// cache doesn't hold them, what it does is told while it is still there.
+fn steps_of(turns: u32, steps: u32, pace: &Pace) -> u64 {
+    let planned = u64::from(turns) * u64::from(steps);
+    if pace.is_alone_with_many() {
+        planned.min(SHORT_STEPS.max(planned / SHORT_PART))
+    } else {
+        planned
     }
 }

@@ -26,6 +26,9 @@ const LEAST_STEPS: u32 = 16;
 
 const MOST_STEPS: u32 = 128;
 
+// From how many disks on a region isn't held by a cache of a megabyte.
+const MANY_DISKS: u64 = 16_384;
+
 // A lead that isn't known yet.
 const UNKNOWN: u64 = u64::MAX;
 
@@ -81,6 +84,11 @@ impl Pace {
             marks,
             farthest: AtomicU64::new(0),
         })
+    }
+
+    /// Whether there is one region alone, of many disks.
+    pub(crate) fn is_alone_with_many(&self) -> bool {
+        self.marks.len() == 1 && self.disks >= MANY_DISKS
     }
 
     /// The next slice, where a region has so many steps left, one at least.

@@ -1,5 +1,6 @@
 //! One module for each part.
 
+mod beside_bursts;
 mod cases;
 mod locks;
 mod pace;
