@@ -234,6 +234,15 @@ class Outputs(unittest.TestCase):
                     with self.subTest(words):
                         self.assert_output(words, scene, DONE, want)
 
+    def test_a_table_writes_what_locks_write(self):
+        scene = "--mode load --number 7 --disks 100 --regions 8"
+        want = output(f"{scene} --burst locks")
+        for turns in ("--turns 1 --steps 1", "--turns 3 --steps 50", "--turns 65536 --steps 4096"):
+            for workers in (1, 4):
+                words = f"{scene} --workers {workers} {turns} --burst table"
+                with self.subTest(words):
+                    self.assertEqual(output(words), want)
+
     def test_drawn_scenes_write_the_same_however_they_are_run(self):
         for scene in drawn_scenes(30):
             want = output("--mode plain", scene)

@@ -1,10 +1,10 @@
-pub mod Held
-pub mod Parts
-pub mod Keeps
-pub mod Moves
-pub mod Seats
-pub mod Calls
-pub mod Ends
-pub mod Staying
+mod Held
+mod Parts
+mod Keeps
+mod Moves
+mod Seats
+mod Calls
+mod Ends
+mod Staying
 pub mod Slots
 mod Standing

@@ -2,36 +2,12 @@
 use Rattle.std.proofs.Common.{◌≡◌, ℕ, zero, suc, slice_get, slice_index_or, [], ◌∷◌, refl, sym, ap, ◌∙◌, subst, inl, inr, ⊎_elim, false, List}
 use Rattle.std.specs.Prelude.{Some, None, Bool, IsTrue, option_map}
 use Rattle.std.proofs.lemmas.Option.{none-some, same_Some}
-use Rattle.region_view.specs.declared.rows.Message.{Message}
 use Rattle.std.proofs.Common.{Option as StdOption}
-use Rattle.local_run.specs.declared.answers.Hearing.{Hearing}
-use Rattle.local_run.specs.declared.answers.Hearing.TheVariants.{Same, Rewound, Later, Apart}
 use Rattle.local_run.specs.LocalRun.{Local}
 use Rattle.local_run.specs.Opening.{RegionData, spent}
-use Rattle.local_run.specs.Answers.{HearsFrom}
-use Rattle.local_run.specs.Hearing.{HearsAnother, HearsRegion}
 use Rattle.local_run.specs.RunOn.{BeginsAs, AreRunOn}
 use Rattle.local_run.proofs.Begins.{begins_on}
 use Rattle.region_table.specs.Bases.{IsSpent, MayReplace, MayLieIn, StaysOrSpent, AreReplaced, AreAlive}
-
-from_base : (k : ℕ) (r : Local) (answer : Hearing) (left : Local) (sent : List Message) → HearsFrom k sent r answer left → left.base ≡ r.base
-from_base k r Same left sent t = ap (λ (z : Local). z.base) t.1
-from_base k r (Later d) left sent t = t.2.base
-from_base k r (Rewound d) left sent t = t.2.base
-from_base k r Apart left sent t = absurd t
-
-another_base : (old from new : RegionData) (answer : Hearing) → HearsAnother old from new answer → BeginsAs old new
-another_base old from new answer t = record {
-  home = t.home;
-  floor = t.floor;
-  base = ap (option_map (λ (run : Local). run.base)) t.is_run ∙ (ap Some (from_base from.home.number t.before answer t.after _ t.hears) ∙ sym (ap (option_map (λ (run : Local). run.base)) t.was_run));
-}
-
-pub hears_base : (old from : RegionData) (answer : Hearing) (new : RegionData) → HearsRegion old from answer new → BeginsAs old new
-hears_base old from Apart new t = subst (BeginsAs old) (sym t) record { home = refl; floor = refl; base = refl }
-hears_base old from Same new t = another_base old from new Same t
-hears_base old from (Later d) new t = another_base old from new (Later d) t
-hears_base old from (Rewound d) new t = another_base old from new (Rewound d) t
 
 was_none : {A B : Type 0} (f : A → B) (x : StdOption A) → option_map f x ≡ None → x ≡ None
 was_none f None e = refl

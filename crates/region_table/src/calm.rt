@@ -1,5 +1,7 @@
 //! When no region of a table has anything to do any more.
 
+ghost use Rattle.std.specs.Prelude.{◌<◌};
+
 use std::sync::atomic::{AtomicU64, Ordering};
 
 /// Counts the changes that the workers of a burst make in regions.
@@ -28,15 +30,26 @@ impl Changes {
     }
 }
 
-/// Which regions one worker found calm since the last change by any worker: they made no step, and heard nothing
-/// new of any that they are linked with. Where all are, nothing would ever change.
+/// What a visit to a region came to.
+#[derive(Clone, Copy)]
+pub(crate) struct Visit {
+    /// Whether neither the region nor one that it hears was away.
+    pub is_whole: bool,
+    /// How many steps it made.
+    pub steps: u32,
+}
+
+/// Which regions one worker found calm, in rounds that began after the last change by any worker: they made no step,
+/// and heard nothing new of any that they are linked with. If all are, nothing would ever change.
 #[derive(Drop)]
 pub(crate) struct Calm<'c> {
     changes: &'c Changes,
-    // How many changes there were.
+    // How many changes there were when the present round began.
     count: u64,
     // A bit for each region.
     regions: u64,
+    // The most steps that a region made in the round.
+    steps: u32,
 }
 
 impl<'c> Calm<'c> {
@@ -46,19 +59,34 @@ impl<'c> Calm<'c> {
             changes,
             count: changes.count(),
             regions: 0,
+            steps: 0,
         }
     }
 
-    /// Notes a visit to a region, and whether it was a whole one: neither the region nor one that it hears was
-    /// away.
-    pub(crate) fn note(&mut self, region: u32, is_whole: bool) {
+    /// Begins a round, whose bound is to be taken after that.
+    pub(crate) fn begin(&mut self) {
         let count = self.changes.count();
         if count != self.count {
             self.count = count;
             self.regions = 0;
-        } else if is_whole {
+        }
+        self.steps = 0;
+    }
+
+    /// Notes a visit to a region.
+    pub(crate) fn note(&mut self, region: u32, visit: Visit) {
+        if visit.is_whole {
             self.regions |= 1 << (region % 64);
         }
+        self.steps = self.steps.max(visit.steps);
+    }
+
+    /// How many steps the round counts as: the most that a region made, and one if none made any. So a worker that
+    /// finds all away hasn't soon made its turns.
+    pub(crate) fn steps(&self) -> u32
+        ensures { 0 < result }
+    {
+        self.steps.max(1)
     }
 
     /// Whether so many regions, all that there are, are calm.

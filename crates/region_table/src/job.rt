@@ -7,10 +7,12 @@ ghost use Rattle.region_table.specs.Bases.{MayLieIn, StaysOrSpent};
 ghost use Rattle.region_table.specs.Rule.{slots_of, is_held};
 ghost use Rattle.region_table.specs.Tables.{IsSeatOf};
 
-use crate::calm::{Calm, Changes};
+use crate::calm::{Calm, Changes, Visit};
+use crate::pace::{Pace, Slice};
 use crate::{RegionTable, TableSeat, TakeOut};
 use cell_grid::Grid;
-use region_core::{Gate, Hearing, Region};
+use event_stamps::Stamp;
+use region_core::{Gate, Region};
 use std::alloc::{AllocError, Global};
 
 /// The work of one worker.
@@ -21,7 +23,10 @@ pub(crate) struct Job<'a, G: Gate> {
     pub grid: &'a Grid,
     pub gate: &'a G,
     pub changes: &'a Changes,
+    pub pace: &'a Pace,
     pub worker: u32,
+    /// How many workers there are.
+    pub workers: u32,
     pub steps: u32,
     ghost each: { length table.now.opened ≡ grid.now.regions },
     ghost some_steps: { 0 < steps },
@@ -46,43 +51,72 @@ impl<'a, G: Gate> Job<'a, G> {
         Ok(())
     }
 
-    // Visits all regions, if any of them may have something to do.
+    // Makes the steps of a turn in slices, as long as any region may have something to do.
     fn make_turn(&self, seat: &mut TableSeat, calm: &mut Calm<'_>) -> Result<(), AllocError>
         requires seat { IsSeatOf self.now.table.now seat.old }
         requires idle { slots_of seat.old.view.held ≡ [] }
         ensures seat { IsSeatOf self.now.table.now seat.new }
         ensures idle { slots_of seat.new.view.held ≡ [] }
     {
-        if calm.is_of_all(self.grid.regions()) {
-            return Ok(());
-        }
-        for region in 0..self.grid.regions() {
-            let is_whole = self.visit(seat, region)?;
-            calm.note(region, is_whole);
+        let mut left = self.steps;
+        for _ in 0..self.steps {
+            if left == 0 || calm.is_of_all(self.grid.regions()) {
+                break;
+            }
+            self.pause();
+            calm.begin();
+            let slice = self.pace.next_slice(left);
+            self.make_slice(seat, calm, &slice)?;
+            left = left.saturating_sub(calm.steps());
         }
         Ok(())
     }
 
-    // Lets a region run, and then hear those that it is linked with. What is away is passed over; whether nothing
-    // was.
-    fn visit(&self, seat: &mut TableSeat, region: u32) -> Result<bool, AllocError>
+    // If there are others, who go on meanwhile, the gate may hold the worker up.
+    fn pause(&self) {
+        if self.workers > 1 {
+            self.gate.pause(self.worker);
+        }
+    }
+
+    // Visits all regions.
+    fn make_slice(
+        &self,
+        seat: &mut TableSeat,
+        calm: &mut Calm<'_>,
+        slice: &Slice,
+    ) -> Result<(), AllocError>
+        requires seat { IsSeatOf self.now.table.now seat.old }
+        requires idle { slots_of seat.old.view.held ≡ [] }
+        ensures seat { IsSeatOf self.now.table.now seat.new }
+        ensures idle { slots_of seat.new.view.held ≡ [] }
+    {
+        for region in 0..self.grid.regions() {
+            let visit = self.visit(seat, region, slice)?;
+            calm.note(region, visit);
+        }
+        Ok(())
+    }
+
+    // Lets a region run, and then hear those that it is linked with. What is away is passed over.
+    fn visit(&self, seat: &mut TableSeat, region: u32, slice: &Slice) -> Result<Visit, AllocError>
         requires region { IsRegion self.now.grid.now region }
         requires seat { IsSeatOf self.now.table.now seat.old }
         requires idle { slots_of seat.old.view.held ≡ [] }
         ensures seat { IsSeatOf self.now.table.now seat.new }
         ensures idle { slots_of seat.new.view.held ≡ [] }
     {
-        let mut is_whole = self.step(seat, region)?;
+        let mut visit = self.step(seat, region, slice)?;
         for other in 0..self.grid.regions() {
             if other != region && self.grid.linked(region, other) {
-                is_whole &= self.hear(seat, region, other)?;
+                visit.is_whole &= self.hear(seat, region, other)?;
             }
         }
-        Ok(is_whole)
+        Ok(visit)
     }
 
-    // Lets a region run, if it is at home; whether it was.
-    fn step(&self, seat: &mut TableSeat, region: u32) -> Result<bool, AllocError>
+    // Lets a region run, if it is at home.
+    fn step(&self, seat: &mut TableSeat, region: u32, slice: &Slice) -> Result<Visit, AllocError>
         requires region { IsRegion self.now.grid.now region }
         requires seat { IsSeatOf self.now.table.now seat.old }
         requires idle { slots_of seat.old.view.held ≡ [] }
@@ -90,26 +124,33 @@ impl<'a, G: Gate> Job<'a, G> {
         ensures idle { slots_of seat.new.view.held ≡ [] }
     {
         let Some(value) = take(self.table, seat, region) else {
-            return Ok(false);
+            return Ok(Visit {
+                is_whole: false,
+                steps: 0,
+            });
         };
-        self.step_out(seat, region, value)?;
-        Ok(true)
+        let steps = self.step_out(seat, region, value, slice)?;
+        Ok(Visit {
+            is_whole: true,
+            steps,
+        })
     }
 
-    // Lets a region run that is out with the seat, and puts it back.
+    // Lets a region run that is out with the seat, and puts it back. How many steps it made.
     fn step_out(
         &self,
         seat: &mut TableSeat,
         region: u32,
         mut value: Region,
-    ) -> Result<(), AllocError>
+        slice: &Slice,
+    ) -> Result<u32, AllocError>
         requires seat { IsSeatOf self.now.table.now seat.old }
         requires out { slots_of seat.old.view.held ≡ region ∷ [] }
         requires base { MayLieIn self.now.table.now.opened region value }
         ensures seat { IsSeatOf self.now.table.now seat.new }
         ensures idle { slots_of seat.new.view.held ≡ [] }
     {
-        let done = run(self.alloc, self.changes, &mut value, self.steps);
+        let done = run(self.alloc, self.changes, self.pace, &mut value, slice);
         put(self.table, seat, region, value);
         done
     }
@@ -145,7 +186,7 @@ impl<'a, G: Gate> Job<'a, G> {
         hearer: u32,
         from: u32,
         mut hears: Region,
-        tells: Region,
+        mut tells: Region,
     ) -> Result<(), AllocError>
         requires seat { IsSeatOf self.now.table.now seat.old }
         requires hearer { is_held hearer seat.old.view.held ≡ true }
@@ -156,7 +197,7 @@ impl<'a, G: Gate> Job<'a, G> {
         ensures seat { IsSeatOf self.now.table.now seat.new }
         ensures idle { slots_of seat.new.view.held ≡ [] }
     {
-        let done = hear(self.alloc, self.changes, &mut hears, &tells);
+        let done = hear(self.alloc, self.changes, self.pace, &mut hears, &mut tells);
         put(self.table, seat, hearer, hears);
         put(self.table, seat, from, tells);
         done
@@ -217,34 +258,45 @@ fn put(table: &RegionTable, seat: &mut TableSeat, region: u32, value: Region)
     table.put_back(seat, region, value);
 }
 
-// Lets a region run up to the given number of steps. It is put back after an error too.
-fn run(alloc: Global, changes: &Changes, value: &mut Region, steps: u32) -> Result<(), AllocError>
-    requires some { 0 < steps }
+// Lets a region run a slice, and says how many steps it made. It is put back after an error too.
+fn run(
+    alloc: Global,
+    changes: &Changes,
+    pace: &Pace,
+    value: &mut Region,
+    slice: &Slice,
+) -> Result<u32, AllocError>
     ensures { StaysOrSpent value.old value.new }
 {
-    let before = value.entries();
-    value.run(alloc, steps)?;
-    changes.note(value.entries() != before);
-    Ok(())
+    let entries = value.entries();
+    let began = value.due();
+    value.run_before(alloc, slice.steps, slice.bound)?;
+    let steps = value.entries().saturating_sub(entries) as u32;
+    pace.ran(value.number(), began, value.due(), steps);
+    changes.note(steps > 0);
+    Ok(steps)
 }
 
-// Lets a region hear another.
+// Lets a region hear what is new of another since it last did.
 fn hear(
     alloc: Global,
     changes: &Changes,
+    pace: &Pace,
     hears: &mut Region,
-    tells: &Region,
+    tells: &mut Region,
 ) -> Result<(), AllocError>
-    ensures { StaysOrSpent hears.old hears.new }
+    ensures hears { StaysOrSpent hears.old hears.new }
+    ensures tells { tells.new ≡ tells.old }
 {
-    let answer = hears.hear(alloc, tells)?;
-    changes.note(is_news(&answer));
+    let before = standing(hears);
+    hears.catch_up(alloc, tells)?;
+    pace.heard(hears.number(), hears.due());
+    changes.note(standing(hears) != before);
     Ok(())
 }
 
-fn is_news(answer: &Hearing) -> bool {
-    match answer {
-        Hearing::Rewound(_) | Hearing::Later(_) => true,
-        Hearing::Same | Hearing::Apart => false,
-    }
+// How many entries a region has, the last one's stamp, and what is due there. If what it heard changes none of them, it
+// goes on as it would have.
+fn standing(region: &Region) -> (usize, Option<Stamp>, Stamp) {
+    (region.entries(), region.clock(), region.due())
 }

@@ -8,6 +8,7 @@ mod closing;
 mod job;
 mod laws;
 mod order;
+mod pace;
 mod rule;
 mod seat;
 mod table;

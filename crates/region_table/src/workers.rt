@@ -10,6 +10,7 @@ ghost use Rattle.region_table.specs.Tables.{IsSeatOf};
 
 use crate::calm::Changes;
 use crate::job::Job;
+use crate::pace::Pace;
 use crate::{RegionTable, TableSeat};
 use cell_grid::Grid;
 use region_core::{Gate, Region};
@@ -18,10 +19,10 @@ use std::sync::Wait;
 use std::thread;
 use std::thread::Threads;
 
-/// What works on the regions between two commits: threads, each of which makes some turns. In a turn it goes
-/// through all regions: it takes one out, lets it run, puts it back, and lets it hear those that it is linked with.
-/// What another worker has out, it passes over. Once it found that no region has anything to do, the turns that it
-/// has left only pass the gate.
+/// What works on the regions between two commits: threads, each of which makes some turns. The steps of a turn are made
+/// in slices. In a slice a worker goes through all regions: it takes one out, lets it run some steps, but not far ahead
+/// of the last one, puts it back, and lets it hear what is new of those that it is linked with. What another worker has
+/// out, it passes over. Once it found that no region has anything to do, the turns that it has left only pass the gate.
 #[derive(Drop)]
 pub struct TableWorkers<'g, G: Gate> {
     /// How many threads there are, 1 to [`MAX_WORKERS`](region_workers::MAX_WORKERS); no more than there are regions are started.
@@ -58,8 +59,9 @@ impl<'g, G: Gate> TableWorkers<'g, G> {
         };
         let grid = *first.grid();
         let jobs = self.workers.min(grid.regions());
+        let pace = Pace::new(alloc, &regions)?;
         let (table, mut seat) = RegionTable::open(alloc, regions)?;
-        self.run_jobs(rt, alloc, &table, &grid, jobs, &mut seat)?;
+        self.run_jobs(rt, alloc, &table, &grid, &pace, jobs, &mut seat)?;
         let worked = table.close(alloc, seat)?;
         // A region is spent only for want of memory, and then a worker said so; but no slot tells.
         if has_spent(&worked) {
@@ -75,6 +77,7 @@ impl<'g, G: Gate> TableWorkers<'g, G> {
         alloc: Global,
         table: &RegionTable,
         grid: &Grid,
+        pace: &Pace,
         jobs: u32,
         seat: &mut TableSeat,
     ) -> Result<(), AllocError>
@@ -96,7 +99,9 @@ impl<'g, G: Gate> TableWorkers<'g, G> {
                 grid,
                 gate: self.gate,
                 changes: &changes,
+                pace,
                 worker,
+                workers: jobs,
                 steps: self.steps,
             };
             job.run(&mut seat, self.turns)?;

@@ -3,5 +3,5 @@ use Rattle.region_table.specs.Rule.{slots_of}
 use Rattle.region_table.specs.Tables.{IsSeatOf}
 use Rattle.region_table.proofs.job.Job.make_turn.Given as goal
 
-abbrev pub invariant-loop-region : goal.invariant-loop-region
-invariant-loop-region g l = IsSeatOf l.fn.self.table.now l.seat × (slots_of l.seat.view.held ≡ [])
+abbrev pub invariant-loop : goal.invariant-loop
+invariant-loop g l = IsSeatOf l.fn.self.table.now l.seat × (slots_of l.seat.view.held ≡ [])
