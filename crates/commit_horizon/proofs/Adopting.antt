@@ -1,6 +1,7 @@
 -- Regions that are opened or taken over, one place after the other.
-use Rattle.std.proofs.Common.{◌≡◌, ◌⊎◌, inl, inr, ℕ, zero, suc, ◌+◌, ◌<◌, ◌≤◌, List, [], ◌∷◌, ◌++◌, length, slice_get, slice_set, sym, ap, ◌∙◌, subst, refl, arith, Some}
-use Rattle.std.proofs.lemmas.List.{length-append}
+use Rattle.std.proofs.Common.{◌≡◌, ◌⊎◌, inl, inr, ℕ, zero, suc, ◌+◌, ◌<◌, ◌≤◌, List, [], ◌∷◌, ◌++◌, length, map, slice_get, slice_set, sym, ap, ◌∙◌, subst, refl, arith, Some, Ok}
+use Rattle.std.specs.Prelude.{Result, IfOk, slice_index_or}
+use Rattle.std.proofs.lemmas.List.{length-append, length-map, map-append, append_assoc, append-nil}
 use Rattle.std.proofs.lemmas.Option.{none-some, same_Some, slice_get_within}
 use Rattle.cell_sequence.specs.State.{CellStateData}
 use Rattle.cell_sequence.proofs.Lists.{get_other, get_here}
@@ -61,6 +62,43 @@ one_more_stands state n regions region so_far stands = record {
     | inr before ↦ so_far.each k other before
   ];
 }
+
+-- ---- opened side by side
+-- one that was opened is put to those before it
+pub one_more_opened : {A E : Type 0} (xs : List A) (x : A) (item : Result A E) (rest left all : List (Result A E)) →
+    map Ok xs ++ rest ≡ all → rest ≡ item ∷ left → item ≡ Ok x → map Ok (xs ++ x ∷ []) ++ left ≡ all
+one_more_opened {A} {E} xs x item rest left all so_far is good =
+    ap (λ (v : List (Result A E)). v ++ left) (map-append Ok xs (x ∷ []))
+    ∙ append_assoc (map Ok xs) (Ok x ∷ []) left
+    ∙ ap (λ (v : List (Result A E)). map Ok xs ++ v) (sym (is ∙ ap (λ (v : Result A E). v ∷ left) good)) ∙ so_far
+
+pub all_opened : {A E : Type 0} (xs : List A) (rest all : List (Result A E)) → map Ok xs ++ rest ≡ all →
+    length rest ≡ 0 → map Ok xs ≡ all
+all_opened xs [] all so_far none = sym (append-nil (map Ok xs)) ∙ so_far
+all_opened xs (r ∷ rest) all so_far none = absurd (omega (arith, none))
+
+mapped_at : {A B : Type 0} (f : A → B) (xs : List A) (k : ℕ) (x : A) → slice_get xs k ≡ Some x →
+    slice_index_or (map f xs) k (f x) ≡ f x
+mapped_at f [] k x at = absurd (none-some x at)
+mapped_at f (y ∷ xs) zero x at = ap f (same_Some y x at)
+mapped_at f (y ∷ xs) (suc k) x at = mapped_at f xs k x at
+
+-- regions of which each was opened at its place stand
+pub opened_stand : {E : Type 0} (state : CellStateData) (n : ℕ) (regions : List RegionData)
+    (opened : List (Result RegionData E)) → n ≡ state.grid.regions → length opened ≡ n → map Ok regions ≡ opened →
+    ((k : ℕ) (d : Result RegionData E) → k < n → IfOk (slice_index_or opened k d) (IsOpened state k)) →
+    AllStand state regions
+opened_stand {E} state n regions opened whole count same each = record {
+  count = all ∙ whole;
+  each = λ k region at. opened_stands state k region
+      (subst (λ (r : Result RegionData E). IfOk r (IsOpened state k))
+      (ap (λ (v : List (Result RegionData E)). slice_index_or v k (Ok region)) (sym same)
+      ∙ mapped_at Ok regions k region at)
+      (each k (Ok region) (subst (λ m. k < m) all (slice_get_within regions k region at))));
+}
+  where
+    all : length regions ≡ n
+    all = sym (length-map regions Ok) ∙ ap length same ∙ count
 
 -- ---- adopted
 adopted_stands : (state : CellStateData) (k : ℕ) (given : RegionData) (adopted : Adopted) →

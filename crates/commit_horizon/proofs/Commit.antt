@@ -1,11 +1,11 @@
 -- What a commit leaves.
 use Rattle.std.proofs.Common.{◌≡◌, inl, inr, ◌<◌, List, [], ◌∷◌, map, sym, ap, ◌∙◌, subst, refl}
-use Rattle.std.specs.Prelude.{option_map}
+use Rattle.std.specs.Prelude.{Result, Ok, Err, IfOk, OnOk, option_map}
 use Rattle.std.proofs.lemmas.List.{length-map}
 use Rattle.std.proofs.lemmas.Option.{same_Some, slice_get_within, slice_get-map}
 use Rattle.fixed_motion.specs.declared.rules.Rules.{Rules}
 use Rattle.event_stamps.specs.declared.Stamp.{Stamp}
-use Rattle.event_stamps.specs.Order.{Before, end_stamp}
+use Rattle.event_stamps.specs.Order.{Before}
 use Rattle.event_stamps.proofs.StampOrder.{before_trans, not_before_itself}
 use Rattle.cell_grid.specs.Grid.{GridData, IsRegion}
 use Rattle.region_view.specs.declared.action.Action.{Action}
@@ -13,7 +13,7 @@ use Rattle.region_view.specs.Acting.{stamp_of}
 use Rattle.region_messages.specs.Trails.{IsAmong}
 use Rattle.region_messages.proofs.Order.{before_not_before}
 use Rattle.cell_sequence.specs.Run.{CellSteps}
-use Rattle.cell_sequence.specs.State.{CellStateData, followed, followed_by, HasNoneBelow}
+use Rattle.cell_sequence.specs.State.{CellStateData, IsCellState, followed, followed_by, HasNoneBelow}
 use Rattle.cell_sequence.specs.State.{raised as raised_state}
 use Rattle.local_run.specs.Opening.{RegionData, home_of}
 use Rattle.local_run.specs.Raising.{raised as raised_region}
@@ -23,8 +23,12 @@ use Rattle.local_run.proofs.InTurn.{waiting_in_turn}
 use Rattle.commit_horizon.specs.Horizon.{runs_of, IsBound, IsHorizon, AllStand, AllKept}
 use Rattle.commit_horizon.specs.Commits.{Commits}
 use Rattle.commit_horizon.specs.Laws.{IsNext}
-use Rattle.commit_horizon.specs.Merging.{Merges}
+use Rattle.commit_horizon.specs.declared.cutting.Final.{Final}
+use Rattle.commit_horizon.specs.Cutting.{FinalMade}
+use Rattle.commit_horizon.specs.Following.{MayFollow}
+use Rattle.commit_horizon.proofs.Merging.{Merges}
 use Rattle.commit_horizon.specs.Raising.{MayRise, AllMayRise}
+use Rattle.commit_horizon.specs.Telling.{IsStateOf}
 use Rattle.commit_horizon.proofs.Standing.{region_on, region_at, region_is, are_standing}
 
 -- ---- the regions
@@ -107,14 +111,48 @@ commits old regions h xs mid new left stand horizon merges is_new is_left =
           (stand_after old regions h xs stand merges.next));
     }
 
--- the floor of the state may be raised
-pub state_may_rise : (old : CellStateData) (regions : List RegionData) (h : Stamp) (xs : List Action)
-    (mid : CellStateData) → IsBound old (runs_of regions) h → Merges old regions h xs mid →
-    (¬ Before h mid.floor) × (¬ Before (end_stamp mid.rules.end) h) × HasNoneBelow mid h
-state_may_rise old regions h xs mid bound merges = subst
-    (λ (v : CellStateData). (¬ Before h v.floor) × (¬ Before (end_stamp v.rules.end) h) × HasNoneBelow v h)
-    (sym merges.follows) (
-      floor_not_after xs old h bound.floor (λ x among. (merges.merged.are x among).before),
-      subst (λ (rules : Rules). ¬ Before (end_stamp rules.end) h) (sym (same_rules xs old)) bound.end,
-      merges.next.none_below,
-    )
+-- the state may go on by what was committed
+pub may_follow : (old new : CellStateData) (given left : List RegionData) (batch : List Action) (floor : Stamp)
+    (commits : Commits old given batch new left) → commits.horizon ≡ floor → MayFollow old batch floor
+may_follow old new given left batch floor commits is = subst (MayFollow old batch) is (record {
+  steps = subst (λ (v : CellStateData). CellSteps old.rules old.grid old.placed batch v.placed) commits.state
+      commits.steps;
+  not_lowered = floor_not_after batch old commits.horizon commits.is_horizon.bound.floor
+      (λ x among. (commits.merged.are x among).before);
+  in_time = commits.is_horizon.bound.end;
+  none_below = subst (λ (v : CellStateData). HasNoneBelow v commits.horizon) commits.state commits.none_below;
+})
+
+-- ---- what a commit makes final
+module _ (old : CellStateData) (given left : List RegionData) (made : Final) (batch : List Action)
+    (final : FinalMade old given made batch left) where
+  horizon_is : final.commits.horizon ≡ made.floor
+  horizon_is = sym (ap (λ (v : CellStateData). v.floor) final.commits.state) ∙ final.floor
+
+  -- its floor is the horizon
+  pub final_is : final.new ≡ raised_state made.floor (followed_by old batch)
+  final_is = final.commits.state ∙ ap (λ (h : Stamp). raised_state h (followed_by old batch)) horizon_is
+
+  pub may_follow_final : MayFollow old batch made.floor
+  may_follow_final = may_follow old final.new given left batch made.floor final.commits horizon_is
+
+  -- whoever goes on by it has committed
+  followed_commits : (told : List Action) (new : CellStateData) → told ≡ batch →
+      new ≡ raised_state made.floor (followed_by old batch) → Commits old given told new left
+  followed_commits told new same is = subst (λ (v : List Action). Commits old given v new left) (sym same)
+      (subst (λ (v : CellStateData). Commits old given batch v left) (final_is ∙ sym is) final.commits)
+
+  pub commits_if_ok : {E : Type 0} (r : Result (List Action) E) (new : CellStateData) →
+      IfOk r (λ told. told ≡ batch) → OnOk r (new ≡ raised_state made.floor (followed_by old batch)) →
+      IfOk r (λ told. Commits old given told new left)
+  commits_if_ok (Ok told) new same is = followed_commits told new same is
+  commits_if_ok (Err e) new same is = tt
+
+-- a state, as it is read, is one on which its regions stand
+pub state_is_of : (old read : CellStateData) (rules : Rules) (regions : List RegionData) → read ≡ old →
+    IsCellState read → rules ≡ read.rules → AllStand old regions → IsStateOf rules regions old
+state_is_of old read rules regions same is rules_are stand = record {
+  is = subst IsCellState same is;
+  rules_are = sym (rules_are ∙ ap (λ (v : CellStateData). v.rules) same);
+  stand = stand;
+}

@@ -25,7 +25,7 @@ use Rattle.local_run.specs.Keeping.{entries_of}
 use Rattle.local_run.proofs.Among.{same_or_other}
 use Rattle.local_run.proofs.Logs.{rises_log_tail, among_after, below_in, below_out}
 use Rattle.commit_horizon.specs.Horizon.{Runs, runs_of, AllStand, AllKept, IsBound, IsDone, IsMerged}
-use Rattle.commit_horizon.specs.Merging.{actions_below}
+use Rattle.commit_horizon.proofs.Merging.{actions_below}
 use Rattle.commit_horizon.specs.Untold.{actions_in, BeginsAfter, IsMergeOf, CanBeTold, CanBeTellings}
 use Rattle.commit_horizon.proofs.GoesOn.{AllGoOn, HeadNotBefore, IsLeastEntry, past}
 use Rattle.commit_horizon.proofs.Past.{head_is, past_first}

@@ -1,16 +1,14 @@
 -- The entries of regions before a horizon, in logs of their own.
-use Rattle.std.proofs.Common.{◌≡◌, ◌⊎◌, inl, inr, ℕ, zero, suc, ◌+◌, ◌<◌, ◌≤◌, List, [], ◌∷◌, ◌++◌, length, get_or, set, take, drop, map}
+use Rattle.std.proofs.Common.{◌≡◌, inl, inr, ℕ, zero, suc, ◌+◌, ◌<◌, List, [], ◌∷◌, ◌++◌, length, get_or, set, take, drop, map}
 use Rattle.std.proofs.Common.{Option, Some, None, sym, ap, ◌∙◌, subst, refl, arith}
 use Rattle.std.specs.Prelude.{slice_get, IfSome}
-use Rattle.std.proofs.lemmas.List.{length-map, map_more, map-append, take_more_set}
+use Rattle.std.proofs.lemmas.List.{map_more, map-append, take_more_set}
 use Rattle.std.proofs.lemmas.Option.{none-some, same_Some}
 use Rattle.event_stamps.specs.declared.Stamp.{Stamp}
 use Rattle.event_stamps.specs.Ordered.{Rises}
 use Rattle.event_stamps.proofs.Rising.{rises_if_from}
 use Rattle.event_stamps.proofs.Parts.{rises_below, below_among, below_before, among_below}
-use Rattle.cell_grid.specs.Grid.{IsRegion}
 use Rattle.region_view.specs.declared.action.Action.{Action}
-use Rattle.region_view.specs.Acting.{stamp_of}
 use Rattle.region_messages.specs.Trails.{IsAmong}
 use Rattle.cell_sequence.specs.State.{CellStateData, last_stamp}
 use Rattle.local_run.specs.declared.home.Home.{Home}
@@ -19,11 +17,11 @@ use Rattle.local_run.specs.declared.entry.Entry.TheVariants.{Native}
 use Rattle.local_run.specs.Entries.{entry_stamp, entries_below}
 use Rattle.local_run.specs.LocalRun.{Local, IsRight}
 use Rattle.local_run.specs.Opening.{RegionData}
-use Rattle.local_run.specs.Keeping.{entries_of, IsKept}
+use Rattle.local_run.specs.Keeping.{entries_of}
 use Rattle.local_run.specs.Keeping.{entries_in as entries_in_run}
 use Rattle.event_log.specs.Logged.{Logged, entries_in}
-use Rattle.commit_horizon.specs.Horizon.{runs_of, AllStand, AllKept, IsDone, IsMerged}
-use Rattle.commit_horizon.specs.Cutting.{logs_below, AllRise, HasStamp, SomeHasStamp, IsLatest}
+use Rattle.commit_horizon.specs.Horizon.{runs_of, AllStand, AllKept, IsMerged}
+use Rattle.commit_horizon.specs.Cutting.{logs_below, AllRise, SomeHasStamp, IsLatest}
 use Rattle.commit_horizon.proofs.Latest.{IsStampAmong, latest_same, last_is_latest, one_latest}
 use Rattle.commit_horizon.proofs.Standing.{region_on, region_at, region_is, are_standing}
 

@@ -10,7 +10,7 @@ use Rattle.local_run.specs.Opening.{RegionData}
 use Rattle.local_run.specs.Raising.{raised as raised_region}
 use Rattle.commit_horizon.specs.Horizon.{runs_of, AllKept, IsHorizon}
 use Rattle.commit_horizon.specs.Bounds.{HoldsUpTo, IsWithin}
-use Rattle.commit_horizon.specs.Merging.{Merges}
+use Rattle.commit_horizon.proofs.Merging.{Merges}
 use Rattle.commit_horizon.specs.Telling.{IsStateOf}
 use Rattle.commit_horizon.specs.Untold.{actions_in, CanBeTellings}
 use Rattle.commit_horizon.specs.Cutting.{logs_below, SomeHasStamp, IsLatest, FinalMade}

@@ -2,7 +2,7 @@
 use Rattle.std.proofs.Common.{◌≡◌, ◌⊎◌, inl, inr, ℕ, zero, suc, ◌+◌, ◌-◌, ◌<◌, ◌≤◌, Bool, true, false, List, [], ◌∷◌, ◌++◌}
 use Rattle.std.proofs.Common.{Option, Some, None, drop, set, get_or, length, sym, ap, ◌∙◌, subst, refl, arith}
 use Rattle.std.proofs.Common.{get_or-set_same, get_or-set_other}
-use Rattle.std.specs.Prelude.{slice_get, option_map, IfSome, if◌then◌else◌}
+use Rattle.std.specs.Prelude.{slice_get, IfSome, if◌then◌else◌}
 use Rattle.std.specs.List.{sum_by}
 use Rattle.std.proofs.lemmas.Bool.{cases_lt}
 use Rattle.std.proofs.lemmas.List.{drop_more, drop_all, get_or_past, get_or_push, get_or_append_left, length_push}
@@ -24,7 +24,8 @@ use Rattle.local_run.specs.Keeping.{entries_of}
 use Rattle.local_run.proofs.Among.{same_or_other}
 use Rattle.local_run.proofs.Logs.{rises_log_tail, among_after}
 use Rattle.commit_horizon.specs.Horizon.{ActionsRise}
-use Rattle.commit_horizon.specs.Merging.{Head, actions_below, IsLeft, IsHeadAfter, head_before, Heads, head_at, AreHeads, IsLeastHead, nearer_of}
+use Rattle.commit_horizon.specs.Merging.{Head, Heads, head_at, IsLeastHead}
+use Rattle.commit_horizon.proofs.Merging.{actions_below, IsLeft, IsHeadAfter, head_before, AreHeads, nearer_of}
 
 -- ---- the actions before a stamp
 pub actions_in : (h : Stamp) (x : Action) (es : List Entry) → Before (stamp_of x) h →
@@ -145,28 +146,6 @@ head_past h log done k le so_far = record {
   actions = so_far ∙ ap (actions_below h) (drop_all k log le);
   place = tt;
 }
-
--- ---- by its stamp alone
-pub stamp_found : (h : Stamp) (log : List Entry) (done k : ℕ) (s : Stamp) → done ≤ k →
-    option_map stamp_of (native_in (slice_get log k)) ≡ Some s →
-    actions_below h (drop done log) ≡ actions_below h (drop k log) → IsHeadAfter h log done (head_before h s k)
-stamp_found h log done k s le is so_far = by_action (native_in (slice_get log k)) refl is
-  where
-    by_action : (found : Option Action) → native_in (slice_get log k) ≡ found → option_map stamp_of found ≡ Some s →
-        IsHeadAfter h log done (head_before h s k)
-    by_action None at none = absurd (none-some s none)
-    by_action (Some x) at there = subst (λ (t : Stamp). IsHeadAfter h log done (head_before h t k))
-        (same_Some (stamp_of x) s there) (head_found h log done k x le at so_far)
-
-pub stamp_passed : (h : Stamp) (log : List Entry) (k : ℕ) → k < length log →
-    option_map stamp_of (native_in (slice_get log k)) ≡ None →
-    actions_below h (drop k log) ≡ actions_below h (drop (k + 1) log)
-stamp_passed h log k lt is = by_action (native_in (slice_get log k)) refl is
-  where
-    by_action : (found : Option Action) → native_in (slice_get log k) ≡ found → option_map stamp_of found ≡ None →
-        actions_below h (drop k log) ≡ actions_below h (drop (k + 1) log)
-    by_action None at none = head_passed h log k lt at
-    by_action (Some x) at there = absurd (none-some (stamp_of x) (sym there))
 
 -- ---- all heads
 -- the least of the heads of the first so many regions

@@ -22,8 +22,7 @@ use Rattle.local_run.proofs.Among.{same_or_other}
 use Rattle.local_run.proofs.Logs.{among_after}
 use Rattle.event_log.specs.Logged.{Logged, entries_in, native_at}
 use Rattle.commit_horizon.specs.Horizon.{ActionsRise}
-use Rattle.commit_horizon.specs.Bounds.{later_of}
-use Rattle.commit_horizon.specs.Cutting.{AllRise, HasStamp, SomeHasStamp, IsLatest, latest_of}
+use Rattle.commit_horizon.specs.Cutting.{HasStamp, SomeHasStamp, IsLatest, latest_of}
 
 -- ---- any stamps
 -- there is one latest

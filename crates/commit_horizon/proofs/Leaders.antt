@@ -2,7 +2,7 @@
 use Rattle.std.proofs.Common.{◌≡◌, ◌≢◌, ◌⊎◌, inl, inr, ℕ, ◌+◌, ◌<◌, ◌≤◌, length, sym, ap, ◌∙◌, subst, refl, arith}
 use Rattle.std.proofs.Common.{Some, None, List, get_or, set, get_or-set_other}
 use Rattle.std.specs.Prelude.{option_map}
-use Rattle.std.proofs.lemmas.List.{get_or-map, map-set, length-map, length-set}
+use Rattle.std.proofs.lemmas.List.{get_or-map, map-set}
 use Rattle.std.proofs.lemmas.Option.{none-some, same_Some}
 use Rattle.event_stamps.specs.declared.Stamp.{Stamp}
 use Rattle.event_stamps.specs.Order.{Before}
@@ -12,9 +12,10 @@ use Rattle.event_tree.specs.Keys.{Key, IsNotAfter, IsKeyBefore}
 use Rattle.event_tree.proofs.Trees.{lesser, not_after_trans}
 use Rattle.region_messages.proofs.Order.{is_before_true, is_before_false}
 use Rattle.local_run.proofs.Among.{same_or_other}
-use Rattle.commit_horizon.specs.declared.merging.PackedHead.{PackedHead}
+use Rattle.commit_horizon.specs.declared.leading.PackedHead.{PackedHead}
 use Rattle.commit_horizon.specs.declared.leading.Leader.{Leader}
-use Rattle.commit_horizon.specs.Merging.{Head, Heads, head_of, head_in, heads_in, head_at, nearer_of, IsLeastHead}
+use Rattle.commit_horizon.specs.Merging.{Head, Heads, head_of, head_in, heads_in, head_at, IsLeastHead}
+use Rattle.commit_horizon.proofs.Merging.{nearer_of}
 use Rattle.commit_horizon.specs.Leading.{NoOtherBefore, IsLeader, IsNearer, head_with}
 use Rattle.commit_horizon.proofs.Heads.{IsLeastOfFirst, nearer_is, least_of_all, below_or_last, head_within}
 
@@ -128,12 +129,6 @@ pub leads_at : (heads : Heads) (first : Leader) (s : Stamp) → IsLeader heads f
 leads_at heads first s leads is = subst (λ (key : Key). IsLeastHead heads
     (option_map (λ head. (first.number, head)) (head_of key first.place))) (sym is) leads.least
 
--- its number is that of a packed head
-pub leader_within : (packed : List PackedHead) (first : Leader) (s : Stamp) → IsLeader (heads_in packed) first →
-    Some s ≡ first.stamp → first.number < length packed
-leader_within packed first s leads is = subst (λ (n : ℕ). first.number < n) (length-map packed head_in)
-    (leads_at (heads_in packed) first s leads is).0
-
 pub none_leads : (heads : Heads) (first : Leader) → IsLeader heads first → None ≡ first.stamp →
     IsLeastHead heads None
 none_leads heads first leads is = subst (λ (key : Key). IsLeastHead heads
@@ -172,10 +167,6 @@ leads_still heads k head second lt others at before = record {
 pub set_in : (packed : List PackedHead) (k : ℕ) (new : PackedHead) →
     heads_in (set packed k new) ≡ set (heads_in packed) k (head_in new)
 set_in packed k new = map-set head_in packed k new
-
-pub still_within : (packed : List PackedHead) (k : ℕ) (new : PackedHead) → k < length packed →
-    k < length (set packed k new)
-still_within packed k new lt = subst (λ (n : ℕ). k < n) (sym (length-set packed k new)) lt
 
 -- the others' heads stay
 pub others_stay : (packed : List PackedHead) (k : ℕ) (new : PackedHead) (second : Key) →

@@ -27,7 +27,8 @@ use Rattle.local_run.specs.declared.entry.TheConstants.{MAX_ENTRIES}
 use Rattle.local_run.specs.Opening.{RegionData}
 use Rattle.local_run.specs.Keeping.{entries_of}
 use Rattle.commit_horizon.specs.Horizon.{Runs, runs_of, AllStand, AllKept, IsBound, ActionsRise, IsDone, IsMerged}
-use Rattle.commit_horizon.specs.Merging.{Head, actions_below, BeginsAt, IsLeft, IsHeadAfter, Heads, head_at, AreHeads, IsLeastHead, Merges}
+use Rattle.commit_horizon.specs.Merging.{Head, Heads, head_at, IsLeastHead}
+use Rattle.commit_horizon.proofs.Merging.{actions_below, BeginsAt, IsLeft, IsHeadAfter, AreHeads, Merges}
 use Rattle.commit_horizon.proofs.GoesOn.{CellLaws, AllGoOn, past, IsLeastEntry, NoneBefore, HeadNotBefore}
 use Rattle.commit_horizon.proofs.Past.{head_is, past_cases, past_first, past_after, past_keeps}
 use Rattle.commit_horizon.proofs.Steps.{central_step, heads_late}
@@ -379,14 +380,6 @@ module _ (old : CellStateData) (regions : List RegionData) (h : Stamp) (heads : 
 
     read : native_in (slice_get (runs_of regions k).log head.place) ≡ Some x
     read = subst (λ (log : List Entry). native_in (slice_get log head.place) ≡ Some x) (sym log_is) found
-
-    -- its stamp is that of the head
-    pub stamp_is : stamp_of x ≡ head.stamp
-    stamp_is = ap stamp_of (same_Some x begins_at.action (sym read ∙ begins_at.at)) ∙ begins_at.stamp
-
-    pub next_of_heads : IsNextAction now x
-    next_of_heads = next_is old (runs_of regions) h heads done now keeps.merging laws k head within_now least
-        x read
 
     pub keeps_on : (new : Option Head) → IsHeadAfter h (entries_of region) (head.place + 1) new →
         KeepsMerging old regions h (set heads k new) (done ++ x ∷ []) (followed now x)

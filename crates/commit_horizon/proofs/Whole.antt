@@ -15,7 +15,8 @@ use Rattle.local_run.specs.Opening.{RegionData}
 use Rattle.local_run.specs.Entries.{native_in}
 use Rattle.local_run.specs.Keeping.{entries_of}
 use Rattle.commit_horizon.specs.Horizon.{runs_of, AllStand, AllKept, IsBound}
-use Rattle.commit_horizon.specs.Merging.{Head, actions_below, IsHeadAfter, head_before, Heads, head_at, AreHeads, IsLeastHead, nearer_of, Merges}
+use Rattle.commit_horizon.specs.Merging.{Head, Heads, head_at, IsLeastHead}
+use Rattle.commit_horizon.proofs.Merging.{actions_below, IsHeadAfter, head_before, AreHeads, nearer_of, Merges}
 use Rattle.commit_horizon.proofs.Heads.{IsLeastOfFirst, nearer_is, least_of_all, head_found, head_passed, head_past, one_more_head, cost_of}
 use Rattle.commit_horizon.proofs.Merges.{KeepsMerging, keeps_begin, has_action, keeps_on, costs_less, keeps_end}
 use Rattle.commit_horizon.proofs.Standing.{region_on, region_at}

@@ -12,7 +12,7 @@ use Rattle.local_run.specs.declared.entry.Entry.TheVariants.{Native}
 use Rattle.local_run.specs.Entries.{entry_stamp, entries_below}
 use Rattle.local_run.specs.Opening.{RegionData}
 use Rattle.local_run.specs.Keeping.{entries_of}
-use Rattle.commit_horizon.specs.declared.telling.Final.{Final}
+use Rattle.commit_horizon.specs.declared.cutting.Final.{Final}
 use Rattle.commit_horizon.specs.Bounds.{later_of}
 use Rattle.commit_horizon.specs.Commits.{Commits}
 

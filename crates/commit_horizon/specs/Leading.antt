@@ -2,7 +2,7 @@
 use Rattle.std.specs.Prelude.{◌≡◌, ◌≢◌, ℕ, Option, Some, option_map}
 use Rattle.event_stamps.specs.Least.{earlier_of}
 use Rattle.event_tree.specs.Keys.{Key, IsNotAfter, IsKeyBefore}
-use Rattle.commit_horizon.specs.declared.merging.PackedHead.{PackedHead}
+use Rattle.commit_horizon.specs.declared.leading.PackedHead.{PackedHead}
 use Rattle.commit_horizon.specs.declared.leading.Leader.{Leader}
 use Rattle.commit_horizon.specs.Merging.{Head, Heads, head_of, head_at, IsLeastHead}
 

@@ -9,3 +9,4 @@ pub mod Telling
 pub mod Untold
 pub mod TellingOn
 pub mod Cutting
+pub mod Following

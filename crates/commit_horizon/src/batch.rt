@@ -18,20 +18,9 @@ impl Model for Batch {
     ghost view = { λ s. s.actions.items };
 }
 
-ghost use Rattle.std.specs.Prelude.{◌≡◌, []};
-
-use std::alloc::Global;
+ghost use Rattle.std.specs.Prelude.{◌≡◌};
 
 impl Batch {
-    /// No actions.
-    pub fn new(alloc: Global) -> Batch
-        ensures { result ≡ [] }
-    {
-        Batch {
-            actions: Vec::new(alloc),
-        }
-    }
-
     /// The actions, in order.
     pub fn as_slice(&self) -> &[Action]
         ensures { result.now ≡ self.now }

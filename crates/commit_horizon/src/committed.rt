@@ -27,16 +27,18 @@ pub enum Adopted {
     Made(Region, Differs),
 }
 
-ghost use Rattle.std.specs.Prelude.{◌≡◌, IfOk};
+ghost use Rattle.std.specs.Prelude.{◌≡◌, IfOk, OnOk};
 ghost use Rattle.cell_grid.specs.Grid.{IsRegion, IsAsked};
-ghost use Rattle.cell_sequence.specs.State.{IsCellState, start_of, later};
+ghost use Rattle.cell_sequence.specs.State.{IsCellState, start_of, later, followed_by, raised};
 ghost use Rattle.commit_horizon.specs.Horizon.{runs_of, IsHorizon, AllStand, AllKept};
 ghost use Rattle.commit_horizon.specs.Commits.{Adopts, Commits};
+ghost use Rattle.commit_horizon.specs.Following.{MayFollow};
 
 use crate::Batch;
 use crate::bounding::least_bound;
-use crate::merging::merge;
-use crate::raising::raise_floors;
+use crate::cutting::commit_cutting;
+use crate::following::follow_all;
+use crate::untold::Untold;
 use event_stamps::Stamp;
 use fixed_motion::Scene;
 use region_view::Placed;
@@ -112,10 +114,28 @@ impl Committed {
         requires { AllStand self.old regions.old }
         ensures { IfOk result (λ batch. Commits self.old regions.old batch self.new regions.new) }
     {
-        let horizon = self.horizon(regions);
-        let actions = merge(&mut self.state, alloc, regions, horizon)?;
-        raise_floors(alloc, regions, horizon)?;
-        self.state.raise_floor(horizon);
+        let mut untold = Untold::new(alloc);
+        let made = commit_cutting(alloc, self.state.rules(), regions, &mut untold)?;
+        self.follow(alloc, untold, made.floor)
+    }
+
+    /// Goes on by what is untold, which the cell run does next, and raises the floor to a stamp. What was untold is
+    /// the batch.
+    ///
+    /// # Errors
+    /// Out of memory: the committed state is to be given up.
+    pub fn follow(
+        &mut self,
+        alloc: Global,
+        untold: Untold,
+        floor: Stamp,
+    ) -> Result<Batch, AllocError>
+        requires { MayFollow self.old untold floor }
+        ensures batch { IfOk result (λ batch. batch ≡ untold) }
+        ensures state { OnOk result (self.new ≡ raised floor (followed_by self.old untold)) }
+    {
+        let actions = follow_all(&mut self.state, alloc, untold)?;
+        self.state.raise_floor(floor);
         Ok(Batch { actions })
     }
 }

@@ -11,13 +11,21 @@ ghost use Rattle.commit_horizon.specs.Telling.{IsStateOf};
 ghost use Rattle.commit_horizon.specs.Cutting.{logs_below, AllRise, HasStamp, SomeHasStamp, IsLatest, latest_of, FinalMade};
 
 use crate::bounding::least_bound;
-use crate::telling::Final;
 use crate::untold::Untold;
 use event_log::EventLog;
 use event_stamps::Stamp;
 use fixed_motion::Rules;
 use region_core::Region;
 use std::alloc::{AllocError, Global};
+
+/// What a commit makes of the state on which the regions stand. The rows are not in it: the regions have them.
+#[derive(Clone, Copy)]
+pub struct Final {
+    /// The stamp of the last action of its batch; none where the batch is empty.
+    pub last: Option<Stamp>,
+    /// The floor: the horizon.
+    pub floor: Stamp,
+}
 
 /// Makes final what regions, which stand by number on a cell state with these rules, did before the commit horizon:
 /// it is cut off their logs and is what is to be told now, and all floors are raised to the horizon. All that was to be

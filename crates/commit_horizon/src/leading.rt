@@ -1,11 +1,20 @@
 //! The head that is merged next, and how far its region leads the others.
 
-ghost use Rattle.std.specs.Prelude.{◌<◌, length};
-ghost use Rattle.commit_horizon.specs.Merging.{heads_in};
+ghost use Rattle.std.specs.Prelude.{◌≡◌, ◌<◌, length, None};
+ghost use Rattle.commit_horizon.specs.Merging.{head_in, heads_in};
 ghost use Rattle.commit_horizon.specs.Leading.{NoOtherBefore, IsLeader, IsNearer};
 
-use crate::merging::PackedHead;
 use event_tree::Packed;
+
+/// The next action of a region that is to be merged, by its stamp and its place. Heads are compared again and
+/// again, so they are small, and their stamps are packed.
+#[derive(Clone, Copy)]
+pub(crate) struct PackedHead {
+    /// The stamp of the action; none where no action is left.
+    pub(crate) stamp: Packed,
+    /// Its place in the region's log, from 0 on.
+    pub(crate) place: usize,
+}
 
 /// The least of some heads, and the number of its region. Its region runs on while what it did is before the
 /// second: so the heads aren't compared for each action.
@@ -73,5 +82,16 @@ pub(crate) fn leader_after(heads: &[PackedHead], last: &Leader) -> Leader
         }
     } else {
         find_leader(heads)
+    }
+}
+
+/// No head.
+#[inline(always)]
+pub(crate) fn no_head() -> PackedHead
+    ensures { head_in result ≡ None }
+{
+    PackedHead {
+        stamp: Packed::new(None),
+        place: 0,
     }
 }

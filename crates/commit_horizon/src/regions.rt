@@ -1,13 +1,15 @@
 //! All regions of the committed state.
 
-ghost use Rattle.std.specs.Prelude.{◌≡◌, length, IfOk, OnOk};
+ghost use Rattle.std.specs.Prelude.{◌≡◌, ◌<◌, ◌^◌, length, map, Ok, IfOk, OnOk};
 ghost use Rattle.commit_horizon.specs.Horizon.{AllStand};
 ghost use Rattle.cell_grid.specs.Grid.{IsRegion};
+ghost use Rattle.local_run.specs.Opening.{IsOpened};
 ghost use Rattle.commit_horizon.specs.Commits.{IsAdopted, AllAdopted};
 
 use crate::Committed;
 use region_core::Region;
 use std::alloc::{AllocError, Global};
+use std::thread::{Threads, map_indices};
 
 impl Committed {
     /// The regions of the committed state, by number, with nothing done and nothing heard.
@@ -22,6 +24,26 @@ impl Committed {
             regions.push(Region::open(alloc, &self.state, number)?)?;
         }
         Ok(regions)
+    }
+
+    /// The same, each opened in a thread of its own where one can be started. One alone is opened in the caller's.
+    ///
+    /// # Errors
+    /// Out of memory.
+    pub fn open_side_by_side<R: Threads + Sync>(
+        &self,
+        rt: &R,
+        alloc: Global,
+    ) -> Result<Vec<Region>, AllocError>
+        ensures { IfOk result (λ regions. AllStand self.now regions.items) }
+    {
+        let state = &self.state;
+        let open = move |number: usize| -> Result<Region, AllocError>
+            requires { IsRegion state.now.grid number × (number < 2 ^ 32) }
+            ensures { IfOk result (λ region. IsOpened state.entry.now number region) }
+        { Region::open(alloc, state, number as u32) };
+        let opened = map_indices(rt, alloc, state.grid().regions() as usize, &open)?;
+        all_or_none(alloc, opened)
     }
 
     /// Regions that stand on the committed state, by number: of those given exactly the ones that stand on
@@ -65,4 +87,18 @@ impl Committed {
         drop(std::mem::replace(region, made));
         Ok(())
     }
+}
+
+// All regions that were opened, where each was.
+fn all_or_none(
+    alloc: Global,
+    opened: Vec<Result<Region, AllocError>>,
+) -> Result<Vec<Region>, AllocError>
+    ensures { IfOk result (λ regions. map Ok regions.items ≡ opened.items) }
+{
+    let mut regions = Vec::new(alloc);
+    for region in opened {
+        regions.push(region?)?;
+    }
+    Ok(regions)
 }

@@ -1,7 +1,6 @@
 //! What is final and wasn't told yet.
 
-use crate::leading::Leader;
-use crate::merging::PackedHead;
+use crate::leading::{Leader, PackedHead};
 use event_log::EventLog;
 use std::marker::Model;
 
@@ -31,7 +30,7 @@ impl Model for Untold {
     ghost invariant = { λ s. AreUntold (map entries_in s.logs.items) (heads_in s.heads.items) s.first };
 }
 
-ghost use Rattle.std.specs.Prelude.{◌≡◌, ◌+◌, ◌<◌, List, [], ◌∷◌, length, map, drop, false, true, Some, IfSome, IfOk, OnOk, OnErr};
+ghost use Rattle.std.specs.Prelude.{◌≡◌, ◌+◌, ◌<◌, List, [], ◌∷◌, length, map, drop, false, true, None, Some, IfSome, IfOk, OnOk, OnErr};
 ghost use Rattle.std.specs.Option.{IsSome};
 ghost use Rattle.event_rules.specs.Told.{Told, AwaitsAll, CountsRefusal};
 ghost use Rattle.region_view.specs.declared.action.Action.{Action};
@@ -42,8 +41,7 @@ ghost use Rattle.commit_horizon.specs.Telling.{MayBeToldBy, IsHitAwaited, HitRef
 ghost use Rattle.commit_horizon.specs.Untold.{actions_in, BeginsInRange, AllBeginInRange, IsNextHead, AreFirstHeads, CanBeTellings};
 ghost use Rattle.commit_horizon.specs.TellingOn.{TellsFirst, TellsTorn};
 
-use crate::leading::{find_leader, leader_after};
-use crate::merging::no_head;
+use crate::leading::{find_leader, leader_after, no_head};
 use crate::telling::tell_hit;
 use event_rules::{Deaf, Listener};
 use event_stamps::Kind;
@@ -90,6 +88,22 @@ impl Untold {
         let first = find_leader(&heads);
         drop(replace(self, Untold { logs, heads, first }));
         Ok(())
+    }
+
+    /// Takes the next action out, where any is left.
+    pub(crate) fn take_next(&mut self) -> Option<Action>
+        ensures next { IfSome result (λ action. self.old ≡ action ∷ self.new) }
+        ensures none { result ≡ None → self.old ≡ [] }
+    {
+        let first = self.first;
+        let Some(_stamp) = first.stamp.key() else {
+            return None;
+        };
+        let log = &self.logs[first.number];
+        let action = action_in(log, first.place);
+        self.heads[first.number] = head_after(log, first.place);
+        self.first = leader_after(&self.heads, &first);
+        Some(action)
     }
 
     /// Tells the collisions among the next actions, so many of these at most. Whether any action is left.

@@ -1,12 +1,12 @@
 -- The home of the next event runs it.
-use Rattle.std.proofs.Common.{◌≡◌, ◌⊎◌, inl, inr, ℕ, ◌<◌, ◌≤◌, Bool, List, [], length, sym, ap, ◌∙◌, subst, refl, arith}
+use Rattle.std.proofs.Common.{◌≡◌, ◌⊎◌, inl, inr, ℕ, ◌<◌, ◌≤◌, Bool, List, [], length, sym, subst, refl, arith}
 use Rattle.std.specs.Prelude.{map}
 use Rattle.event_stamps.specs.declared.Stamp.{Stamp}
 use Rattle.event_stamps.specs.Order.{Before, end_stamp}
 use Rattle.event_stamps.specs.Least.{HasNone}
 use Rattle.event_stamps.proofs.Least.{one_least}
 use Rattle.event_rules.specs.declared.change.Limit.{Limit as Failure}
-use Rattle.cell_grid.specs.Grid.{GridData, IsRegion}
+use Rattle.cell_grid.specs.Grid.{IsRegion}
 use Rattle.region_view.specs.declared.action.Action.{Action}
 use Rattle.cell_sequence.specs.State.{CellStateData, IsCellState, IsCandidateOf}
 use Rattle.cell_sequence.proofs.Orderly.{known}
@@ -23,9 +23,9 @@ use Rattle.commit_horizon.proofs.Standing.{region_at, are_standing}
 use Rattle.run_core.specs.declared.answers.Advance.{Advance}
 use Rattle.run_core.specs.declared.answers.Advance.TheVariants.{Raised, End, Limit}
 use Rattle.run_core.specs.Advances.{SecondAnswers}
-use Rattle.run_core.specs.Passing.{StandOn, Heard, AllHearUpTo}
+use Rattle.run_core.specs.Passing.{Heard, AllHearUpTo}
 use Rattle.run_core.specs.Second.{IsLeastDue, AllTakeIn}
-use Rattle.run_core.specs.Taking.{StandFrom, IsHome, Refreshed, TakenIfRan, RunsEvent, MakesNext}
+use Rattle.run_core.specs.Taking.{IsHome, Refreshed, TakenIfRan, RunsEvent, MakesNext}
 use Rattle.run_core.specs.Turns.{Turns}
 use Rattle.run_core.proofs.Fresh.{AllFresh, IsNextAt, RunsNext, pass_makes_fresh, least_due_is_next, home_runs_next}
 use Rattle.run_core.proofs.Passed.{is_pass}
@@ -186,19 +186,3 @@ module _ (state : CellStateData) (is : IsCellState state) (regions left : List R
       (batch : List Action) → batch ≡ [] → MakesNext state regions (End batch) state left
   event_idled not_ran not_halted batch none = idled state regions event.fresh event.home is event.refreshed
       event.is_home step event.stepped event.turns not_ran not_halted batch none left
-
--- ---- regions of a committed state
-pub of_state : (committed state : CellStateData) (grid : GridData) (floor : Stamp) (regions : List RegionData) →
-    IsCellState committed → state ≡ committed → grid ≡ state.grid → floor ≡ state.floor →
-    AllStand committed regions → StandFrom grid floor regions committed
-of_state committed state grid floor regions is same grid_is floor_is stand = record {
-  is = is;
-  grid_is = sym (grid_is ∙ ap (λ (v : CellStateData). v.grid) same);
-  floor_is = sym (floor_is ∙ ap (λ (v : CellStateData). v.floor) same);
-  stand = stand;
-}
-
-pub on_state : (committed state : CellStateData) (grid : GridData) (regions : List RegionData) →
-    state ≡ committed → grid ≡ state.grid → AllStand committed regions → StandOn grid regions committed
-on_state committed state grid regions same grid_is stand =
-    record { grid_is = sym (grid_is ∙ ap (λ (v : CellStateData). v.grid) same); stand = stand }

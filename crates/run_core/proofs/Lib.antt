@@ -1,22 +1,23 @@
-pub mod Hearing
-pub mod Pass
-pub mod Fresh
-pub mod Places
-pub mod Standing
-pub mod Passed
-pub mod Taken
-pub mod Dues
-pub mod Homes
-pub mod Parts
+mod Hearing
+mod Pass
+mod Fresh
+mod Places
+mod Standing
+mod Passed
+mod Taken
+mod Dues
+mod Homes
+mod Parts
 mod Stamps
-pub mod Event
-pub mod Advancing
-pub mod Left
-pub mod Simulating
-pub mod Calls
-pub mod OneState
+mod Event
+mod Advancing
+mod Left
+mod Simulating
+mod Calls
+mod OneState
 pub mod SoFar
-pub mod Spots
-pub mod Prefixes
-pub mod Untold
-pub mod ToldOn
+mod Spots
+mod Prefixes
+mod Untold
+mod Followed
+mod ToldOn

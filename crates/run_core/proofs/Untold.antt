@@ -16,14 +16,15 @@ use Rattle.cell_sequence.specs.State.{CellStateData, IsCellState, followed_by, r
 use Rattle.local_run.specs.declared.answers.Step.{Step}
 use Rattle.local_run.specs.declared.answers.Step.TheVariants.{Ran, Halted}
 use Rattle.local_run.specs.Opening.{RegionData}
-use Rattle.commit_horizon.specs.declared.telling.Final.{Final}
+use Rattle.commit_horizon.specs.declared.cutting.Final.{Final}
 use Rattle.commit_horizon.specs.Horizon.{runs_of, AllStand, AllKept}
 use Rattle.commit_horizon.specs.Telling.{IsStateOf}
 use Rattle.commit_horizon.specs.Cutting.{FinalMade}
+use Rattle.commit_horizon.proofs.Commit.{final_is}
 use Rattle.run_core.specs.declared.answers.Advance.TheVariants.{Raised}
 use Rattle.run_core.specs.declared.answers.Course.{Course}
 use Rattle.run_core.specs.declared.answers.Course.TheVariants.{Raised as GoesOn, End as Ends, Limit as Fails}
-use Rattle.run_core.specs.Advances.{IsAdvance}
+use Rattle.run_core.specs.Advances.{IsAdvance, Works}
 use Rattle.run_core.specs.AdvancesUntold.{answer_with, AdvanceMade, EventMade}
 use Rattle.run_core.specs.Passing.{Agrees}
 use Rattle.run_core.specs.Simulates.{batch_of, Advances}
@@ -55,13 +56,6 @@ pub if_ok_goes : {T E : Type 0} (r : Result T E) {P Q : T → Type 0} → ((x : 
 if_ok_goes (Ok x) f p = f x p
 if_ok_goes (Err e) f p = tt
 
--- the floor of a commit is its horizon
-horizon_is : {old : CellStateData} {given left : List RegionData} {made : Final} {batch : List Action}
-    (final : FinalMade old given made batch left) → final.new ≡ raised made.floor (followed_by old batch)
-horizon_is {old = old} {batch = batch} final =
-    final.commits.state ∙ ap (λ (h : Stamp). raised h (followed_by old batch))
-    (sym (ap (λ (v : CellStateData). v.floor) final.commits.state) ∙ final.floor)
-
 -- ---- the second part
 -- regions on a state that comes of an earlier one are regions of its grid
 pub stand_from : (earlier : CellStateData) (grid : GridData) (floor : Stamp) (regions : List RegionData)
@@ -86,7 +80,7 @@ module _ (old : CellStateData) (floor : Stamp) (is : IsCellState old) (floor_is 
   made_event s ran made last final = record {
     new = final.new;
     is = event_ran old is regions left step event s ran batch final.new last final.commits;
-    state = horizon_is final;
+    state = final_is old left last made batch final;
     is_last = final.is_last;
     stand = final.commits.stand;
   }
@@ -152,15 +146,16 @@ module _ (old : CellStateData) (given heard : List RegionData) (is : IsCellState
     (left : List RegionData) (final : FinalMade old heard made batch left) where
   -- the first part committed some actions
   pub first_made : true ≡ is_some made.last → AdvanceMade old given GoesOn batch made left
-  first_made some = record {
-    new = final.new;
-    is = answers_well old final.new given left (Raised batch) is stand kept
-        (in_first old final.new given heard left batch agrees final.commits
-        (λ none. not_empty made.last batch final.is_last some none));
-    state = horizon_is final;
-    is_last = final.is_last;
-    stand = final.commits.stand;
-  }
+  first_made some =
+      let works = in_first old final.new given heard left batch agrees final.commits
+      (λ none. not_empty made.last batch final.is_last some none) in record {
+        new = final.new;
+        works = works;
+        is = answers_well old final.new given left (Raised batch) is stand kept works;
+        state = final_is old heard left made batch final;
+        is_last = final.is_last;
+        stand = final.commits.stand;
+      }
 
   -- it committed none
   module _ (not : false ≡ is_some made.last) where
@@ -168,7 +163,7 @@ module _ (old : CellStateData) (given heard : List RegionData) (is : IsCellState
     none_made = empty_batch made.last batch final.is_last not
 
     same : final.new ≡ raised made.floor old
-    same = horizon_is final ∙ ap (λ (xs : List Action). raised made.floor (followed_by old xs)) none_made
+    same = final_is old heard left made batch final ∙ ap (λ (xs : List Action). raised made.floor (followed_by old xs)) none_made
 
     -- the state stays but for its floor
     pub mid_comes : (earlier : CellStateData) → ComesOf earlier old.floor given old →
@@ -183,17 +178,19 @@ module _ (old : CellStateData) (given heard : List RegionData) (is : IsCellState
 
     pub second_made : (course : Course) (more : List Action) (then : Final) (last : List RegionData) →
         EventMade final.new left course more then last → AdvanceMade old given course more then last
-    second_made course more then last event = record {
-      new = event.new;
-      is = answers_well old event.new given last (answer_with course more) is stand kept
-          (in_second old final.new given heard left batch agrees final.commits {E = Unit {0}} event.new last
-          (Ok (answer_with course more)) none_made event.is);
-      state = event.state
-          ∙ ap (λ (v : CellStateData). raised then.floor (followed_by v more)) same
-          ∙ raised_before made.floor then.floor more old;
-      is_last = event.is_last;
-      stand = event.stand;
-    }
+    second_made course more then last event =
+        let answer = answer_with course more in
+        let works = in_second old final.new given heard left batch agrees final.commits event.new last answer none_made
+        event.is in record {
+          new = event.new;
+          works = works;
+          is = answers_well old event.new given last answer is stand kept works;
+          state = event.state
+              ∙ ap (λ (v : CellStateData). raised then.floor (followed_by v more)) same
+              ∙ raised_before made.floor then.floor more old;
+          is_last = event.is_last;
+          stand = event.stand;
+        }
 
 -- ---- regions with their state
 module _ (earlier : CellStateData) (last : Option Stamp) (floor : Stamp) (given : List RegionData)
@@ -207,5 +204,8 @@ module _ (earlier : CellStateData) (last : Option Stamp) (floor : Stamp) (given 
   pub advances_to : (new : CellStateData) → new ≡ advance.new → Advances old (answer_with course batch) new
   advances_to new same = record {
     runs = runs_of given;
+    left = left;
     is = subst (IsAdvance old (runs_of given) (answer_with course batch)) (sym same) advance.is;
+    works = subst (λ (v : CellStateData). Works old (runs_of given) (answer_with course batch) v left) (sym same)
+        advance.works;
   }

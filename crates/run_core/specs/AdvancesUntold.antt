@@ -3,13 +3,13 @@ use Rattle.std.specs.Prelude.{◌≡◌, List}
 use Rattle.region_view.specs.declared.action.Action.{Action}
 use Rattle.cell_sequence.specs.State.{CellStateData, followed_by, raised, last_stamp}
 use Rattle.local_run.specs.Opening.{RegionData}
-use Rattle.commit_horizon.specs.declared.telling.Final.{Final}
+use Rattle.commit_horizon.specs.declared.cutting.Final.{Final}
 use Rattle.commit_horizon.specs.Horizon.{runs_of, AllStand}
 use Rattle.run_core.specs.declared.answers.Advance.{Advance}
 use Rattle.run_core.specs.declared.answers.Advance.TheVariants.{Raised, End, Limit}
 use Rattle.run_core.specs.declared.answers.Course.{Course}
 use Rattle.run_core.specs.declared.answers.Course.TheVariants.{Raised as GoesOn, End as Ends, Limit as Fails}
-use Rattle.run_core.specs.Advances.{IsAdvance}
+use Rattle.run_core.specs.Advances.{IsAdvance, Works}
 use Rattle.run_core.specs.Taking.{MakesNext}
 
 -- the answer of an advance with this batch
@@ -31,6 +31,7 @@ pub record EventMade (old : CellStateData) (regions : List RegionData) (course :
 pub record AdvanceMade (old : CellStateData) (regions : List RegionData) (course : Course) (batch : List Action)
     (made : Final) (left : List RegionData) : Type 0 where
   pub new : CellStateData
+  pub works : Works old (runs_of regions) (answer_with course batch) new left
   pub is : IsAdvance old (runs_of regions) (answer_with course batch) new
   pub state : new ≡ raised made.floor (followed_by old batch)
   pub is_last : made.last ≡ last_stamp batch

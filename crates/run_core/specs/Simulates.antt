@@ -4,10 +4,11 @@ use Rattle.event_stamps.specs.declared.Stamp.{Stamp}
 use Rattle.event_stamps.specs.Order.{end_stamp, rank}
 use Rattle.region_view.specs.declared.action.Action.{Action}
 use Rattle.cell_sequence.specs.State.{CellStateData}
+use Rattle.local_run.specs.Opening.{RegionData}
 use Rattle.commit_horizon.specs.Horizon.{Runs}
 use Rattle.run_core.specs.declared.answers.Advance.{Advance}
 use Rattle.run_core.specs.declared.answers.Advance.TheVariants.{Raised, End, Limit}
-use Rattle.run_core.specs.Advances.{IsAdvance}
+use Rattle.run_core.specs.Advances.{IsAdvance, Works}
 
 -- the actions that an advance committed
 abbrev pub batch_of : Advance → List Action
@@ -24,7 +25,9 @@ rank_of (Some s) = rank s + 1
 unfoldable pub work_left : CellStateData → ℕ
 work_left state = rank (end_stamp state.rules.end) - rank_of state.last
 
--- an advance, of some regions that stand on the state
+-- an advance, of some regions that stand on the state, and how it worked
 pub record Advances (old : CellStateData) (answer : Advance) (new : CellStateData) : Type 0 where
   pub runs : Runs
+  pub left : List RegionData
   pub is : IsAdvance old runs answer new
+  pub works : Works old runs answer new left

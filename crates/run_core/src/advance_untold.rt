@@ -40,8 +40,11 @@ pub(crate) fn advance_untold(
     Ok((course, standing))
 }
 
-// The same of the regions themselves, which stand on a state with the rules and the grid of an earlier one.
-fn make_final(
+/// The same of the regions themselves, which stand on a state with the rules and the grid of an earlier one.
+///
+/// # Errors
+/// Out of memory.
+pub(crate) fn make_final(
     alloc: Global,
     earlier: &CellState,
     regions: &mut [Region],

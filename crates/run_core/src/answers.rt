@@ -26,6 +26,7 @@ pub(crate) enum Course {
 }
 
 ghost use Rattle.std.specs.Prelude.{◌≡◌};
+ghost use Rattle.run_core.specs.AdvancesUntold.{answer_with};
 ghost use Rattle.run_core.specs.Simulates.{batch_of};
 
 impl Advance {
@@ -37,6 +38,19 @@ impl Advance {
             Advance::Raised(batch) => batch,
             Advance::End(batch) => batch,
             Advance::Limit(batch, _) => batch,
+        }
+    }
+}
+
+impl Course {
+    /// The answer of an advance that committed a batch.
+    pub(crate) fn answer_with(self, batch: Batch) -> Advance
+        ensures { result ≡ answer_with self batch }
+    {
+        match self {
+            Course::Raised => Advance::Raised(batch),
+            Course::End => Advance::End(batch),
+            Course::Limit(limit) => Advance::Limit(batch, limit),
         }
     }
 }

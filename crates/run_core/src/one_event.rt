@@ -4,45 +4,16 @@ ghost use Rattle.std.specs.Prelude.{◌≡◌, ◌<◌, length, map, IfOk, OnOk}
 ghost use Rattle.cell_grid.specs.Grid.{IsRegion};
 ghost use Rattle.local_run.specs.Hearing.{rewound};
 ghost use Rattle.cell_sequence.specs.State.{CellStateData};
-ghost use Rattle.commit_horizon.specs.Horizon.{AllStand, AllKept};
+ghost use Rattle.commit_horizon.specs.Horizon.{AllKept};
 ghost use Rattle.run_core.specs.Passing.{StandOn};
-ghost use Rattle.run_core.specs.Taking.{IsHome, OneTookIn, AllTookIn, Refreshed, RunsEvent, StandFrom, MakesNext};
+ghost use Rattle.run_core.specs.Taking.{IsHome, OneTookIn, AllTookIn, Refreshed, RunsEvent, StandFrom};
 
-use crate::Advance;
 use crate::pairs::{hear_at, step_at};
 use crate::passes::pass;
 use cell_grid::Grid;
-use commit_horizon::{Batch, Committed};
 use event_stamps::Stamp;
 use region_core::{Hearing, Region, Step};
 use std::alloc::{AllocError, Global};
-
-/// Runs the next event of the cell state in the region that is its home, and commits it; or tells that
-/// there is none, or which limit it fails. What the regions did since the floor is taken back first.
-///
-/// # Errors
-/// Out of memory.
-pub(crate) fn one_event(
-    alloc: Global,
-    committed: &mut Committed,
-    regions: &mut [Region],
-) -> Result<Advance, AllocError>
-    requires { AllStand committed.old regions.old }
-    ensures event { IfOk result (λ answer.
-        MakesNext committed.old regions.old answer committed.new regions.new) }
-    ensures stand { OnOk result (AllStand committed.new regions.new) }
-{
-    let state = committed.state();
-    let step = run_event(alloc, state.grid(), state.floor(), regions)?;
-    match step {
-        Step::Ran(_) => {
-            let batch = committed.commit(alloc, regions)?;
-            Ok(Advance::Raised(batch))
-        }
-        Step::Halted(limit) => Ok(Advance::Limit(Batch::new(alloc), limit)),
-        _ => Ok(Advance::End(Batch::new(alloc))),
-    }
-}
 
 /// Has regions of a grid, which stand on a state with this floor, run the state's next event: the region that is
 /// its home makes a step, which is answered, and where that ran the event, those that are linked with it take in

@@ -51,16 +51,21 @@ use std::thread::Threads;
 
 impl Standing {
     /// The regions of the state with which the cell run of a scene begins, so many as are asked for, 1 to
-    /// [`MAX_REGIONS`](cell_grid::MAX_REGIONS).
+    /// [`MAX_REGIONS`](cell_grid::MAX_REGIONS). They are opened side by side.
     ///
     /// # Errors
     /// Out of memory.
-    pub(crate) fn open(alloc: Global, scene: &Scene, regions: u32) -> Result<Standing, AllocError>
+    pub(crate) fn open<R: Threads + Sync>(
+        rt: &R,
+        alloc: Global,
+        scene: &Scene,
+        regions: u32,
+    ) -> Result<Standing, AllocError>
         requires { IsAsked regions }
         ensures { IfOk result (λ standing. standing ≡ start_of scene.now regions) }
     {
         let committed = Committed::open(alloc, scene, regions)?;
-        let regions = committed.open_all(alloc)?;
+        let regions = committed.open_side_by_side(rt, alloc)?;
         Ok(Standing::on(committed, regions))
     }
 

@@ -5,9 +5,8 @@ ghost use Rattle.commit_horizon.specs.Horizon.{runs_of, AllStand};
 ghost use Rattle.run_core.specs.Advances.{IsAdvance, Works};
 
 use crate::Advance;
-use crate::one_event::{know, one_event};
-use crate::passes::agree;
-use commit_horizon::Committed;
+use crate::advance_untold::make_final;
+use commit_horizon::{Committed, Untold};
 use region_core::Region;
 use std::alloc::{AllocError, Global};
 
@@ -30,12 +29,8 @@ pub fn advance(
         Works committed.old (runs_of regions.old) answer committed.new regions.new) }
     ensures stand { OnOk result (AllStand committed.new regions.new) }
 {
-    know(regions);
-    agree(alloc, committed.state().grid(), regions)?;
-    let batch = committed.commit(alloc, regions)?;
-    if batch.as_slice().is_empty() {
-        one_event(alloc, committed, regions)
-    } else {
-        Ok(Advance::Raised(batch))
-    }
+    let mut untold = Untold::new(alloc);
+    let (course, made) = make_final(alloc, committed.state(), regions, &mut untold)?;
+    let batch = committed.follow(alloc, untold, made.floor)?;
+    Ok(course.answer_with(batch))
 }

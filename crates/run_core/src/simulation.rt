@@ -44,7 +44,7 @@ pub fn simulate<B: Burst<Telling, L>, R: Threads + Wait + Sync, L: Listener>(
     ensures counts { CountsRun (L.faults listener.old) (L.faults listener.new) result }
 {
     let _rules = &scene.rules;
-    let mut standing = Standing::open(alloc, scene, regions)?;
+    let mut standing = Standing::open(rt, alloc, scene, regions)?;
     let mut telling = Telling::new(alloc);
     'bursts: loop {
         let (course, left) = work(rt, alloc, standing, burst, &mut telling, listener)?;

@@ -1,4 +1,4 @@
-use Rattle.std.proofs.Common.{◌≡◌, ◌<◌, ◌≤◌, ◌∙◌, length, map, sym, ap, refl, arith}
+use Rattle.std.proofs.Common.{◌≤◌, ◌∙◌, length, map, sym, ap, arith}
 use Rattle.std.proofs.lemmas.List.{take_all, length-set}
 use Rattle.local_run.specs.Raising.{raised}
 use Rattle.event_log.specs.Logged.{entries_in}

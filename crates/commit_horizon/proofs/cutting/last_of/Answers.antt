@@ -1,5 +1,5 @@
-use Rattle.std.proofs.Common.{ℕ, zero, ◌+◌, ◌≤◌, ◌<◌, ◌⊎◌, inl, inr, ◌≡◌, sym, ◌∙◌, subst, Some, None, arith}
-use Rattle.event_log.specs.Logged.{entries_in, native_at}
+use Rattle.std.proofs.Common.{sym, arith}
+use Rattle.event_log.specs.Logged.{entries_in}
 use Rattle.commit_horizon.proofs.Latest.{none_found, last_found, nothing_beyond, nothing_here}
 use Rattle.commit_horizon.proofs.cutting.last_of.Goals as goal
 

@@ -1,6 +1,5 @@
-use Rattle.std.proofs.Common.{◌≡◌, ◌∙◌, ◌∷◌, [], ◌++◌, List, Option, map, take, sym, ap, subst}
+use Rattle.std.proofs.Common.{◌∙◌, ◌∷◌, [], ◌++◌, List, map, take, sym, ap, subst}
 use Rattle.std.proofs.lemmas.List.{map_more, take_all}
-use Rattle.event_stamps.specs.declared.Stamp.{Stamp}
 use Rattle.local_run.specs.declared.entry.Entry.{Entry}
 use Rattle.event_log.specs.Logged.{Logged, entries_in}
 use Rattle.commit_horizon.specs.Cutting.{SomeHasStamp, IsLatest}

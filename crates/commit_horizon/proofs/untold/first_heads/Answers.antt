@@ -2,7 +2,7 @@ use Rattle.std.proofs.Common.{◌≡◌, ℕ, List, ◌+◌, ◌∷◌, [], leng
 use Rattle.std.proofs.lemmas.List.{map-append}
 use Rattle.event_log.specs.Logged.{entries_in}
 use Rattle.local_run.specs.declared.entry.Entry.{Entry}
-use Rattle.commit_horizon.specs.declared.merging.PackedHead.{PackedHead}
+use Rattle.commit_horizon.specs.declared.leading.PackedHead.{PackedHead}
 use Rattle.commit_horizon.specs.Merging.{Heads, head_in, heads_in}
 use Rattle.commit_horizon.specs.Untold.{actions_in, BeginsInRange, IsNextHead, AreFirstHeads}
 use Rattle.commit_horizon.proofs.Lefts.{log_at, first_heads_none, first_heads_more}

@@ -1,7 +1,7 @@
 use Rattle.std.proofs.Common.{◌≡◌, ◌+◌, ℕ, length, refl, sym, ◌∙◌, subst, arith}
 use Rattle.std.proofs.lemmas.Option.{slice_get_read}
 use Rattle.region_messages.proofs.Order.{before_from_true, not_before_from_false}
-use Rattle.commit_horizon.proofs.Order.{lt_is_before}
+use Rattle.event_stamps.proofs.Derived.{lt_is}
 use Rattle.run_core.specs.Taking.{IsFirstDue}
 use Rattle.run_core.proofs.Dues.{due_as, due_first, due_there, due_before}
 use Rattle.run_core.proofs.one_event.least_due.Goals.{then-lt, else-lt}
@@ -24,13 +24,13 @@ loop-k-preserved c =
           c.if-lt.least w.home-is w.least-is (due_there regions c.loop-k.k c.loop-k.home c.loop-k.least
           c.due-due.result c.index-regions-k.result c.loop-k.invariant here c.due-due.ensures.value
           (before_from_true c.due-due.result c.loop-k.least
-          (sym (c.lt.ensures ∙ lt_is_before c.due-due.result c.loop-k.least) ∙ w.if-lt.true)))
+          (sym (c.lt.ensures ∙ lt_is c.due-due.result c.loop-k.least) ∙ w.if-lt.true)))
       | else-lt w ↦
           due_as regions (c.loop-k.k + 1) c.loop-k.home c.loop-k.least c.if-lt.home
           c.if-lt.least w.home-is w.least-is (due_before regions c.loop-k.k c.loop-k.home c.loop-k.least
           c.due-due.result c.index-regions-k.result c.loop-k.invariant here c.due-due.ensures.value
           (not_before_from_false c.due-due.result c.loop-k.least
-          (sym (c.lt.ensures ∙ lt_is_before c.due-due.result c.loop-k.least) ∙ w.if-lt.false)))
+          (sym (c.lt.ensures ∙ lt_is c.due-due.result c.loop-k.least) ∙ w.if-lt.false)))
     ]
 
 pub returns : goal.returns

@@ -1,35 +1,26 @@
-use Rattle.std.proofs.Common.{sym, subst}
-use Rattle.cell_sequence.specs.State.{CellStateData}
-use Rattle.commit_horizon.specs.Horizon.{runs_of, AllStand, IsBound}
-use Rattle.commit_horizon.specs.Merging.{Merges}
-use Rattle.commit_horizon.proofs.Commit.{may_rise, state_may_rise, commits}
+use Rattle.commit_horizon.proofs.Commit.{state_is_of, may_follow_final, commits_if_ok}
 use Rattle.commit_horizon.proofs.committed.Committed.commit.Goals as goal
 
-pub merge-requires-clause-stand : goal.merge-requires-clause-stand
-merge-requires-clause-stand c =
-    subst (λ (v : CellStateData). AllStand v c.args.regions.now) (sym c.self.view_is) c.requires
+pub commit_cutting-requires-clause-stand : goal.commit_cutting-requires-clause-stand
+commit_cutting-requires-clause-stand c = (
+  c.args.self.now,
+  state_is_of c.args.self.now c.self.inside.state c.rules.result.now c.args.regions.now c.self.view_is
+      c.rules.ensures.kept c.rules.ensures.value c.requires,
+)
 
-pub merge-requires-clause-bound : goal.merge-requires-clause-bound
-merge-requires-clause-bound c =
-    subst (λ (v : CellStateData). IsBound v (runs_of c.args.regions.now) c.horizon-horizon.result)
-    (sym c.self.view_is) c.horizon-horizon.ensures.value.bound
-
-pub raise_floors-requires : goal.raise_floors-requires
-raise_floors-requires c = may_rise c.args.self.now c.args.regions.now c.horizon-horizon.result c.requires
-    c.horizon-horizon.ensures.kept c.horizon-horizon.ensures.value.bound
-
-pub raise_floor-requires : goal.raise_floor-requires
-raise_floor-requires c =
-    let may = state_may_rise c.self.inside.state c.args.regions.now c.horizon-horizon.result
-    c.in_ok-actions.actions.items c.merge.new.state
-    (subst (λ (v : CellStateData). IsBound v (runs_of c.args.regions.now) c.horizon-horizon.result)
-    (sym c.self.view_is) c.horizon-horizon.ensures.value.bound) c.in_ok-actions.ensures in
-    record { not_lowered = may.0; in_time = may.1; none_below = may.2 }
+pub follow-requires : goal.follow-requires
+follow-requires c =
+    let old = c.args.self.now in
+    let given = c.args.regions.now in
+    may_follow_final old given c.commit_cutting.new.regions c.in_ok-made.made c.commit_cutting.new.untold
+    (c.in_ok-made.ensures old (state_is_of old c.self.inside.state c.rules.result.now given c.self.view_is
+    c.rules.ensures.kept c.rules.ensures.value c.requires))
 
 pub returns : goal.returns
-returns c = commits c.args.self.now c.args.regions.now c.horizon-horizon.result c.in_ok-actions.actions.items
-    c.merge.new.state c.raise_floor.new.self c.raise_floors.new.regions c.requires
-    c.horizon-horizon.ensures.value
-    (subst (λ (v : CellStateData). Merges v c.args.regions.now c.horizon-horizon.result
-    c.in_ok-actions.actions.items c.merge.new.state) c.self.view_is c.in_ok-actions.ensures)
-    c.raise_floor.ensures c.in_ok-raise_floors.ensures
+returns c =
+    let old = c.args.self.now in
+    let given = c.args.regions.now in
+    commits_if_ok old given c.commit_cutting.new.regions c.in_ok-made.made c.commit_cutting.new.untold
+    (c.in_ok-made.ensures old (state_is_of old c.self.inside.state c.rules.result.now given c.self.view_is
+    c.rules.ensures.kept c.rules.ensures.value c.requires)) c.follow.result c.follow.new.self
+    c.follow.ensures.batch c.follow.ensures.state

@@ -1,6 +1,6 @@
 use Rattle.std.proofs.Common.{List, [], map, sym, subst, ap, ◌∙◌}
 use Rattle.event_log.specs.Logged.{Logged, entries_in}
-use Rattle.commit_horizon.specs.declared.merging.PackedHead.{PackedHead}
+use Rattle.commit_horizon.specs.declared.leading.PackedHead.{PackedHead}
 use Rattle.commit_horizon.specs.Merging.{heads_in}
 use Rattle.commit_horizon.specs.Untold.{lefts, merged_of, AreUntold}
 use Rattle.commit_horizon.proofs.Lefts.{none_merged, nothing_untold}

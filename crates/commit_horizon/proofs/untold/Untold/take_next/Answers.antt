@@ -1,0 +1,115 @@
+use Rattle.std.proofs.Common.{◌∷◌, ℕ, ◌<◌, map, set, sym, subst, ap, ◌∙◌}
+use Rattle.std.proofs.lemmas.List.{length-map}
+use Rattle.std.proofs.lemmas.Option.{same_Some}
+use Rattle.event_log.specs.Logged.{entries_in}
+use Rattle.commit_horizon.specs.Merging.{Heads, head_in, heads_in}
+use Rattle.commit_horizon.specs.Leading.{IsLeader, NoOtherBefore}
+use Rattle.commit_horizon.specs.Untold.{lefts, merged_of, AreUntold}
+use Rattle.commit_horizon.proofs.Leaders.{set_in, others_stay}
+use Rattle.commit_horizon.proofs.Lefts.{first_log, none_untold, is_there, action_there, place_within, next_in_range, one_goes, still_untold}
+use Rattle.commit_horizon.proofs.untold.Untold.take_next.Goals as goal
+
+pub returns-in_default-clause-none : goal.returns-in_default-clause-none
+returns-in_default-clause-none c = λ done.
+    sym c.self.view_is
+    ∙ none_untold (map entries_in c.self.inside.logs.items) (heads_in c.self.inside.heads.items) c.self.inside.first
+    c.self.invariant c.in_default.ensures.value
+
+pub action_in-action-requires : goal.action_in-action-requires
+action_in-action-requires c =
+    let items = c.self.inside.logs.items in
+    let logs = map entries_in items in
+    let packed = c.self.inside.heads.items in
+    let heads = heads_in packed in
+    let first = c.self.inside.first in
+    let s = c.in-Some._stamp in
+    let untold = c.self.invariant in
+    let leads = c.in-Some.ensures.value in
+    let log = entries_in c.index-log.result.now in
+    let in_log = first_log items heads first untold s leads c.index-log.result.now c.index-log.ensures in
+    is_there logs heads first untold s leads log in_log
+
+pub head_after-requires-clause-within : goal.head_after-requires-clause-within
+head_after-requires-clause-within c =
+    let items = c.self.inside.logs.items in
+    let logs = map entries_in items in
+    let packed = c.self.inside.heads.items in
+    let heads = heads_in packed in
+    let first = c.self.inside.first in
+    let s = c.in-Some._stamp in
+    let untold = c.self.invariant in
+    let leads = c.in-Some.ensures.value in
+    let log = entries_in c.index-log.result.now in
+    let in_log = first_log items heads first untold s leads c.index-log.result.now c.index-log.ensures in
+    subst (λ (n : ℕ). first.place < n) (length-map c.index-log.result.now (λ l. l.0))
+    (place_within logs heads first untold s leads log in_log)
+
+pub head_after-requires-clause-range : goal.head_after-requires-clause-range
+head_after-requires-clause-range c =
+    let items = c.self.inside.logs.items in
+    let logs = map entries_in items in
+    let packed = c.self.inside.heads.items in
+    let heads = heads_in packed in
+    let first = c.self.inside.first in
+    let s = c.in-Some._stamp in
+    let untold = c.self.invariant in
+    let leads = c.in-Some.ensures.value in
+    let log = entries_in c.index-log.result.now in
+    let in_log = first_log items heads first untold s leads c.index-log.result.now c.index-log.ensures in
+    let x = action_there logs heads first untold s leads log in_log in
+    next_in_range logs heads first untold s leads log in_log x.0 x.1
+
+pub leader_after-self-inside-requires-clause-others : goal.leader_after-self-inside-requires-clause-others
+leader_after-self-inside-requires-clause-others c =
+    let items = c.self.inside.logs.items in
+    let logs = map entries_in items in
+    let packed = c.self.inside.heads.items in
+    let heads = heads_in packed in
+    let first = c.self.inside.first in
+    let s = c.in-Some._stamp in
+    let untold = c.self.invariant in
+    let leads = c.in-Some.ensures.value in
+    let log = entries_in c.index-log.result.now in
+    let in_log = first_log items heads first untold s leads c.index-log.result.now c.index-log.ensures in
+    subst (λ v. NoOtherBefore (heads_in v) first.number first.second) (sym c.deref.ensures.value)
+    (others_stay packed first.number c.head_after.result first.second untold.leads.others)
+
+pub invariant_of-self : goal.invariant_of-self
+invariant_of-self c =
+    let items = c.self.inside.logs.items in
+    let logs = map entries_in items in
+    let packed = c.self.inside.heads.items in
+    let heads = heads_in packed in
+    let first = c.self.inside.first in
+    let s = c.in-Some._stamp in
+    let untold = c.self.invariant in
+    let leads = c.in-Some.ensures.value in
+    let log = entries_in c.index-log.result.now in
+    let in_log = first_log items heads first untold s leads c.index-log.result.now c.index-log.ensures in
+    let x = action_there logs heads first untold s leads log in_log in
+    let new = c.head_after.result in
+    let leader = c.leader_after-self-inside.result in
+    let leading = subst (λ v. IsLeader (heads_in v) leader) c.deref.ensures.value c.leader_after-self-inside.ensures in
+    let set_is = set_in packed first.number new in
+    subst (λ (v : Heads). AreUntold logs v leader) (sym set_is)
+    (still_untold logs heads first untold s leads log in_log x.0 x.1 (head_in new) c.head_after.ensures leader
+    (subst (λ (v : Heads). IsLeader v leader) set_is leading))
+
+pub returns-clause-next : goal.returns-clause-next
+returns-clause-next c =
+    let items = c.self.inside.logs.items in
+    let logs = map entries_in items in
+    let packed = c.self.inside.heads.items in
+    let heads = heads_in packed in
+    let first = c.self.inside.first in
+    let s = c.in-Some._stamp in
+    let untold = c.self.invariant in
+    let leads = c.in-Some.ensures.value in
+    let log = entries_in c.index-log.result.now in
+    let in_log = first_log items heads first untold s leads c.index-log.result.now c.index-log.ensures in
+    let x = action_there logs heads first untold s leads log in_log in
+    let new = c.head_after.result in
+    let same = same_Some x.0 c.action_in-action.result (sym x.1 ∙ c.action_in-action.ensures) in
+    sym c.self.view_is ∙ one_goes logs heads first untold s leads log in_log x.0 x.1 (head_in new) c.head_after.ensures
+    ∙ ap (λ (v : Heads). x.0 ∷ merged_of (lefts logs v)) (sym (set_in packed first.number new))
+    ∙ ap (λ a. a ∷ merged_of (lefts logs (heads_in (set packed first.number new)))) same
