@@ -1,9 +1,11 @@
 //! What the process does with its words: the top call over standard input and output.
 //!
-//! Nothing is known of the bytes on these, so what is proved of the status is what the words decide.
+//! Nothing is known of the bytes on these, so what is proved of the status is what the words decide. Over a reader and
+//! a writer whose bytes are known it is proved of these.
 
-ghost use Rattle.std.specs.Prelude.{◌≡◌, [], map, None, string_bytes};
+ghost use Rattle.std.specs.Prelude.{◌≡◌, [], map, None, Some, IsSome, string_bytes};
 ghost use Rattle.hard_disks.specs.Answers.{Answers};
+ghost use Rattle.hard_disks.specs.Gathers.{IsFresh};
 ghost use Rattle.command_words.specs.Words.{settings_of};
 
 use crate::calls::top_watched;
@@ -15,7 +17,8 @@ use crate::time_sharing::TimeSharing;
 use crate::timely::Timely;
 use gathered_sink::Gathered;
 use live_progress::{Board, Pen};
-use report_ports::{StdSink, StdSource};
+use report_ports::{Sink, Source, StdSink, StdSource};
+use std::io::{Read, Write};
 use std::sync::Wait;
 use std::thread::Threads;
 use std::time::Clock;
@@ -76,18 +79,47 @@ fn run_unshown<R: AllocGlobal + Input + Print + Threads + Wait + Clock + Sync>(
     ensures { Answers (settings_of (map (λ w. w.now) words.now)) None None None result }
 {
     let mut source = StdSource::new(rt.reader());
-    let gate = TimeSharing::new(rt, rt.alloc());
-    let (status, _) = top_gathered(
-        rt,
-        rt.alloc(),
-        words,
-        &mut source,
-        StdSink::new(io::writer(rt)),
-        room_of(is_terminal),
-        &gate,
-        rt,
-    );
+    let sink = StdSink::new(io::writer(rt));
+    let (status, _) = run_between(rt, words, &mut source, sink, is_terminal);
     status
+}
+
+/// Does over any reader and writer whose bytes are known what [`run_process`] does over standard input and output. The
+/// writer holds none yet, and is given back. `is_terminal` says whether it is a terminal.
+pub fn run_streams<R: AllocGlobal + Threads + Wait + Clock + Sync, I: Read + Drop, O: Write + Drop>(
+    rt: &R,
+    words: &[&str],
+    input: I,
+    output: O,
+    is_terminal: bool,
+) -> (Status, O)
+    requires known { IsSome (I.remaining input) }
+    requires empty { O.contents output ≡ Some [] }
+    ensures { Answers (settings_of (map (λ w. w.now) words.now)) (I.remaining input)
+        (O.contents output) (O.contents result.1) result.0 }
+{
+    let mut source = StdSource::telling(input);
+    let sink = StdSink::telling(output);
+    let (status, sink) = run_between(rt, words, &mut source, sink, is_terminal);
+    (status, sink.into_writer())
+}
+
+// The top call as the process makes it: the output is gathered, and workers pass the gate of time-sharing.
+fn run_between<R: AllocGlobal + Threads + Wait + Clock + Sync, S: Source, K: Sink>(
+    rt: &R,
+    words: &[&str],
+    source: &mut S,
+    sink: K,
+    is_terminal: bool,
+) -> (Status, K)
+    requires fresh { IsFresh (K.taken sink) }
+    requires whole { K.faults sink ≡ 0 }
+    ensures { Answers (settings_of (map (λ w. w.now) words.now)) (S.left source.old)
+        (K.taken sink) (K.taken result.1) result.0 }
+{
+    let gate = TimeSharing::new(rt, rt.alloc());
+    let room = room_of(is_terminal);
+    top_gathered(rt, rt.alloc(), words, source, sink, room, &gate, rt)
 }
 
 // How many bytes are gathered: on a terminal each line is shown at once.

@@ -4,7 +4,7 @@ use super::helpers::{
     AMPLE_ROOM, BOTH_ENGINES, MEETING, MEETING_REPORT, PLAIN, StandingClock, expect, first_lines,
 };
 use gathered_sink::Gathered;
-use hard_disks::{Status, Timely, top_gathered};
+use hard_disks::{Status, Timely, run_streams, top_gathered};
 use region_core::OpenGate;
 use report_ports::{Given, MemorySink, MemorySource, Sink};
 use std::alloc::{AllocError, Global};
@@ -168,6 +168,17 @@ const TIMES: &[TimeRow] = &[
     (649_999, 85),
     (650_000, 100),
 ];
+
+#[test]
+fn a_reader_and_a_writer_in_memory_get_the_report(rt: HostRuntime) -> Result<(), Fail> {
+    for words in BOTH_ENGINES {
+        let output: Vec<u8> = Vec::new(rt.alloc());
+        let (status, output) = run_streams(&rt, words, MEETING.as_bytes(), output, false);
+        let text = str::from_utf8(output.as_slice()).unwrap_or("no text");
+        assert_eq!(rt; (status, text), (Status::Done, MEETING_REPORT), "{words:?}");
+    }
+    Ok(())
+}
 
 #[test]
 fn nothing_is_held_for_long(rt: HostRuntime) -> Result<(), Fail> {
