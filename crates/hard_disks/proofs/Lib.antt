@@ -1,16 +1,16 @@
 -- The lemmas of the crate.
-pub mod OneOutput
-pub mod Accepted
-pub mod Reread
-pub mod Recut
-pub mod Wrote
-pub mod Answered
-pub mod Reported
-pub mod Shown
-pub mod Published
-pub mod Watched
-pub mod Cuts
-pub mod Left
-pub mod Kept
-pub mod Audited
-pub mod PassedOn
+mod OneOutput
+mod Accepted
+mod Reread
+mod Recut
+mod Wrote
+mod Answered
+mod Reported
+mod Shown
+mod Published
+mod Watched
+mod Cuts
+mod Left
+mod Kept
+mod Audited
+mod PassedOn

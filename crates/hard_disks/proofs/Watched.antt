@@ -1,11 +1,12 @@
 -- What a watched reporter has published and written that was told a run.
-use Rattle.std.proofs.Common.{◌≡◌, ◌∙◌, inl, ℕ, List, [], Option, Some, Result, Err, ap, arith}
+use Rattle.std.proofs.Common.{◌≡◌, ◌∙◌, inl, ℕ, List, [], Option, Some, Result, Err, ap, subst, arith}
 use Rattle.fixed_motion.specs.Scene.{SceneData, IsValidScene}
 use Rattle.event_rules.specs.declared.change.Change.{Change}
 use Rattle.event_rules.specs.declared.outcome.Outcome.{Outcome}
 use Rattle.event_rules.specs.declared.outcome.RunFault.{RunFault}
 use Rattle.event_rules.specs.declared.outcome.RunFault.TheVariants.{Listener, NoMemory}
 use Rattle.event_rules.specs.Run.{IsRun}
+use Rattle.event_rules.specs.Told.{Told, PrefixTold}
 use Rattle.event_rules.specs.Tellings.{RunTold, RunBegun, RunCutShort, CountsRun}
 use Rattle.collision_report.specs.declared.format.Format.{Format}
 use Rattle.collision_report.specs.Laws.{end_text}
@@ -19,55 +20,71 @@ use Rattle.hard_disks.specs.Answers.{Wrote, WrotePrefix, CountsWrites}
 use Rattle.hard_disks.specs.Shows.{WritesText, status_of_fault}
 use Rattle.hard_disks.proofs.Reported.{told_on, serves_scene, wrote_end, begun, failed_since}
 
+-- ---- the reporter within, which always tells
+told_between : {before after : Option LentReport} (a b : LentReport) → before ≡ Some a → after ≡ Some b → (changes : List Change) →
+    Told told_on_loan before changes after → Told told_on_loan (Some a) changes (Some b)
+told_between {before} {after} a b from to changes told =
+    subst (λ (o : Option LentReport). Told told_on_loan o changes (Some b)) from
+    (subst (λ (o : Option LentReport). Told told_on_loan before changes o) to told)
+
+begun_between : {before after : Option LentReport} (a b : LentReport) → before ≡ Some a → after ≡ Some b → (changes : List Change) →
+    PrefixTold told_on_loan IsTornOnLoan before changes after → PrefixTold told_on_loan IsTornOnLoan (Some a) changes (Some b)
+begun_between {before} {after} a b from to changes told =
+    subst (λ (o : Option LentReport). PrefixTold told_on_loan IsTornOnLoan o changes (Some b)) from
+    (subst (λ (o : Option LentReport). PrefixTold told_on_loan IsTornOnLoan before changes o) to told)
+
+-- ---- what came of a run
 -- all changes were told: all pairs are published, and with the end the whole report is written
-pub record ToldAll (format : Format) (scene : SceneData) (outcome : Outcome) (taken : Option (List ℕ)) (m n : SoFar LentReport) : Type 0 where
+pub record ToldAll (format : Format) (scene : SceneData) (outcome : Outcome) (taken : Option (List ℕ)) (m n : SoFar LentReport) (a b : LentReport) : Type 0 where
   pub changes : List Change
   pub run : IsRun scene changes outcome
   pub pen : n.loan ≡ m.loan
   pub board : n.board ≡ m.board
   pub list : n.list ≡ pairs_of changes
-  pub sink : n.inner.0 ≡ m.inner.0
-  pub table : IsSceneOf n.inner.1.table scene
+  pub sink : b.0 ≡ a.0
+  pub table : IsSceneOf b.1.table scene
   pub ended : (after : Option (List ℕ)) (status : Status) →
-      WritesText (end_text n.inner.1 scene outcome) (status_of outcome) n.inner.1.taken after status →
+      WritesText (end_text b.1 scene outcome) (status_of outcome) b.1.taken after status →
       Wrote (IsReport format scene) taken after status
 
-pub told_all : (format : Format) (scene : SceneData) (outcome : Outcome) (taken : Option (List ℕ)) (m n : SoFar LentReport) →
-    RunTold (with_change told_on_loan) scene outcome (Some m) (Some n) → IsValidScene scene → m.list ≡ [] →
-    m.inner.1 ≡ nothing_yet format scene taken → ToldAll format scene outcome taken m n
-told_all format scene outcome taken m n told valid none first =
+pub told_all : (format : Format) (scene : SceneData) (outcome : Outcome) (taken : Option (List ℕ)) (m n : SoFar LentReport) (a b : LentReport) →
+    RunTold (with_change told_on_loan) scene outcome (Some m) (Some n) → m.inner ≡ Some a → n.inner ≡ Some b → IsValidScene scene → m.list ≡ [] →
+    a.1 ≡ nothing_yet format scene taken → ToldAll format scene outcome taken m n a b
+told_all format scene outcome taken m n a b told before after valid none first =
     let changes = told.0 in let run = told.1 in
     let seen = run_watched told_on_loan scene changes outcome m n valid run none told.2 in
-    let loan = m.inner.0 in let start = m.inner.1 in record {
+    let inner = told_between a b before after changes seen.inner in
+    let loan = a.0 in let start = a.1 in record {
       changes = changes;
       run = run;
       pen = seen.loan;
       board = seen.board;
       list = seen.list;
-      sink = ap (λ (v : LentReport). v.0) (told_on loan start (nothing_yet format scene taken) changes n.inner first seen.inner);
-      table = serves_scene loan format scene taken changes start n.inner first seen.inner;
+      sink = ap (λ (v : LentReport). v.0) (told_on loan start (nothing_yet format scene taken) changes b first inner);
+      table = serves_scene loan format scene taken changes start b first inner;
       ended = (λ after status text.
-          wrote_end loan format scene taken after changes outcome start n.inner status valid run first seen.inner text);
+          wrote_end loan format scene taken after changes outcome start b status valid run first inner text);
     }
 
 -- a prefix was told, and perhaps one change refused: a prefix of the pairs is published, and one of the report written
-pub record ToldPart (format : Format) (scene : SceneData) (taken : Option (List ℕ)) (m n : SoFar LentReport) : Type 0 where
+pub record ToldPart (format : Format) (scene : SceneData) (taken : Option (List ℕ)) (m n : SoFar LentReport) (a b : LentReport) : Type 0 where
   pub changes : List Change
   pub outcome : Outcome
   pub run : IsRun scene changes outcome
   pub pen : n.loan ≡ m.loan
   pub board : n.board ≡ m.board
   pub list : StartsWith (pairs_of changes) n.list
-  pub sink : n.inner.0 ≡ m.inner.0
-  pub prefix : WrotePrefix (IsReport format scene) taken n.inner.1.taken
+  pub sink : b.0 ≡ a.0
+  pub prefix : WrotePrefix (IsReport format scene) taken b.1.taken
 
-told_begun : (format : Format) (scene : SceneData) (taken : Option (List ℕ)) (m n : SoFar LentReport) →
-    RunBegun (with_change told_on_loan) (IsTorn IsTornOnLoan) scene (Some m) (Some n) → IsValidScene scene → m.list ≡ [] →
-    m.inner.1 ≡ nothing_yet format scene taken → ToldPart format scene taken m n
-told_begun format scene taken m n told valid none first =
+told_begun : (format : Format) (scene : SceneData) (taken : Option (List ℕ)) (m n : SoFar LentReport) (a b : LentReport) →
+    RunBegun (with_change told_on_loan) (IsTorn IsTornOnLoan) scene (Some m) (Some n) → m.inner ≡ Some a → n.inner ≡ Some b →
+    IsValidScene scene → m.list ≡ [] → a.1 ≡ nothing_yet format scene taken → ToldPart format scene taken m n a b
+told_begun format scene taken m n a b told before after valid none first =
     let changes = told.0 in let outcome = told.1 in let run = told.2 in
     let seen = cut_watched told_on_loan IsTornOnLoan scene changes outcome m n valid run none told.3 in
-    let here = begun m.inner.0 format scene taken changes outcome m.inner.1 n.inner valid run first seen.inner in record {
+    let inner = begun_between a b before after changes seen.inner in
+    let here = begun a.0 format scene taken changes outcome a.1 b valid run first inner in record {
       changes = changes;
       outcome = outcome;
       run = run;
@@ -78,12 +95,13 @@ told_begun format scene taken m n told valid none first =
       prefix = here.prefix;
     }
 
-pub told_part : (format : Format) (scene : SceneData) (taken : Option (List ℕ)) (m n : SoFar LentReport) (fault : RunFault) →
-    RunCutShort (with_change told_on_loan) (IsTorn IsTornOnLoan) scene fault (Some m) (Some n) → IsValidScene scene → m.list ≡ [] →
-    m.inner.1 ≡ nothing_yet format scene taken → ToldPart format scene taken m n
-told_part format scene taken m n Listener told valid none first = told_begun format scene taken m n told valid none first
-told_part format scene taken m n NoMemory told valid none first =
-    told_begun format scene taken m n (told.0, told.1, told.2, (told.3.0, inl told.3.1)) valid none first
+pub told_part : (format : Format) (scene : SceneData) (taken : Option (List ℕ)) (m n : SoFar LentReport) (a b : LentReport) (fault : RunFault) →
+    RunCutShort (with_change told_on_loan) (IsTorn IsTornOnLoan) scene fault (Some m) (Some n) → m.inner ≡ Some a → n.inner ≡ Some b →
+    IsValidScene scene → m.list ≡ [] → a.1 ≡ nothing_yet format scene taken → ToldPart format scene taken m n a b
+told_part format scene taken m n a b Listener told before after valid none first =
+    told_begun format scene taken m n a b told before after valid none first
+told_part format scene taken m n a b NoMemory told before after valid none first =
+    told_begun format scene taken m n a b (told.0, told.1, told.2, (told.3.0, inl told.3.1)) before after valid none first
 
 -- the count of refusals after a run that broke off, which began with a count
 pub broken_counts : (T : Type 0) (first before after : ℕ) (fault : RunFault) → CountsRun {T = T} before after (Err fault) → before ≡ first →

@@ -1,6 +1,6 @@
 -- What a watched listener has published that was told a run.
-use Rattle.std.proofs.Common.{◌≡◌, inl, inr, ℕ, ◌+◌, ◌≤◌, max, List, [], ◌∷◌, ◌++◌, take, drop, Option, Some, None, sym, ap, subst, refl, ◌∙◌, append_assoc, append-nil, arith}
-use Rattle.std.specs.Prelude.{fold, ⊤, option_map}
+use Rattle.std.proofs.Common.{◌≡◌, inl, inr, true, false, true≢false, ℕ, ◌+◌, ◌≤◌, max, List, [], ◌∷◌, ◌++◌, take, drop, Option, Some, None, Result, Ok, Err, OnOk, sym, ap, subst, refl, ◌∙◌, append_assoc, append-nil, arith}
+use Rattle.std.specs.Prelude.{fold, ⊤, is_some}
 use Rattle.std.proofs.lemmas.List.{take-append-drop}
 use Rattle.std.proofs.lemmas.List.Sums.{fold-append}
 use Rattle.fixed_motion.specs.Scene.{SceneData, IsValidScene}
@@ -9,13 +9,14 @@ use Rattle.event_stamps.specs.Order.{Before, first_stamp}
 use Rattle.event_stamps.proofs.StampOrder.{before_trans, not_before_itself, tick_not_after}
 use Rattle.event_rules.specs.declared.change.Change.{Change}
 use Rattle.event_rules.specs.declared.outcome.Outcome.{Outcome}
+use Rattle.event_rules.specs.declared.listener.Deaf.{Deaf}
 use Rattle.event_rules.specs.Laws.{RisesAfter, stamps_of}
 use Rattle.event_rules.specs.Run.{IsRun}
-use Rattle.event_rules.specs.Told.{told, Told, Torn, PrefixTold, IsAwaited, AreAwaited}
+use Rattle.event_rules.specs.Told.{told, Told, Torn, PrefixTold, IsAwaited, AreAwaited, AwaitsAll}
 use Rattle.event_rules.proofs.Rise.{stamps_rise}
 use Rattle.live_progress.specs.declared.board.Progress.{Progress}
 use Rattle.live_progress.specs.Lists.{progress, last_of, StartsWith}
-use Rattle.live_progress.specs.Watching.{SoFar, counted, next_of, published, with_change, IsTorn, IsAwaitedWithin, pairs_from, pairs_of}
+use Rattle.live_progress.specs.Watching.{SoFar, counted, next_of, published, within, with_change, IsTorn, IsAwaitedWithin, pairs_from, pairs_of}
 use Rattle.live_progress.proofs.Moves.{last_from-push}
 
 -- ---- the ticks of a run
@@ -78,9 +79,37 @@ run_so_far scene changes outcome xs ys valid run e =
       ap pairs_of e ∙ begin.1 ∙ ap (λ (l : List Progress). l ++ begin.0) (sym (pairs_published 0 0 [] xs refl rising)),
     )
 
+-- ---- the listener within
+-- it is told what it awaits, where it tells
+told_within : {M : Type 0} (after : M → Change → M) (inner : Option M) (changes : List Change) (new : Option M) →
+    new ≡ told (within after) inner changes → Told after inner changes new
+told_within after None changes new h = tt
+told_within {M} after (Some m) changes new h = subst (Told after (Some m) changes) (sym (h ∙ each m changes)) refl
+  where
+    each : (m : M) (changes : List Change) → told (within after) (Some m) changes ≡ Some (told after m changes)
+    each m [] = refl
+    each m (c ∷ cs) = each (after m c) cs
+
+-- if it tells after a change as before, it means what it is to mean
+one_within : {M : Type 0} (after : M → Change → M) (old : Option M) (change : Change) (new : Option M) →
+    is_some new ≡ is_some old → Told after old (change ∷ []) new → new ≡ within after old change
+one_within after None change None alike told = refl
+one_within after None change (Some n) alike told = absurd (true≢false alike)
+one_within after (Some m) change None alike told = absurd told
+one_within after (Some m) change (Some n) alike told = ap Some told
+
+-- so a change that was told was published and told
+pub one_told : {M : Type 0} (after : M → Change → M) (m n : SoFar M) (change : Change) (answer : Result (Unit {0}) Deaf) →
+    n.loan ≡ m.loan → n.board ≡ m.board → n.list ≡ published m.list change → is_some n.inner ≡ is_some m.inner →
+    OnOk answer (Told after m.inner (change ∷ []) n.inner) → OnOk answer (n ≡ with_change after m change)
+one_told after m n change (Ok done) loan board list alike told =
+    let inner = one_within after m.inner change n.inner alike told in
+    λ i. record { loan = loan i; board = board i; list = list i; inner = inner i }
+one_told after m n change (Err deaf) loan board list alike told = tt
+
 -- ---- the parts of a telling
 parts : {M : Type 0} (after : M → Change → M) (m : SoFar M) (changes : List Change) →
-    told (with_change after) m changes ≡ record { loan = m.loan; board = m.board; list = fold published m.list changes; inner = told after m.inner changes }
+    told (with_change after) m changes ≡ record { loan = m.loan; board = m.board; list = fold published m.list changes; inner = told (within after) m.inner changes }
 parts after m [] = refl
 parts after m (c ∷ cs) = parts after (with_change after m c) cs
 
@@ -89,7 +118,7 @@ record BrokeOff {M : Type 0} (after : M → Change → M) (torn : M → Change �
   pub loan : n.loan ≡ m.loan
   pub board : n.board ≡ m.board
   pub list : (xs : List Change) × (ys : List Change) × (changes ≡ xs ++ ys) × (n.list ≡ fold published m.list xs)
-  pub inner : PrefixTold after torn (Some m.inner) changes (Some n.inner)
+  pub inner : PrefixTold after torn m.inner changes n.inner
 
 broke_off : {M : Type 0} (after : M → Change → M) (torn : M → Change → M → Type 0) (m : SoFar M) (changes : List Change) (n : SoFar M) →
     PrefixTold (with_change after) (IsTorn torn) (Some m) changes (Some n) → BrokeOff after torn m changes n
@@ -99,7 +128,7 @@ broke_off {M} after torn m changes n (k, h) = elim h [
         loan = ap (λ (v : SoFar M). v.loan) same;
         board = ap (λ (v : SoFar M). v.board) same;
         list = (take k changes, drop k changes, sym (take-append-drop k changes), ap (λ (v : SoFar M). v.list) same);
-        inner = (k, inl (ap (λ (v : SoFar M). v.inner) same));
+        inner = (k, inl (told_within after m.inner (take k changes) n.inner (ap (λ (v : SoFar M). v.inner) same)));
       }
   | inr torn ↦ at_torn torn.0 torn.1 torn.2 torn.3 torn.4 torn.5
 ]
@@ -118,7 +147,7 @@ broke_off {M} after torn m changes n (k, h) = elim h [
             sym (take-append-drop k changes) ∙ ap (λ (l : List Change). done ++ l) e ∙ sym (append_assoc done (c ∷ []) rest),
             last.2 ∙ ap (λ (v : SoFar M). published v.list c) same ∙ sym (fold-append published m.list done (c ∷ [])),
           );
-          inner = (k, inr (Some mid.inner, c, rest, e, ap (λ (v : SoFar M). v.inner) same, last.3));
+          inner = (k, inr (mid.inner, c, rest, e, told_within after m.inner done mid.inner (ap (λ (v : SoFar M). v.inner) same), last.3));
         }
 
 -- ---- what was told of a run
@@ -127,7 +156,7 @@ pub record RunWatched {M : Type 0} (after : M → Change → M) (m : SoFar M) (c
   pub loan : n.loan ≡ m.loan
   pub board : n.board ≡ m.board
   pub list : n.list ≡ pairs_of changes
-  pub inner : n.inner ≡ told after m.inner changes
+  pub inner : Told after m.inner changes n.inner
 
 pub run_watched : {M : Type 0} (after : M → Change → M) (scene : SceneData) (changes : List Change) (outcome : Outcome) (m n : SoFar M) →
     IsValidScene scene → IsRun scene changes outcome → m.list ≡ [] → n ≡ told (with_change after) m changes → RunWatched after m changes n
@@ -137,7 +166,7 @@ run_watched {M} after scene changes outcome m n valid run none h =
       board = ap (λ (v : SoFar M). v.board) same;
       list = ap (λ (v : SoFar M). v.list) same ∙ ap (λ (l : List Progress). fold published l changes) none
           ∙ run_published scene changes outcome valid run;
-      inner = ap (λ (v : SoFar M). v.inner) same;
+      inner = told_within after m.inner changes n.inner (ap (λ (v : SoFar M). v.inner) same);
     }
 
 -- the telling broke off: a prefix of its pairs is published
@@ -145,7 +174,7 @@ pub record CutWatched {M : Type 0} (after : M → Change → M) (torn : M → Ch
   pub loan : n.loan ≡ m.loan
   pub board : n.board ≡ m.board
   pub list : StartsWith (pairs_of changes) n.list
-  pub inner : PrefixTold after torn (Some m.inner) changes (Some n.inner)
+  pub inner : PrefixTold after torn m.inner changes n.inner
 
 pub cut_watched : {M : Type 0} (after : M → Change → M) (torn : M → Change → M → Type 0) (scene : SceneData) (changes : List Change) (outcome : Outcome)
     (m n : SoFar M) → IsValidScene scene → IsRun scene changes outcome → m.list ≡ [] →
@@ -161,17 +190,18 @@ cut_watched after torn scene changes outcome m n valid run none h =
     }
 
 -- ---- what is awaited
--- by a listener that is watched, and so by the one within
-pub awaited_within : {M : Type 0} (awaits : M → Change → Type 0) (so_far : M → SoFar M) (m : Option M)
-    (change : Change) → ((n : M) → (so_far n).inner ≡ n) →
-    IsAwaited (IsAwaitedWithin awaits) (option_map so_far m) change → IsAwaited awaits m change
-awaited_within awaits so_far None change same awaited = tt
-awaited_within {M} awaits so_far (Some n) change same awaited = subst (λ (v : M). awaits v change) (same n) awaited
-
 -- by the one within, and so by the one that is watched
 pub watched_awaits : {M : Type 0} (after : M → Change → M) (awaits : M → Change → Type 0) (m : SoFar M)
-    (changes : List Change) → AreAwaited after awaits m.inner changes →
+    (changes : List Change) → AwaitsAll after awaits m.inner changes →
     AreAwaited (with_change after) (IsAwaitedWithin awaits) m changes
 watched_awaits after awaits m [] each = tt
-watched_awaits after awaits m (c ∷ cs) each =
-    (each.0, watched_awaits after awaits (with_change after m c) cs each.1)
+watched_awaits {M} after awaits m (c ∷ cs) each =
+    (first m.inner each, watched_awaits after awaits (with_change after m c) cs (later m.inner each))
+  where
+    first : (inner : Option M) → AwaitsAll after awaits inner (c ∷ cs) → IsAwaited awaits inner c
+    first None each = tt
+    first (Some m) each = each.0
+
+    later : (inner : Option M) → AwaitsAll after awaits inner (c ∷ cs) → AwaitsAll after awaits (within after inner c) cs
+    later None each = each
+    later (Some m) each = each.1

@@ -1,6 +1,6 @@
 //! A listener that publishes what it is told.
 
-ghost use Rattle.std.specs.Prelude.{◌≡◌, Option, option_map};
+ghost use Rattle.std.specs.Prelude.{◌≡◌, Some, is_some};
 ghost use Rattle.live_progress.specs.Watching.{SoFar, next_of, with_change, IsTorn, IsAwaitedWithin};
 
 use crate::{Board, Pen, Progress};
@@ -10,8 +10,8 @@ use std::sync::Wait;
 /// A listener that publishes each event and then tells it on.
 ///
 /// Publishing takes a runtime, which telling a listener doesn't bring along: so it is kept here, and to tell this
-/// listener may wait, as [`Board::publish`] may. What it means is what the pen has published, beside the loan of the pen, its board, and
-/// what the listener within means.
+/// listener may wait, as [`Board::publish`] may. What it means is what the pen has published, beside the loan of the
+/// pen, its board, and what the listener within means, where that tells.
 #[derive(Drop)]
 pub struct Watched<'p, R: Wait, L: Listener> {
     /// The runtime.
@@ -24,6 +24,8 @@ pub struct Watched<'p, R: Wait, L: Listener> {
     pub inner: L,
     /// The pen is of the board.
     pub ghost of_board: { pen.now.board ≡ board.now },
+    /// Whether the listener within tells what it means is a matter of its type.
+    pub ghost alike: { (one other : _) → is_some (L.meaning one) ≡ is_some (L.meaning other) },
 }
 
 impl<'p, R: Wait, L: Listener> Listener for Watched<'p, R, L> {
@@ -35,9 +37,8 @@ impl<'p, R: Wait, L: Listener> Listener for Watched<'p, R, L> {
 
     ghost awaits = { IsAwaitedWithin L.awaits };
 
-    ghost meaning = { λ w. option_map
-        (λ m. record { loan = w.pen.ghost_name; board = w.pen.now.board; list = w.pen.now.list; inner = m })
-        (L.meaning w.inner) };
+    ghost meaning = { λ w. Some
+        (record { loan = w.pen.ghost_name; board = w.pen.now.board; list = w.pen.now.list; inner = L.meaning w.inner }) };
 
     ghost faults = { λ w. L.faults w.inner };
 

@@ -30,14 +30,14 @@ end_watched-requires-clause-outcome g c =
 pub end_watched-requires-clause-scene : goal.end_watched-requires-clause-scene
 end_watched-requires-clause-scene g c =
     let inner = c.args.watched.now.inner in
-    let told = told_all inner.format c.args.scene.now c.in-Ok.outcome (g.K.Sink.taken inner.sink.now) _ _ c.in-Ok.ensures.run
+    let told = told_all inner.format c.args.scene.now c.in-Ok.outcome (g.K.Sink.taken inner.sink.now) _ _ _ _ c.in-Ok.ensures.run refl refl
     c.requires.valid c.requires.unwritten c.requires.first in
     told.table
 
 pub returns-in-Ok : goal.returns-in-Ok
 returns-in-Ok g c =
     let K = g.K.Sink in let inner = c.args.watched.now.inner in let end = c.end_watched.ensures in
-    let told = told_all inner.format c.args.scene.now c.in-Ok.outcome (K.taken inner.sink.now) _ _ c.in-Ok.ensures.run
+    let told = told_all inner.format c.args.scene.now c.in-Ok.outcome (K.taken inner.sink.now) _ _ _ _ c.in-Ok.ensures.run refl refl
     c.requires.valid c.requires.unwritten c.requires.first in
     let all = ended_published c.in-Ok.outcome _ _ _ c.end_watched.result (pairs_of told.changes) c.end_watched.new.watched.pen.now.list
     end.text (ap (λ (k : Known). k.list) end.pen ∙ told.list) in record {
@@ -54,7 +54,7 @@ pub returns-in-Err : goal.returns-in-Err
 returns-in-Err g c =
     let K = g.K.Sink in let inner = c.args.watched.now.inner in let status = sym c.status_of_fault.ensures.status in
     let after = c.run.new.listener in
-    let told = told_part inner.format c.args.scene.now (K.taken inner.sink.now) _ _ _ c.in-Err.ensures.cut_short
+    let told = told_part inner.format c.args.scene.now (K.taken inner.sink.now) _ _ _ _ _ c.in-Err.ensures.cut_short refl refl
     c.requires.valid c.requires.unwritten c.requires.first in record {
       pen_loan = told.pen;
       loan = told.sink;
