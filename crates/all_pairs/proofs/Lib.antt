@@ -1,3 +1,3 @@
-pub mod Least
-pub mod Events
-pub mod Turns
+mod Least
+mod Events
+mod Turns

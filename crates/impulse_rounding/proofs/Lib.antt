@@ -1,5 +1,5 @@
-pub mod Signed
-pub mod Sizes
+mod Signed
+mod Sizes
 pub mod Exact
-pub mod Energy
+mod Energy
 pub mod Change

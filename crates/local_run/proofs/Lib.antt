@@ -8,10 +8,10 @@ pub mod Right
 pub mod Choices
 pub mod Hears
 pub mod InTurn
-pub mod Waiting
+mod Waiting
 pub mod Determined
 pub mod Keeps
-pub mod OneStep
+mod OneStep
 pub mod Valid
 pub mod Counted
 pub mod Outcome
@@ -23,7 +23,7 @@ pub mod Opened
 pub mod Touched
 pub mod Untouched
 pub mod Aside
-pub mod Staying
-pub mod Inserted
+mod Staying
+mod Inserted
 pub mod Woven
 pub mod Stands

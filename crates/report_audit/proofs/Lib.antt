@@ -1,11 +1,11 @@
 -- The lemmas of the crate.
-pub mod Divided
-pub mod Filled
+mod Divided
+mod Filled
 pub mod Fronts
-pub mod Lengths
-pub mod Linewise
-pub mod Marks
-pub mod Upcoming
+mod Lengths
+mod Linewise
+mod Marks
+mod Upcoming
 pub mod Short
 pub mod Verdicts
 pub mod Joined

@@ -1,5 +1,5 @@
-pub mod Undone
-pub mod Rising
-pub mod Rebuilt
-pub mod Cut
-pub mod First
+mod Undone
+mod Rising
+mod Rebuilt
+mod Cut
+mod First
