@@ -15,6 +15,8 @@ CONTRIBUTING.md, CHANGELOG.md and docs/*.md:
   .. in `crate/file.rt`     all names before it, back to the last `;`, are in crates/crate/src/file.rt;
   .. in `crate/File`        the same of the definitions in crates/crate/specs/File.antt;
 - in a column whose heading is Crate, a name in backticks is a crate of crates.txt;
+- a constant in brackets, as `(`MAX_ENTRIES`)`, is in crates/*/src, and the last number before it in its part of the
+  sentence is its value; times aren't compared, as constants count looks or parts of a second;
 - no line says TODO.
 
 Writes a line for each that isn't there, and ends with status 1 if there is one."""
@@ -30,13 +32,27 @@ IMPL = re.compile(r"^impl\b(?:.* for |(?:<[^<>]*(?:<[^<>]*>[^<>]*)*>)? )(\w+)")
 FUNCTION = re.compile(r"^\s*(?:pub(?:\([^)]*\))? )?(?:const )?fn (\w+)")
 CLAUSE = re.compile(r"^\s*(?:requires|ensures)(?: checked)? (\w+) \{")
 FIELD = re.compile(r"^\s*(?:pub )?ghost (\w+) ?[:=]")
+CONSTANT = re.compile(r"^\s*(?:pub(?:\([^)]*\))? )?const ([A-Z][A-Z_]+): \w+ = ([^;]+);", re.M)
+CITED_CONSTANT = re.compile(r"([^;.|()]*)\(`([A-Z][A-Z_]+)`\)")
+NUMBER = re.compile(r"(?<![\w^])(\d[\d,]*(?:\^\d+)?|two|three|four|a hundred)(?![\w^])(?! (?:µs|ns|ms|\w*seconds?)\b)")
+WORDS = {"two": 2, "three": 3, "four": 4, "a hundred": 100}
+# Names in brackets that are the system's.
+FOREIGN = {"O_NONBLOCK"}
+
+
+def value_of(text):
+    """The value of a number in a document, or of a constant in a source; none of what is no plain number."""
+    if text in WORDS:
+        return WORDS[text]
+    plain = text.replace(",", "").replace("_", "").replace("^", "**")
+    return eval(plain) if re.fullmatch(r"\d+(?: ?(?:\*\*|\*|<<|-) ?\d+)*", plain) else None
 
 
 class Sources:
-    """What the crates define: each name with the files that define it, and the clauses of each function."""
+    """What the crates define: each name with the files that define it, the clauses of each function, and constants."""
 
     def __init__(self, top):
-        self.files, self.clauses = {}, {}
+        self.files, self.clauses, self.constants = {}, {}, {}
         self.crates = {it.split(":")[0].split()[0] for it in (top / "crates.txt").read_text().splitlines() if it[:1] not in ("#", "")}
         for path in sorted(top.glob("crates/*/specs/**/*.antt")):
             crate, file = path.relative_to(top).parts[1], path.stem
@@ -45,7 +61,12 @@ class Sources:
         for path in sorted(top.glob("crates/*/src/**/*.rt")):
             if "tests" not in path.parts and path.stem != "tests":
                 crate = path.relative_to(top).parts[1]
+                self.read_constants(path.read_text())
                 self.read_code(path.read_text(), f"{crate}/{path.relative_to(top / 'crates' / crate / 'src').as_posix()}")
+
+    def read_constants(self, text):
+        for name, value in CONSTANT.findall(text):
+            self.constants.setdefault(name, set()).add(value_of(value.strip()))
 
     def add(self, name, file):
         self.files.setdefault(name, set()).add(file)
@@ -117,6 +138,16 @@ def bad_paths(top, line):
                 yield f"the path {word} isn't there"
 
 
+def bad_constants(sources, line):
+    """Constants in brackets that no crate has, or that have another value than the number before them."""
+    for before, name in CITED_CONSTANT.findall(line):
+        values, numbers = sources.constants.get(name, set()), NUMBER.findall(before)
+        if not values and name not in FOREIGN:
+            yield f"no crate has a constant {name}"
+        elif numbers and None not in values and value_of(numbers[-1]) not in values:
+            yield f"{name} isn't {numbers[-1]}"
+
+
 def bad_names(sources, crates, cell):
     """Names of a cell that the sources don't have. Groups are parted by semicolons; a file ends the names before it."""
     for group in cell.split(";"):
@@ -161,7 +192,7 @@ def check(top, path, sources):
     for number, line in prose(path.read_text()):
         if line.startswith("#"):
             crates = [it for it in TOKEN.findall(line) if it in sources.crates]
-        faults = [*bad_links(top, path, line), *bad_paths(top, line)]
+        faults = [*bad_links(top, path, line), *bad_paths(top, line), *bad_constants(sources, line)]
         if "TODO" in line:
             faults.append("something is left to do")
         if not line.startswith("|"):
@@ -185,7 +216,7 @@ def main():
     documents = [it for it in (top / "README.md", top / "CONTRIBUTING.md", top / "CHANGELOG.md") if it.exists()]
     documents += sorted(top.glob("docs/*.md"))
     faults = [it for path in documents for it in check(top, path, sources)]
-    print("\n".join(faults) if faults else f"{len(documents)} documents: all links, paths and names are there")
+    print("\n".join(faults) if faults else f"{len(documents)} documents: all links, paths, names and constants are there")
     sys.exit(1 if faults else 0)
 
 
