@@ -23,7 +23,7 @@ use Rattle.local_run.specs.declared.moves.Move.TheVariants.{Run, TakeIn}
 use Rattle.local_run.specs.Entries.{entry_stamp}
 use Rattle.local_run.specs.LocalRun.{Local, Trails, trail_of, told, IsInPlace, IsRight, IsMove}
 use Rattle.local_run.specs.Answers.{with_entry, IsInTurn}
-use Rattle.region_core.specs.Inbox.{InboxData, next_from, taken_from, with_taken}
+use Rattle.region_parts.specs.Inbox.{InboxData, next_from, taken_from, with_taken}
 use Rattle.local_run.specs.Taken.{is_of, taken_of}
 use Rattle.region_core.specs.Live.{base_in, run_in, start_in, now_in, HasTrace, IsInbox, IsOutbox, IsLive}
 use Rattle.event_log.specs.Logged.{Logged, entries_in}

@@ -3,7 +3,7 @@ use Rattle.std.proofs.Common.{◌≡◌, Option, Some, None, subst, sym, refl}
 use Rattle.std.specs.Prelude.{option_map, IfSome}
 use Rattle.event_stamps.specs.declared.Stamp.{Stamp}
 use Rattle.local_run.specs.declared.home.Home.{Home}
-use Rattle.region_core.specs.declared.border.Border.{Border}
+use Rattle.region_parts.specs.declared.border.Border.{Border}
 use Rattle.region_core.specs.declared.live.Live.{Live}
 use Rattle.local_run.specs.LocalRun.{IsRight}
 use Rattle.local_run.specs.Opening.{RegionData}

@@ -12,14 +12,14 @@ use Rattle.region_core.specs.declared.live.Live.{Live}
 use Rattle.local_run.specs.LocalRun.{Local, At, Trails, start_of, now_of, after_log}
 use Rattle.local_run.specs.Entries.{entries_below, entries_from}
 use Rattle.local_run.specs.LocalRun.{IsRight}
-use Rattle.region_core.specs.Inbox.{InboxData, taken_from}
+use Rattle.region_parts.specs.Inbox.{InboxData, taken_from}
 use Rattle.local_run.specs.Taken.{taken_of}
 use Rattle.event_log.specs.Logged.{Logged, entries_in, backs_in}
 use Rattle.event_log.specs.Undoing.{undone}
 use Rattle.region_core.specs.Live.{base_in, run_in, start_in, HasTrace, IsInbox, IsOutbox, IsLive}
 use Rattle.local_run.specs.Raising.{raised_run, HasNoneWaitingBelow, IsRaised}
 use Rattle.region_core.proofs.Traced.{trace_raised, base_raised, entries_dropped}
-use Rattle.region_core.proofs.Back.{no_more_taken}
+use Rattle.region_core.proofs.Rewound.{no_more_taken}
 use Rattle.local_run.proofs.Taken.{taken_below}
 
 -- ---- what was heard and what is sent

@@ -1,5 +1,5 @@
 -- A body that hears another trail of messages.
-use Rattle.std.proofs.Common.{◌≡◌, ◌≢◌, inl, inr, ℕ, ◌<◌, Bool, List, [], ◌∷◌, length, get_or, slice_set, Some, None, Result, Ok, Err, IfOk, OnOk, sym, ap, subst, ◌∙◌, refl}
+use Rattle.std.proofs.Common.{◌≡◌, ◌≢◌, inl, inr, ℕ, ◌<◌, Bool, List, [], ◌∷◌, length, get_or, slice_set, Some, None, sym, ap, subst, ◌∙◌, refl}
 use Rattle.std.specs.Prelude.{◌↔◌, IsTrue}
 use Rattle.std.proofs.lemmas.List.{length-set, get_or-set_same, get_or-set_other}
 use Rattle.std.proofs.lemmas.Option.{none-some, same_Some}
@@ -24,7 +24,8 @@ use Rattle.event_log.specs.Logged.{Logged, entries_in, backs_in}
 use Rattle.event_log.specs.Undoing.{undone}
 use Rattle.event_log.specs.Traced.{IsTraced}
 use Rattle.region_core.specs.Live.{base_in, run_in, IsInbox, IsOutbox, IsLive}
-use Rattle.region_core.specs.Replaced.{mixed, HearsOn, IsReplaced}
+use Rattle.region_parts.specs.Inbox.{mixed}
+use Rattle.region_core.specs.Replaced.{HearsOn, IsReplaced}
 use Rattle.local_run.proofs.Logs.{below_kept, kept_below, all_below, below_whole}
 use Rattle.local_run.proofs.Hears.{hearing, right_heard}
 use Rattle.region_core.proofs.Traced.{has_trace}
@@ -176,17 +177,3 @@ marked_live home floor old new sent rest live = subst (IsLive home floor) (sym r
   queue = live.queue;
   stands = live.stands;
 })
-
--- ---- the steps of the code
-pub if_ok : {A E : Type 0} (r : Result A E) (P Q : A → Type 0) → ((a : A) → P a → Q a) → IfOk r P → IfOk r Q
-if_ok (Ok x) P Q f h = f x h
-if_ok (Err e) P Q f h = h
-
-pub on_ok : {A E : Type 0} (r : Result A E) (P Q : Type 0) → (P → Q) → OnOk r P → OnOk r Q
-on_ok (Ok x) P Q f h = f h
-on_ok (Err e) P Q f h = h
-
--- what holds whether there was memory or not
-pub on_any : {A E : Type 0} (r : Result A E) (P : Type 0) → P → OnOk r P
-on_any (Ok x) P h = h
-on_any (Err e) P h = tt

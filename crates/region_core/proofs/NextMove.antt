@@ -20,7 +20,7 @@ use Rattle.local_run.specs.declared.answers.Step.TheVariants.{Tied}
 use Rattle.local_run.specs.Entries.{entry_stamp, clock_of, last_stamp}
 use Rattle.local_run.specs.LocalRun.{At, Local, trail_of, IsInPlace, IsOwn, IsWaiting, IsDue, ComesTo}
 use Rattle.local_run.specs.Answers.{HasDue, IsInTurn, IsShared}
-use Rattle.region_core.specs.Inbox.{InboxData, next_from, head_stamp, IsFirstOf, IsLeastHead, IsSharedHead}
+use Rattle.region_parts.specs.Inbox.{InboxData, next_from, head_stamp, IsFirstOf, IsLeastHead, IsSharedHead}
 use Rattle.local_run.specs.Taken.{taken_of}
 use Rattle.event_log.specs.Logged.{entries_in}
 use Rattle.region_core.specs.Live.{run_in, start_in, now_in, IsInbox, IsLive}
@@ -32,7 +32,7 @@ use Rattle.local_run.proofs.Right.{waiting_rise}
 use Rattle.local_run.proofs.Choices.{heard_is_move, heads_are_shared}
 use Rattle.region_view.proofs.ValidRows.{actions_are_valid}
 use Rattle.local_run.proofs.Valid.{own_candidate, valid_now}
-use Rattle.region_core.proofs.Firsts.{none_past, no_trail_past, none_in_nothing}
+use Rattle.region_parts.proofs.Firsts.{none_past, no_trail_past, none_in_nothing}
 
 below_or_past : (q n : ℕ) → (q < n) ⊎ (n ≤ q)
 below_or_past q n = grind arith

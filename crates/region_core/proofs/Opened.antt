@@ -14,7 +14,7 @@ use Rattle.region_core.proofs.Traced.{has_trace}
 use Rattle.region_core.specs.declared.live.Live.{Live}
 use Rattle.local_run.specs.LocalRun.{Local, now_of, IsRight}
 use Rattle.local_run.proofs.Opened.{no_trail, empty_run, empty_right}
-use Rattle.region_core.specs.Inbox.{InboxData, empty_inbox, taken_from}
+use Rattle.region_parts.specs.Inbox.{InboxData, empty_inbox, taken_from}
 use Rattle.region_core.specs.Live.{base_in, run_in, HasTrace, IsInbox, IsOutbox, IsLive}
 
 none_taken : (n q : ℕ) → taken_from (empty_inbox n) q ≡ 0

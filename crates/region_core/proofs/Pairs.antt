@@ -16,7 +16,7 @@ use Rattle.cell_grid.specs.Grid.{GridData, IsRegion, AreLinked}
 use Rattle.region_view.specs.declared.rows.Message.{Message}
 use Rattle.region_messages.proofs.Same.{same_by_code, stamp_eq, stamp_decides}
 use Rattle.local_run.specs.declared.home.Home.{Home}
-use Rattle.region_core.specs.declared.border.Border.{Border}
+use Rattle.region_parts.specs.declared.border.Border.{Border}
 use Rattle.region_core.specs.declared.live.Live.{Live}
 use Rattle.local_run.specs.declared.answers.Hearing.{Hearing}
 use Rattle.local_run.specs.declared.answers.Hearing.TheVariants.{Same, Rewound, Later, Apart}

@@ -1,5 +1,5 @@
 -- A body from which the entries from a stamp on are taken back.
-use Rattle.std.proofs.Common.{◌≡◌, ℕ, ◌+◌, List, [], length, map, sym, ap, subst, ◌∙◌, arith}
+use Rattle.std.proofs.Common.{◌≡◌, inl, inr, ℕ, ◌+◌, ◌≤◌, List, [], length, map, sym, ap, subst, ◌∙◌, arith}
 use Rattle.std.proofs.lemmas.List.{length-map}
 use Rattle.std.proofs.Math.ListN.{get_or-map}
 use Rattle.event_stamps.specs.declared.Stamp.{Stamp}
@@ -10,14 +10,28 @@ use Rattle.local_run.specs.declared.home.Home.{Home}
 use Rattle.local_run.specs.declared.entry.Entry.{Entry}
 use Rattle.region_core.specs.declared.live.Live.{Live}
 use Rattle.local_run.specs.Entries.{RiseFrom, entries_below, entries_from}
-use Rattle.local_run.specs.LocalRun.{Local, Trails, after_log, IsRight}
-use Rattle.region_core.specs.Inbox.{InboxData, taken_from}
+use Rattle.local_run.specs.LocalRun.{Local, Trails, start_of, after_log, IsRight}
+use Rattle.region_parts.specs.Inbox.{InboxData, taken_from}
 use Rattle.local_run.specs.Taken.{taken_of}
 use Rattle.event_log.specs.Logged.{entries_in}
 use Rattle.region_core.specs.Live.{base_in, run_in, IsInbox, IsOutbox, IsLive, GoesAlong}
-use Rattle.local_run.proofs.Taken.{taken_below}
+use Rattle.local_run.proofs.Taken.{taken_below, taken_fits}
+use Rattle.region_parts.proofs.Firsts.{below_or_past, no_trail_past}
 use Rattle.local_run.proofs.Sent.{sent_below}
 use Rattle.local_run.proofs.Right.{right_rewound}
+
+-- ---- what was taken in
+-- the counts of a body are those of its log
+pub no_more_taken : (home : Home) (floor : Stamp) (live : Live) (q : ℕ) → IsLive home floor live →
+    taken_of q (entries_in live.log) ≤ taken_from live.inbox q
+no_more_taken home floor live q is = elim (below_or_past q home.grid.regions) [
+  | inl region ↦ let same = is.inbox.taken q region in omega arith
+  | inr past ↦
+      let fits = taken_fits home (start_of (run_in floor live)) (entries_in live.log) q is.right.moves in
+      let none = ap length (no_trail_past live.inbox.heard q
+      (subst (λ (n : ℕ). n ≤ q) (sym is.inbox.regions) past)) in
+      omega arith
+]
 
 -- ---- what was heard and what is sent
 inbox_rewound : (home : Home) (at : Stamp) (log : List Entry) (old new : InboxData) →

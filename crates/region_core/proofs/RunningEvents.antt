@@ -41,11 +41,11 @@ use Rattle.event_log.specs.declared.running.HitRows.{HitRows}
 use Rattle.event_log.specs.Heads.{disk_or}
 use Rattle.event_log.specs.Running.{collision, redisked_row, IsMoved}
 use Rattle.region_core.specs.declared.live.Live.{Live}
-use Rattle.region_core.specs.Border.{IsFar, IsFarRow, IsUntold}
+use Rattle.region_parts.specs.Border.{IsFar, IsFarRow, IsUntold}
 use Rattle.region_core.specs.Choices.{IsAtTurn}
 use Rattle.region_core.specs.Live.{run_in, now_in, IsLive, HasTrace}
 use Rattle.region_core.specs.RunsOn.{FailsLimit}
-use Rattle.region_core.proofs.Borders.{crossing_untold, pair_untold}
+use Rattle.region_parts.proofs.Borders.{crossing_untold, pair_untold}
 use Rattle.region_core.proofs.Traced.{now_is}
 use Rattle.region_core.proofs.NextMove.{own_due, event_fits}
 

@@ -28,7 +28,7 @@ use Rattle.region_core.specs.Live.{run_in, region_in}
 use Rattle.region_core.specs.RunsOn.{IsClear, IsOwnInTurn, RunsNext, RunsOrFails, RunsOn, Follow, answer_after}
 use Rattle.region_core.specs.declared.running_on.RunSoFar.{RunSoFar}
 use Rattle.event_log.specs.Logged.{entries_in}
-use Rattle.region_core.proofs.Traced.{as_many}
+use Rattle.region_parts.proofs.Lists.{as_many}
 
 -- ---- before what no message waits
 pub clear_of_first : (first : Stamp) (waiting : Trails) → IsLeast (IsWaiting waiting) first → IsClear first waiting

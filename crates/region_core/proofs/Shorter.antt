@@ -25,7 +25,8 @@ use Rattle.region_core.specs.declared.live.Live.{Live}
 use Rattle.region_core.specs.Live.{base_in, run_in, start_in, HasTrace, IsAlong}
 use Rattle.local_run.proofs.Logs.{moves_split, after_join}
 use Rattle.local_run.proofs.Right.{right_before}
-use Rattle.region_core.proofs.Traced.{now_is, base_is, has_trace, as_many, entries_joined}
+use Rattle.region_parts.proofs.Lists.{as_many}
+use Rattle.region_core.proofs.Traced.{now_is, base_is, has_trace, entries_joined}
 use Rattle.local_run.proofs.Touched.{same_but}
 use Rattle.local_run.proofs.Untouched.{action_leaves}
 use Rattle.local_run.proofs.Valid.{valid_after}

@@ -1,5 +1,5 @@
 -- What a region shows of what it sends and heard.
-use Rattle.std.proofs.Common.{◌≡◌, ◌⊎◌, inr, ℕ, ◌<◌, Bool, true, false, List, [], length, Option, Some, None, MatchOption, ap, sym, ◌∙◌, subst, refl, zero, suc, ◌≤◌, ◌∷◌, arith, get_or, IfSome, ltb}
+use Rattle.std.proofs.Common.{◌≡◌, ◌⊎◌, inr, ℕ, ◌<◌, Bool, true, false, List, [], length, Option, Some, None, MatchOption, ap, sym, ◌∙◌, subst, refl, arith}
 use Rattle.std.specs.Prelude.{◌↔◌, IsTrue, is_some, not, option_map, option_copied, slice_get}
 use Rattle.std.proofs.lemmas.Bool.{false≢true}
 use Rattle.std.proofs.lemmas.Option.{none-some, same_Some, slice_get-get_or}
@@ -13,8 +13,6 @@ use Rattle.local_run.specs.LocalRun.{Trails, trail_of, sent_to}
 use Rattle.local_run.specs.Opening.{RegionData}
 use Rattle.region_core.specs.Live.{base_in, run_in}
 use Rattle.local_run.specs.Keeping.{SendsTo, HearsOf, IsSent, IsHeard}
-use Rattle.std.proofs.lemmas.Bool.Decides.{nat_tests}
-use Rattle.region_core.proofs.Lists.{read_or}
 
 abbrev pub seen_as : Home → Stamp → Option Live → RegionData
 seen_as home floor live = record { home = home; floor = floor; run = option_map (run_in floor) live }
@@ -62,23 +60,3 @@ pub trail_found : (o : Option (Bor (List Message))) (ts : Trails) (q : ℕ) (P Q
 trail_found None ts q P Q is within given = absurd (none-some _ (is ∙ slice_get-get_or ts q [] within))
 trail_found (Some t) ts q P Q is within given =
     (given, same_Some t.now (trail_of ts q) (is ∙ slice_get-get_or ts q [] within))
-
--- what a slice of trails has at a number
-none_past_end : (ts : Trails) (q : ℕ) → length ts ≤ q → None ≡ slice_get ts q
-none_past_end [] zero le = refl
-none_past_end [] (suc q) le = refl
-none_past_end (t ∷ ts) zero le = absurd (omega arith)
-none_past_end (t ∷ ts) (suc q) le = none_past_end ts q (omega arith)
-
-past : (q n : ℕ) → false ≡ ltb q n → n ≤ q
-past q n not = grind (arith, nat_tests)
-
-within : (q n : ℕ) → true ≡ ltb q n → q < n
-within q n is = grind (arith, nat_tests)
-
-pub got_at : (o : Option (Bor (List Message))) (ts : Trails) (q : ℕ) →
-    (is_some o ≡ ltb q (length ts)) × IfSome o (λ t. t.now ≡ get_or ts q t.now) → option_copied o ≡ slice_get ts q
-got_at None ts q read = none_past_end ts q (past q (length ts) read.0)
-got_at (Some t) ts q read =
-    let lt = within q (length ts) read.0 in
-    ap Some (read.1 ∙ read_or ts q t.now [] lt) ∙ sym (slice_get-get_or ts q [] lt)

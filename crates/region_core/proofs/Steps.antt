@@ -22,7 +22,7 @@ use Rattle.local_run.specs.Weaving.{IsApart, LeavesNear, AreAside, AreOthers}
 use Rattle.event_log.specs.Logged.{Logged, entries_in, sets}
 use Rattle.event_log.specs.Undoing.{LeadBack, IsAside, rows_by, view_with, AreAside as AreSpared}
 use Rattle.event_log.proofs.AtFloor.{view_of_entry}
-use Rattle.region_core.specs.Weaving.{IsOwnTouch, AllTouchAfter, IsLateAside, IsValidBack}
+use Rattle.region_parts.specs.Aside.{IsOwnTouch, AllTouchAfter, IsLateAside, IsValidBack}
 use Rattle.local_run.proofs.Touched.{over_others, same_but}
 use Rattle.local_run.proofs.Valid.{HaveValidRows, valid_without, valid_along}
 use Rattle.local_run.proofs.Aside.{here_first, later_still, over_among, over_here, same_rows, set_are_named}

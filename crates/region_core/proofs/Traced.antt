@@ -1,7 +1,7 @@
 -- The view at the floor and the newest one, by the log that leads from the one to the other.
 use Rattle.std.proofs.Common.{◌≡◌, ℕ, zero, suc, ◌-◌, List, [], ◌∷◌, ◌++◌, length, take, drop, slice_get, sym, ap, ◌∙◌, subst, refl, arith}
 use Rattle.std.specs.Prelude.{unwrap_or}
-use Rattle.std.proofs.lemmas.List.{map-append, take-map, drop-map, length-map}
+use Rattle.std.proofs.lemmas.List.{map-append, take-map, drop-map}
 use Rattle.event_stamps.specs.declared.Stamp.{Stamp}
 use Rattle.region_view.specs.Views.{ViewData}
 use Rattle.region_queue.specs.Queue.{StandsFor}
@@ -58,9 +58,6 @@ base_raised old view log gone traced same left =
     ∙ ap (λ (es : List Entry). (after_log (start_in old) es).view) (sym (take-map (λ l. l.0) gone old.log))
 
 -- ---- entries
-pub as_many : (log : List Logged) → length (entries_in log) ≡ length log
-as_many log = length-map log (λ l. l.0)
-
 pub entries_joined : (xs ys : List Logged) → entries_in (xs ++ ys) ≡ entries_in xs ++ entries_in ys
 entries_joined xs ys = map-append (λ l. l.0) xs ys
 

@@ -23,7 +23,7 @@ use Rattle.local_run.specs.declared.entry.TheConstants.{MAX_ENTRIES}
 use Rattle.region_core.specs.declared.live.Live.{Live}
 use Rattle.local_run.specs.Entries.{entry_stamp, RiseAfter as RiseOn, RiseFrom, entries_below, entries_from, clock_of, last_stamp}
 use Rattle.local_run.specs.LocalRun.{At, trail_of, after_log, Moves, IsInPlace, IsHearable, IsOwn, Local}
-use Rattle.region_core.specs.Inbox.{taken_from}
+use Rattle.region_parts.specs.Inbox.{taken_from}
 use Rattle.event_log.specs.Logged.{Logged, entries_in}
 use Rattle.event_log.specs.Undoing.{LeadBack, view_after, AreAside as AreSpared}
 use Rattle.event_log.specs.Traced.{IsTraced}
@@ -31,10 +31,12 @@ use Rattle.event_log.proofs.AtFloor.{view_of_log}
 use Rattle.event_log.proofs.Traced.{traced_dropped, traced_woven}
 use Rattle.region_core.specs.Live.{base_in, run_in, start_in, now_in, HasTrace, IsLive}
 use Rattle.local_run.specs.Weaving.{IsWoven, MayWeave, IsApart, AreAside}
-use Rattle.region_core.specs.Weaving.{IsLateAside, IsValidBack, IsSetLate, BeginsAfter, IsTried, Weaves}
+use Rattle.region_parts.specs.Aside.{IsLateAside, IsValidBack}
+use Rattle.region_core.specs.Weaving.{IsSetLate, BeginsAfter, IsTried, Weaves}
 use Rattle.local_run.proofs.Logs.{below_then_from, moves_split}
 use Rattle.region_core.proofs.News.{heard_there, heard_elsewhere}
-use Rattle.region_core.proofs.Traced.{now_is, base_is, has_trace, as_many, entries_joined, entries_taken, entries_dropped}
+use Rattle.region_parts.proofs.Lists.{as_many}
+use Rattle.region_core.proofs.Traced.{now_is, base_is, has_trace, entries_joined, entries_taken, entries_dropped}
 use Rattle.region_core.proofs.Appended.{few_of}
 use Rattle.local_run.proofs.Valid.{valid_now}
 use Rattle.region_core.proofs.Steps.{aside_by_backs, backs_valid, all_spared}

@@ -13,7 +13,7 @@ use Rattle.local_run.specs.declared.entry.Entry.TheVariants.{Heard}
 use Rattle.region_core.specs.declared.live.Live.{Live}
 use Rattle.local_run.specs.Entries.{entries_below, entries_from}
 use Rattle.local_run.specs.LocalRun.{Local, trail_of, now_of, IsHearable, IsRight, sent_to}
-use Rattle.region_core.specs.Inbox.{InboxData, taken_from}
+use Rattle.region_parts.specs.Inbox.{InboxData, taken_from}
 use Rattle.local_run.specs.Taken.{taken_of}
 use Rattle.event_log.specs.Logged.{entries_in}
 use Rattle.region_core.specs.Live.{base_in, run_in, HasTrace, IsInbox, IsLive}

@@ -8,10 +8,10 @@ use Rattle.region_queue.specs.Queue.{IsOf, StandsFor}
 use Rattle.local_run.specs.declared.home.Home.{Home}
 use Rattle.local_run.specs.declared.entry.Entry.{Entry}
 use Rattle.region_core.specs.declared.live.Live.{Live}
-use Rattle.region_core.specs.declared.border.Border.{Border}
+use Rattle.region_parts.specs.declared.border.Border.{Border}
 use Rattle.local_run.specs.LocalRun.{Local, At, Trails, trail_of, after_log, sent_to, IsDueOrEnd, IsInPlace, IsRight}
-use Rattle.region_core.specs.Border.{IsBorderOf}
-use Rattle.region_core.specs.Inbox.{InboxData, taken_from}
+use Rattle.region_parts.specs.Border.{IsBorderOf}
+use Rattle.region_parts.specs.Inbox.{InboxData, taken_from}
 use Rattle.local_run.specs.Opening.{RegionData}
 use Rattle.local_run.specs.Taken.{taken_of}
 use Rattle.event_log.specs.Logged.{entries_in, backs_in}

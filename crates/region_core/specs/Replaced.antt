@@ -1,18 +1,13 @@
 -- What another trail of messages leaves as it was.
-use Rattle.std.specs.Prelude.{◌≡◌, ℕ, List, ◌++◌, slice_set}
+use Rattle.std.specs.Prelude.{◌≡◌, ℕ, List, slice_set}
 use Rattle.event_stamps.specs.declared.Stamp.{Stamp}
 use Rattle.region_view.specs.declared.rows.Message.{Message}
-use Rattle.region_messages.specs.Trails.{below, from}
 use Rattle.local_run.specs.declared.answers.Hearing.{Hearing}
 use Rattle.local_run.specs.declared.answers.Hearing.TheVariants.{Same, Rewound, Later, Apart}
 use Rattle.region_core.specs.declared.live.Live.{Live}
 use Rattle.local_run.specs.Entries.{entries_below}
 use Rattle.local_run.specs.LocalRun.{Local}
 use Rattle.local_run.specs.Answers.{HasHeard}
-
--- the messages of one trail before a stamp, and those of another from it on
-abbrev pub mixed : Stamp → List Message → List Message → List Message
-mixed at heard sent = below at heard ++ from at sent
 
 -- what hearing region k from a stamp on answers, and what it makes of the local run; `trail` is what was
 -- heard from k then

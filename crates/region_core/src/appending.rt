@@ -16,17 +16,17 @@ ghost use Rattle.local_run.specs.declared.entry.Entry.TheVariants.{Native, Heard
 ghost use Rattle.local_run.specs.declared.moves.Move.TheVariants.{Run, TakeIn};
 ghost use Rattle.local_run.specs.LocalRun.{IsInPlace, trail_of, told};
 ghost use Rattle.local_run.specs.Answers.{with_entry};
-ghost use Rattle.region_core.specs.Border.{IsBorderOf, IsUntold};
+ghost use Rattle.region_parts.specs.Border.{IsBorderOf, IsUntold};
 ghost use Rattle.region_core.specs.Live.{run_in, IsLive};
 ghost use Rattle.local_run.specs.Keeping.{SendsTo};
 ghost use Rattle.local_run.specs.Moves.{Fits};
 
-use crate::border::Border;
 use crate::live::Live;
 use crate::{Entry, Home};
 use event_rules::Change;
 use event_stamps::Stamp;
 use region_messages::Trail;
+use region_parts::Border;
 use region_queue::Queue;
 use region_view::{Action, Message, Rows, View, message_for};
 use std::alloc::{AllocError, Global};

@@ -6,20 +6,17 @@
 #![tactic(auto)]
 
 mod appending;
-mod aside;
 mod beside;
-mod border;
 mod burst;
 mod gate;
-mod hearing;
-mod inbox;
+mod letting_go;
 mod live;
 mod moves;
-mod raising;
 mod region;
 mod rollback;
 mod running_events;
 mod running_on;
+mod taking_over;
 mod weaving;
 
 pub use beside::{Beside, Idle};

@@ -1,8 +1,8 @@
 //! What a region that isn't spent has.
 
-use crate::inbox::Inbox;
 use event_log::EventLog;
 use region_messages::Trail;
+use region_parts::Inbox;
 use region_queue::Queue;
 use region_view::View;
 
@@ -28,12 +28,12 @@ ghost use Rattle.region_view.specs.Placing.{IsValidPlacing};
 ghost use Rattle.cell_grid.specs.Grid.{IsRegion};
 ghost use Rattle.local_run.specs.LocalRun.{IsInPlace, trail_of, sent_to};
 ghost use Rattle.event_log.specs.Logged.{entries_in};
-ghost use Rattle.region_core.specs.Inbox.{empty_inbox};
+ghost use Rattle.region_parts.specs.Inbox.{empty_inbox};
 ghost use Rattle.region_core.specs.Live.{base_in, IsLive, IsInbox, IsOutbox};
 ghost use Rattle.local_run.specs.Keeping.{SendsTo, HearsOf};
 
 use crate::Home;
-use crate::inbox::empty_trails;
+use region_parts::empty_trails;
 use std::alloc::{AllocError, Global};
 
 impl Live {

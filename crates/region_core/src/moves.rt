@@ -1,28 +1,26 @@
 //! What a region does next.
 
 ghost use Rattle.std.specs.Prelude.{◌≡◌, ◌↔◌, false, IsTrue, IfOk, IfSome, OnOk, MatchOption};
-ghost use Rattle.event_stamps.specs.Order.{Before};
 ghost use Rattle.event_stamps.specs.Least.{IsLeastOf};
 ghost use Rattle.region_view.specs.Placing.{IsValidPlacing};
 ghost use Rattle.region_view.specs.Views.{rows_in};
 ghost use Rattle.local_run.specs.declared.answers.Step.TheVariants.{Halted};
 ghost use Rattle.local_run.specs.LocalRun.{At, IsInPlace, IsOwn, IsOffered, IsDue, IsDueOrEnd, IsWaiting, ComesTo};
 ghost use Rattle.local_run.specs.Answers.{HasDue, IsInTurn, StepsTo};
-ghost use Rattle.region_core.specs.Border.{IsBorderOf};
+ghost use Rattle.region_parts.specs.Border.{IsBorderOf};
 ghost use Rattle.region_core.specs.Choices.{Chooses, IsAtTurn};
-ghost use Rattle.region_core.specs.Inbox.{head_stamp, IsLeastHead, IsFirstOf};
+ghost use Rattle.region_parts.specs.Inbox.{head_stamp, IsLeastHead, IsFirstOf};
 ghost use Rattle.region_core.specs.Live.{run_in, now_in, IsLive, HasRun, HasDueBefore, IsHeldBack};
 ghost use Rattle.region_core.specs.RunsOn.{FailsLimit};
 ghost use Rattle.local_run.specs.Moves.{ComesAfter};
 
-use crate::border::Border;
 use crate::live::Live;
 use crate::{Home, MAX_ENTRIES, Step};
 use event_rules::Limit;
-use event_stamps::{Kind, Stamp, compare, earlier};
+use event_stamps::{Kind, Stamp, earlier};
+use region_parts::{Border, is_before};
 use region_view::{Action, Message, View, act};
 use std::alloc::{AllocError, Global};
-use std::cmp::Ordering;
 
 /// What a region does next.
 pub(crate) enum Choice {
@@ -244,12 +242,6 @@ fn is_same(a: &Stamp, b: &Stamp) -> bool
     ensures { IsTrue result ↔ (a.now ≡ b.now) }
 {
     *a == *b
-}
-
-pub(crate) fn is_before(a: &Stamp, b: &Stamp) -> bool
-    ensures { IsTrue result ↔ Before a.now b.now }
-{
-    compare(a, b) == Ordering::Less
 }
 
 // Whether the stamp isn't before the floor, and is after that of the last entry, if there is one.

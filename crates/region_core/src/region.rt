@@ -6,9 +6,9 @@ mod running;
 mod standing;
 
 use crate::Home;
-use crate::border::Border;
 use crate::live::Live;
 use event_stamps::Stamp;
+use region_parts::Border;
 use std::marker::Model;
 
 /// One region of a grid, with its run from a floor on.

@@ -1,10 +1,9 @@
 //! Rollback: taking back what a region did too early.
 
-ghost use Rattle.std.specs.Prelude.{◌≡◌, ◌-◌, length, take, map, OnOk};
+ghost use Rattle.std.specs.Prelude.{◌≡◌, ◌-◌, length, take, OnOk};
 ghost use Rattle.event_stamps.specs.declared.Stamp.{Stamp};
 ghost use Rattle.region_view.specs.Placing.{IsValidPlacing};
 ghost use Rattle.region_view.specs.Views.{rows_in};
-ghost use Rattle.region_messages.specs.Trails.{below};
 ghost use Rattle.region_queue.specs.Queue.{IsOf, StandsFor};
 ghost use Rattle.local_run.specs.Entries.{entries_below};
 ghost use Rattle.local_run.specs.LocalRun.{At, IsInPlace, IsMove, after_entry};
@@ -15,7 +14,7 @@ use crate::appending::touch;
 use crate::live::Live;
 use crate::{Entry, Home};
 use event_stamps::Stamp;
-use region_messages::Trail;
+use region_parts::cut_from;
 use region_queue::Queue;
 use region_view::View;
 use std::alloc::{AllocError, Global};
@@ -93,14 +92,5 @@ fn take_back(
     match entry {
         Entry::Native(action) => queue.take_back(alloc, view, &action.stamp()),
         Entry::Heard { message, .. } => touch(alloc, queue, view, &message.rows),
-    }
-}
-
-// Takes away the messages from a stamp on.
-fn cut_from(trails: &mut [Trail], at: Stamp)
-    ensures { trails.new ≡ map (below at) trails.old }
-{
-    for trail in trails {
-        trail.cut_from(at);
     }
 }

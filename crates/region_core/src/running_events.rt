@@ -13,20 +13,20 @@ ghost use Rattle.local_run.specs.Answers.{with_entry};
 ghost use Rattle.local_run.specs.Moves.{Fits};
 ghost use Rattle.event_log.specs.Heads.{disk_or};
 ghost use Rattle.event_log.specs.Running.{collision, IsMoved};
-ghost use Rattle.region_core.specs.Border.{IsBorderOf, IsUntold};
+ghost use Rattle.region_parts.specs.Border.{IsBorderOf, IsUntold};
 ghost use Rattle.region_core.specs.Choices.{IsAtTurn};
 ghost use Rattle.region_core.specs.Live.{run_in, IsLive};
 ghost use Rattle.region_core.specs.RunsOn.{RunsOrFails};
 
 use crate::Home;
 use crate::appending::{send_crossing, send_hit};
-use crate::border::Border;
 use crate::live::Live;
 use crate::moves::outcome;
 use event_log::HitRows;
 use event_rules::{Change, apply};
 use event_stamps::{Kind, Stamp};
 use fixed_motion::Disk;
+use region_parts::Border;
 use region_view::{Compact, Placed, crossed_cell};
 use std::alloc::{AllocError, Global};
 

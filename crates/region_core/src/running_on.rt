@@ -4,16 +4,16 @@ ghost use Rattle.std.specs.Prelude.{◌≡◌, ◌↔◌, ◌+◌, ◌≤◌, le
 ghost use Rattle.event_stamps.specs.Order.{Before, IsInRange};
 ghost use Rattle.event_stamps.specs.Least.{IsLeastOf};
 ghost use Rattle.local_run.specs.LocalRun.{IsInPlace, IsOwn};
-ghost use Rattle.region_core.specs.Border.{IsBorderOf};
+ghost use Rattle.region_parts.specs.Border.{IsBorderOf};
 ghost use Rattle.region_core.specs.Live.{run_in, now_in, region_in, IsLive, HasRun};
 ghost use Rattle.region_core.specs.RunsOn.{IsClear, IsOwnInTurn, RunsOn, answer_after};
 
-use crate::border::Border;
 use crate::live::Live;
-use crate::moves::{is_before, is_in_turn};
+use crate::moves::is_in_turn;
 use crate::{Home, MAX_ENTRIES, Step};
 use event_stamps::Stamp;
 use event_tree::Packed;
+use region_parts::{Border, is_before};
 use std::alloc::{AllocError, Global};
 
 /// What a run of steps came to so far.

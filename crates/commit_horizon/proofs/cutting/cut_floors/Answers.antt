@@ -3,7 +3,7 @@ use Rattle.std.proofs.lemmas.List.{take_all, length-set}
 use Rattle.local_run.specs.Raising.{raised}
 use Rattle.event_log.specs.Logged.{entries_in}
 use Rattle.commit_horizon.specs.Cutting.{logs_below}
-use Rattle.region_core.proofs.Lists.{one_more}
+use Rattle.region_parts.proofs.Lists.{one_more}
 use Rattle.commit_horizon.proofs.Raises.{may_rise_next, all_raised}
 use Rattle.commit_horizon.proofs.CutLogs.{one_more_cut}
 use Rattle.commit_horizon.proofs.cutting.cut_floors.Goals as goal

@@ -3,7 +3,7 @@ use Rattle.std.specs.Prelude.{IfSome}
 use Rattle.std.specs.List.{Contains}
 use Rattle.region_view.specs.Naming.{IsSameBut, IsMoved}
 use Rattle.region_view.specs.Setting.{after_action}
-use Rattle.region_core.proofs.News.{on_ok}
+use Rattle.region_parts.proofs.Results.{on_ok}
 use Rattle.region_core.proofs.Told.{hit_leaves}
 use Rattle.local_run.proofs.Aside.{here_first, later_still}
 use Rattle.local_run.proofs.Untouched.{crossing_moves}

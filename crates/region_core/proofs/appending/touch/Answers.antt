@@ -1,8 +1,7 @@
-use Rattle.std.proofs.Common.{[], sym, subst}
+use Rattle.std.proofs.Common.{[], sym, subst, arith}
 use Rattle.region_view.specs.Setting.{AreRows}
-use Rattle.region_core.proofs.News.{on_ok}
+use Rattle.region_parts.proofs.Results.{on_ok}
 use Rattle.local_run.proofs.Touched.{no_number, one_number, two_numbers, same_but_at}
-use Rattle.region_core.proofs.Tests.{within_two}
 use Rattle.region_core.proofs.appending.touch.Goals as goal
 
 pub returns-in-empty-clause-stands : goal.returns-in-empty-clause-stands
@@ -37,7 +36,7 @@ pub bounds-row-0 : goal.bounds-row-0
 bounds-row-0 c = c.in-len1.len_at_least
 
 pub bounds-first-0 : goal.bounds-first-0
-bounds-first-0 c = within_two _ c.in-len2-up.len_at_least
+bounds-first-0 c = let some = c.in-len2-up.len_at_least in omega arith
 
 pub bounds-second-1 : goal.bounds-second-1
 bounds-second-1 c = c.in-len2-up.len_at_least

@@ -1,4 +1,4 @@
-use Rattle.region_core.proofs.News.{on_ok}
+use Rattle.region_parts.proofs.Results.{on_ok}
 use Rattle.local_run.specs.LocalRun.{after_entry}
 use Rattle.region_core.proofs.Shorter.{least_again, native_leaves, heard_leaves}
 use Rattle.std.proofs.Common.{refl}

@@ -1,7 +1,7 @@
 use Rattle.std.proofs.Common.{sym, subst}
 use Rattle.region_view.specs.Naming.{IsMoved}
 use Rattle.region_view.specs.Views.{ViewData}
-use Rattle.region_core.proofs.News.{on_ok}
+use Rattle.region_parts.proofs.Results.{on_ok}
 use Rattle.region_core.proofs.Tests.{set_differs}
 use Rattle.region_core.proofs.weaving.tell_of.Goals as goal
 

@@ -2,7 +2,7 @@ use Rattle.std.proofs.Common.{◌++◌, List, map, append-nil, ap₂, ◌∙◌}
 use Rattle.std.proofs.lemmas.List.{take_all, drop_all}
 use Rattle.local_run.specs.Opening.{RegionData}
 use Rattle.local_run.specs.Hearing.{rewound}
-use Rattle.region_core.proofs.Lists.{one_more}
+use Rattle.region_parts.proofs.Lists.{one_more}
 use Rattle.run_core.proofs.one_event.rewind_all.Goals as goal
 
 pub loop-region-preserved : goal.loop-region-preserved

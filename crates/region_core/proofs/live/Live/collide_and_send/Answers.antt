@@ -10,7 +10,8 @@ use Rattle.event_log.specs.Running.{acted, collision}
 use Rattle.local_run.proofs.Aside.{here_first, later_still}
 use Rattle.region_queue.specs.Finding.{KeepCells}
 use Rattle.region_core.proofs.Told.{hit_leaves, hit_keeps_cells}
-use Rattle.region_core.proofs.Traced.{stands_newest, as_many}
+use Rattle.region_parts.proofs.Lists.{as_many}
+use Rattle.region_core.proofs.Traced.{stands_newest}
 use Rattle.region_core.proofs.Appended.{cells_are, acted_is_live, further_run, native_action, native_valid, after_what_was_sent}
 use Rattle.region_core.proofs.live.Live.collide_and_send.Goals as goal
 

@@ -5,7 +5,8 @@ use Rattle.region_view.specs.Views.{ViewData, rows_in}
 use Rattle.region_view.specs.Naming.{IsMoved}
 use Rattle.local_run.proofs.Untouched.{crossing_moves}
 use Rattle.local_run.specs.declared.entry.Entry.TheVariants.{Native}
-use Rattle.region_core.proofs.Traced.{stands_newest, as_many}
+use Rattle.region_parts.proofs.Lists.{as_many}
+use Rattle.region_core.proofs.Traced.{stands_newest}
 use Rattle.region_core.proofs.Appended.{cells_are, acted_is_live, further_run, native_action, native_valid, after_what_was_sent}
 use Rattle.region_core.proofs.live.Live.cross_and_send.Goals as goal
 

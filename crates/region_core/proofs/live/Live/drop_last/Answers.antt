@@ -5,7 +5,7 @@ use Rattle.event_log.specs.Logged.{entries_in}
 use Rattle.event_log.proofs.Traced.{undone_is}
 use Rattle.local_run.specs.LocalRun.{after_log}
 use Rattle.region_core.specs.Live.{base_in, start_in, GoesAlong}
-use Rattle.region_core.proofs.News.{on_ok}
+use Rattle.region_parts.proofs.Results.{on_ok}
 use Rattle.region_core.proofs.Shorter.{shorter_is, taken_back, along_before, nothing_taken}
 use Rattle.region_core.proofs.live.Live.drop_last.Goals as goal
 

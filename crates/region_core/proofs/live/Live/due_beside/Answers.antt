@@ -2,7 +2,7 @@ use Rattle.std.proofs.Common.{Option, None, sym, subst}
 use Rattle.event_stamps.specs.declared.Stamp.{Stamp}
 use Rattle.event_stamps.specs.Least.{IsLeastOf, earlier_of}
 use Rattle.local_run.specs.LocalRun.{IsOffered}
-use Rattle.region_core.specs.Inbox.{head_stamp, IsLeastHead}
+use Rattle.region_parts.specs.Inbox.{head_stamp, IsLeastHead}
 use Rattle.region_core.specs.Live.{now_in}
 use Rattle.local_run.proofs.Heads.{due_of_both}
 use Rattle.region_core.proofs.NextMove.{least_waiting, alone_is_earlier}

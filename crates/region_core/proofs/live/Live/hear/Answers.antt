@@ -2,8 +2,10 @@ use Rattle.event_stamps.specs.declared.Stamp.{Stamp}
 use Rattle.local_run.specs.LocalRun.{trail_of}
 use Rattle.local_run.specs.Answers.{HearsFrom}
 use Rattle.region_core.specs.Live.{run_in}
-use Rattle.region_core.specs.Replaced.{mixed, HearsOn}
-use Rattle.region_core.proofs.News.{if_ok, hears_all}
+use Rattle.region_parts.specs.Inbox.{mixed}
+use Rattle.region_core.specs.Replaced.{HearsOn}
+use Rattle.region_parts.proofs.Results.{if_ok}
+use Rattle.region_core.proofs.News.{hears_all}
 use Rattle.region_core.proofs.live.Live.hear.Goals as goal
 
 pub returns-clause-hears : goal.returns-clause-hears

@@ -3,7 +3,8 @@ use Rattle.std.specs.Prelude.{IsTrue}
 use Rattle.region_messages.proofs.Parts.{below_replaced}
 use Rattle.event_log.specs.Logged.{entries_in}
 use Rattle.local_run.specs.LocalRun.{Trails, trail_of}
-use Rattle.region_core.specs.Replaced.{mixed, IsReplaced}
+use Rattle.region_parts.specs.Inbox.{mixed}
+use Rattle.region_core.specs.Replaced.{IsReplaced}
 use Rattle.region_core.proofs.Traced.{last_stamp_is}
 use Rattle.region_core.proofs.News.{same_base, nothing_more, has_heard, news_live, mixed_hearable}
 use Rattle.region_core.proofs.live.Live.hear_from.Goals as goal

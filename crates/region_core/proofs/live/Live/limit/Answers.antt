@@ -1,7 +1,7 @@
 use Rattle.std.proofs.Common.{None, Some, sym, subst, ◌∙◌}
 use Rattle.std.proofs.lemmas.Bool.{false≢true}
 use Rattle.event_stamps.proofs.StampOrder.{before_trans, not_before_itself}
-use Rattle.region_core.specs.Inbox.{IsLeastHead}
+use Rattle.region_parts.specs.Inbox.{IsLeastHead}
 use Rattle.region_core.specs.Live.{now_in}
 use Rattle.region_core.proofs.NextMove.{least_waiting}
 use Rattle.region_core.proofs.RunningOn.{clear_of_first, clear_of_bound}

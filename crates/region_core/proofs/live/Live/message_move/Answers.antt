@@ -4,7 +4,7 @@ use Rattle.std.proofs.lemmas.Bool.{false≢true}
 use Rattle.event_stamps.specs.declared.Stamp.{Stamp}
 use Rattle.local_run.specs.Answers.{HasDue, IsInTurn}
 use Rattle.local_run.specs.LocalRun.{IsOwn}
-use Rattle.region_core.specs.Inbox.{next_from, IsSharedHead}
+use Rattle.region_parts.specs.Inbox.{next_from, IsSharedHead}
 use Rattle.region_core.specs.Live.{run_in, now_in}
 use Rattle.local_run.proofs.Outcome.{found_message}
 use Rattle.region_core.proofs.NextMove.{tied_by_own, tied_by_other, take_fits, first_has}

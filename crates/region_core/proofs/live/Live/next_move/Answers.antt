@@ -7,7 +7,8 @@ use Rattle.local_run.specs.LocalRun.{IsOffered}
 use Rattle.event_log.specs.Logged.{entries_in}
 use Rattle.region_core.specs.Live.{run_in, now_in}
 use Rattle.local_run.specs.Moves.{ComesAfter}
-use Rattle.region_core.proofs.Traced.{last_stamp_is, clock_is, as_many}
+use Rattle.region_parts.proofs.Lists.{as_many}
+use Rattle.region_core.proofs.Traced.{last_stamp_is, clock_is}
 use Rattle.region_core.proofs.NextMove.{turn_by}
 use Rattle.region_core.proofs.live.Live.next_move.Goals as goal
 

@@ -3,7 +3,7 @@ use Rattle.std.proofs.lemmas.List.{length-map, with_items_is}
 use Rattle.region_messages.specs.Trails.{from}
 use Rattle.local_run.specs.declared.entry.Entry.{Entry}
 use Rattle.event_log.specs.Logged.{entries_in}
-use Rattle.region_core.specs.Inbox.{taken_from}
+use Rattle.region_parts.specs.Inbox.{taken_from}
 use Rattle.local_run.specs.Taken.{taken_of}
 use Rattle.region_core.specs.Live.{run_in}
 use Rattle.local_run.proofs.Raised.{raised_right}

@@ -4,10 +4,10 @@ use Rattle.region_messages.specs.Trails.{below}
 use Rattle.local_run.specs.declared.entry.Entry.{Entry}
 use Rattle.local_run.specs.Entries.{entries_from}
 use Rattle.event_log.specs.Logged.{entries_in}
-use Rattle.region_core.specs.Inbox.{InboxData, taken_from}
+use Rattle.region_parts.specs.Inbox.{InboxData, taken_from}
 use Rattle.local_run.specs.Taken.{taken_of}
 use Rattle.local_run.proofs.Taken.{taken_below}
-use Rattle.region_core.proofs.Back.{no_more_taken}
+use Rattle.region_core.proofs.Rewound.{no_more_taken}
 use Rattle.region_core.proofs.Traced.{entries_taken}
 use Rattle.region_core.proofs.Rewound.{still_right, still_stands, rewound_is}
 use Rattle.region_core.proofs.live.Live.rewind.Goals as goal

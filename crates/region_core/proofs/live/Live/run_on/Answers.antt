@@ -8,7 +8,7 @@ use Rattle.event_tree.specs.Keys.{IsKeyBefore}
 use Rattle.region_core.specs.Live.{run_in, now_in, region_in, IsLive}
 use Rattle.region_core.specs.RunsOn.{IsClear, Follow, answer_after}
 use Rattle.region_core.proofs.RunningOn.{still_clear, clear_turn, ran_next, next_in_turn, one_longer, one_follows, still_follows, failed_same, runs_on}
-use Rattle.region_core.proofs.Traced.{as_many}
+use Rattle.region_parts.proofs.Lists.{as_many}
 use Rattle.region_core.proofs.live.Live.run_on.Goals as goal
 use Rattle.region_core.proofs.live.Live.run_on.Goals.{then-loop-ran-test+else-is_before, else-loop-ran-test, then-loop-ran-test+then-is_before+in_default, then-loop-ran-test+then-is_before+in-Some+in_ok-run_event+then-not-branch, then-loop-ran-test+then-is_before+in-Some+in_ok-run_event+else-not-branch+then-not-is_before}
 

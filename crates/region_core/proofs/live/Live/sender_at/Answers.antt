@@ -1,6 +1,6 @@
 use Rattle.std.proofs.Common.{None, Some, sym, subst, ◌∙◌}
 use Rattle.std.proofs.lemmas.Bool.{false≢true}
-use Rattle.region_core.specs.Inbox.{IsFirstOf, IsLeastHead}
+use Rattle.region_parts.specs.Inbox.{IsFirstOf, IsLeastHead}
 use Rattle.region_core.specs.Live.{now_in}
 use Rattle.region_core.proofs.NextMove.{none_at, least_waiting}
 use Rattle.region_core.proofs.live.Live.sender_at.Goals as goal

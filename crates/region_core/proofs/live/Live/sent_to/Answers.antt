@@ -4,7 +4,8 @@ use Rattle.std.proofs.lemmas.Bool.{false≢true}
 use Rattle.region_view.specs.declared.rows.Message.{Message}
 use Rattle.local_run.specs.LocalRun.{Trails}
 use Rattle.local_run.specs.Keeping.{SendsTo}
-use Rattle.region_core.proofs.Shown.{trail_found, got_at}
+use Rattle.region_parts.proofs.Trails.{got_at}
+use Rattle.region_core.proofs.Shown.{trail_found}
 use Rattle.region_core.proofs.live.Live.sent_to.Goals as goal
 
 pub returns-then-sends_to : goal.returns-then-sends_to

@@ -3,9 +3,10 @@ use Rattle.region_view.specs.Placing.{IsValidPlacing}
 use Rattle.region_view.specs.Views.{ViewData, rows_in}
 use Rattle.local_run.specs.declared.entry.Entry.TheVariants.{Heard}
 use Rattle.event_log.specs.Logged.{entries_in}
-use Rattle.region_core.specs.Inbox.{InboxData}
+use Rattle.region_parts.specs.Inbox.{InboxData}
 use Rattle.region_core.specs.Live.{IsInbox}
-use Rattle.region_core.proofs.Traced.{stands_newest, as_many}
+use Rattle.region_parts.proofs.Lists.{as_many}
+use Rattle.region_core.proofs.Traced.{stands_newest}
 use Rattle.region_core.proofs.Appended.{further_is, further_run, heard_valid, waits_in, few_taken, inbox_heard, outbox_heard, sender_is_region}
 use Rattle.region_core.proofs.Tests.{set_differs}
 use Rattle.region_core.proofs.live.Live.take_in.Goals as goal

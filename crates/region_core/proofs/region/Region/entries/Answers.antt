@@ -1,7 +1,7 @@
 use Rattle.std.proofs.Common.{◌∙◌, sym, ap, length}
 use Rattle.local_run.specs.Keeping.{entries_of}
 use Rattle.local_run.specs.Opening.{RegionData}
-use Rattle.region_core.proofs.Traced.{as_many}
+use Rattle.region_parts.proofs.Lists.{as_many}
 use Rattle.region_core.proofs.Shown.{seen_as}
 use Rattle.region_core.proofs.Kept.{kept_is}
 use Rattle.region_core.proofs.region.Region.entries.Goals as goal

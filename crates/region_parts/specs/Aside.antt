@@ -1,0 +1,42 @@
+-- What tells that entries of a log have nothing to do with the rows of a message.
+use Rattle.std.specs.Prelude.{◌≡◌, ◌⊎◌, ℕ, ◌<◌, Option, None, Some, IfSome}
+use Rattle.event_stamps.specs.declared.Stamp.{Stamp}
+use Rattle.event_stamps.specs.Order.{Before}
+use Rattle.cell_grid.specs.Grid.{Owns}
+use Rattle.region_view.specs.declared.action.Placed.{Placed}
+use Rattle.region_view.specs.Events.{IsNear}
+use Rattle.region_view.specs.Setting.{RowList, get_over, IsValidPlaced}
+use Rattle.region_messages.specs.Trails.{IsAmong}
+use Rattle.local_run.specs.declared.home.Home.{Home}
+use Rattle.local_run.specs.Weaving.{IsApart, AreOthers}
+use Rattle.event_log.specs.Logged.{Logged, logged_stamp}
+
+-- an event of two disks placed so, which the region runs
+abbrev pub IsOwnTouch : Home → ℕ → Placed → ℕ → Placed → Stamp → Type 0
+IsOwnTouch h i p j q s = (i < j) × IsNear h.rules h.grid i p j q s × Owns h.grid h.number p.cell
+
+-- what stands in two rows has such an event after a stamp alone
+abbrev pub TouchAfter : Home → Stamp → ℕ × Option Placed → ℕ × Option Placed → Type 0
+TouchAfter h t row other = IfSome row.1 (λ p. IfSome other.1 (λ q. (s : Stamp) →
+    IsOwnTouch h row.0 p other.0 q s ⊎ IsOwnTouch h other.0 q row.0 p s → Before t s))
+
+abbrev pub AllTouchAfter : Home → Stamp → RowList → RowList → Type 0
+AllTouchAfter h t back rows = (row other : ℕ × Option Placed) → IsAmong row back → IsAmong other rows →
+    TouchAfter h t row other
+
+-- the rows that lead back from a step are of other disks, and what stood in them touches these after a stamp alone
+pub record IsStepAside (h : Home) (rows : RowList) (t : Stamp) (back : RowList) : Type 0 where
+  pub others : AreOthers rows back
+  pub later : AllTouchAfter h t back rows
+
+-- so it is with the rows that lead back over an entry, up to its stamp
+abbrev pub IsLateAside : Home → RowList → Logged → Type 0
+IsLateAside h rows l = IsStepAside h rows (logged_stamp l) l.1
+
+-- an entry has nothing to do with the rows
+abbrev pub IsOutOfWay : Home → RowList → Logged → Type 0
+IsOutOfWay h rows l = IsApart rows l.0 × IsLateAside h rows l
+
+-- what stands in rows that lead back is valid
+abbrev pub IsValidBack : Home → RowList → Type 0
+IsValidBack h back = (i : ℕ) (p : Placed) → get_over back i None ≡ Some p → IsValidPlaced h.rules h.grid (Some p)

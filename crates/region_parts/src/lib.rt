@@ -1,0 +1,17 @@
+//! Parts of a region, each of which can be told without the others: its input queue, which of its columns no other
+//! region sees, and what keeps a late message from its place in a log.
+//!
+//! Nothing here has to do with a region that runs: `region_core` puts these parts together.
+#![tactic(auto)]
+
+mod aside;
+mod border;
+mod inbox;
+mod stamps;
+mod trails;
+
+pub use aside::first_in_way;
+pub use border::Border;
+pub use inbox::Inbox;
+pub use stamps::is_before;
+pub use trails::{cut_from, drop_before, empty_trails};
