@@ -5,3 +5,4 @@ pub mod Undoing
 pub mod Running
 pub mod AtFloor
 pub mod Traced
+pub mod Collisions

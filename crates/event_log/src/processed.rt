@@ -44,6 +44,7 @@ ghost use Rattle.event_stamps.specs.declared.Stamp.{Stamp};
 ghost use Rattle.region_view.specs.Acting.{stamp_of};
 ghost use Rattle.local_run.specs.Entries.{native_of, RiseFrom, entries_below, entries_from};
 ghost use Rattle.event_log.specs.Logged.{entries_in, backs_in, stamps_in, senders_in, setters_in, sets, native_at};
+ghost use Rattle.event_log.specs.Collisions.{change_in, change_at};
 ghost use Rattle.event_log.specs.Heads.{row_count, whole_count, logged, IsOrdered};
 ghost use Rattle.event_log.specs.Nearness.{IsFar, AllUpTo};
 
@@ -163,6 +164,30 @@ impl EventLog {
             native_of(&self.entry(i))
         } else {
             None
+        }
+    }
+
+    /// The collision of an entry, by its place; none exactly where there is no such entry, or it is a crossing or a
+    /// message.
+    #[inline(always)]
+    pub fn change(&self, i: usize) -> Option<Change>
+        ensures { result ≡ change_at self.now i }
+    {
+        let head = self.heads.get(i)?;
+        let row = head.row as usize;
+        match head.form {
+            Form::Crossing => None,
+            Form::Single => Some(Change {
+                stamp: head.stamp,
+                first: disk_in(&self.rows, row + 1),
+                second: None,
+            }),
+            Form::Double => Some(Change {
+                stamp: head.stamp,
+                first: disk_in(&self.rows, row + 2),
+                second: Some(disk_in(&self.rows, row + 3)),
+            }),
+            Form::Whole => change_of(&self.wholes[head.whole as usize].0),
         }
     }
 
@@ -375,6 +400,17 @@ impl EventLog {
         into.heads.extend_from_slice(heads).unwrap();
         lower(&mut into.heads, row as u32, whole as u32);
         Ok(())
+    }
+}
+
+// The collision of an entry; none where it is a crossing or a message.
+#[inline(always)]
+fn change_of(entry: &Entry) -> Option<Change>
+    ensures { result ≡ change_in (native_of entry.now) }
+{
+    match entry {
+        Entry::Native(Action::Hit(change)) => Some(*change),
+        Entry::Native(Action::Cross { .. }) | Entry::Heard { .. } => None,
     }
 }
 

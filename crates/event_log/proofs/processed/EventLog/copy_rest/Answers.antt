@@ -1,4 +1,4 @@
-use Rattle.std.proofs.Common.{◌≡◌, ℕ, ◌≤◌, ◌++◌, List, [], ◌∷◌, length, drop, map, sym, ap, ◌∙◌, subst, refl, rules, arith}
+use Rattle.std.proofs.Common.{◌≡◌, ◌++◌, List, [], ◌∷◌, length, drop, map, ap, ◌∙◌, refl, rules, arith}
 use Rattle.std.proofs.lemmas.List.{with_items_is, length-map}
 use Rattle.event_log.specs.declared.heads.Head.{Head}
 use Rattle.event_log.specs.Logged.{Logged}
