@@ -134,6 +134,10 @@ impl<K: Sink> Gathered<K> {
 }
 
 impl<K: Sink> Sink for Gathered<K> {
+    ghost Lasting = { Unit {0} };
+
+    ghost lasting = { λ _. tt };
+
     ghost taken = { λ g. g.told };
 
     ghost faults = { λ g. g.faults };

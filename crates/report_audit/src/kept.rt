@@ -43,6 +43,10 @@ impl Kept {
 }
 
 impl Sink for Kept {
+    ghost Lasting = { Unit {0} };
+
+    ghost lasting = { λ _. tt };
+
     ghost taken = { λ k. Some k.taken };
 
     ghost faults = { λ k. k.faults };
