@@ -2,7 +2,6 @@
 use Rattle.std.proofs.Common.{◌≡◌, ℕ, ◌+◌, Bool, true, false, cond, List, [], ◌∷◌, ◌++◌, length, Option, Some, None, arith, ap, sym, refl, ◌∙◌, subst, if◌then◌else◌, count_by}
 use Rattle.std.specs.Prelude.{◌&&◌, is_some, Ok}
 use Rattle.std.proofs.lemmas.List.Sums.{sum_by-append, sum_by-cons}
-use base.Fml.{GName}
 use Rattle.fixed_motion.specs.declared.rules.Rules.{Rules}
 use Rattle.fixed_motion.specs.declared.disk.Disk.{Disk}
 use Rattle.fixed_motion.specs.Scene.{SceneData, IsValidScene}
@@ -76,7 +75,7 @@ comes_on (Some every) m now c is valid next comes come =
     ap (λ (disks : List Disk). effect disks c) come ∙ sym (ap (λ (t : TableData). t.disks) same)
 
 -- ---- a run
-from_now : (m : LentReport) (now later : List Disk) (changes : List Change) →
+from_now : {Loan : Type 0} (m : LentReport Loan) (now later : List Disk) (changes : List Change) →
     IsValidState m.1.table.rules now → HasComeTo m.1.table.every m.1 now →
     Steps m.1.table.rules now changes later → AreAwaited told_on_loan IsAwaitedOnLoan m changes
 from_now m now later [] valid come steps = tt
@@ -100,7 +99,7 @@ at_start format scene taken None = ([], refl, refl, refl)
 at_start format scene taken (Some every) = refl
 
 -- whatever a run does from the start of the scene, a reporter that was told nothing awaits it
-pub report_awaits : (format : Format) (scene : SceneData) (taken : Option (List ℕ)) (m : LentReport)
+pub report_awaits : (format : Format) (scene : SceneData) (taken : Option (List ℕ)) {Loan : Type 0} (m : LentReport Loan)
     (changes : List Change) (later : List Disk) → IsValidScene scene → m.1 ≡ nothing_yet format scene taken →
     Steps scene.rules scene.disks changes later → AreAwaited told_on_loan IsAwaitedOnLoan m changes
 report_awaits format scene taken m changes later valid first steps =

@@ -9,4 +9,5 @@ returns-in-Failed g c = let K = g.K.Sink in record {
   prefix = subst (λ (text : List ℕ). AppendsPrefix (K.taken c.args.sink.now) (K.taken c.give.new.self) text) c.as_bytes.ensures c.in-Failed.ensures.gives;
   knows = c.in-Failed.ensures.knows;
   counts = c.in-Failed.ensures.counts;
+  lasts = c.give.ensures.lasts;
 }
