@@ -1,6 +1,6 @@
 //! What a comparison says.
 
-ghost use Rattle.std.specs.Prelude.{◌≡◌, ◌≤◌, length};
+ghost use Rattle.std.specs.Prelude.{◌≡◌, ◌≤◌, ◌++◌, ◌∷◌, [], take, length};
 ghost use Rattle.report_audit.specs.declared.verdict.TheConstants.{MAX_LINE};
 
 use std::marker::Model;
@@ -37,6 +37,16 @@ impl Line {
         Line { bytes, size }
     }
 
+    /// Puts a byte behind it, unless it has [`MAX_LINE`] of them.
+    pub fn push(&mut self, byte: u8)
+        ensures { self.new ≡ take 128 (self.old ++ byte ∷ []) }
+    {
+        if self.size < MAX_LINE {
+            self.bytes[self.size] = byte;
+            self.size += 1;
+        }
+    }
+
     /// Its bytes, at most [`MAX_LINE`].
     pub fn as_slice(&self) -> &[u8]
         ensures bytes { result.now ≡ self.now }
@@ -59,4 +69,13 @@ pub enum Verdict {
         number: u128,
         expected: Option<Line>,
     },
+}
+
+/// Why a comparison has no verdict.
+#[derive(Clone, Copy, Debug, PartialEq, Eq)]
+pub enum NoVerdict {
+    /// The claimed source failed.
+    Unread,
+    /// No line is known to be wrong, but the report wasn't told to its end, or it has too many lines to count them.
+    Unfinished,
 }
