@@ -93,11 +93,23 @@ impl Narrow {
     pub fn set(&mut self, alloc: Global, disk: u32, entry: Entry) -> Result<(), AllocError>
         ensures { OnOk result (IsEntered disk (entry.key, entry.bound) self.old self.new) }
     {
-        let disk = disk as usize;
-        if disk >= self.room() {
-            let twice = (2 * self.room()).min(MOST);
-            *self = self.with_room(alloc, twice.max(disk + 1))?;
+        if disk as usize >= self.room() {
+            return self.set_beyond(alloc, disk, entry);
         }
+        self.put(disk as usize, entry);
+        Ok(())
+    }
+
+    // The same of a disk for which there is no room yet. Seldom asked, so it is kept apart: then `set` needs no
+    // registers but those that it may change.
+    #[inline(never)]
+    fn set_beyond(&mut self, alloc: Global, disk: u32, entry: Entry) -> Result<(), AllocError>
+        requires { length self.old.keys ≤ disk }
+        ensures { OnOk result (IsEntered disk (entry.key, entry.bound) self.old self.new) }
+    {
+        let disk = disk as usize;
+        let twice = (2 * self.room()).min(MOST);
+        *self = self.with_room(alloc, twice.max(disk + 1))?;
         self.put(disk, entry);
         Ok(())
     }
