@@ -1,7 +1,7 @@
 //! The queue of a region.
 
 use crate::finder::Finder;
-use crate::keys::{give_key, settle, take_crossed, take_keys};
+use crate::keys::{give_key, settle, take_both, take_crossed, take_keys};
 use crate::listing::{list_again, list_event};
 use cell_grid::Grid;
 use cell_lists::Lists;
@@ -133,7 +133,7 @@ impl Queue {
         ensures stands { OnOk result ((before : ViewData) → StandsFor self.old before →
             IsSameBut (first ∷ second ∷ []) before view.now → KeepCells before view.now → StandsFor self.new view.now) }
     {
-        take_keys(alloc, &self.finder, &mut self.keys, view, &[first, second])?;
+        take_both(alloc, &self.finder, &mut self.keys, view, first, second)?;
         settle(alloc, &self.finder, &mut self.keys, view)
     }
 

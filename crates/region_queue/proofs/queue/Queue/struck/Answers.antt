@@ -14,7 +14,7 @@ pub returns-clause-stands : goal.returns-clause-stands
 returns-clause-stands c =
     let finder = c.self.inside.finder in
     let old = c.self.inside.keys in
-    let mid = c.take_keys.new.keys in
+    let mid = c.take_both.new.keys in
     let new = c.settle.new.keys in
     let ids = c.args.first ∷ c.args.second ∷ [] in
     let view = c.args.view.now in
@@ -27,7 +27,7 @@ returns-clause-stands c =
     (AreListed view finder.lists.cells → Covers (IsFound finder view) mid.keys mid.bounds → StandsFor again view)
     ((before : ViewData) → StandsFor queue before → IsSameBut ids before view → KeepCells before view → StandsFor again view)
     (λ once before stands same kept.
-    let is = stands_struck finder before view ids old mid c.in_ok-take_keys.ensures same kept stands in
+    let is = stands_struck finder before view ids old mid c.in_ok-take_both.ensures same kept stands in
     once is.0 is.1)
     (stands_settled c.settle.result finder view mid new c.settle.ensures.covers c.settle.ensures.settled))
 
@@ -36,8 +36,8 @@ settle-requires c =
     ready_again c.self.inside.finder c.args.view.now c.self.inside.finder.lists.grid refl c.self.invariant
     (rw (← c.self.view_is) at c.requires.valid)
 
-pub take_keys-requires : goal.take_keys-requires
-take_keys-requires c =
+pub take_both-requires : goal.take_both-requires
+take_both-requires c =
     ready_again c.self.inside.finder c.args.view.now c.self.inside.finder.lists.grid refl c.self.invariant
     (rw (← c.self.view_is) at c.requires.valid)
 
