@@ -25,7 +25,7 @@ back u (suc t) = let minus : pos 0 -ℤ pos (suc t) ≡ negsuc t = omega (arith,
     turned : (u : ℤ) (t : ℕ) → u *ℤ negsuc t ≡ pos 0 -ℤ (u *ℤ pos (suc t))
     turned u t = omega (arith, ints)
 
-way_fits : (x y w : ℤ) → nat_abs x ≤ 2 ^ 30 → nat_abs y ≤ 2 ^ 30 → nat_abs w ≤ 2 ^ 20 * 2 ^ 40 → FitsSigned w64 ((x -ℤ y) -ℤ w)
+pub way_fits : (x y w : ℤ) → nat_abs x ≤ 2 ^ 30 → nat_abs y ≤ 2 ^ 30 → nat_abs w ≤ 2 ^ 20 * 2 ^ 40 → FitsSigned w64 ((x -ℤ y) -ℤ w)
 way_fits x y w hx hy hw = omega (arith, ints)
 
 -- the first disk has the earlier base tick, and moves until the other's

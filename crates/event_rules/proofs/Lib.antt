@@ -8,6 +8,7 @@ pub mod Exists
 pub mod Fits
 mod Greatest
 mod Joins
+mod Lanes
 mod Leads
 mod Levels
 mod MayHit

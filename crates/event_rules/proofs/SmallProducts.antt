@@ -360,12 +360,13 @@ course_near r u c d q of positive le may = (
 )
 
 pub never_near : (rules : Rules) (a b : Disk) (s : Separation) (q : Approach) (tells : Bool) → IsSmallPair rules a b →
-    IsSeparation a b s → Told s rules.diameter q → (IsSmall q → IsTrue tells ↔ IsCourse q) → tells ≡ false →
+    IsSeparation a b s → (FitsTheBox rules s.places → Told s rules.diameter q) → (IsSmall q → IsTrue tells ↔ IsCourse q) → tells ≡ false →
     (tick : ℕ) → IsContactTick rules a b tick → ⊥
 never_near rules a b s q tells pair sep told test is tick contact =
     let d = rules.diameter in
     let reach = greatest_reach rules a b pair in
-    let are = near_approach rules a b s d q pair sep reach (contact_fits rules a b s tick pair sep contact) told in
+    let near = contact_fits rules a b s tick pair sep contact in
+    let are = near_approach rules a b s d q pair sep reach near (told near) in
     let least = contact_least rules a b pair.first_valid.size pair.second_valid.size in
     let n = ticks_until rules a b s tick sep contact in
     let may : MayTouch s.places s.velocities (contact_distance a b) =
@@ -386,12 +387,13 @@ exact_small rules a b s q tells pair sep approach test near =
     (λ h. same.0 (told.0 h), λ h. told.1 (same.1 h))
 
 pub exact_near : (rules : Rules) (a b : Disk) (s : Separation) (q : Approach) (tells : Bool) → IsSmallPair rules a b →
-    IsSeparation a b s → Told s rules.diameter q → (IsSmall q → IsTrue tells ↔ IsCourse q) →
+    IsSeparation a b s → (FitsTheBox rules s.places → Told s rules.diameter q) → (IsSmall q → IsTrue tells ↔ IsCourse q) →
     FitsTheBox rules (separation_of a b) → IsTrue tells ↔ DoCoursesCrossAt rules.diameter a b
 exact_near rules a b s q tells pair sep told test near =
     let d = rules.diameter in
     let reach = greatest_reach rules a b pair in
-    let are = near_approach rules a b s d q pair sep reach (subst (λ (r : Vector). FitsTheBox rules r) (sym (places_are a b s sep)) near) told in
+    let here = subst (λ (r : Vector). FitsTheBox rules r) (sym (places_are a b s sep)) near in
+    let are = near_approach rules a b s d q pair sep reach here (told here) in
     let tests = test are.1 in
     let same = courses_cross a b s d q sep are.0 in
     (λ h. same.0 (tests.0 h), λ h. tests.1 (same.1 h))

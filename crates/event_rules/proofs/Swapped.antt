@@ -20,7 +20,7 @@ use Rattle.event_rules.specs.Predict.{IsTouch}
 
 -- ---- vectors
 -- the vector with the other signs
-record IsOpposite (a b : Vector) : Type 0 where
+pub record IsOpposite (a b : Vector) : Type 0 where
   pub x : b.x ≡ pos 0 -ℤ a.x
   pub y : b.y ≡ pos 0 -ℤ a.y
 
@@ -47,7 +47,7 @@ opposite_product x v =
     none : (a b c : ℤ) → a +ℤ b ≡ pos 0 → (a *ℤ c) +ℤ (b *ℤ c) ≡ pos 0
     none a b c e = sym (distributes a b c) ∙ (rw e (omega (arith, ints)))
 
-opposite_dot : (a b c d : Vector) → IsOpposite a c → IsOpposite b d → dot a b ≡ dot c d
+pub opposite_dot : (a b c d : Vector) → IsOpposite a c → IsOpposite b d → dot a b ≡ dot c d
 opposite_dot a b c d h k =
     let first = opposite_product a.x b.x in
     let second = opposite_product a.y b.y in

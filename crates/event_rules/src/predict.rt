@@ -1,23 +1,28 @@
 //! When disks hit each other and the sides of the box next.
 
-ghost use Rattle.std.specs.Prelude.{◌≡◌, ◌↔◌, ℕ, ◌+◌, ◌^◌, ◌<◌, ◌≤◌, pos, nat_abs, ◌+ℤ◌, ◌-ℤ◌, ◌*ℤ◌, IsTrue, false, IsNone, IfSome, MatchOption, ◌%◌, max, ◌≤ℤ◌};
-ghost use Rattle.std.specs.Int.{int_wrap, w64};
-ghost use Rattle.plane_vectors.specs.Vectors.{vector, IsWithin};
+ghost use Rattle.std.specs.Prelude.{◌≡◌, ◌↔◌, ℕ, ◌+◌, ◌^◌, ◌<◌, ◌≤◌, pos, nat_abs, ◌+ℤ◌, ◌-ℤ◌, ◌*ℤ◌, IsTrue, false, IsNone, IfSome, MatchOption, ◌%◌, max, ◌≤ℤ◌, ℤ};
+ghost use Rattle.std.specs.Int.{int_wrap, w32, w64};
+ghost use Rattle.plane_vectors.specs.declared.Vector.{Vector};
+ghost use Rattle.plane_vectors.specs.Vectors.{vector, dot, IsWithin};
 ghost use Rattle.fixed_motion.specs.declared.rules.Rules.{Rules};
 ghost use Rattle.fixed_motion.specs.Rules.{IsChecked};
 ghost use Rattle.fixed_motion.specs.Motion.{IsValidDisk, IsInside, contact_distance, half_of, mark_at, place_of};
+ghost use Rattle.contact_predictor.specs.declared.approach.Approach.{Approach};
 ghost use Rattle.contact_predictor.specs.Contact.{IsBetween};
+ghost use Rattle.contact_predictor.specs.Approach.{IsSmall, IsCourse};
 ghost use Rattle.event_stamps.specs.declared.Stamp.{Stamp};
 ghost use Rattle.event_stamps.specs.declared.Kind.TheVariants.{Pair};
 ghost use Rattle.event_stamps.specs.Least.{IsOnly, IsLeastOf};
 ghost use Rattle.event_rules.specs.Events.{IsWallEvent, IsWallBelow, IsPairEvent, NeverHit, IsContactTick, TouchAt, IsPast, IsLastInside, wall_stamp};
 ghost use Rattle.event_rules.specs.Predict.{IsUpTo, HaveBegun, TouchInside, IsFirstPast, IsLastTogether, IsOnlyContactTick, IsTouch, IsSeparation, FitInABox, AreOnCourse, MayHit, IsOnCollisionCourse, PathsTouchAfter, separation_of, AreInside};
+ghost use Rattle.event_rules.specs.Lanes.{Hold};
 ghost use Rattle.event_rules.specs.Small.{HaveSmallProducts, IsValidPair, IsSmallPair, FitsTheBox, DoCoursesCross, TellsByGreatest, IsApproachAt, wrapped_after, IsSmallCourse};
 
 use contact_predictor::{Approach, contact_between, is_contact, may_touch, quick_contact, stay};
 use event_stamps::{Kind, Stamp};
 use fixed_motion::{Disk, Rules};
 use plane_vectors::Vector;
+use std::simd::prelude::*;
 
 // The sides of the box.
 const SIDES: u32 = 4;
@@ -299,46 +304,79 @@ pub fn may_hit_by_greatest(a: &Disk, b: &Disk, square: i64) -> bool
     Approach::of_square(s.places, s.velocities, square).is_course()
 }
 
-/// What [`may_hit_by_greatest`] tells of each of two disks of one base tick with a third one. Mostly that has begun its
-/// course before, and where it is at this tick is found once for both.
+/// What [`may_hit_by_greatest`] tells of each of two disks of one base tick with a third one that has begun its course
+/// no later. The numbers of the two stand side by side, so that both answers cost little more than one.
 #[inline(always)]
-pub fn may_hit_either(a: &Disk, b: &Disk, other: &Disk, square: i64) -> (bool, bool)
-    requires { a.now.base ≡ b.now.base }
-    ensures first { TellsByGreatest square a.now other.now result.0 }
-    ensures second { TellsByGreatest square b.now other.now result.1 }
+pub fn each_may_hit(a: Disk, b: Disk, other: &Disk, square: i64) -> (bool, bool)
+    requires base { a.base ≡ b.base }
+    requires begun { other.now.base ≤ a.base }
+    ensures first { TellsByGreatest square a other.now result.0 }
+    ensures second { TellsByGreatest square b other.now result.1 }
 {
-    if other.base > a.base {
-        return each_may_hit(*a, *b, *other, square);
-    }
-    let place = wrapped_place(other, lead_of(a, other));
-    (
-        may_hit_from(a, other, place, square),
-        may_hit_from(b, other, place, square),
+    let place = place_then(&a, other);
+    let rx = low_differences(place.x, a.x, b.x);
+    let ry = low_differences(place.y, a.y, b.y);
+    let ux = low_differences(other.vx, a.vx, b.vx);
+    let uy = low_differences(other.vy, a.vy, b.vy);
+    are_courses(
+        dots(ux, uy, ux, uy),
+        dots(rx, ry, ux, uy),
+        less(dots(rx, ry, rx, ry), square),
     )
 }
 
-// The same, one after the other. Seldom asked, so it is kept apart, and told all by value.
-#[inline(never)]
-fn each_may_hit(a: Disk, b: Disk, other: Disk, square: i64) -> (bool, bool)
-    ensures first { TellsByGreatest square a other result.0 }
-    ensures second { TellsByGreatest square b other result.1 }
+// Where the second of two disks is when the first begins its course, but for what goes beyond 64 bits.
+#[inline(always)]
+fn place_then(a: &Disk, b: &Disk) -> Vector
+    ensures { a.now.base ≤ 2 ^ 40 → b.now.base ≤ 2 ^ 40 → result ≡ wrapped_after b.now (pos a.now.base -ℤ pos b.now.base) }
 {
-    (
-        may_hit_by_greatest(&a, &other, square),
-        may_hit_by_greatest(&b, &other, square),
-    )
+    wrapped_place(b, lead_of(a, b))
 }
 
-// The same of a disk `b` that has begun its course no later than `a`, by its place at the base tick of `a`.
+// By how much a number is greater than each of two, but for what goes beyond 32 bits: then a product of two such lanes
+// takes one instruction.
 #[inline(always)]
-fn may_hit_from(a: &Disk, b: &Disk, place: Vector, square: i64) -> bool
-    requires begun { b.now.base ≤ a.now.base }
-    requires place { a.now.base ≤ 2 ^ 40 → b.now.base ≤ 2 ^ 40 → place ≡ wrapped_after b.now (pos a.now.base -ℤ pos b.now.base) }
-    ensures { TellsByGreatest square a.now b.now result }
+fn low_differences(number: i64, first: i64, second: i64) -> i64x2
+    ensures { Hold result (int_wrap w32 (number -ℤ first)) (int_wrap w32 (number -ℤ second)) }
 {
-    let places = wrapping_difference(Vector { x: a.x, y: a.y }, place);
-    let velocities = wrapping_difference(a.velocity(), b.velocity());
-    Approach::of_square(places, velocities, square).is_course()
+    low_numbers(i64x2::splat(number) - i64x2::from_array([first, second]))
+}
+
+// Two numbers, but for what goes beyond 32 bits.
+#[inline(always)]
+fn low_numbers(numbers: i64x2) -> i64x2
+    ensures { (m n : ℤ) → Hold numbers m n → Hold result (int_wrap w32 m) (int_wrap w32 n) }
+{
+    numbers << 32 >> 32
+}
+
+// The inner products of two vectors, and of two others, but for what goes beyond 64 bits.
+#[inline(always)]
+fn dots(rx: i64x2, ry: i64x2, ux: i64x2, uy: i64x2) -> i64x2
+    ensures { (r s u v : Vector) → Hold rx r.x s.x → Hold ry r.y s.y → Hold ux u.x v.x → Hold uy u.y v.y →
+        Hold result (int_wrap w64 (dot r u)) (int_wrap w64 (dot s v)) }
+{
+    rx * ux + ry * uy
+}
+
+// Two numbers less one, but for what goes beyond 64 bits.
+#[inline(always)]
+fn less(numbers: i64x2, number: i64) -> i64x2
+    ensures { (m n : ℤ) → Hold numbers m n → Hold result (int_wrap w64 (m -ℤ number)) (int_wrap w64 (n -ℤ number)) }
+{
+    numbers - i64x2::splat(number)
+}
+
+// What [`Approach::is_course`] tells of each of two quadratics.
+#[inline(always)]
+fn are_courses(square: i64x2, closing: i64x2, gap: i64x2) -> (bool, bool)
+    ensures { (p q : Approach) → Hold square p.square q.square → Hold closing p.closing q.closing → Hold gap p.gap q.gap →
+        (IsSmall p → IsTrue result.0 ↔ IsCourse p) × (IsSmall q → IsTrue result.1 ↔ IsCourse q) }
+{
+    let low = low_numbers(closing);
+    let are = closing.simd_lt(i64x2::splat(0)) & (square * gap).simd_lt(low * low);
+    let bits = are.to_bitmask();
+    (bits & 1 != 0, bits >> 1 != 0)
 }
 
 // Where a disk is so many ticks on, but for what goes beyond 64 bits.

@@ -4,7 +4,7 @@ ghost use Rattle.std.specs.Prelude.{◌≡◌, ◌↔◌, None, IsTrue, IfSome, 
 ghost use Rattle.std.specs.FinMap as map;
 ghost use Rattle.std.specs.List.{Contains};
 ghost use Rattle.fixed_motion.specs.Rules.{IsChecked};
-ghost use Rattle.event_rules.specs.Small.{HaveSmallProducts};
+ghost use Rattle.event_rules.specs.Small.{HaveSmallProducts, TellsByGreatest};
 ghost use Rattle.event_stamps.specs.Least.{IsLeastOf};
 ghost use Rattle.cell_grid.specs.Grid.{GridData, IsCell, IsAdjacent, Owns};
 ghost use Rattle.cell_lists.specs.Nearby.{IsBlock};
@@ -14,14 +14,14 @@ ghost use Rattle.region_queue.specs.Finding.{IsReady, IsNativePair, IsNativeWith
 
 use crate::finder::{Best, Finder, have_rows};
 use cell_lists::{Block, Gathered, block_around};
-use event_rules::{greatest_square, has_small_products, may_hit_either};
+use event_rules::{each_may_hit, greatest_square, has_small_products};
 use event_tree::Packed;
 use fixed_motion::Disk;
 use region_view::{Compact, Placed, View};
 
 impl Finder {
     // What `best` finds of each of two disks: those near either are gathered once, and tested with both. None says
-    // nothing: the two aren't alike, or too many disks are near.
+    // nothing: the two aren't alike, or too many disks are near, or one of those has begun its course later.
     pub fn best_both(&self, view: &View, first: u32, second: u32) -> Option<(Best, Best)>
         requires { IsReady self.now view.now }
         ensures first { IfSome result (λ both. IsBestOf self.now view.now first both.0) }
@@ -39,14 +39,16 @@ impl Finder {
         }
         let mut near_other = near.copy();
         let square = greatest_square(&self.rules);
-        keep_both(
+        if !keep_both(
             rows,
-            &one.disk,
-            &other.disk,
+            one.disk,
+            other.disk,
             square,
             &mut near,
             &mut near_other,
-        );
+        ) {
+            return None;
+        }
         Some((
             self.best_near(view, first, &one, &near),
             self.best_near(view, second, &other, &near_other),
@@ -168,48 +170,66 @@ fn joined(a: Block, b: Block) -> Block
 }
 
 // Leaves in one list those of some disks that the first of two disks may hit, and in another one those that the second may.
+// False says nothing: one of them has begun its course later than the two, which is seldom.
 #[inline(never)]
 fn keep_both(
     rows: &[Compact],
-    one: &Disk,
-    other: &Disk,
+    one: Disk,
+    other: Disk,
     square: i64,
     near: &mut Gathered,
     near_other: &mut Gathered,
-)
-    requires base { one.now.base ≡ other.now.base }
+) -> bool
+    requires base { one.base ≡ other.base }
     requires same { near_other.old ≡ near.old }
-    ensures one { AreKept (λ i. IsMissedByGreatest square one.now (slice_index_or rows.now i None)) near.old near.new }
-    ensures other { AreKept (λ i. IsMissedByGreatest square other.now (slice_index_or rows.now i None)) near.old near_other.new }
+    ensures one { IsTrue result → AreKept (λ i. IsMissedByGreatest square one (slice_index_or rows.now i None)) near.old near.new }
+    ensures other { IsTrue result → AreKept (λ i. IsMissedByGreatest square other (slice_index_or rows.now i None)) near.old near_other.new }
 {
     let mut kept = 0;
     let mut kept_other = 0;
     for place in 0..near.len() {
         let disk = near.at(place);
-        let (may, other_may) = may_reach_either(rows, one, other, square, disk);
+        let Some(may) = may_reach_either(rows, one, other, square, disk) else {
+            return false;
+        };
         near.put(kept, disk);
-        kept += may as usize;
+        kept += may.0 as usize;
         near_other.put(kept_other, disk);
-        kept_other += other_may as usize;
+        kept_other += may.1 as usize;
     }
     near.cut(kept);
     near_other.cut(kept_other);
+    true
 }
 
+// Whether each of two disks may hit another one, if that has a row.
 #[inline(always)]
 fn may_reach_either(
     rows: &[Compact],
-    one: &Disk,
-    other: &Disk,
+    one: Disk,
+    other: Disk,
     square: i64,
     disk: u32,
-) -> (bool, bool)
-    requires { one.now.base ≡ other.now.base }
-    ensures one { result.0 ≡ false → IsMissedByGreatest square one.now (slice_index_or rows.now disk None) }
-    ensures other { result.1 ≡ false → IsMissedByGreatest square other.now (slice_index_or rows.now disk None) }
+) -> Option<(bool, bool)>
+    requires { one.base ≡ other.base }
+    ensures one { IfSome result (λ may. may.0 ≡ false → IsMissedByGreatest square one (slice_index_or rows.now disk None)) }
+    ensures other { IfSome result (λ may. may.1 ≡ false → IsMissedByGreatest square other (slice_index_or rows.now disk None)) }
 {
     match rows.get(disk as usize) {
         Some(row) => may_hit_either(one, other, &row.disk(), square),
-        None => (false, false),
+        None => Some((false, false)),
     }
+}
+
+// Whether each of two disks may hit a third one. None says nothing: that has begun its course later.
+#[inline(always)]
+fn may_hit_either(one: Disk, other: Disk, third: &Disk, square: i64) -> Option<(bool, bool)>
+    requires { one.base ≡ other.base }
+    ensures one { IfSome result (λ may. TellsByGreatest square one third.now may.0) }
+    ensures other { IfSome result (λ may. TellsByGreatest square other third.now may.1) }
+{
+    if third.base > one.base {
+        return None;
+    }
+    Some(each_may_hit(one, other, third, square))
 }

@@ -6,7 +6,8 @@ ghost use Rattle.fixed_motion.specs.Motion.{IsValidDisk};
 
 use super::rows::{expect, is_valid};
 use event_rules::{
-    Change, Limit, apply, has_small_products, may_hit_by_small, pair_event, wall_event,
+    Change, Limit, apply, each_may_hit, has_small_products, may_hit_by_small, pair_event,
+    wall_event,
 };
 use event_stamps::{Kind, Stamp};
 use fixed_motion::{Disk, Rules};
@@ -229,6 +230,67 @@ fn small_and_great(sizes: Sizes, a: &Disk, b: &Disk) -> (bool, Meeting, Meeting)
         meeting(&rules_of(sizes, 0), a, b),
         meeting(&rules_of(sizes, 1), a, b),
     )
+}
+
+// Two disks of one base tick, a third one, and which of the two may hit that if all have the diameter 4.
+type BesideRow = (Record, Record, Record, (bool, bool));
+
+const BESIDE: &[BesideRow] = &[
+    // as far apart as a box of small products is long, in either order
+    (
+        (2, 2, 1, 0, 0, 0),
+        (2, 2, -1, 0, 0, 0),
+        (536_870_909, 2, -1, 0, 0, 0),
+        (true, false),
+    ),
+    (
+        (2, 2, -1, 0, 0, 0),
+        (2, 2, 1, 0, 0, 0),
+        (536_870_909, 2, -1, 0, 0, 0),
+        (false, true),
+    ),
+    // and from corner to corner: one comes straight towards it, the other one doesn't
+    (
+        (2, 2, 1, 1, 0, 0),
+        (2, 2, 1, -1, 0, 0),
+        (536_870_909, 536_870_909, -1, -1, 0, 0),
+        (true, false),
+    ),
+    // paths whose nearest points are a diameter apart, and a unit less
+    (
+        (100, 100, 1, 0, 0, 0),
+        (100, 101, 1, 0, 0, 0),
+        (200, 104, -1, 0, 0, 0),
+        (false, true),
+    ),
+    // the third disk has crossed the whole box before the two begin, or has stood for very long
+    (
+        (536_870_862, 100, -1, 0, 536_870_812, 0),
+        (536_870_862, 100, 1, 0, 536_870_812, 0),
+        (2, 100, 1, 0, 0, 0),
+        (true, false),
+    ),
+    (
+        (100, 100, 1, 0, 8_589_934_592, 0),
+        (100, 100, -1, 0, 8_589_934_592, 0),
+        (104, 100, 0, 0, 0, 0),
+        (true, false),
+    ),
+];
+
+#[test]
+fn tells_of_two_disks_at_once(rt: HostRuntime) {
+    for (row, &(first, second, third, want)) in BESIDE.iter().enumerate() {
+        let found = told_of_each(disk_of(first), disk_of(second), &disk_of(third));
+        expect(&rt, row, found, Some(want));
+    }
+}
+
+fn told_of_each(first: Disk, second: Disk, third: &Disk) -> Option<(bool, bool)> {
+    if first.base != second.base || third.base > first.base {
+        return None;
+    }
+    Some(each_may_hit(first, second, third, 16))
 }
 
 // A box, the diameter of two disks, how far apart their centres are, how fast each comes towards the other, and the

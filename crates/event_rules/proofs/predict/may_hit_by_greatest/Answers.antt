@@ -10,6 +10,6 @@ returns c =
     (λ rules pair. record {
       apart = c.separated-s.result;
       is = c.separated-s.ensures rules pair;
-      told = λ distance is. c.of_square.ensures distance (sent_same c.args.square c.ranges.square ∙ is);
+      told = λ distance is near. c.of_square.ensures distance (sent_same c.args.square c.ranges.square ∙ is);
     })
     c.is_course.ensures

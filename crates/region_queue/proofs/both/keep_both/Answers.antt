@@ -15,9 +15,9 @@ code square = to_z w64 (of_z w64 square)
 pub loop-place-init : goal.loop-place-init
 loop-place-init c =
     let Out : Disk → ℕ → Type 0 = λ disk i. IsMissedByGreatest (code c.args.square) disk (slice_index_or c.args.rows.now i None) in (
-      keeping_none (Out c.args.one.now) c.args.near.now,
-      subst (λ (xs : List ℕ). IsKeeping (Out c.args.other.now) c.args.near.now xs 0 0) (sym c.requires.same)
-          (keeping_none (Out c.args.other.now) c.args.near.now),
+      keeping_none (Out c.args.one) c.args.near.now,
+      subst (λ (xs : List ℕ). IsKeeping (Out c.args.other) c.args.near.now xs 0 0) (sym c.requires.same)
+          (keeping_none (Out c.args.other) c.args.near.now),
     )
 
 pub loop-place-preserved : goal.loop-place-preserved
@@ -28,19 +28,19 @@ loop-place-preserved c =
     let here : c.at-disk.result ≡ get_or c.loop-place.near c.loop-place.place 0 = c.at-disk.ensures in
     let there : c.at-disk.result ≡ get_or c.loop-place.near_other c.loop-place.place 0 =
     here ∙ before.0.ahead c.loop-place.place (omega arith) ∙ sym (before.1.ahead c.loop-place.place (omega arith)) in (
-      subst (λ (xs : List ℕ). IsKeeping (Out c.args.one.now) c.args.near.now xs (c.loop-place.place + 1) (c.loop-place.kept + bool_byte c.may_reach_either-may.result.0))
+      subst (λ (xs : List ℕ). IsKeeping (Out c.args.one) c.args.near.now xs (c.loop-place.place + 1) (c.loop-place.kept + bool_byte c.in-Some.may.0))
           (sym c.put.ensures)
-          (keeping_more (Out c.args.one.now) c.args.near.now c.loop-place.near c.loop-place.place c.loop-place.kept c.at-disk.result
-          c.may_reach_either-may.result.0 lt before.0 here c.may_reach_either-may.ensures.one),
-      subst (λ (xs : List ℕ). IsKeeping (Out c.args.other.now) c.args.near.now xs (c.loop-place.place + 1) (c.loop-place.kept_other + bool_byte c.may_reach_either-may.result.1))
+          (keeping_more (Out c.args.one) c.args.near.now c.loop-place.near c.loop-place.place c.loop-place.kept c.at-disk.result
+          c.in-Some.may.0 lt before.0 here c.in-Some.ensures.one),
+      subst (λ (xs : List ℕ). IsKeeping (Out c.args.other) c.args.near.now xs (c.loop-place.place + 1) (c.loop-place.kept_other + bool_byte c.in-Some.may.1))
           (sym c.put-in-loop-place.ensures)
-          (keeping_more (Out c.args.other.now) c.args.near.now c.loop-place.near_other c.loop-place.place c.loop-place.kept_other c.at-disk.result
-          c.may_reach_either-may.result.1 lt before.1 there c.may_reach_either-may.ensures.other),
+          (keeping_more (Out c.args.other) c.args.near.now c.loop-place.near_other c.loop-place.place c.loop-place.kept_other c.at-disk.result
+          c.in-Some.may.1 lt before.1 there c.in-Some.ensures.other),
     )
 
 pub returns-clause-one : goal.returns-clause-one
-returns-clause-one c =
-    let IsOut : ℤ → ℕ → Type 0 = λ square i. IsMissedByGreatest square c.args.one.now (slice_index_or c.args.rows.now i None) in
+returns-clause-one c = λ _.
+    let IsOut : ℤ → ℕ → Type 0 = λ square i. IsMissedByGreatest square c.args.one (slice_index_or c.args.rows.now i None) in
     let same : code c.args.square ≡ c.args.square = to_z-of_z w64 c.args.square c.ranges.square in
     let past : length c.args.near.now ≤ c.loop-place.place = omega (arith, c.len-place-end.ensures) in
     subst (λ (xs : List ℕ). AreKept (IsOut c.args.square) c.args.near.now xs) (sym c.cut.ensures)
@@ -48,8 +48,8 @@ returns-clause-one c =
     (keeping_all (IsOut (code c.args.square)) c.args.near.now c.loop-place.near c.loop-place.place c.loop-place.kept c.loop-place.invariant.0 past))
 
 pub returns-clause-other : goal.returns-clause-other
-returns-clause-other c =
-    let IsOut : ℤ → ℕ → Type 0 = λ square i. IsMissedByGreatest square c.args.other.now (slice_index_or c.args.rows.now i None) in
+returns-clause-other c = λ _.
+    let IsOut : ℤ → ℕ → Type 0 = λ square i. IsMissedByGreatest square c.args.other (slice_index_or c.args.rows.now i None) in
     let same : code c.args.square ≡ c.args.square = to_z-of_z w64 c.args.square c.ranges.square in
     let past : length c.args.near.now ≤ c.loop-place.place = omega (arith, c.len-place-end.ensures) in
     subst (λ (xs : List ℕ). AreKept (IsOut c.args.square) c.args.near.now xs) (sym c.cut-2.ensures)
@@ -60,9 +60,9 @@ returns-clause-other c =
 pub overflow_add-kept : goal.overflow_add-kept
 overflow_add-kept c =
     let few = c.loop-place.invariant.0.few in
-    omega (arith, byte_small c.may_reach_either-may.result.0)
+    omega (arith, byte_small c.in-Some.may.0)
 
 pub overflow_add-kept_other : goal.overflow_add-kept_other
 overflow_add-kept_other c =
     let few = c.loop-place.invariant.1.few in
-    omega (arith, byte_small c.may_reach_either-may.result.1)
+    omega (arith, byte_small c.in-Some.may.1)

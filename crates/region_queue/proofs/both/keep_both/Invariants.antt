@@ -6,5 +6,5 @@ use Rattle.region_queue.proofs.both.keep_both.Given as goal
 
 abbrev pub invariant-loop-place : goal.invariant-loop-place
 invariant-loop-place l =
-    IsKeeping (λ i. IsMissedByGreatest l.fn.square l.one (slice_index_or l.rows i None)) l.fn.near l.near l.place l.kept
-    × IsKeeping (λ i. IsMissedByGreatest l.fn.square l.other (slice_index_or l.rows i None)) l.fn.near l.near_other l.place l.kept_other
+    IsKeeping (λ i. IsMissedByGreatest l.fn.square l.fn.one (slice_index_or l.rows i None)) l.fn.near l.near l.place l.kept
+    × IsKeeping (λ i. IsMissedByGreatest l.fn.square l.fn.other (slice_index_or l.rows i None)) l.fn.near l.near_other l.place l.kept_other

@@ -24,7 +24,7 @@ returns-clause-first c = (
       let kept = kept_as (λ i. IsMissedByGreatest square p.disk (slice_index_or rows i None)) (λ i. HasNone (IsNativePair finder view c.args.first i))
       c.gather_both.new.near c.keep_both.new.near
       (none_by_greatest finder view c.args.first p rows square c.requires small c.greatest_square-square.ensures row c.in_ok-rows.ensures)
-      (rw same at c.keep_both.ensures.one) in
+      (rw same at (c.keep_both.ensures.one c.if-not-keep_both.false)) in
       best_kept finder view c.args.first p c.gather_both.new.near c.keep_both.new.near c.best_near.result.pair row
       (c.gather_both.ensures.one c.if-not-gather_both.false listed) kept c.best_near.ensures.pair,
 )
@@ -45,7 +45,7 @@ returns-clause-second c = (
       let kept = kept_as (λ i. IsMissedByGreatest square p.disk (slice_index_or rows i None)) (λ i. HasNone (IsNativePair finder view c.args.second i))
       c.gather_both.new.near c.keep_both.new.near_other
       (none_by_greatest finder view c.args.second p rows square c.requires small c.greatest_square-square.ensures row c.in_ok-rows.ensures)
-      (rw same at c.keep_both.ensures.other) in
+      (rw same at (c.keep_both.ensures.other c.if-not-keep_both.false)) in
       best_kept finder view c.args.second p c.gather_both.new.near c.keep_both.new.near_other c.best_near-2.result.pair row
       (c.gather_both.ensures.other c.if-not-gather_both.false listed) kept c.best_near-2.ensures.pair,
 )
