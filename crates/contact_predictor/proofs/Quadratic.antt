@@ -1,5 +1,5 @@
 -- The squared gap of two disks as a quadratic of the ticks: its numbers some ticks later, and their sizes up to the contact.
-use Rattle.std.proofs.Common.{◌≡◌, ℕ, zero, suc, ◌+◌, ◌*◌, ◌^◌, ◌<◌, ◌≤◌, ap, sym, subst, ◌∙◌, inl, inr, arith, FitsSigned, w64}
+use Rattle.std.proofs.Common.{◌≡◌, ◌↔◌, ℕ, zero, suc, ◌+◌, ◌*◌, ◌^◌, ◌<◌, ◌≤◌, ap, sym, subst, ◌∙◌, inl, inr, arith, FitsSigned, w64}
 use Rattle.std.specs.Prelude.{ℤ, pos, negsuc, nat_abs, ◌+ℤ◌, ◌*ℤ◌, ◌≤ℤ◌, ◌<ℤ◌}
 use Rattle.std.specs.Int.{int_wrap}
 use Rattle.std.proofs.lemmas.Int.{ints, unsigned_abs-mul, int_wrap_fits}
@@ -9,7 +9,7 @@ use Rattle.plane_vectors.specs.declared.Vector.{Vector}
 use Rattle.plane_vectors.specs.Vectors.{sum, dot, after}
 use Rattle.plane_vectors.proofs.Products.{distributes}
 use Rattle.contact_predictor.specs.declared.approach.Approach.{Approach}
-use Rattle.contact_predictor.specs.Contact.{gap, IsApproaching, IsApproachingAfter, IsCollisionCourse, IsOnlyContactAfter}
+use Rattle.contact_predictor.specs.Contact.{gap, IsApproaching, IsApproachingAfter, IsCollisionCourse, IsContact, IsOnlyContactAfter}
 use Rattle.contact_predictor.specs.Approach.{IsApproachOf, IsSmall, IsCourse, IsEarly, closing_after, gap_after}
 use Rattle.contact_predictor.proofs.Approaching.{after_next, after_none, dot_next, gap_next, contact_at_last, only_contact}
 
@@ -140,18 +140,18 @@ next_of r u distance q of =
     subst (λ (p : Vector). IsApproachOf p u distance (record { square = q.square; closing = closing_after q (pos 1); gap = gap_after q (pos 1) }))
     (one_later r u) (later_of r u distance q 1 of)
 
+crosses_of : (r u : Vector) (distance : ℤ) (q : Approach) → IsApproachOf r u distance q → (q.square *ℤ q.gap) <ℤ (q.closing *ℤ q.closing) →
+    IsCollisionCourse r u distance
+crosses_of r u distance q of h = rw (of.square, of.closing, of.gap) at h
+
 -- disks that approach after t ticks, and no longer one tick later
 pub confirmed : (r u : Vector) (distance : ℤ) (q then past : Approach) (t : ℕ) → IsApproachOf r u distance q → IsCourse q →
     IsApproachOf (after r u t) u distance then → IsApproachOf (sum (after r u t) u) u distance past → pos 0 ≤ℤ then.gap →
     then.closing <ℤ pos 0 → (pos 0 ≤ℤ past.gap → past.closing <ℤ pos 0 → ⊥) → IsOnlyContactAfter r u distance t
 confirmed r u distance q then past t of course now next apart nearing ends =
-    only_contact r u distance t (contact_at_last r u distance t (crosses r u distance q of course.1)
+    only_contact r u distance t (contact_at_last r u distance t (crosses_of r u distance q of course.1)
     (record { apart = subst (λ (n : ℤ). pos 0 ≤ℤ n) now.gap apart; approaching = subst (λ (n : ℤ). n <ℤ pos 0) now.closing nearing }) last)
   where
-    crosses : (r u : Vector) (distance : ℤ) (q : Approach) → IsApproachOf r u distance q → (q.square *ℤ q.gap) <ℤ (q.closing *ℤ q.closing) →
-        IsCollisionCourse r u distance
-    crosses r u distance q of h = rw (of.square, of.closing, of.gap) at h
-
     last : ¬ IsApproachingAfter r u distance (t + 1)
     last h =
         let at = subst (λ (p : Vector). IsApproaching p u distance) (after_next r u t) h in
@@ -188,3 +188,38 @@ ends q then past t small apart course early square closing gap next_square next_
     (record { square = square ∙ at.square; closing = cl ∙ at.closing; gap = gp ∙ at.gap })
     (record { square = next_square ∙ square ∙ after_at.square; closing = ncl ∙ after_at.closing; gap = ngp ∙ after_at.gap })
     now.0 now.1 (λ apart nearing. not (apart, nearing))
+
+-- disks in contact approach each other on paths that cross
+pub contact_course : (q : Approach) (r u : Vector) (distance : ℤ) → IsApproachOf r u distance q → IsContact r u distance →
+    (pos 0 ≤ℤ q.gap) × IsCourse q
+contact_course q r u distance of contact = (
+  subst (λ (n : ℤ). pos 0 ≤ℤ n) (sym of.gap) contact.approaching.apart,
+  (subst (λ (n : ℤ). n <ℤ pos 0) (sym of.closing) contact.approaching.approaching, rw (of.square, of.closing, of.gap) contact.crossing),
+)
+
+-- of disks that do, the quadratic one tick later tells whether they are in contact
+pub contact_told : (q past : Approach) → IsSmall q → past.closing ≡ int_wrap w64 (closing_after q (pos 1)) →
+    past.gap ≡ int_wrap w64 (gap_after q (pos 1)) → (r u : Vector) (distance : ℤ) → IsApproachOf r u distance q → pos 0 ≤ℤ q.gap →
+    IsCourse q → (¬ ((pos 0 ≤ℤ past.gap) × (past.closing <ℤ pos 0))) ↔ IsContact r u distance
+contact_told q past small next_closing next_gap r u distance of apart course =
+    let next = next_of r u distance q of in
+    let fits = next_fits q.square q.closing q.gap small.not_negative small.square
+    (record { closing = course.0; closing_size = small.closing; gap_size = small.gap }) in
+    let closing : past.closing ≡ dot (sum r u) u = next_closing ∙ int_wrap_fits w64 (closing_after q (pos 1)) fits.0 ∙ next.closing in
+    let past_gap : past.gap ≡ gap (sum r u) distance = next_gap ∙ int_wrap_fits w64 (gap_after q (pos 1)) fits.1 ∙ next.gap in (
+      λ ends. record {
+        approaching = record {
+          apart = subst (λ (n : ℤ). pos 0 ≤ℤ n) of.gap apart;
+          approaching = subst (λ (n : ℤ). n <ℤ pos 0) of.closing course.0;
+        };
+        crossing = crosses_of r u distance q of course.1;
+        last = λ again. ends (
+          subst (λ (n : ℤ). pos 0 ≤ℤ n) (sym past_gap) again.apart,
+          subst (λ (n : ℤ). n <ℤ pos 0) (sym closing) again.approaching,
+        );
+      },
+      λ contact again. contact.last (record {
+        apart = subst (λ (n : ℤ). pos 0 ≤ℤ n) past_gap again.0;
+        approaching = subst (λ (n : ℤ). n <ℤ pos 0) closing again.1;
+      }),
+    )

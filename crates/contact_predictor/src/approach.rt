@@ -4,7 +4,7 @@ ghost use Rattle.std.specs.Prelude.{◌≡◌, ◌↔◌, ◌*◌, ◌^◌, ◌�
 ghost use Rattle.std.specs.Int.{int_wrap, w64};
 ghost use Rattle.plane_vectors.specs.declared.Vector.{Vector};
 ghost use Rattle.plane_vectors.specs.Vectors.{dot};
-ghost use Rattle.contact_predictor.specs.Contact.{IsOnlyContactAfter};
+ghost use Rattle.contact_predictor.specs.Contact.{IsContact, IsOnlyContactAfter};
 ghost use Rattle.contact_predictor.specs.Approach.{FitsApproach, IsApproachOf, IsSmall, IsCourse, IsEarly, closing_after, gap_after};
 
 use crate::MAX_TICKS;
@@ -171,6 +171,18 @@ impl Approach {
     {
         let then = self.after(ticks as i64);
         then.is_approaching() && !then.after(1).is_approaching()
+    }
+
+    /// Whether the disks are at their last whole tick before they touch. Nothing is said where the products are great.
+    #[inline(always)]
+    pub fn is_contact(self) -> bool
+        ensures { IsSmall self → (r u : Vector) (distance : ℤ) → IsApproachOf r u distance self →
+            IsTrue result ↔ IsContact r u distance }
+    {
+        if self.overlap() {
+            return false;
+        }
+        self.is_course() && !self.after(1).is_approaching()
     }
 
     // The quadratic of the same disks so many ticks later.
