@@ -196,24 +196,28 @@ record IsReach (rules : Rules) (a b : Disk) (distance : ℤ) : Type 0 where
   pub least : contact_distance a b ≤ℤ distance
   pub most : distance ≤ℤ rules.diameter
 
-slight : (rules : Rules) (a b : Disk) (s : Separation) (d : ℤ) → IsSmallPair rules a b → IsSeparation a b s → IsReach rules a b d →
-    FitsTheBox rules s.places → AreSlight (nat_abs rules.width) (nat_abs rules.height) (nat_abs rules.speed_limit) s.places s.velocities d
-slight rules a b s d pair sep reach near =
+slight_at : (rules : Rules) (a b : Disk) (r u : Vector) (d : ℤ) → IsSmallPair rules a b → u ≡ difference (velocity_of a) (velocity_of b) →
+    IsReach rules a b d → FitsTheBox rules r → AreSlight (nat_abs rules.width) (nat_abs rules.height) (nat_abs rules.speed_limit) r u d
+slight_at rules a b r u d pair same reach near =
     let checked = pair.checked in
     let least = contact_least rules a b pair.first_valid.size pair.second_valid.size in
     let limit = nat_abs rules.speed_limit in
     record {
       rx = near.x;
       ry = near.y;
-      ux = subst (λ (u : Vector). nat_abs u.x ≤ 2 * limit) (sym sep.velocities)
+      ux = subst (λ (v : Vector). nat_abs v.x ≤ 2 * limit) (sym same)
           (relative a.vx b.vx limit pair.first_valid.velocity.x pair.second_valid.velocity.x);
-      uy = subst (λ (u : Vector). nat_abs u.y ≤ 2 * limit) (sym sep.velocities)
+      uy = subst (λ (v : Vector). nat_abs v.y ≤ 2 * limit) (sym same)
           (relative a.vy b.vy limit pair.first_valid.velocity.y pair.second_valid.velocity.y);
       distance = within_side (contact_distance a b) d rules.diameter rules.width least reach.least reach.most checked.diameter.1;
       least = at_least rules.speed_limit checked.speed_limit.0;
       most = up_to rules.speed_limit 1 (2 ^ 20) checked.speed_limit.0 checked.speed_limit.1;
       product = whole_product rules.speed_limit rules.width rules.height checked.speed_limit.0 checked.width.0 checked.height.0 pair.products;
     }
+
+slight : (rules : Rules) (a b : Disk) (s : Separation) (d : ℤ) → IsSmallPair rules a b → IsSeparation a b s → IsReach rules a b d →
+    FitsTheBox rules s.places → AreSlight (nat_abs rules.width) (nat_abs rules.height) (nat_abs rules.speed_limit) s.places s.velocities d
+slight rules a b s d pair sep reach near = slight_at rules a b s.places s.velocities d pair sep.velocities reach near
 
 distance_same : (rules : Rules) (a b : Disk) (s : Separation) (d : ℤ) → IsSmallPair rules a b → IsSeparation a b s → IsReach rules a b d →
     FitsTheBox rules s.places → sent d ≡ d
@@ -229,13 +233,19 @@ abbrev Told : Separation → ℤ → Approach → Type 0
 Told s d q = FitsApproach s.places s.velocities d → IsApproachOf s.places s.velocities d q
 
 -- the code's quadratic is that of the disks
+near_at : (rules : Rules) (a b : Disk) (r u : Vector) (d : ℤ) (q : Approach) → IsSmallPair rules a b →
+    u ≡ difference (velocity_of a) (velocity_of b) → IsReach rules a b d → FitsTheBox rules r →
+    (FitsApproach r u d → IsApproachOf r u d q) → IsApproachOf r u d q × IsSmall q
+near_at rules a b r u d q pair same reach near told =
+    let numbers = few (nat_abs rules.width) (nat_abs rules.height) (nat_abs rules.speed_limit) r u d
+    (slight_at rules a b r u d pair same reach near) in
+    let of = told (fits_few r u d numbers) in
+    (of, small_few r u d q numbers of)
+
 near_approach : (rules : Rules) (a b : Disk) (s : Separation) (d : ℤ) (q : Approach) → IsSmallPair rules a b → IsSeparation a b s →
     IsReach rules a b d → FitsTheBox rules s.places → Told s d q → IsApproachOf s.places s.velocities d q × IsSmall q
 near_approach rules a b s d q pair sep reach near told =
-    let numbers = few (nat_abs rules.width) (nat_abs rules.height) (nat_abs rules.speed_limit) s.places s.velocities d
-    (slight rules a b s d pair sep reach near) in
-    let of = told (fits_few s.places s.velocities d numbers) in
-    (of, small_few s.places s.velocities d q numbers of)
+    near_at rules a b s.places s.velocities d q pair sep.velocities reach near told
 
 same_size : (d : ℤ) → d ≤ℤ d
 same_size d = omega (arith, ints)
@@ -274,6 +284,17 @@ inside_fits rules a b p q va vb ia ib =
     apart : (side m n k l : ℤ) → pos 1 ≤ℤ k → pos 1 ≤ℤ l → k ≤ℤ m → m ≤ℤ (side -ℤ k) → l ≤ℤ n → n ≤ℤ (side -ℤ l) →
         nat_abs (m -ℤ n) ≤ nat_abs side
     apart side m n k l hk hl a b c d = omega (arith, ints)
+
+-- so at any places where both are inside
+pub inside_approach : (rules : Rules) (a b : Disk) (p o u : Vector) (q : Approach) → IsSmallPair rules a b → IsInside rules a p →
+    IsInside rules b o → u ≡ difference (velocity_of a) (velocity_of b) →
+    (FitsApproach (difference p o) u (contact_distance a b) → IsApproachOf (difference p o) u (contact_distance a b) q) →
+    IsApproachOf (difference p o) u (contact_distance a b) q × IsSmall q
+inside_approach rules a b p o u q pair first second same told =
+    near_at rules a b (difference p o) u (contact_distance a b) q pair same (record {
+      least = same_size (contact_distance a b);
+      most = contact_most rules a b pair.first_valid.size pair.second_valid.size;
+    }) (inside_fits rules a b p o pair.first_valid pair.second_valid first second) told
 
 -- disks that have a contact fit the box at the later base tick, since both are inside then
 pub contact_fits : (rules : Rules) (a b : Disk) (s : Separation) (tick : ℕ) → IsSmallPair rules a b → IsSeparation a b s →

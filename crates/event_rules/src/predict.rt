@@ -8,7 +8,7 @@ ghost use Rattle.fixed_motion.specs.declared.rules.Rules.{Rules};
 ghost use Rattle.fixed_motion.specs.Rules.{IsChecked};
 ghost use Rattle.fixed_motion.specs.Motion.{IsValidDisk, IsInside, contact_distance, half_of, mark_at, place_of};
 ghost use Rattle.contact_predictor.specs.declared.approach.Approach.{Approach};
-ghost use Rattle.contact_predictor.specs.Contact.{IsBetween};
+ghost use Rattle.contact_predictor.specs.Contact.{IsBetween, IsContact};
 ghost use Rattle.contact_predictor.specs.Approach.{IsSmall, IsCourse};
 ghost use Rattle.event_stamps.specs.declared.Stamp.{Stamp};
 ghost use Rattle.event_stamps.specs.declared.Kind.TheVariants.{Pair};
@@ -240,10 +240,25 @@ fn touch_at(rules: &Rules, a: &Disk, p: Vector, b: &Disk, q: Vector) -> bool
     requires second_inside { IsInside rules.now b.now q }
     ensures { IsTrue result ↔ TouchAt a.now p b.now q }
 {
-    let _rules = rules;
     let places = p.minus(q);
     let velocities = a.velocity().minus(b.velocity());
-    is_contact(places, velocities, a.contact_distance(b))
+    let distance = a.contact_distance(b);
+    if has_small_products(rules) {
+        Approach::new(places, velocities, distance).is_contact()
+    } else {
+        great_contact(places, velocities, distance)
+    }
+}
+
+// Whether two disks are in contact, whatever their products. Scenes of great products are seldom, so it is kept apart.
+#[inline(never)]
+fn great_contact(places: Vector, velocities: Vector, distance: i64) -> bool
+    requires separation { IsWithin (2 ^ 30) places }
+    requires velocity { IsWithin (2 ^ 21) velocities }
+    requires distance { nat_abs distance ≤ 2 ^ 30 }
+    ensures { IsTrue result ↔ IsContact places velocities distance }
+{
+    is_contact(places, velocities, distance)
 }
 
 /// Whether the courses of two disks may bring them together: at the later of their base ticks they are no
