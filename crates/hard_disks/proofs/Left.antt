@@ -3,7 +3,6 @@ use Rattle.std.proofs.Common.{◌≡◌, inl, inr, ℕ, ◌≤◌, List, [], ◌
 use Rattle.std.specs.Prelude.{codes}
 use Rattle.std.proofs.lemmas.List.{append-nil}
 use Rattle.std.specs.Io.KnownBytes.{Appends, Keeps}
-use base.Fml.{GName}
 use Rattle.report_ports.specs.Ports.{AppendsPrefix}
 use Rattle.fixed_motion.specs.Scene.{SceneData, IsValidScene}
 use Rattle.event_rules.specs.declared.change.Change.{Change}
@@ -115,20 +114,20 @@ quiet_prefix m n changes e (k, h) = elim h [
 
 -- ---- what a reporter in the short form has written that was told a cut
 -- nothing was written, on the same loan
-pub record IsQuiet (taken : Option (List ℕ)) (m n : LentReport) : Type 0 where
+pub record IsQuiet {Loan : Type 0} (taken : Option (List ℕ)) (m n : LentReport Loan) : Type 0 where
   pub sink : n.0 ≡ m.0
   pub keeps : Keeps taken n.1.taken
 
-all_quiet : (scene : SceneData) (taken : Option (List ℕ)) (changes : List Change) (m n : LentReport) →
+all_quiet : {Loan : Type 0} (scene : SceneData) (taken : Option (List ℕ)) (changes : List Change) (m n : LentReport Loan) →
     m.1 ≡ nothing_yet Summary scene taken → n ≡ told told_on_loan m changes → IsQuiet taken m n
 all_quiet scene taken changes m n first h =
     let start = nothing_yet Summary scene taken in
     let same = told_on m.0 m.1 start changes n first h in record {
-      sink = ap (λ (v : LentReport). v.0) same;
-      keeps = subst (λ (v : LentReport). Keeps taken v.1.taken) (sym same) (quiet start changes refl).0;
+      sink = ap (λ v. v.0) same;
+      keeps = subst (λ v. Keeps taken v.1.taken) (sym same) (quiet start changes refl).0;
     }
 
-prefix_quiet : (scene : SceneData) (taken : Option (List ℕ)) (changes : List Change) (m n : LentReport) →
+prefix_quiet : {Loan : Type 0} (scene : SceneData) (taken : Option (List ℕ)) (changes : List Change) (m n : LentReport Loan) →
     m.1 ≡ nothing_yet Summary scene taken → PrefixTold told_on_loan IsTornOnLoan (Some m) changes (Some n) → IsQuiet taken m n
 prefix_quiet scene taken changes m n first h =
     let start = nothing_yet Summary scene taken in
@@ -146,11 +145,11 @@ unwritten format at scene taken after le valid keeps =
     wrote_nothing (IsCutText format at scene) one.0 one.1 taken after (inr (le, one.2)) keeps
 
 -- a run up to the tick that breaks off
-pub record CutPart (format : Format) (at : ℕ) (scene : SceneData) (taken : Option (List ℕ)) (m n : LentReport) : Type 0 where
+pub record CutPart {Loan : Type 0} (format : Format) (at : ℕ) (scene : SceneData) (taken : Option (List ℕ)) (m n : LentReport Loan) : Type 0 where
   pub sink : n.0 ≡ m.0
   pub prefix : WrotePrefix (IsCutText format at scene) taken n.1.taken
 
-pub cut_part : (format : Format) (at : ℕ) (scene : SceneData) (taken : Option (List ℕ)) (m n : LentReport) (fault : RunFault) →
+pub cut_part : {Loan : Type 0} (format : Format) (at : ℕ) (scene : SceneData) (taken : Option (List ℕ)) (m n : LentReport Loan) (fault : RunFault) →
     RunCutShort told_on_loan IsTornOnLoan (before_scene scene at) fault (Some m) (Some n) → at ≤ scene.rules.end →
     IsValidScene scene → m.1 ≡ nothing_yet Summary scene taken → CutPart format at scene taken m n
 cut_part format at scene taken m n Listener told le valid first =
@@ -161,12 +160,12 @@ cut_part format at scene taken m n RunNoMemory told le valid first =
     record { sink = here.sink; prefix = unwritten format at scene taken n.1.taken le valid here.keeps }
 
 -- a run that is done at the tick: what is left is what is to be written
-pub record CutRest (format : Format) (at : ℕ) (scene rest : SceneData) (taken : Option (List ℕ)) (m n : LentReport) : Type 0 where
+pub record CutRest {Loan : Type 0} (format : Format) (at : ℕ) (scene rest : SceneData) (taken : Option (List ℕ)) (m n : LentReport Loan) : Type 0 where
   pub sink : n.0 ≡ m.0
   pub wrote : (after : Option (List ℕ)) (status : Status) →
       Wrote (IsSceneText (codes "rest") format rest) n.1.taken after status → Wrote (IsCutText format at scene) taken after status
 
-pub cut_rest : (format : Format) (at : ℕ) (scene rest : SceneData) (taken : Option (List ℕ)) (m n : LentReport) (cut : Cut) →
+pub cut_rest : {Loan : Type 0} (format : Format) (at : ℕ) (scene rest : SceneData) (taken : Option (List ℕ)) (m n : LentReport Loan) (cut : Cut) →
     cut ≡ Rest rest → CutTold told_on_loan scene at cut (Some m) (Some n) → at ≤ scene.rules.end →
     m.1 ≡ nothing_yet Summary scene taken → CutRest format at scene rest taken m n
 cut_rest format at scene rest taken m n cut e h le first =
@@ -206,7 +205,7 @@ limit_left format at scene changes limit le valid run passes text status h =
       ),
     )
 
-pub record CutLimit (format : Format) (at : ℕ) (scene : SceneData) (limit : Limit) (taken : Option (List ℕ)) (m n : LentReport) : Type 0 where
+pub record CutLimit {Loan : Type 0} (format : Format) (at : ℕ) (scene : SceneData) (limit : Limit) (taken : Option (List ℕ)) (m n : LentReport Loan) : Type 0 where
   pub sink : n.0 ≡ m.0
   pub outcome : IsOutcomeOf scene (Passes limit)
   pub table : IsSceneOf n.1.table scene
@@ -214,14 +213,14 @@ pub record CutLimit (format : Format) (at : ℕ) (scene : SceneData) (limit : Li
       WritesText (end_text n.1 scene (Passes limit)) (status_of (Passes limit)) n.1.taken after status →
       Wrote (IsCutText format at scene) taken after status
 
-pub cut_limit : (format : Format) (at : ℕ) (scene : SceneData) (limit : Limit) (taken : Option (List ℕ)) (m n : LentReport) (cut : Cut) →
+pub cut_limit : {Loan : Type 0} (format : Format) (at : ℕ) (scene : SceneData) (limit : Limit) (taken : Option (List ℕ)) (m n : LentReport Loan) (cut : Cut) →
     cut ≡ PassesLimit limit → CutTold told_on_loan scene at cut (Some m) (Some n) → at ≤ scene.rules.end → IsValidScene scene →
     m.1 ≡ nothing_yet Summary scene taken → CutLimit format at scene limit taken m n
 cut_limit format at scene limit taken m n cut e h le valid first =
     let told = subst (λ (c : Cut). CutTold told_on_loan scene at c (Some m) (Some n)) e h in
     let changes = told.0 in let run = told.1 in
     let left = limit_left format at scene changes limit le valid run told.2 in record {
-      sink = ap (λ (v : LentReport). v.0) (told_on m.0 m.1 (nothing_yet Summary scene taken) changes n first told.3);
+      sink = ap (λ v. v.0) (told_on m.0 m.1 (nothing_yet Summary scene taken) changes n first told.3);
       outcome = outcomes_fit scene changes (Passes limit) valid run;
       table = serves_scene m.0 Summary scene taken changes m.1 n first told.3;
       ended = (λ after status text.

@@ -21,21 +21,21 @@ use Rattle.hard_disks.specs.Shows.{WritesText, status_of_fault}
 use Rattle.hard_disks.proofs.Reported.{told_on, serves_scene, wrote_end, begun, failed_since}
 
 -- ---- the reporter within, which always tells
-told_between : {before after : Option LentReport} (a b : LentReport) → before ≡ Some a → after ≡ Some b → (changes : List Change) →
+told_between : {Loan : Type 0} {before after : Option (LentReport Loan)} (a b : LentReport Loan) → before ≡ Some a → after ≡ Some b → (changes : List Change) →
     Told told_on_loan before changes after → Told told_on_loan (Some a) changes (Some b)
-told_between {before} {after} a b from to changes told =
-    subst (λ (o : Option LentReport). Told told_on_loan o changes (Some b)) from
-    (subst (λ (o : Option LentReport). Told told_on_loan before changes o) to told)
+told_between {Loan} {before} {after} a b from to changes told =
+    subst (λ (o : Option (LentReport Loan)). Told told_on_loan o changes (Some b)) from
+    (subst (λ (o : Option (LentReport Loan)). Told told_on_loan before changes o) to told)
 
-begun_between : {before after : Option LentReport} (a b : LentReport) → before ≡ Some a → after ≡ Some b → (changes : List Change) →
+begun_between : {Loan : Type 0} {before after : Option (LentReport Loan)} (a b : LentReport Loan) → before ≡ Some a → after ≡ Some b → (changes : List Change) →
     PrefixTold told_on_loan IsTornOnLoan before changes after → PrefixTold told_on_loan IsTornOnLoan (Some a) changes (Some b)
-begun_between {before} {after} a b from to changes told =
-    subst (λ (o : Option LentReport). PrefixTold told_on_loan IsTornOnLoan o changes (Some b)) from
-    (subst (λ (o : Option LentReport). PrefixTold told_on_loan IsTornOnLoan before changes o) to told)
+begun_between {Loan} {before} {after} a b from to changes told =
+    subst (λ (o : Option (LentReport Loan)). PrefixTold told_on_loan IsTornOnLoan o changes (Some b)) from
+    (subst (λ (o : Option (LentReport Loan)). PrefixTold told_on_loan IsTornOnLoan before changes o) to told)
 
 -- ---- what came of a run
 -- all changes were told: all pairs are published, and with the end the whole report is written
-pub record ToldAll (format : Format) (scene : SceneData) (outcome : Outcome) (taken : Option (List ℕ)) (m n : SoFar LentReport) (a b : LentReport) : Type 0 where
+pub record ToldAll {Loan : Type 0} (format : Format) (scene : SceneData) (outcome : Outcome) (taken : Option (List ℕ)) (m n : SoFar (LentReport Loan)) (a b : LentReport Loan) : Type 0 where
   pub changes : List Change
   pub run : IsRun scene changes outcome
   pub pen : n.loan ≡ m.loan
@@ -47,7 +47,7 @@ pub record ToldAll (format : Format) (scene : SceneData) (outcome : Outcome) (ta
       WritesText (end_text b.1 scene outcome) (status_of outcome) b.1.taken after status →
       Wrote (IsReport format scene) taken after status
 
-pub told_all : (format : Format) (scene : SceneData) (outcome : Outcome) (taken : Option (List ℕ)) (m n : SoFar LentReport) (a b : LentReport) →
+pub told_all : {Loan : Type 0} (format : Format) (scene : SceneData) (outcome : Outcome) (taken : Option (List ℕ)) (m n : SoFar (LentReport Loan)) (a b : LentReport Loan) →
     RunTold (with_change told_on_loan) scene outcome (Some m) (Some n) → m.inner ≡ Some a → n.inner ≡ Some b → IsValidScene scene → m.list ≡ [] →
     a.1 ≡ nothing_yet format scene taken → ToldAll format scene outcome taken m n a b
 told_all format scene outcome taken m n a b told before after valid none first =
@@ -60,14 +60,14 @@ told_all format scene outcome taken m n a b told before after valid none first =
       pen = seen.loan;
       board = seen.board;
       list = seen.list;
-      sink = ap (λ (v : LentReport). v.0) (told_on loan start (nothing_yet format scene taken) changes b first inner);
+      sink = ap (λ v. v.0) (told_on loan start (nothing_yet format scene taken) changes b first inner);
       table = serves_scene loan format scene taken changes start b first inner;
       ended = (λ after status text.
           wrote_end loan format scene taken after changes outcome start b status valid run first inner text);
     }
 
 -- a prefix was told, and perhaps one change refused: a prefix of the pairs is published, and one of the report written
-pub record ToldPart (format : Format) (scene : SceneData) (taken : Option (List ℕ)) (m n : SoFar LentReport) (a b : LentReport) : Type 0 where
+pub record ToldPart {Loan : Type 0} (format : Format) (scene : SceneData) (taken : Option (List ℕ)) (m n : SoFar (LentReport Loan)) (a b : LentReport Loan) : Type 0 where
   pub changes : List Change
   pub outcome : Outcome
   pub run : IsRun scene changes outcome
@@ -77,7 +77,7 @@ pub record ToldPart (format : Format) (scene : SceneData) (taken : Option (List 
   pub sink : b.0 ≡ a.0
   pub prefix : WrotePrefix (IsReport format scene) taken b.1.taken
 
-told_begun : (format : Format) (scene : SceneData) (taken : Option (List ℕ)) (m n : SoFar LentReport) (a b : LentReport) →
+told_begun : {Loan : Type 0} (format : Format) (scene : SceneData) (taken : Option (List ℕ)) (m n : SoFar (LentReport Loan)) (a b : LentReport Loan) →
     RunBegun (with_change told_on_loan) (IsTorn IsTornOnLoan) scene (Some m) (Some n) → m.inner ≡ Some a → n.inner ≡ Some b →
     IsValidScene scene → m.list ≡ [] → a.1 ≡ nothing_yet format scene taken → ToldPart format scene taken m n a b
 told_begun format scene taken m n a b told before after valid none first =
@@ -95,7 +95,7 @@ told_begun format scene taken m n a b told before after valid none first =
       prefix = here.prefix;
     }
 
-pub told_part : (format : Format) (scene : SceneData) (taken : Option (List ℕ)) (m n : SoFar LentReport) (a b : LentReport) (fault : RunFault) →
+pub told_part : {Loan : Type 0} (format : Format) (scene : SceneData) (taken : Option (List ℕ)) (m n : SoFar (LentReport Loan)) (a b : LentReport Loan) (fault : RunFault) →
     RunCutShort (with_change told_on_loan) (IsTorn IsTornOnLoan) scene fault (Some m) (Some n) → m.inner ≡ Some a → n.inner ≡ Some b →
     IsValidScene scene → m.list ≡ [] → a.1 ≡ nothing_yet format scene taken → ToldPart format scene taken m n a b
 told_part format scene taken m n a b Listener told before after valid none first =

@@ -199,6 +199,10 @@ pub struct BesideLine<'l, R: Eprint + Wait, K: Sink> {
 }
 
 impl<R: Eprint + Wait, K: Sink> Sink for BesideLine<'_, R, K> {
+    ghost Lasting = { K.Lasting };
+
+    ghost lasting = { λ b. K.lasting b.sink };
+
     ghost taken = { λ b. K.taken b.sink };
 
     ghost faults = { λ b. K.faults b.sink };

@@ -51,6 +51,10 @@ impl<'c, C: Clock, K: Sink> Timely<'c, C, K> {
 }
 
 impl<C: Clock, K: Sink> Sink for Timely<'_, C, K> {
+    ghost Lasting = { Unit {0} };
+
+    ghost lasting = { λ _. tt };
+
     ghost taken = { λ t. t.gathered.told };
 
     ghost faults = { λ t. t.gathered.faults };

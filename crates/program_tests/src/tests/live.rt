@@ -46,6 +46,10 @@ struct Looking<'b, R: Wait> {
 }
 
 impl<R: Wait> Sink for Looking<'_, R> {
+    ghost Lasting = { Unit {0} };
+
+    ghost lasting = { λ _. tt };
+
     ghost taken = { λ _. None };
 
     ghost faults = { λ _. 0 };

@@ -26,7 +26,7 @@ returns-in-Ok-Rest-clause-wrote g c =
     let first = c.new-reporter.ensures.meaning ∙ ap (λ (t : TableData). so_far Summary t (K.taken c.args.sink.now) 0 0) c.requires.table in
     let told = cut_rest c.args.format c.args.at scene c.in-Ok-Rest.rest (K.taken c.args.sink.now) _ _ c.in-Ok-Rest.field-0
     c.in-Ok-Rest.field-0-is c.in-Ok-Rest.ensures.cut c.requires.at first in
-    let loan = told.sink ∙ c.new-reporter.ensures.loan in
+    let loan = ap (λ l. l.0) told.sink ∙ c.new-reporter.ensures.loan in
     let last = c.in-Ok-Rest.sink-1-own.given.1 (sym loan) in
     told.wrote _ _ (subst (λ v. Wrote (IsSceneText (codes "rest") c.args.format c.in-Ok-Rest.rest) (K.taken v) (K.taken c.write_scene.new.sink) c.write_scene.result)
     last c.write_scene.ensures.wrote)
@@ -37,7 +37,7 @@ returns-in-Ok-Rest-clause-counts g c =
     let first = c.new-reporter.ensures.meaning ∙ ap (λ (t : TableData). so_far Summary t (K.taken c.args.sink.now) 0 0) c.requires.table in
     let told = cut_rest c.args.format c.args.at scene c.in-Ok-Rest.rest (K.taken c.args.sink.now) _ _ c.in-Ok-Rest.field-0
     c.in-Ok-Rest.field-0-is c.in-Ok-Rest.ensures.cut c.requires.at first in
-    let loan = told.sink ∙ c.new-reporter.ensures.loan in
+    let loan = ap (λ l. l.0) told.sink ∙ c.new-reporter.ensures.loan in
     let last = c.in-Ok-Rest.sink-1-own.given.1 (sym loan) in
     let same = ap K.faults last ∙ c.in-Ok-Rest.ensures.counts ∙ ap K.faults c.new-reporter.ensures.sink in
     subst (λ (n : ℕ). CountsWrites n (K.faults c.write_scene.new.sink) c.write_scene.result) same c.write_scene.ensures.counts
@@ -64,7 +64,7 @@ returns-in-Ok-Limit-clause-wrote g c =
     let first = c.new-reporter.ensures.meaning ∙ ap (λ (t : TableData). so_far Summary t (K.taken c.args.sink.now) 0 0) c.requires.table in
     let told = cut_limit c.args.format c.args.at scene c.in-Ok-Limit.limit (K.taken c.args.sink.now) _ _ c.in-Ok-Limit.field-0
     c.in-Ok-Limit.field-0-is c.in-Ok-Limit.ensures.cut c.requires.at c.requires.valid first in
-    let loan = c.end_report.ensures.loan ∙ told.sink ∙ c.new-reporter.ensures.loan in
+    let loan = c.end_report.ensures.loan ∙ ap (λ l. l.0) told.sink ∙ c.new-reporter.ensures.loan in
     let last = c.sink-in-Ok-Limit-1.given.1 (sym loan) in
     subst (λ v. Wrote (IsCutText c.args.format c.args.at scene) (K.taken c.args.sink.now) (K.taken v) c.end_report.result) (sym last)
     (told.ended _ _ c.end_report.ensures.text)
@@ -75,7 +75,7 @@ returns-in-Ok-Limit-clause-counts g c =
     let first = c.new-reporter.ensures.meaning ∙ ap (λ (t : TableData). so_far Summary t (K.taken c.args.sink.now) 0 0) c.requires.table in
     let told = cut_limit c.args.format c.args.at scene c.in-Ok-Limit.limit (K.taken c.args.sink.now) _ _ c.in-Ok-Limit.field-0
     c.in-Ok-Limit.field-0-is c.in-Ok-Limit.ensures.cut c.requires.at c.requires.valid first in
-    let loan = c.end_report.ensures.loan ∙ told.sink ∙ c.new-reporter.ensures.loan in
+    let loan = c.end_report.ensures.loan ∙ ap (λ l. l.0) told.sink ∙ c.new-reporter.ensures.loan in
     let last = c.sink-in-Ok-Limit-1.given.1 (sym loan) in
     let same = c.in-Ok-Limit.ensures.counts ∙ ap K.faults c.new-reporter.ensures.sink in
     subst (λ v. CountsWrites (K.faults c.args.sink.now) (K.faults v) c.end_report.result) (sym last)
@@ -87,7 +87,7 @@ returns-in-Err-clause-wrote g c =
     let first = c.new-reporter.ensures.meaning ∙ ap (λ (t : TableData). so_far Summary t (K.taken c.args.sink.now) 0 0) c.requires.table in
     let told = cut_part c.args.format c.args.at scene (K.taken c.args.sink.now) _ _ c.in-Err.fault
     c.in-Err.ensures.cut_short c.requires.at c.requires.valid first in
-    let loan = told.sink ∙ c.new-reporter.ensures.loan in
+    let loan = ap (λ l. l.0) told.sink ∙ c.new-reporter.ensures.loan in
     let last = c.in-Err.sink-in-Err-1-own.given.1 (sym loan) in
     subst (λ (s : Status). Wrote (IsCutText c.args.format c.args.at scene) (K.taken c.args.sink.now) (K.taken c.in-Err.sink-in-Err-1-own.given.0) s)
     (sym c.status_of_fault.ensures.status)
@@ -100,7 +100,7 @@ returns-in-Err-clause-counts g c =
     let first = c.new-reporter.ensures.meaning ∙ ap (λ (t : TableData). so_far Summary t (K.taken c.args.sink.now) 0 0) c.requires.table in
     let told = cut_part c.args.format c.args.at scene (K.taken c.args.sink.now) _ _ c.in-Err.fault
     c.in-Err.ensures.cut_short c.requires.at c.requires.valid first in
-    let loan = told.sink ∙ c.new-reporter.ensures.loan in
+    let loan = ap (λ l. l.0) told.sink ∙ c.new-reporter.ensures.loan in
     let last = c.in-Err.sink-in-Err-1-own.given.1 (sym loan) in
     subst (λ (s : Status). CountsWrites (K.faults c.args.sink.now) (K.faults c.in-Err.sink-in-Err-1-own.given.0) s)
     (sym c.status_of_fault.ensures.status)

@@ -42,7 +42,8 @@ returns-in-Ok g c =
     let all = ended_published c.in-Ok.outcome _ _ _ c.end_watched.result (pairs_of told.changes) c.end_watched.new.watched.pen.now.list
     end.text (ap (λ (k : Known). k.list) end.pen ∙ told.list) in record {
       pen_loan = end.pen_loan ∙ told.pen;
-      loan = end.loan ∙ told.sink;
+      loan = end.loan ∙ ap (λ l. l.0) told.sink;
+      lasts = end.lasts ∙ ap (λ l. l.1) told.sink;
       wrote = told.ended _ _ end.text;
       of_scene = end.of_scene;
       counts = subst (λ (n : ℕ). CountsWrites n (K.faults c.end_watched.new.watched.inner.sink.now) c.end_watched.result) c.in-Ok.ensures.counts end.counts;
@@ -57,7 +58,8 @@ returns-in-Err g c =
     let told = told_part inner.format c.args.scene.now (K.taken inner.sink.now) _ _ _ _ _ c.in-Err.ensures.cut_short refl refl
     c.requires.valid c.requires.unwritten c.requires.first in record {
       pen_loan = told.pen;
-      loan = told.sink;
+      loan = ap (λ l. l.0) told.sink;
+      lasts = ap (λ l. l.1) told.sink;
       wrote = subst (λ (s : Status). Wrote (IsReport inner.format c.args.scene.now) (K.taken inner.sink.now) (K.taken after.inner.sink.now) s)
           status (broken_wrote _ _ _ c.in-Err.fault told.prefix);
       of_scene = c.status_of_fault.ensures.of_scene;

@@ -42,6 +42,12 @@ returns-clause-counts g c =
     (subst (λ (n : ℕ). CountsWrites n (K.faults c.report_run.new.watched.inner.sink.now) c.report_run.result)
     (ap K.faults c.new-reporter.ensures.sink) c.report_run.ensures.counts)
 
+pub returns-clause-lasts : goal.returns-clause-lasts
+returns-clause-lasts g c =
+    let K = g.K.Sink in
+    let kept = c.report_run.ensures.loan ∙ c.new-reporter.ensures.loan in
+    ap K.lasting (c.sink-1.given.1 (sym kept)) ∙ c.report_run.ensures.lasts ∙ ap K.lasting c.new-reporter.ensures.sink
+
 pub returns-clause-board_kept : goal.returns-clause-board_kept
 returns-clause-board_kept g c =
     let kept = c.report_run.ensures.pen_loan in
