@@ -300,6 +300,17 @@ class Outputs(unittest.TestCase):
             with self.subTest(text):
                 self.assertEqual(endless_output("--mode audit", text), (want, status))
 
+    def test_an_audit_ends_at_the_first_wrong_line(self):
+        scene = (SCENES / "fluid.toml").read_text(encoding="utf-8")
+        # A run up to this tick takes hours.
+        long = changed(scene, "end = 3000\n", "end = 1000000000\n")
+        report = output("--mode run", scene)[0].splitlines()
+        for at in (0, 100):
+            claimed = "\n".join([*report[:at], "wrong", ""])
+            with self.subTest(line=at + 1):
+                want = f"audit line {at + 1}\nexpected {report[at]}\n"
+                self.assert_output("--mode audit", f"{long}===\n{claimed}", WRONG, want)
+
     def test_an_audit_finds_each_report_right(self):
         for scene in drawn_scenes(10):
             report = output("--mode plain", scene)[0]

@@ -11,6 +11,6 @@ mod Published
 mod Watched
 mod Cuts
 mod Left
-mod Kept
+mod Compared
 mod Audited
 mod PassedOn

@@ -1,16 +1,18 @@
 -- What an audit says.
-use Rattle.std.specs.Prelude.{◌≡◌, ◌≢◌, ℕ, ◌≤◌, List, [], ⊤, Option, Some, None, Result, Ok, Err}
+use Rattle.std.specs.Prelude.{◌≡◌, ◌≢◌, ℕ, ◌≤◌, Bool, true, false, List, [], ⊤, Option, Some, None, Result, Ok, Err}
 use Rattle.report_ports.specs.Ports.{Rose}
 use Rattle.fixed_motion.specs.Scene.{SceneData}
 use Rattle.scene_reader.specs.declared.fault.SceneFault.{SceneFault}
 use Rattle.scene_reader.specs.declared.fault.SceneFault.TheVariants as reading
 use Rattle.collision_report.specs.declared.format.Format.TheVariants.{Lines}
 use Rattle.report_audit.specs.Parting.{rest_of, front_of_known}
-use Rattle.report_audit.specs.Kept.{KeptData}
-use Rattle.report_audit.specs.Compared.{IsVerdict, HasShortLines}
+use Rattle.report_audit.specs.Compared.{IsVerdict, Compares}
 use Rattle.report_audit.specs.declared.verdict.Verdict.{Verdict}
 use Rattle.report_audit.specs.declared.verdict.Verdict.TheVariants.{Same, Line}
+use Rattle.report_audit.specs.declared.verdict.NoVerdict.{NoVerdict}
+use Rattle.report_audit.specs.declared.verdict.NoVerdict.TheVariants.{Unread, Unfinished}
 use Rattle.hard_disks.specs.declared.status.Status.{Status}
+use Rattle.hard_disks.specs.declared.status.Status.TheVariants.{Done, SpeedLimit, RoundLimit}
 use Rattle.hard_disks.specs.declared.audit.AuditFault.{AuditFault}
 use Rattle.hard_disks.specs.declared.audit.AuditFault.TheVariants.{Scene, ReadFault, NoMemory}
 use Rattle.hard_disks.specs.Reports.{IsReport, IsReadingOf}
@@ -60,17 +62,39 @@ CountsAudit before after (Err ReadFault) = (before ≤ after) × Rose before aft
 CountsAudit before after (Err NoMemory) = after ≡ before
 
 -- ---- its parts
--- a scene was read to the end of its source, and the report of its run was kept
-abbrev pub HasKept : Option (List ℕ) → Option (List ℕ) → KeptData → Type 0
-HasKept left left' kept =
-    (scene : SceneData) × IsReadingOf left (Ok scene) × KeepsReport scene kept.taken × HasShortLines kept.taken
-    × ((bytes : List ℕ) → left ≡ Some bytes → left' ≡ Some [])
+-- a scene was read to the end of its source
+abbrev pub HasRead : Option (List ℕ) → Option (List ℕ) → SceneData → Type 0
+HasRead left left' scene = IsReadingOf left (Ok scene) × ((bytes : List ℕ) → left ≡ Some bytes → left' ≡ Some [])
 
-abbrev pub ReadsReport : Option (List ℕ) → Option (List ℕ) → Result KeptData AuditFault → Type 0
-ReadsReport left left' (Ok kept) = HasKept left left' kept
-ReadsReport left left' (Err (Scene fault)) = IsRefusal left fault
-ReadsReport left left' (Err ReadFault) = ⊤
-ReadsReport left left' (Err NoMemory) = ⊤
+abbrev pub ReadsFront : Option (List ℕ) → Option (List ℕ) → Result SceneData AuditFault → Type 0
+ReadsFront left left' (Ok scene) = HasRead left left' scene
+ReadsFront left left' (Err (Scene fault)) = IsRefusal left fault
+ReadsFront left left' (Err ReadFault) = ⊤
+ReadsFront left left' (Err NoMemory) = ⊤
+
+-- the verdict is right about the report of the scene's run and what a claimed source had left
+abbrev pub ComparesRun : SceneData → Option (List ℕ) → Option (List ℕ) → Verdict → Type 0
+ComparesRun scene left left' verdict = (text : List ℕ) × KeepsReport scene text × Compares text left left' verdict
+
+-- no scene was refused
+abbrev pub IsUnrefused : Result Verdict AuditFault → Type 0
+IsUnrefused (Ok verdict) = ⊤
+IsUnrefused (Err (Scene fault)) = ⊥
+IsUnrefused (Err ReadFault) = ⊤
+IsUnrefused (Err NoMemory) = ⊤
+
+-- what a verdict, or its want, is to an audit
+abbrev pub answer_of : Result Verdict NoVerdict → Result Verdict AuditFault
+answer_of (Ok verdict) = Ok verdict
+answer_of (Err Unread) = Err ReadFault
+answer_of (Err Unfinished) = Err NoMemory
+
+-- a run's report was written to its end
+abbrev pub is_whole : Status → Bool
+is_whole Done = true
+is_whole SpeedLimit = true
+is_whole RoundLimit = true
+is_whole _ = false
 
 -- what a fault of the reading is to an audit
 abbrev pub IsAuditFaultOf : SceneFault → AuditFault → Type 0

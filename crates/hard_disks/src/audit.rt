@@ -1,12 +1,10 @@
 //! The audit of a claimed report: whether it is the report of the scene that stands before it.
 
-ghost use Rattle.std.specs.Prelude.{◌≡◌, is_some, IfOk};
-ghost use Rattle.report_audit.specs.Compared.{HasShortLines};
+ghost use Rattle.std.specs.Prelude.{◌≡◌, IfOk};
 ghost use Rattle.hard_disks.specs.Answers.{Wrote};
 ghost use Rattle.hard_disks.specs.Reports.{IsReport};
 ghost use Rattle.hard_disks.specs.Shows.{IsOfScene};
-ghost use Rattle.hard_disks.specs.Audits.{IsAudit, Empties, CountsAudit, KeepsReport, ReadsReport, IsAuditFaultOf};
-ghost use Rattle.hard_disks.specs.declared.audit.AuditFault.TheVariants.{NoMemory};
+ghost use Rattle.hard_disks.specs.Audits.{IsAudit, Empties, CountsAudit, ReadsFront, ComparesRun, IsUnrefused, IsAuditFaultOf, answer_of, is_whole};
 
 use crate::engines::Engine;
 use crate::show::write_report;
@@ -15,10 +13,10 @@ use collision_report::Format;
 use fixed_motion::Scene;
 use live_progress::Board;
 use region_core::Gate;
-use report_audit::{Kept, Parted, Unread, Verdict, compare};
+use report_audit::{Comparing, NoVerdict, Parted, Unread, Verdict};
 use report_ports::{Sink, Source};
 use scene_reader::{SceneFault, read_scene};
-use std::alloc::{AllocError, AllocFailed, Global};
+use std::alloc::Global;
 use std::sync::Wait;
 use std::thread::Threads;
 
@@ -33,16 +31,8 @@ pub enum AuditFault {
     NoMemory,
 }
 
-impl From<AllocError> for AuditFault {
-    ghost from_gives = { λ _ fault. fault ≡ NoMemory };
-
-    fn from(_e: AllocError) -> AuditFault {
-        AuditFault::NoMemory
-    }
-}
-
 /// Reads a scene from the bytes before the parting line, runs it by the engine, and compares the report of its
-/// run with the bytes after that line.
+/// run with the bytes after that line while the run tells it. At the end of the first line that is wrong the run ends.
 ///
 /// # Errors
 /// The scene was refused, the source failed, or out of memory.
@@ -60,30 +50,29 @@ pub fn audit<R: Threads + Wait + Sync, S: Source, G: Gate>(
     ensures counts { CountsAudit (S.faults source.old) (S.faults source.new) result }
 {
     let mut parted = Parted::new(source);
-    let kept = read_report(rt, alloc, engine, &mut parted)?;
+    let scene = read_front(alloc, &mut parted)?;
     match parted.turn() {
         Ok(()) => {}
         Err(Unread) => return Err(AuditFault::ReadFault),
     }
-    match compare(kept.bytes(), &mut parted) {
-        Ok(verdict) => Ok(verdict),
-        Err(Unread) => Err(AuditFault::ReadFault),
-    }
+    // What it stands for until the comparison says more.
+    let mut answer = Err(AuditFault::NoMemory);
+    let _parted = compare_run(rt, alloc, engine, &scene, parted, &mut answer);
+    answer
 }
 
-// Reads a scene to the end of its source, and keeps the report of its run.
-fn read_report<R: Threads + Wait + Sync, T: Source, G: Gate>(
-    rt: &R,
-    alloc: Global,
-    engine: &Engine<'_, G>,
-    source: &mut T,
-) -> Result<Kept, AuditFault>
-    ensures reads { ReadsReport (T.left source.old) (T.left source.new) result }
+// Reads a scene to the end of its source.
+fn read_front<T: Source>(alloc: Global, source: &mut T) -> Result<Scene, AuditFault>
+    ensures reads { ReadsFront (T.left source.old) (T.left source.new) result }
     ensures counts { CountsAudit (T.faults source.old) (T.faults source.new) result }
     ensures lasts { T.lasting source.new ≡ T.lasting source.old }
 {
     match read_scene(alloc, source) {
-        Ok(scene) => Ok(keep_report(rt, alloc, engine, &scene)?),
+        Ok(scene) => {
+            // The clause of this call says that the scene is valid.
+            let _count = scene.count();
+            Ok(scene)
+        }
         Err(fault) => Err(audit_fault(fault)),
     }
 }
@@ -99,25 +88,49 @@ fn audit_fault(fault: SceneFault) -> AuditFault
     }
 }
 
-// Keeps the report of the scene's run.
-fn keep_report<R: Threads + Wait + Sync, G: Gate>(
+// Compares the report of the scene's run with what the source has left, and gives the source back. The answer goes
+// another way: of a source within a pair a caller wouldn't know which loan it holds.
+fn compare_run<R: Threads + Wait + Sync, C: Source, G: Gate>(
     rt: &R,
     alloc: Global,
     engine: &Engine<'_, G>,
     scene: &Scene,
-) -> Result<Kept, AllocError>
-    ensures keeps { IfOk result (λ kept. KeepsReport scene.now kept.taken) }
-    ensures short { IfOk result (λ kept. HasShortLines kept.taken) }
+    claimed: C,
+    answer: &mut Result<Verdict, AuditFault>,
+) -> C
+    ensures compares { IfOk answer.new (ComparesRun scene.now (C.left claimed) (C.left result)) }
+    ensures counts { CountsAudit (C.faults claimed) (C.faults result) answer.new }
+    ensures unrefused { IsUnrefused answer.new }
+    ensures lasts { C.lasting result ≡ C.lasting claimed }
 {
     // The clause of this call says that the scene is valid, so the lines of its report are short.
     let _count = scene.count();
-    let mut kept = Kept::new(alloc);
-    match write_unwatched(rt, alloc, engine, scene, &mut kept) {
-        Status::Done => Ok(kept),
-        Status::SpeedLimit => Ok(kept),
-        Status::RoundLimit => Ok(kept),
-        _ => Err(AllocError),
+    let mut comparing = Comparing::new(claimed);
+    let status = write_unwatched(rt, alloc, engine, scene, &mut comparing);
+    let (verdict, claimed) = comparing.judge(is_whole(status));
+    *answer = answer_of(verdict);
+    claimed
+}
+
+// What a verdict, or its want, is to an audit.
+fn answer_of(verdict: Result<Verdict, NoVerdict>) -> Result<Verdict, AuditFault>
+    ensures { result ≡ answer_of verdict }
+{
+    match verdict {
+        Ok(verdict) => Ok(verdict),
+        Err(NoVerdict::Unread) => Err(AuditFault::ReadFault),
+        Err(NoVerdict::Unfinished) => Err(AuditFault::NoMemory),
     }
+}
+
+// Whether the report was written to its end.
+fn is_whole(status: Status) -> bool
+    ensures { result ≡ is_whole status }
+{
+    matches!(
+        status,
+        Status::Done | Status::SpeedLimit | Status::RoundLimit
+    )
 }
 
 // Writes the report of the scene's run, of which nothing is published: nobody looks at its board.
@@ -130,6 +143,7 @@ fn write_unwatched<R: Threads + Wait + Sync, G: Gate, K: Sink>(
 ) -> Status
     ensures wrote { Wrote (IsReport Format.Lines scene.now) (K.taken sink.old) (K.taken sink.new) result }
     ensures of_scene { IsOfScene result }
+    ensures lasts { K.lasting sink.new ≡ K.lasting sink.old }
 {
     // The clause of this call says that the scene is valid, so it has a run.
     let _count = scene.count();
