@@ -92,9 +92,21 @@ impl Chains {
             if least > MOST_ROOM {
                 return Err(AllocError);
             }
-            let twice = (2 * self.nodes.len()).min(MOST_ROOM);
-            *self = self.with_room(alloc, least.max(twice))?;
+            return self.widen(alloc, least);
         }
+        Ok(())
+    }
+
+    // Makes room for so many disks, or for twice as many as now. Seldom asked, so it is kept apart.
+    #[inline(never)]
+    fn widen(&mut self, alloc: Global, least: usize) -> Result<(), AllocError>
+        requires more { length self.old.cells < least }
+        requires most { least < 2 ^ 31 }
+        ensures room { OnOk result (least ≤ length self.new.cells) }
+        ensures same { (i : ℕ) → at self.new.cells i ≡ at self.old.cells i }
+    {
+        let twice = (2 * self.nodes.len()).min(MOST_ROOM);
+        *self = self.with_room(alloc, least.max(twice))?;
         Ok(())
     }
 
@@ -118,6 +130,7 @@ impl Chains {
     }
 
     // Lists a disk in a cell.
+    #[inline(always)]
     pub fn put(&mut self, disk: u32, cell: u32)
         requires within { disk < length self.old.cells }
         requires free { at self.old.cells disk ≡ None }
