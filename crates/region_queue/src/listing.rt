@@ -48,7 +48,12 @@ pub(crate) fn list_event(
 }
 
 // Lists one disk where a view has it, and nowhere else.
-fn list_one(alloc: Global, lists: &mut Lists, view: &View, disk: u32) -> Result<(), AllocError>
+pub(crate) fn list_one(
+    alloc: Global,
+    lists: &mut Lists,
+    view: &View,
+    disk: u32,
+) -> Result<(), AllocError>
     requires { HasCells lists.old.grid (rows_in view.now) }
     ensures grid { lists.new.grid ≡ lists.old.grid }
     ensures listed { OnOk result (IsRelisted view.now disk lists.old.cells lists.new.cells) }

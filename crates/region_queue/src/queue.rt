@@ -2,7 +2,7 @@
 
 use crate::finder::Finder;
 use crate::keys::{give_key, settle, take_both, take_crossed, take_keys};
-use crate::listing::{list_again, list_event};
+use crate::listing::{list_again, list_event, list_one};
 use cell_grid::Grid;
 use cell_lists::Lists;
 use event_stamps::Stamp;
@@ -149,7 +149,7 @@ impl Queue {
             IsMoved disk before view.now → StandsFor self.new view.now) }
     {
         let cell = self.finder.lists.cell_of(disk);
-        list_again(alloc, &mut self.finder.lists, view, &[disk])?;
+        list_one(alloc, &mut self.finder.lists, view, disk)?;
         take_crossed(alloc, &self.finder, &mut self.keys, view, disk, cell)?;
         settle(alloc, &self.finder, &mut self.keys, view)
     }

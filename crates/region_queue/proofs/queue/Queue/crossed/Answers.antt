@@ -1,14 +1,15 @@
 -- The disk is listed again, and its key is taken with what was known of its old cell.
-use Rattle.std.proofs.Common.{subst, ap}
+use Rattle.std.proofs.Common.{◌≡◌, [], subst, ap}
+use Rattle.std.specs.FinMap as map
 use Rattle.std.specs.Prelude.{IfSome, OnOk}
 use Rattle.cell_grid.specs.Grid.{GridData, IsCell}
 use Rattle.region_view.specs.Views.{ViewData}
 use Rattle.region_queue.specs.declared.finder.Finder.{Finder}
-use Rattle.region_queue.specs.Finding.{AreListed, IsFound}
+use Rattle.region_queue.specs.Finding.{AreListed, IsFound, cell_in}
 use Rattle.region_queue.specs.Covering.{Covers}
 use Rattle.region_queue.specs.Queue.{QueueData, queue_of, StandsFor}
 use Rattle.region_view.specs.Naming.{IsMoved}
-use Rattle.region_queue.proofs.Again.{on_ok}
+use Rattle.region_queue.proofs.Again.{on_ok, again_none, relisted_more}
 use Rattle.region_queue.proofs.Standing.{cells_listed, ready_again, sound_again, stands_settled, stands_moved}
 use Rattle.region_queue.proofs.queue.Queue.crossed.Goals as goal
 
@@ -19,7 +20,7 @@ returns-clause-stands c =
       grid = c.self.inside.finder.grid;
       region = c.self.inside.finder.region;
       strip = c.self.inside.finder.strip;
-      lists = c.list_again.new.lists;
+      lists = c.list_one.new.lists;
     } in
     let was = c.self.inside.finder.lists.cells in
     let old = c.self.inside.keys in
@@ -36,7 +37,9 @@ returns-clause-stands c =
     ((before : ViewData) → StandsFor queue before → IsMoved disk before view → StandsFor again view)
     (λ once before stands moved.
     let is =
-    stands_moved finder before view was disk c.cell_of-cell.result old mid c.in_ok-list_again.ensures.listed
+    stands_moved finder before view was disk c.cell_of-cell.result old mid
+    (relisted_more view [] disk was was c.list_one.new.lists.cells (again_none (λ i o. o ≡ cell_in view i) (map.get was))
+    c.in_ok-list_one.ensures.listed)
     c.cell_of-cell.ensures.value c.in_ok-take_crossed.ensures moved stands in
     once is.0 is.1)
     (stands_settled c.settle.result finder view mid new c.settle.ensures.covers c.settle.ensures.settled))
@@ -48,9 +51,9 @@ settle-requires c =
       grid = c.self.inside.finder.grid;
       region = c.self.inside.finder.region;
       strip = c.self.inside.finder.strip;
-      lists = c.list_again.new.lists;
+      lists = c.list_one.new.lists;
     } in
-    ready_again finder c.args.view.now c.self.inside.finder.lists.grid c.list_again.ensures.grid c.self.invariant
+    ready_again finder c.args.view.now c.self.inside.finder.lists.grid c.list_one.ensures.grid c.self.invariant
     (rw (← c.self.view_is) at c.requires.valid)
 
 pub take_crossed-requires-clause-ready : goal.take_crossed-requires-clause-ready
@@ -60,30 +63,30 @@ take_crossed-requires-clause-ready c =
       grid = c.self.inside.finder.grid;
       region = c.self.inside.finder.region;
       strip = c.self.inside.finder.strip;
-      lists = c.list_again.new.lists;
+      lists = c.list_one.new.lists;
     } in
-    ready_again finder c.args.view.now c.self.inside.finder.lists.grid c.list_again.ensures.grid c.self.invariant
+    ready_again finder c.args.view.now c.self.inside.finder.lists.grid c.list_one.ensures.grid c.self.invariant
     (rw (← c.self.view_is) at c.requires.valid)
 
 pub invariant_of-self-2 : goal.invariant_of-self-2
 invariant_of-self-2 c =
     sound_again c.self.inside.finder.rules c.self.inside.finder.grid c.self.inside.finder.region c.self.inside.finder.strip
-    c.self.inside.finder.lists.grid c.list_again.new.lists.grid c.list_again.ensures.grid c.self.invariant
+    c.self.inside.finder.lists.grid c.list_one.new.lists.grid c.list_one.ensures.grid c.self.invariant
 
 pub invariant_of-self-in_err-take_crossed : goal.invariant_of-self-in_err-take_crossed
 invariant_of-self-in_err-take_crossed c =
     sound_again c.self.inside.finder.rules c.self.inside.finder.grid c.self.inside.finder.region c.self.inside.finder.strip
-    c.self.inside.finder.lists.grid c.list_again.new.lists.grid c.list_again.ensures.grid c.self.invariant
+    c.self.inside.finder.lists.grid c.list_one.new.lists.grid c.list_one.ensures.grid c.self.invariant
 
-pub list_again-requires : goal.list_again-requires
-list_again-requires c =
+pub list_one-requires : goal.list_one-requires
+list_one-requires c =
     cells_listed c.self.inside.finder.rules c.self.inside.finder.grid c.self.inside.finder.lists.grid c.args.view.now
     c.self.invariant.lists (rw (← c.self.view_is) at c.requires.valid)
 
 pub invariant_of-self : goal.invariant_of-self
 invariant_of-self c =
     sound_again c.self.inside.finder.rules c.self.inside.finder.grid c.self.inside.finder.region c.self.inside.finder.strip
-    c.self.inside.finder.lists.grid c.list_again.new.lists.grid c.list_again.ensures.grid c.self.invariant
+    c.self.inside.finder.lists.grid c.list_one.new.lists.grid c.list_one.ensures.grid c.self.invariant
 
 pub take_crossed-requires-clause-cell : goal.take_crossed-requires-clause-cell
 take_crossed-requires-clause-cell c =
