@@ -31,6 +31,9 @@ use event_tree::Packed;
 use fixed_motion::{Disk, Rules};
 use region_view::{Compact, Placed, View, first_alone};
 
+// So many rows, half a mebibyte, mostly fit the second cache, from which a read doesn't hold up the next ones.
+const FEW_ROWS: usize = 1 << 14;
+
 // A region, and the disks of its view by cell.
 #[derive(Drop)]
 pub(crate) struct Finder {
@@ -626,11 +629,14 @@ fn row_in(rows: &[Compact], disk: u32) -> Option<Placed>
 
 // Whether any number of some rows isn't 0, or there are none to look at. All rows are asked for without a branch on any
 // of the answers, so that they come side by side from memory before the first is looked at. That is its only
-// purpose: nothing need be known of the answer, and no clause speaks of it.
+// purpose: nothing need be known of the answer, and no clause speaks of it. Few rows are near in any case.
 pub(crate) fn have_rows(view: &View, near: &Gathered) -> bool {
     let Some(rows) = view.compact() else {
         return true;
     };
+    if rows.len() <= FEW_ROWS {
+        return true;
+    }
     let mut asked = (near.len() == 0) as u64;
     for disk in near.as_slice() {
         if let Some(row) = rows.get(*disk as usize) {
