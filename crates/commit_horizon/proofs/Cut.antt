@@ -24,9 +24,9 @@ use Rattle.local_run.specs.Opening.{RegionData}
 use Rattle.local_run.specs.Keeping.{entries_of}
 use Rattle.local_run.proofs.Among.{same_or_other}
 use Rattle.local_run.proofs.Logs.{rises_log_tail, among_after, below_in, below_out}
-use Rattle.commit_horizon.specs.Horizon.{Runs, runs_of, AllStand, AllKept, IsBound, IsDone, IsMerged}
+use Rattle.commit_horizon.specs.Horizon.{Runs, runs_of, AllStand, AllKept, ActionsRise, IsBound, IsDone, IsMerged}
 use Rattle.commit_horizon.proofs.Merging.{actions_below}
-use Rattle.commit_horizon.specs.Untold.{actions_in, BeginsAfter, IsMergeOf, CanBeTold, CanBeTellings}
+use Rattle.commit_horizon.specs.Untold.{actions_in, BeginsAfter, IsMergeOf, CanBeTold, AllListsRise, CanBeTellings}
 use Rattle.commit_horizon.proofs.GoesOn.{AllGoOn, HeadNotBefore, IsLeastEntry, past}
 use Rattle.commit_horizon.proofs.Past.{head_is, past_first}
 use Rattle.commit_horizon.proofs.Steps.{central_step, heads_late}
@@ -34,9 +34,9 @@ use Rattle.commit_horizon.proofs.Offered.{cell_laws}
 use Rattle.commit_horizon.proofs.Bounds.{all_go_on}
 use Rattle.commit_horizon.proofs.Merged.{least_of, rest_merged}
 use Rattle.commit_horizon.proofs.Standing.{region_on, region_at, are_standing}
-use Rattle.commit_horizon.proofs.Heads.{actions_in as below_in_order, actions_out, actions_among}
+use Rattle.commit_horizon.proofs.Heads.{actions_in as below_in_order, actions_out, actions_among, actions_rise}
 use Rattle.commit_horizon.proofs.Merges.{only_least, same_actions}
-use Rattle.commit_horizon.proofs.Tellings.{next_tellable_by}
+use Rattle.commit_horizon.proofs.Tellings.{next_tellable}
 
 -- ---- the actions of a log before a stamp
 -- none of entries that all come after one that isn't before it
@@ -83,6 +83,10 @@ module _ (state : CellStateData) (h : Stamp) (runs : Runs) (lists : List (List A
         subst P (sym (of.own k within)) (each within)
     | inr out ↦ subst P (sym (get_or_past lists k [] out)) none
   ]
+
+  lists_rise : AllGoOn state h runs → AllListsRise lists
+  lists_rise all k = by_region ActionsRise k tt
+      (λ within. actions_rise (runs k).floor h (runs k).log (all.each k within).rises)
 
   none_left : IsMerged state runs h [] → IsMergeOf lists []
   none_left merged k = by_region (λ (v : List Action). v ≡ []) k refl
@@ -154,13 +158,17 @@ module _ (state : CellStateData) (h : Stamp) (runs : Runs) (lists : List (List A
     can : CanBeTold x
     can = record {
       range = (cell_states_are_orderly state is).in_range (stamp_of x) step.0.0.0;
-      kind = next_tellable_by state x (stamp_of x) is step.0 refl;
+      may = next_tellable state x is step.0;
     }
 
 merge_of : (xs : List Action) (state : CellStateData) (h : Stamp) (runs : Runs) (lists : List (List Action)) →
     AreListsOf state h runs lists → IsCellState state → AllGoOn state h runs → IsMerged state runs h xs →
     CanBeTellings lists xs
-merge_of [] state h runs lists of is all merged = record { merged = none_left state h runs lists of merged; can = tt }
+merge_of [] state h runs lists of is all merged = record {
+  merged = none_left state h runs lists of merged;
+  can = tt;
+  rise = lists_rise state h runs lists of all;
+}
 merge_of (x ∷ xs) state h runs lists of is all merged =
     let next = step state h runs lists of is all x xs merged in
     let now = first state h runs lists of is all x xs merged in
@@ -176,6 +184,7 @@ merge_of (x ∷ xs) state h runs lists of is all merged =
         more.merged,
       );
       can = (can state h runs lists of is all x xs merged, more.can);
+      rise = lists_rise state h runs lists of all;
     }
 
 -- ---- the regions of a state

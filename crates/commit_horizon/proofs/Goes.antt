@@ -11,7 +11,7 @@ use Rattle.region_view.specs.declared.action.Action.TheVariants.{Cross, Hit}
 use Rattle.cell_sequence.specs.Run.{hits}
 use Rattle.cell_sequence.proofs.Joins.{hits_join}
 use Rattle.commit_horizon.specs.Telling.{IsHitAwaited, HitRefused}
-use Rattle.commit_horizon.specs.TellingOn.{TellsFirst, TellsTorn, TellsOn, AwaitsUntold}
+use Rattle.commit_horizon.specs.TellingOn.{TellsFirst, TellsHits, TellsTorn, TellsOn, AwaitsUntold}
 use Rattle.commit_horizon.proofs.Tellings.{told_in_turn}
 
 -- ---- lists
@@ -21,6 +21,42 @@ appended xs ys x rest old mid a b = grind (arith, common_steps)
 
 joined : (xs ys rest old mid : List Action) → old ≡ xs ++ mid → mid ≡ ys ++ rest → old ≡ (xs ++ ys) ++ rest
 joined xs ys rest old mid a b = grind (arith, common_steps)
+
+changes_joined : (xs ys rest old mid : List Change) → old ≡ xs ++ mid → mid ≡ ys ++ rest → old ≡ (xs ++ ys) ++ rest
+changes_joined xs ys rest old mid a b = grind (arith, common_steps)
+
+changes_appended : (xs ys : List Change) (c : Change) (rest old mid : List Change) → old ≡ xs ++ mid → mid ≡ ys ++ c ∷ rest →
+    old ≡ (xs ++ ys) ++ c ∷ rest
+changes_appended xs ys c rest old mid a b = grind (arith, common_steps)
+
+all_gone : (old new : List Action) → new ≡ [] → old ≡ old ++ new
+all_gone old new none = grind (arith, common_steps)
+
+nothing_more : (xs : List Change) → xs ++ [] ≡ xs
+nothing_more xs = grind (arith, common_steps)
+
+-- where a collision is among the actions
+split_at : (old : List Action) (before : List Change) (c : Change) (after : List Change) → hits old ≡ before ++ c ∷ after →
+    (gone : List Action) × (rest : List Action) × (old ≡ gone ++ Hit c ∷ rest) × (hits gone ≡ before)
+split_at [] [] c after is = let same : [] ≡ c ∷ after = is in absurd cc
+split_at [] (b ∷ before) c after is = let same : [] ≡ b ∷ (before ++ c ∷ after) = is in absurd cc
+split_at (Cross s cell ∷ xs) before c after is =
+    let more = split_at xs before c after is in
+    (Cross s cell ∷ more.0, more.1, ap (λ (v : List Action). Cross s cell ∷ v) more.2, more.3)
+split_at (Hit change ∷ xs) [] c after is =
+    let same : change ∷ hits xs ≡ c ∷ after = is in
+    let first : change ≡ c = cc in
+    ([], xs, ap (λ (v : Change). Hit v ∷ xs) first, refl)
+split_at (Hit change ∷ xs) (b ∷ before) c after is =
+    let same : change ∷ hits xs ≡ b ∷ (before ++ c ∷ after) = is in
+    let first : change ≡ b = cc in
+    let others : hits xs ≡ before ++ c ∷ after = cc in
+    let more = split_at xs before c after others in (
+      Hit change ∷ more.0,
+      more.1,
+      ap (λ (v : List Action). Hit change ∷ v) more.2,
+      ap (λ (v : Change). v ∷ hits more.0) first ∙ ap (λ (v : List Change). b ∷ v) more.3,
+    )
 
 module _ {M : Type 0} (after : M → Change → M) where
   -- ---- the first actions
@@ -57,7 +93,57 @@ module _ {M : Type 0} (after : M → Change → M) where
   first_awaited awaits old new m n f g (xs, s, t, e) all = awaits_rest after awaits m n (hits xs) (hits new) t
       (subst (λ (v : List Change). AwaitsAll after awaits m v) (ap hits s ∙ hits_join xs new) all)
 
+  -- ---- the collisions alone
+  pub hits_none : (old : List Action) (m : Option M) (f : ℕ) → TellsHits after old m f old m f
+  hits_none old m f = ([], refl, told_none after m, refl)
+
+  pub hits_further : (old mid new : List Action) (m n o : Option M) (f g h : ℕ) →
+      TellsHits after old m f mid n g → TellsHits after mid n g new o h → TellsHits after old m f new o h
+  hits_further old mid new m n o f g h (xs, s, t, e) (ys, s', t', e') =
+      (xs ++ ys, changes_joined xs ys (hits new) (hits old) (hits mid) s s', told_in_turn after m n o xs ys t t', e' ∙ e)
+
+  -- one action was told, and crossings were passed
+  pub one_hit_told : (x : Action) (old new : List Action) (m n : Option M) (f g : ℕ) →
+      hits old ≡ hits (x ∷ []) ++ hits new → Told after m (hits (x ∷ [])) n → g ≡ f → TellsHits after old m f new n g
+  one_hit_told x old new m n f g is t e = (hits (x ∷ []), is, t, e)
+
+  pub hits_awaited : (awaits : M → Change → Type 0) (old new : List Action) (m n : Option M) (f g : ℕ) →
+      TellsHits after old m f new n g → AwaitsAll after awaits m (hits old) → AwaitsAll after awaits n (hits new)
+  hits_awaited awaits old new m n f g (xs, s, t, e) all = awaits_rest after awaits m n xs (hits new) t
+      (subst (λ (v : List Change). AwaitsAll after awaits m v) s all)
+
+  -- where nothing is left, all was told
+  pub all_hits_told : (old new : List Action) (m n : Option M) (f g : ℕ) → TellsHits after old m f new n g → new ≡ [] →
+      TellsFirst after old m f new n g
+  all_hits_told old new m n f g (xs, s, t, e) none = (
+    old,
+    all_gone old new none,
+    subst (λ (v : List Change). Told after m v n) (sym (s ∙ ap (λ (v : List Action). xs ++ hits v) none ∙ nothing_more xs)) t,
+    e,
+  )
+
   module _ (torn : M → Change → M → Type 0) where
+    -- after some collisions the next one was refused
+    pub torn_after : (old mid : List Action) (m n o : Option M) (f g h : ℕ) →
+        TellsHits after old m f mid n g → TellsTorn after torn mid n g o h → TellsTorn after torn old m f o h
+    torn_after old mid m n o f g h (xs, s, t, e) (ys, change, rest, s', (mid', t', r), le, rose) =
+        let split = split_at old (xs ++ hits ys) change (hits rest)
+        (changes_appended xs (hits ys) change (hits rest) (hits old) (hits mid) s
+        (ap hits s' ∙ hits_join ys (Hit change ∷ rest))) in (
+          split.0,
+          change,
+          split.1,
+          split.2,
+          (
+            mid',
+            subst (λ (v : List Change). Told after m v mid') (sym split.3)
+                (told_in_turn after m n mid' xs (hits ys) t t'),
+            r,
+          ),
+          subst (λ (v : ℕ). v ≤ h) e le,
+          subst (λ (v : ℕ). Rose v h) e rose,
+        )
+
     -- the first one was refused
     pub one_refused : (x : Action) (old new : List Action) (m n : Option M) (f g : ℕ) (deaf : Deaf) → old ≡ x ∷ new →
         HitRefused torn m x n → CountsRefusal f g (Err deaf) → TellsTorn after torn old m f n g

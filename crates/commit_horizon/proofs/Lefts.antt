@@ -4,25 +4,33 @@ use Rattle.std.proofs.Common.{Option, Some, None, sym, ap, ◌∙◌, subst, ref
 use Rattle.std.specs.Prelude.{slice_get, option_map, IfSome}
 use Rattle.std.specs.Option.{IsSome, is_some}
 use Rattle.std.proofs.lemmas.Bool.{cases_lt}
-use Rattle.std.proofs.lemmas.List.{drop_all, get_or_past, get_or_push, get_or_append_left, get_or-map, length-map, length_push, length-set}
+use Rattle.std.proofs.lemmas.List.{drop_all, get_or_past, get_or_push, get_or_append_left, get_or-map, length-map, length_push, length-set, set-set}
 use Rattle.std.proofs.lemmas.Option.{none-some, same_Some}
 use Rattle.event_stamps.specs.declared.Stamp.{Stamp}
 use Rattle.event_stamps.specs.Order.{Before, IsInRange}
+use Rattle.event_rules.specs.declared.change.Change.{Change}
 use Rattle.region_view.specs.declared.action.Action.{Action}
+use Rattle.region_view.specs.declared.action.Action.TheVariants.{Cross, Hit}
 use Rattle.region_view.specs.Acting.{stamp_of}
+use Rattle.cell_sequence.specs.Run.{hits}
+use Rattle.cell_sequence.proofs.Joins.{hits_join}
 use Rattle.local_run.specs.declared.entry.Entry.{Entry}
 use Rattle.local_run.specs.declared.entry.Entry.TheVariants.{Native, Heard}
 use Rattle.local_run.specs.Entries.{native_in}
 use Rattle.local_run.proofs.Among.{same_or_other}
 use Rattle.event_log.specs.Logged.{Logged, entries_in}
+use Rattle.event_log.specs.Collisions.{change_in}
 use Rattle.commit_horizon.specs.declared.leading.Leader.{Leader}
 use Rattle.commit_horizon.specs.Merging.{Head, Heads, head_at, IsLeastHead}
+use Rattle.commit_horizon.specs.Horizon.{ActionsRise}
 use Rattle.commit_horizon.specs.Leading.{IsLeader}
-use Rattle.commit_horizon.specs.Telling.{MayBeToldBy}
-use Rattle.commit_horizon.specs.Untold.{actions_in, left_from, StandsIn, IsNextHead, BeginsInRange, AllBeginInRange, AreFirstHeads, lefts, merged_of, CanBeTold, AllCanBeTold, CanBeTellings, AreUntold}
+use Rattle.commit_horizon.specs.Telling.{MayBeTold}
+use Rattle.commit_horizon.specs.Untold.{actions_in, left_from, StandsIn, IsNextHead, PassesCrossings, IsNextHit, BeginsInRange, AllBeginInRange, AreFirstHeads, lefts, merged_of, CanBeTold, AllCanBeTold, CanBeTellings, AreUntold}
 use Rattle.commit_horizon.proofs.Heads.{rest_at, entry_at, native_entry, native_within, below_or_last}
 use Rattle.commit_horizon.proofs.Leaders.{leads_at, none_leads}
-use Rattle.commit_horizon.proofs.MergedLists.{merge_is, NoneBeginsBefore, GoesFirst, least_goes, nothing_left, first_can}
+use Rattle.commit_horizon.proofs.MergedLists.{merge_is, within_lists, NoneBeginsBefore, GoesFirst, least_goes, nothing_left, first_can, list_can}
+use Rattle.commit_horizon.proofs.Passing.{lists_still_rise, later_can, passes_one, Passed, crossings_passed}
+use Rattle.commit_horizon.proofs.Tellings.{hit_there}
 
 -- ---- the next head of a log
 pub next_found : (log : List Entry) (done k : ℕ) (s : Stamp) →
@@ -49,6 +57,39 @@ next_past log done k le so_far = record {
   stands = tt;
 }
 
+-- ---- the head of the next collision of a log
+pub hit_found : (log : List Entry) (done k : ℕ) (change : Change) →
+    Some change ≡ change_in (native_in (slice_get log k)) →
+    PassesCrossings (actions_in (drop done log)) (actions_in (drop k log)) →
+    IsNextHit log done (Some (record { stamp = change.stamp; place = k }))
+hit_found log done k change is so_far = record {
+  passed = so_far;
+  stands = ap (option_map stamp_of) (hit_there (native_in (slice_get log k)) change is);
+}
+
+pub hit_passed : (log : List Entry) (done k : ℕ) → k < length log → None ≡ change_in (native_in (slice_get log k)) →
+    PassesCrossings (actions_in (drop done log)) (actions_in (drop k log)) →
+    PassesCrossings (actions_in (drop done log)) (actions_in (drop (k + 1) log))
+hit_passed log done k lt is so_far = by_entry (slice_get log k) refl is
+  where
+    by_entry : (found : Option Entry) → slice_get log k ≡ found → None ≡ change_in (native_in found) →
+        PassesCrossings (actions_in (drop done log)) (actions_in (drop (k + 1) log))
+    by_entry None at none = absurd (none-some (entry_at log k lt).0 (sym at ∙ (entry_at log k lt).1))
+    by_entry (Some (Native (Hit change))) at none = absurd (none-some change none)
+    by_entry (Some (Native (Cross s cell))) at none = passes_one (Cross s cell) (actions_in (drop done log))
+        (actions_in (drop k log)) (actions_in (drop (k + 1) log)) so_far
+        (ap actions_in (rest_at log k (Native (Cross s cell)) at)) refl
+    by_entry (Some (Heard q m)) at none = subst (PassesCrossings (actions_in (drop done log)))
+        (ap actions_in (rest_at log k (Heard q m) at)) so_far
+
+pub hit_past : (log : List Entry) (done k : ℕ) → length log ≤ k →
+    PassesCrossings (actions_in (drop done log)) (actions_in (drop k log)) → IsNextHit log done None
+hit_past log done k le so_far = record {
+  passed = subst (PassesCrossings (actions_in (drop done log))) (ap actions_in (drop_all k log le)) so_far;
+  stands = tt;
+}
+
+-- ---- the first action from a head on
 -- a head with its action, and those after it
 pub record Begins (log : List Entry) (head : Head) (x : Action) : Type 0 where
   pub at : native_in (slice_get log head.place) ≡ Some x
@@ -79,6 +120,17 @@ in_range log done k s is so_far range =
     let first = begins log head is in
     subst IsInRange first.1.stamp (subst BeginsInRange (so_far ∙ first.1.left) range)
 
+-- and so is that of a collision, where all can be told
+pub hit_in_range : (log : List Entry) (done k : ℕ) (change : Change) →
+    Some change ≡ change_in (native_in (slice_get log k)) →
+    PassesCrossings (actions_in (drop done log)) (actions_in (drop k log)) →
+    AllCanBeTold (actions_in (drop done log)) → IsInRange change.stamp
+hit_in_range log done k change is (gone, so_far, none) can =
+    let stands = (hit_found log done k change is (gone, so_far, none)).stands in
+    let first = begins log (record { stamp = change.stamp; place = k }) stands in
+    subst IsInRange first.1.stamp (later_can gone first.0 (actions_in (drop (k + 1) log))
+    (subst AllCanBeTold (so_far ∙ ap (λ (v : List Action). gone ++ v) first.1.left) can)).range
+
 -- ---- all logs
 pub left_at : (logs : List (List Entry)) (heads : Heads) (k : ℕ) → length heads ≡ length logs →
     get_or (lefts logs heads) k [] ≡ left_from (get_or logs k []) (head_at heads k)
@@ -97,14 +149,6 @@ left_set (log ∷ logs) (head ∷ heads) zero new same = refl
 left_set (log ∷ logs) (head ∷ heads) (suc k) new same =
     ap (λ (v : List (List Action)). left_from log head ∷ v) (left_set logs heads k new (omega (arith, same)))
 
--- the first of a list that is there is within it
-within_lists : (lists : List (List Action)) (k : ℕ) (x : Action) (xs : List Action) → get_or lists k [] ≡ x ∷ xs →
-    k < length lists
-within_lists lists k x xs at = elim (cases_lt k (length lists)) [
-  | inl lt ↦ lt
-  | inr past ↦ let same : [] ≡ x ∷ xs = sym (get_or_past lists k [] past) ∙ at in absurd cc
-]
-
 -- ---- nothing
 pub none_merged : merged_of [] ≡ []
 unfolding merged_of
@@ -115,7 +159,7 @@ nothing_untold first is = record {
   count = refl;
   stand = λ k head at. absurd (none-some head at);
   leads = is;
-  told = subst (CanBeTellings []) (sym none_merged) (record { merged = λ k. refl; can = tt });
+  told = subst (CanBeTellings []) (sym none_merged) (record { merged = λ k. refl; can = tt; rise = λ k. tt });
 }
 
 -- ---- the first of all that is left
@@ -195,12 +239,12 @@ module _ (logs : List (List Entry)) (heads : Heads) (first : Leader) (untold : A
       pub goes : GoesFirst lists first.number x rest (merged_of lists)
       goes = least_goes lists first.number x rest (merged_of lists) untold.told.merged own none_before
 
-      -- it can be told, by the kind of its head
-      can_be_told : CanBeTold x
-      can_be_told = first_can lists (merged_of lists) first.number x rest untold.told own
+      -- it may be told
+      pub may_be_told : MayBeTold x
+      may_be_told = (first_can lists (merged_of lists) first.number x rest untold.told own).may
 
-      pub told_by_kind : MayBeToldBy s.kind x
-      told_by_kind = subst (λ (v : Stamp). MayBeToldBy v.kind x) stamp_at can_be_told.kind
+      within : first.number < length lists
+      within = within_lists lists first.number x rest own
 
       -- it is the first of all
       pub is_first : merged_of lists ≡ x ∷ goes.others
@@ -210,6 +254,8 @@ module _ (logs : List (List Entry)) (heads : Heads) (first : Leader) (untold : A
       others_can = record {
         merged = goes.merged;
         can = (subst AllCanBeTold goes.first untold.told.can).1;
+        rise = lists_still_rise lists first.number rest untold.told.rise within
+            (subst ActionsRise own (untold.told.rise first.number)).1;
       }
 
       -- so can the one after it
@@ -221,22 +267,22 @@ module _ (logs : List (List Entry)) (heads : Heads) (first : Leader) (untold : A
           by_rest (y ∷ ys) is = (first_can (set lists first.number rest) goes.others first.number y ys others_can
               (get_or-set_same lists first.number rest [] (within_lists lists first.number x rest own) ∙ is)).range
 
-      -- with the next head in its place
-      module _ (new : Option Head) (next : IsNextHead log (first.place + 1) new) where
+      -- and all those
+      pub rest_can : AllCanBeTold rest
+      rest_can = subst AllCanBeTold (get_or-set_same lists first.number rest [] within)
+          (list_can (set lists first.number rest) goes.others first.number others_can.merged others_can.can)
+
+      -- with another head in its place
+      module _ (new : Option Head) (stands : IfSome new (StandsIn log)) where
         abbrev later : Heads
         later = set heads first.number new
 
-        lists_are : lefts logs later ≡ set lists first.number rest
+        abbrev left : List Action
+        left = left_from log new
+
+        lists_are : lefts logs later ≡ set lists first.number left
         lists_are = left_set logs heads first.number new untold.count
             ∙ ap (λ (es : List Entry). set lists first.number (left_from es new)) in_log
-            ∙ ap (set lists first.number) next.left
-
-        others_are : merged_of (lefts logs later) ≡ goes.others
-        others_are = ap merged_of lists_are ∙ merge_is (set lists first.number rest) goes.others goes.merged
-
-        -- what is left is all but the first
-        pub one_goes : merged_of lists ≡ x ∷ merged_of (lefts logs later)
-        one_goes = goes.first ∙ ap (λ (v : List Action). x ∷ v) (sym others_are)
 
         stand : (k : ℕ) (other : Head) → head_at later k ≡ Some other → StandsIn (get_or logs k []) other
         stand k other at = elim (same_or_other k first.number) [
@@ -245,18 +291,70 @@ module _ (logs : List (List Entry)) (heads : Heads) (first : Leader) (untold : A
               ∙ sym (ap (head_at later) same) ∙ at in
               subst (λ (n : ℕ). StandsIn (get_or logs n []) other) (sym same)
               (subst (λ (es : List Entry). StandsIn es other) (sym in_log)
-              (subst (λ (o : Option Head). IfSome o (StandsIn log)) is next.stands))
+              (subst (λ (o : Option Head). IfSome o (StandsIn log)) is stands))
           | inr not ↦ untold.stand k other (sym (get_or-set_other heads first.number k new None not) ∙ at)
         ]
 
-        pub still_untold : (leader : Leader) → IsLeader later leader → AreUntold logs later leader
-        still_untold leader is = record {
-          count = length-set heads first.number new ∙ untold.count;
-          stand = stand;
-          leads = is;
-          told = subst (CanBeTellings (lefts logs later)) (sym others_are)
-              (subst (λ (v : List (List Action)). CanBeTellings v goes.others) (sym lists_are) others_can);
-        }
+        module _ (xs : List Action) (can : CanBeTellings (set lists first.number left) xs) where
+          left_is : merged_of (lefts logs later) ≡ xs
+          left_is = ap merged_of lists_are ∙ merge_is (set lists first.number left) xs can.merged
+
+          left_untold : (leader : Leader) → IsLeader later leader → AreUntold logs later leader
+          left_untold leader is = record {
+            count = length-set heads first.number new ∙ untold.count;
+            stand = stand;
+            leads = is;
+            told = subst (CanBeTellings (lefts logs later)) (sym left_is)
+                (subst (λ (v : List (List Action)). CanBeTellings v xs) (sym lists_are) can);
+          }
+
+      -- with the next head in its place
+      module _ (new : Option Head) (next : IsNextHead log (first.place + 1) new) where
+        tellings : CanBeTellings (set lists first.number (left_from log new)) goes.others
+        tellings = subst (λ (v : List Action). CanBeTellings (set lists first.number v) goes.others) (sym next.left)
+            others_can
+
+        -- what is left is all but the first
+        pub one_goes : merged_of lists ≡ x ∷ merged_of (lefts logs (set heads first.number new))
+        one_goes = goes.first ∙ ap (λ (v : List Action). x ∷ v) (sym (left_is new next.stands goes.others tellings))
+
+        pub still_untold : (leader : Leader) → IsLeader (set heads first.number new) leader →
+            AreUntold logs (set heads first.number new) leader
+        still_untold = left_untold new next.stands goes.others tellings
+
+      -- with the head of the next collision in its place
+      module _ (new : Option Head) (next : IsNextHit log (first.place + 1) new) where
+        abbrev after : List Action
+        after = left_from log new
+
+        passed : Passed (set lists first.number rest) first.number after goes.others
+        passed = crossings_passed next.passed.0 (set lists first.number rest) first.number after goes.others
+            next.passed.2 others_can
+            (get_or-set_same lists first.number rest [] within ∙ next.passed.1)
+
+        hit_tellings : CanBeTellings (set lists first.number after) passed.others
+        hit_tellings = subst (λ (v : List (List Action)). CanBeTellings v passed.others)
+            (set-set lists first.number rest after) passed.tellings
+
+        others_are : merged_of (lefts logs (set heads first.number new)) ≡ passed.others
+        others_are = left_is new next.stands passed.others hit_tellings
+
+        -- all collisions are left but it
+        pub hits_go : hits (merged_of lists) ≡ hits (x ∷ []) ++ hits (merged_of (lefts logs (set heads first.number new)))
+        hits_go = ap hits goes.first ∙ hits_join (x ∷ []) goes.others
+            ∙ ap (λ (v : List Change). hits (x ∷ []) ++ v) (sym passed.same ∙ sym (ap hits others_are))
+
+        pub fewer_left : length (merged_of (lefts logs (set heads first.number new))) < length (merged_of lists)
+        fewer_left = omega (
+          arith,
+          ap (λ (v : List Action). length v) others_are,
+          ap (λ (v : List Action). length v) goes.first,
+          passed.fewer,
+        )
+
+        pub hits_untold : (leader : Leader) → IsLeader (set heads first.number new) leader →
+            AreUntold logs (set heads first.number new) leader
+        hits_untold = left_untold new next.stands passed.others hit_tellings
 
 -- ---- logs that are taken in
 pub first_heads_none : (logs : List (List Entry)) → AreFirstHeads logs 0 []

@@ -1,5 +1,7 @@
 -- Lists that are merged by stamps: there is one way, and the first of what is merged is the least of all.
-use Rattle.std.proofs.Common.{◌≡◌, ◌≢◌, inl, inr, ℕ, zero, suc, List, [], ◌∷◌, set, get_or, get_or-set_other, sym, ap, ◌∙◌, subst, refl}
+use Rattle.std.proofs.Common.{◌≡◌, ◌≢◌, inl, inr, ℕ, zero, suc, ◌<◌, List, [], ◌∷◌, length, set, get_or, get_or-set_same, get_or-set_other, sym, ap, ◌∙◌, subst, refl}
+use Rattle.std.proofs.lemmas.Bool.{cases_lt}
+use Rattle.std.proofs.lemmas.List.{get_or_past}
 use Rattle.event_stamps.specs.Order.{Before}
 use Rattle.event_stamps.proofs.StampOrder.{before_trans, before_decides, not_before_itself}
 use Rattle.region_view.specs.declared.action.Action.{Action}
@@ -63,6 +65,14 @@ merge_is lists [] none = none_merged lists none
 merge_is lists (x ∷ xs) (k, rest, at, others, more) =
     goes_first lists k x rest at others ∙ ap (λ (v : List Action). x ∷ v) (merge_is (set lists k rest) xs more)
 
+-- the first of a list that is there is within it
+pub within_lists : (lists : List (List Action)) (k : ℕ) (x : Action) (xs : List Action) → get_or lists k [] ≡ x ∷ xs →
+    k < length lists
+within_lists lists k x xs at = elim (cases_lt k (length lists)) [
+  | inl lt ↦ lt
+  | inr past ↦ let same : [] ≡ x ∷ xs = sym (get_or_past lists k [] past) ∙ at in absurd cc
+]
+
 -- ---- the least of all
 -- no other list begins before it
 abbrev pub NoneBeginsBefore : List (List Action) → Action → Type 0
@@ -111,3 +121,17 @@ first_can lists xs k x rest can = by_list lists xs can.merged can.can
           let first : y ≡ x = cc in subst CanBeTold first all.0
       | inr other ↦ by_list (set lists j tail) ys more all.1 (get_or-set_other lists j k tail [] other ∙ at)
     ]
+
+-- and so can all of each list
+pub list_can : (lists : List (List Action)) (xs : List Action) (k : ℕ) → IsMergeOf lists xs → AllCanBeTold xs →
+    AllCanBeTold (get_or lists k [])
+list_can lists [] k none can = subst AllCanBeTold (sym (none k)) tt
+list_can lists (y ∷ ys) k (j, tail, there, others, more) can = elim (same_or_other k j) [
+  | inl same ↦ subst AllCanBeTold (sym (ap (λ (n : ℕ). get_or lists n []) same ∙ there)) (
+    can.0,
+    subst AllCanBeTold (get_or-set_same lists j tail [] (within_lists lists j y tail there))
+        (list_can (set lists j tail) ys j more can.1),
+  )
+  | inr other ↦ subst AllCanBeTold (get_or-set_other lists j k tail [] other)
+      (list_can (set lists j tail) ys k more can.1)
+]

@@ -1,33 +1,28 @@
 -- What was told of actions as they are merged.
-use Rattle.std.proofs.Common.{◌≡◌, ◌≢◌, Bool, true, false, Ok, Err, List, [], ◌∷◌, ◌++◌}
+use Rattle.std.proofs.Common.{◌≡◌, List, [], ◌∷◌, ◌++◌}
 use Rattle.std.proofs.Common.{sym, ap, ◌∙◌, subst, refl, Option, Some, None}
-use Rattle.std.specs.Prelude.{slice_get, IfSome, ◌==◌, if◌then◌else◌}
+use Rattle.std.specs.Prelude.{IfSome}
+use Rattle.std.proofs.lemmas.Option.{none-some, same_Some}
 use Rattle.fixed_motion.specs.declared.rules.Rules.{Rules}
-use Rattle.fixed_motion.specs.Motion.{place_of}
 use Rattle.event_stamps.specs.declared.Stamp.{Stamp}
-use Rattle.event_stamps.specs.declared.Kind.{Kind}
-use Rattle.event_stamps.specs.declared.Kind.TheVariants.{Cross as Crossing}
 use Rattle.event_stamps.specs.Order.{end_stamp}
 use Rattle.event_rules.specs.declared.change.Change.{Change}
-use Rattle.event_rules.specs.declared.change.Limit.{Limit}
-use Rattle.event_rules.specs.declared.change.Limit.TheVariants.{Rounds}
 use Rattle.event_rules.specs.Told.{told, Told}
 use Rattle.event_rules.proofs.Ran.{ran, ran_tellable}
 use Rattle.event_rules.proofs.Telling.{told_none}
 use Rattle.region_view.specs.declared.action.Action.{Action}
 use Rattle.region_view.specs.declared.action.Action.TheVariants.{Cross, Hit}
-use Rattle.cell_grid.specs.Grid.{cell_at}
-use Rattle.region_view.specs.Acting.{stamp_of, partner_in, action_of, crossed}
 use Rattle.cell_sequence.specs.Run.{hits, disks_of}
 use Rattle.cell_sequence.specs.State.{CellStateData, IsCellState}
 use Rattle.cell_sequence.specs.Laws.{IsNextAction}
 use Rattle.cell_sequence.proofs.Hits.{turn}
 use Rattle.cell_sequence.proofs.Orderly.{known}
 use Rattle.local_run.specs.Opening.{RegionData}
+use Rattle.event_log.specs.Collisions.{change_in}
 use Rattle.commit_horizon.specs.Horizon.{runs_of, AllKept, IsHorizon}
 use Rattle.commit_horizon.specs.Bounds.{HoldsUpTo, IsWithin}
 use Rattle.commit_horizon.specs.Raising.{AllMayRise}
-use Rattle.commit_horizon.specs.Telling.{IsStateOf, MayBeTold, MayBeToldBy}
+use Rattle.commit_horizon.specs.Telling.{IsStateOf, MayBeTold}
 use Rattle.commit_horizon.proofs.Commit.{may_rise}
 use Rattle.commit_horizon.proofs.Standing.{horizon_is}
 
@@ -54,44 +49,19 @@ next_tellable state (Hit change) is next =
     let turned = turn state.rules state.grid state.placed k.from (Hit change) k.checked k.of k.settled next.0 next.1 in
     ran_tellable state.rules disks change (ran state.rules disks change turned.0.0 turned.1)
 
--- ---- by its kind
-no_crossing : (b : Bool) (change : Change) (limit : Limit) (x : Action) → Ok (Hit change) ≡ (if b then Err limit else Ok x) →
-    x ≡ Hit change
-no_crossing true change limit x is = let same : Ok (Hit change) ≡ Err limit = is in absurd cc
-no_crossing false change limit x is = let same : Ok (Hit change) ≡ Ok x = is in cc
+-- ---- what is read of a log
+-- an action that has a change is the collision
+pub hit_there : (found : Option Action) (change : Change) → Some change ≡ change_in found → found ≡ Some (Hit change)
+hit_there None change is = absurd (none-some change (sym is))
+hit_there (Some (Cross s cell)) change is = absurd (none-some change (sym is))
+hit_there (Some (Hit c)) change is = ap (λ (v : Change). Some (Hit v)) (same_Some c change (sym is))
 
--- what comes of a crossing's stamp isn't a collision
-pub hit_kind : (state : CellStateData) (change : Change) → IsNextAction state (Hit change) → change.stamp.kind ≢ Crossing
-hit_kind state change next kind =
-    let s = change.stamp in
-    let a = next.1.0.disk in
-    let b = partner_in s.kind (slice_get state.placed) s.second in
-    let cell = cell_at state.grid (place_of a s.tick) in
-    let is : Ok (Hit change) ≡ crossed state.rules state.grid s a =
-    subst (λ (v : Kind). Ok (Hit change) ≡ action_of state.rules state.grid s a b v) kind next.1.2 in
-    let same : Cross s cell ≡ Hit change =
-    no_crossing (s.round == state.rules.round_limit) change (Rounds s) (Cross s cell) is in
-    cc
-
--- the next action of a cell state can be told by the kind of its stamp
-pub next_tellable_by : (state : CellStateData) (x : Action) (s : Stamp) → IsCellState state → IsNextAction state x →
-    stamp_of x ≡ s → MayBeToldBy s.kind x
-next_tellable_by state (Cross t cell) s is next same = tt
-next_tellable_by state (Hit change) s is next same = (
-  next_tellable state (Hit change) is next,
-  λ kind. hit_kind state change next (ap (λ (v : Stamp). v.kind) same ∙ kind),
-)
-
-pub tellable : (kind : Kind) (x : Action) → MayBeToldBy kind x → MayBeTold x
-tellable kind (Cross s cell) may = tt
-tellable kind (Hit change) may = may.0
-
--- where the kind is that of a crossing, all of it is told
-pub crossing_told : {M : Type 0} (after : M → Change → M) (m : Option M) (kind : Kind) (found : Option Action) →
-    kind ≡ Crossing → IfSome found (MayBeToldBy kind) → IfSome found (λ x. Told after m (hits (x ∷ [])) m)
-crossing_told after m kind None is may = tt
-crossing_told after m kind (Some (Cross s cell)) is may = told_none after m
-crossing_told after m kind (Some (Hit change)) is may = absurd (may.1 is)
+-- where there is no change, all of it is told
+pub nothing_told : {M : Type 0} (after : M → Change → M) (m : Option M) (found : Option Action) →
+    None ≡ change_in found → IfSome found (λ x. Told after m (hits (x ∷ [])) m)
+nothing_told after m None is = tt
+nothing_told after m (Some (Cross s cell)) is = told_none after m
+nothing_told after m (Some (Hit change)) is = absurd (none-some change is)
 
 -- ---- a commit
 -- the horizon of what the regions have due and agree on

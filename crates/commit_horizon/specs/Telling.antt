@@ -1,8 +1,6 @@
 -- What a listener is told of a commit.
-use Rattle.std.specs.Prelude.{◌≡◌, ◌≢◌, ℕ, List, take, ⊤, Option}
+use Rattle.std.specs.Prelude.{◌≡◌, ℕ, List, take, ⊤, Option}
 use Rattle.fixed_motion.specs.declared.rules.Rules.{Rules}
-use Rattle.event_stamps.specs.declared.Kind.{Kind}
-use Rattle.event_stamps.specs.declared.Kind.TheVariants.{Cross as Crossing}
 use Rattle.event_rules.specs.declared.change.Change.{Change}
 use Rattle.event_rules.specs.declared.outcome.RunFault.{RunFault}
 use Rattle.event_rules.specs.declared.outcome.RunFault.TheVariants.{Listener, NoMemory}
@@ -19,11 +17,6 @@ use Rattle.commit_horizon.specs.Horizon.{AllStand}
 abbrev pub MayBeTold : Action → Type 0
 MayBeTold (Cross s cell) = ⊤
 MayBeTold (Hit change) = IsTellable change
-
--- the same, and the kind tells a collision from a crossing
-abbrev pub MayBeToldBy : Kind → Action → Type 0
-MayBeToldBy kind (Cross s cell) = ⊤
-MayBeToldBy kind (Hit change) = IsTellable change × (kind ≢ Crossing)
 
 -- a collision is awaited; a crossing isn't told
 abbrev pub IsHitAwaited : {M : Type 0} → (M → Change → Type 0) → Option M → Action → Type 0

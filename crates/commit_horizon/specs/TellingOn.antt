@@ -13,6 +13,11 @@ abbrev pub TellsFirst : {M : Type 0} → (M → Change → M) → List Action �
 TellsFirst after old m f new n g =
     (gone : List Action) × (old ≡ gone ++ new) × Told after m (hits gone) n × (g ≡ f)
 
+-- of the collisions of the untold actions some first ones were told, in order, and the others are left
+abbrev pub TellsHits : {M : Type 0} → (M → Change → M) → List Action → Option M → ℕ → List Action → Option M → ℕ → Type 0
+TellsHits after old m f new n g =
+    (gone : List Change) × (hits old ≡ gone ++ hits new) × Told after m gone n × (g ≡ f)
+
 -- the collisions of some first ones were told, in order, and the collision that follows them was refused
 abbrev pub TellsTorn : {M : Type 0} → (M → Change → M) → (M → Change → M → Type 0) → List Action → Option M → ℕ →
     Option M → ℕ → Type 0

@@ -1,5 +1,5 @@
 -- What is untold: actions that are left in some logs, by their heads, in the order of their stamps.
-use Rattle.std.specs.Prelude.{◌≡◌, ◌≢◌, ℕ, ◌<◌, List, [], ◌∷◌, ⊤, Option, Some, None, IfSome, length, drop, set, get_or, slice_get, option_map, if◌then◌else◌}
+use Rattle.std.specs.Prelude.{◌≡◌, ◌≢◌, ℕ, ◌<◌, List, [], ◌∷◌, ◌++◌, ⊤, Option, Some, None, IfSome, length, drop, set, get_or, slice_get, option_map, if◌then◌else◌}
 use Rattle.event_stamps.specs.Order.{Before, IsInRange}
 use Rattle.region_view.specs.declared.action.Action.{Action}
 use Rattle.region_view.specs.Acting.{stamp_of}
@@ -7,10 +7,12 @@ use Rattle.region_messages.specs.Trails.{is_before}
 use Rattle.local_run.specs.declared.entry.Entry.{Entry}
 use Rattle.local_run.specs.declared.entry.Entry.TheVariants.{Native, Heard}
 use Rattle.local_run.specs.Entries.{native_in}
+use Rattle.cell_sequence.specs.Run.{hits}
 use Rattle.commit_horizon.specs.declared.leading.Leader.{Leader}
+use Rattle.commit_horizon.specs.Horizon.{ActionsRise}
 use Rattle.commit_horizon.specs.Merging.{Head, Heads, head_at}
 use Rattle.commit_horizon.specs.Leading.{IsLeader}
-use Rattle.commit_horizon.specs.Telling.{MayBeToldBy}
+use Rattle.commit_horizon.specs.Telling.{MayBeTold}
 
 -- ---- one log
 -- the actions among some entries
@@ -37,6 +39,15 @@ pub record IsNextHead (log : List Entry) (done : ℕ) (head : Option Head) : Typ
 abbrev pub BeginsInRange : List Action → Type 0
 BeginsInRange [] = ⊤
 BeginsInRange (x ∷ xs) = IsInRange (stamp_of x)
+
+-- some first actions are passed, of which none is a collision
+abbrev pub PassesCrossings : List Action → List Action → Type 0
+PassesCrossings old new = (gone : List Action) × (old ≡ gone ++ new) × (hits gone ≡ [])
+
+-- the head is that of the first collision after so many entries
+pub record IsNextHit (log : List Entry) (done : ℕ) (head : Option Head) : Type 0 where
+  pub passed : PassesCrossings (actions_in (drop done log)) (left_from log head)
+  pub stands : IfSome head (StandsIn log)
 
 -- ---- all logs
 abbrev pub AllBeginInRange : List (List Entry) → Type 0
@@ -81,19 +92,24 @@ merged_of [] = []
 merged_of (xs ∷ lists) = merged_with xs (merged_of lists)
 
 -- ---- what may be told
--- the stamp is in the ranges of the events of a run, and its kind tells a collision, which may be told, from a crossing
+-- the stamp is in the ranges of the events of a run, and a collision may be told
 pub record CanBeTold (x : Action) : Type 0 where
   pub range : IsInRange (stamp_of x)
-  pub kind : MayBeToldBy (stamp_of x).kind x
+  pub may : MayBeTold x
 
 abbrev pub AllCanBeTold : List Action → Type 0
 AllCanBeTold [] = ⊤
 AllCanBeTold (x ∷ xs) = CanBeTold x × AllCanBeTold xs
 
--- actions that can be merged of some lists, and told
+-- each list is in the order of the stamps
+abbrev pub AllListsRise : List (List Action) → Type 0
+AllListsRise lists = (k : ℕ) → ActionsRise (get_or lists k [])
+
+-- actions that can be merged of some lists that rise, and told
 pub record CanBeTellings (lists : List (List Action)) (xs : List Action) : Type 0 where
   pub merged : IsMergeOf lists xs
   pub can : AllCanBeTold xs
+  pub rise : AllListsRise lists
 
 -- each log has a head, of which one leads, and what is left can be merged and told
 pub record AreUntold (logs : List (List Entry)) (heads : Heads) (first : Leader) : Type 0 where

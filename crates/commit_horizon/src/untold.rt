@@ -37,14 +37,12 @@ ghost use Rattle.region_view.specs.declared.action.Action.{Action};
 ghost use Rattle.cell_sequence.specs.Run.{hits};
 ghost use Rattle.event_log.specs.Logged.{entries_in, native_at};
 ghost use Rattle.commit_horizon.specs.Merging.{head_in, heads_in};
-ghost use Rattle.commit_horizon.specs.Telling.{MayBeToldBy, IsHitAwaited, HitRefused};
-ghost use Rattle.commit_horizon.specs.Untold.{actions_in, BeginsInRange, AllBeginInRange, IsNextHead, AreFirstHeads, CanBeTellings};
-ghost use Rattle.commit_horizon.specs.TellingOn.{TellsFirst, TellsTorn};
+ghost use Rattle.commit_horizon.specs.Telling.{MayBeTold, IsHitAwaited, HitRefused};
+ghost use Rattle.commit_horizon.specs.Untold.{actions_in, BeginsInRange, AllBeginInRange, IsNextHead, IsNextHit, AreFirstHeads, AllCanBeTold, CanBeTellings};
+ghost use Rattle.commit_horizon.specs.TellingOn.{TellsFirst, TellsHits, TellsTorn};
 
 use crate::leading::{find_leader, leader_after, no_head};
-use crate::telling::tell_hit;
 use event_rules::{Deaf, Listener};
-use event_stamps::Kind;
 use event_tree::Packed;
 use region_view::Action;
 use std::alloc::{AllocError, Global};
@@ -143,7 +141,7 @@ impl Untold {
             (L.faults listener.old) (L.meaning listener.new) (L.faults listener.new)) }
     {
         'actions: loop {
-            match self.tell_one(listener) {
+            match self.tell_hit(listener) {
                 Ok(true) => {}
                 Ok(false) => return Ok(()),
                 Err(deaf) => return Err(deaf),
@@ -163,11 +161,11 @@ impl Untold {
             (L.faults listener.old) (L.meaning listener.new) (L.faults listener.new)) }
     {
         let first = self.first;
-        let Some(stamp) = first.stamp.key() else {
+        let Some(_stamp) = first.stamp.key() else {
             return Ok(false);
         };
         let log = &self.logs[first.number];
-        match tell_in(log, first.place, stamp.kind, listener) {
+        match tell_in(log, first.place, listener) {
             Ok(()) => {}
             Err(deaf) => return Err(deaf),
         }
@@ -175,18 +173,38 @@ impl Untold {
         self.first = leader_after(&self.heads, &first);
         Ok(true)
     }
+
+    // Passes the next action, and tells it if it is a collision; passes the crossings after it in its log too. Whether
+    // there was an action.
+    #[inline(always)]
+    fn tell_hit<L: Listener>(&mut self, listener: &mut L) -> Result<bool, Deaf>
+        requires { AwaitsAll L.after L.awaits (L.meaning listener.old) (hits self.old) }
+        ensures told { OnOk result (TellsHits L.after self.old (L.meaning listener.old) (L.faults listener.old)
+            self.new (L.meaning listener.new) (L.faults listener.new)) }
+        ensures rest { IfOk result (λ more. more ≡ false → self.new ≡ []) }
+        ensures fewer { IfOk result (λ more. more ≡ true → length self.new < length self.old) }
+        ensures torn { OnErr result (TellsTorn L.after L.torn self.old (L.meaning listener.old)
+            (L.faults listener.old) (L.meaning listener.new) (L.faults listener.new)) }
+    {
+        let first = self.first;
+        let Some(_stamp) = first.stamp.key() else {
+            return Ok(false);
+        };
+        let log = &self.logs[first.number];
+        match tell_in(log, first.place, listener) {
+            Ok(()) => {}
+            Err(deaf) => return Err(deaf),
+        }
+        self.heads[first.number] = hit_after(log, first.place);
+        self.first = leader_after(&self.heads, &first);
+        Ok(true)
+    }
 }
 
-// Tells the collision at a place of a log, where there is one by the kind of its stamp: a crossing isn't even read.
+// Tells the collision at a place of a log, where there is one: a crossing isn't even read.
 #[inline(always)]
-fn tell_in<L: Listener>(
-    log: &EventLog,
-    place: usize,
-    kind: Kind,
-    listener: &mut L,
-) -> Result<(), Deaf>
-    requires there { IsSome (native_at log.now place) }
-    requires kind { IfSome (native_at log.now place) (MayBeToldBy kind) }
+fn tell_in<L: Listener>(log: &EventLog, place: usize, listener: &mut L) -> Result<(), Deaf>
+    requires tellable { IfSome (native_at log.now place) MayBeTold }
     requires awaited { IfSome (native_at log.now place) (IsHitAwaited L.awaits (L.meaning listener.old)) }
     ensures told { OnOk result (IfSome (native_at log.now place)
         (λ x. Told L.after (L.meaning listener.old) (hits (x ∷ [])) (L.meaning listener.new))) }
@@ -194,9 +212,9 @@ fn tell_in<L: Listener>(
         (λ x. HitRefused L.torn (L.meaning listener.old) x (L.meaning listener.new))) }
     ensures counts { CountsRefusal (L.faults listener.old) (L.faults listener.new) result }
 {
-    match kind {
-        Kind::Cross => Ok(()),
-        Kind::Wall | Kind::Pair => tell_hit(&action_in(log, place), listener),
+    match log.change(place) {
+        Some(change) => listener.event(&change),
+        None => Ok(()),
     }
 }
 
@@ -230,6 +248,35 @@ fn head_after(log: &EventLog, place: usize) -> PackedHead
 {
     let end = log.len();
     head_from(log, place + 1, end)
+}
+
+// The head of the first collision after a place: the crossings between are passed.
+#[inline(always)]
+fn hit_after(log: &EventLog, place: usize) -> PackedHead
+    requires within { place < length log.now }
+    requires can { AllCanBeTold (actions_in (drop (place + 1) (entries_in log.now))) }
+    ensures { IsNextHit (entries_in log.now) (place + 1) (head_in result) }
+{
+    let end = log.len();
+    hit_from(log, place + 1, end)
+}
+
+// The first collision from a place on, up to the end of the log.
+#[inline(always)]
+fn hit_from(log: &EventLog, done: usize, end: usize) -> PackedHead
+    requires end { end ≡ length log.now }
+    requires can { AllCanBeTold (actions_in (drop done (entries_in log.now))) }
+    ensures { IsNextHit (entries_in log.now) done (head_in result) }
+{
+    for place in done..end {
+        if let Some(change) = log.change(place) {
+            return PackedHead {
+                stamp: Packed::new(Some(change.stamp)),
+                place,
+            };
+        }
+    }
+    no_head()
 }
 
 // The first action from a place on, up to the end of the log.

@@ -7,10 +7,10 @@ use Rattle.cell_sequence.specs.Run.{hits}
 use Rattle.event_log.specs.Logged.{entries_in}
 use Rattle.commit_horizon.specs.Merging.{Heads, head_in, heads_in}
 use Rattle.commit_horizon.specs.Leading.{IsLeader, NoOtherBefore}
-use Rattle.commit_horizon.specs.Telling.{MayBeToldBy, IsHitAwaited, HitRefused}
+use Rattle.commit_horizon.specs.Telling.{MayBeTold, IsHitAwaited, HitRefused}
 use Rattle.commit_horizon.specs.Untold.{lefts, merged_of, AreUntold}
 use Rattle.commit_horizon.proofs.Leaders.{set_in, others_stay}
-use Rattle.commit_horizon.proofs.Lefts.{first_log, none_untold, is_there, action_there, place_within, told_by_kind, goes, next_in_range, one_goes, still_untold}
+use Rattle.commit_horizon.proofs.Lefts.{first_log, none_untold, action_there, place_within, may_be_told, goes, next_in_range, one_goes, still_untold}
 use Rattle.commit_horizon.proofs.Goes.{one_told, one_awaited, one_refused}
 use Rattle.commit_horizon.proofs.untold.Untold.tell_one.Goals as goal
 
@@ -20,35 +20,21 @@ returns-in_default-clause-rest g c = λ done.
     ∙ none_untold (map entries_in c.self.inside.logs.items) (heads_in c.self.inside.heads.items) c.self.inside.first
     c.self.invariant c.in_default.ensures.value
 
-pub tell_in-requires-clause-there : goal.tell_in-requires-clause-there
-tell_in-requires-clause-there g c =
+pub tell_in-requires-clause-tellable : goal.tell_in-requires-clause-tellable
+tell_in-requires-clause-tellable g c =
     let items = c.self.inside.logs.items in
     let logs = map entries_in items in
     let packed = c.self.inside.heads.items in
     let heads = heads_in packed in
     let first = c.self.inside.first in
-    let s = c.in-Some.stamp in
-    let untold = c.self.invariant in
-    let leads = c.in-Some.ensures.value in
-    let log = entries_in c.index-log.result.now in
-    let in_log = first_log items heads first untold s leads c.index-log.result.now c.index-log.ensures in
-    is_there logs heads first untold s leads log in_log
-
-pub tell_in-requires-clause-kind : goal.tell_in-requires-clause-kind
-tell_in-requires-clause-kind g c =
-    let items = c.self.inside.logs.items in
-    let logs = map entries_in items in
-    let packed = c.self.inside.heads.items in
-    let heads = heads_in packed in
-    let first = c.self.inside.first in
-    let s = c.in-Some.stamp in
+    let s = c.in-Some._stamp in
     let untold = c.self.invariant in
     let leads = c.in-Some.ensures.value in
     let log = entries_in c.index-log.result.now in
     let in_log = first_log items heads first untold s leads c.index-log.result.now c.index-log.ensures in
     let x = action_there logs heads first untold s leads log in_log in
-    subst (λ (o : Option Action). IfSome o (MayBeToldBy s.kind)) (sym x.1)
-    (told_by_kind logs heads first untold s leads log in_log x.0 x.1)
+    subst (λ (o : Option Action). IfSome o MayBeTold) (sym x.1)
+    (may_be_told logs heads first untold s leads log in_log x.0 x.1)
 
 pub tell_in-requires-clause-awaited : goal.tell_in-requires-clause-awaited
 tell_in-requires-clause-awaited g c =
@@ -58,7 +44,7 @@ tell_in-requires-clause-awaited g c =
     let packed = c.self.inside.heads.items in
     let heads = heads_in packed in
     let first = c.self.inside.first in
-    let s = c.in-Some.stamp in
+    let s = c.in-Some._stamp in
     let untold = c.self.invariant in
     let leads = c.in-Some.ensures.value in
     let log = entries_in c.index-log.result.now in
@@ -76,7 +62,7 @@ returns-in-Err-clause-torn g c =
     let packed = c.self.inside.heads.items in
     let heads = heads_in packed in
     let first = c.self.inside.first in
-    let s = c.in-Some.stamp in
+    let s = c.in-Some._stamp in
     let untold = c.self.invariant in
     let leads = c.in-Some.ensures.value in
     let log = entries_in c.index-log.result.now in
@@ -96,7 +82,7 @@ head_after-requires-clause-within g c =
     let packed = c.self.inside.heads.items in
     let heads = heads_in packed in
     let first = c.self.inside.first in
-    let s = c.in-Some.stamp in
+    let s = c.in-Some._stamp in
     let untold = c.self.invariant in
     let leads = c.in-Some.ensures.value in
     let log = entries_in c.index-log.result.now in
@@ -111,7 +97,7 @@ head_after-requires-clause-range g c =
     let packed = c.self.inside.heads.items in
     let heads = heads_in packed in
     let first = c.self.inside.first in
-    let s = c.in-Some.stamp in
+    let s = c.in-Some._stamp in
     let untold = c.self.invariant in
     let leads = c.in-Some.ensures.value in
     let log = entries_in c.index-log.result.now in
@@ -126,7 +112,7 @@ leader_after-self-inside-requires-clause-others g c =
     let packed = c.self.inside.heads.items in
     let heads = heads_in packed in
     let first = c.self.inside.first in
-    let s = c.in-Some.stamp in
+    let s = c.in-Some._stamp in
     let untold = c.self.invariant in
     let leads = c.in-Some.ensures.value in
     let log = entries_in c.index-log.result.now in
@@ -141,7 +127,7 @@ invariant_of-self g c =
     let packed = c.self.inside.heads.items in
     let heads = heads_in packed in
     let first = c.self.inside.first in
-    let s = c.in-Some.stamp in
+    let s = c.in-Some._stamp in
     let untold = c.self.invariant in
     let leads = c.in-Some.ensures.value in
     let log = entries_in c.index-log.result.now in
@@ -163,7 +149,7 @@ returns-clause-told g c =
     let packed = c.self.inside.heads.items in
     let heads = heads_in packed in
     let first = c.self.inside.first in
-    let s = c.in-Some.stamp in
+    let s = c.in-Some._stamp in
     let untold = c.self.invariant in
     let leads = c.in-Some.ensures.value in
     let log = entries_in c.index-log.result.now in
@@ -186,7 +172,7 @@ returns-clause-fewer g c =
     let packed = c.self.inside.heads.items in
     let heads = heads_in packed in
     let first = c.self.inside.first in
-    let s = c.in-Some.stamp in
+    let s = c.in-Some._stamp in
     let untold = c.self.invariant in
     let leads = c.in-Some.ensures.value in
     let log = entries_in c.index-log.result.now in
