@@ -233,9 +233,9 @@ fn small_and_great(sizes: Sizes, a: &Disk, b: &Disk) -> (bool, Meeting, Meeting)
 }
 
 // Two disks of one base tick, a third one, and which of the two may hit that if all have the diameter 4.
-type BesideRow = (Record, Record, Record, (bool, bool));
+type AtOnceRow = (Record, Record, Record, (bool, bool));
 
-const BESIDE: &[BesideRow] = &[
+const AT_ONCE: &[AtOnceRow] = &[
     // as far apart as a box of small products is long, in either order
     (
         (2, 2, 1, 0, 0, 0),
@@ -280,7 +280,7 @@ const BESIDE: &[BesideRow] = &[
 
 #[test]
 fn tells_of_two_disks_at_once(rt: HostRuntime) {
-    for (row, &(first, second, third, want)) in BESIDE.iter().enumerate() {
+    for (row, &(first, second, third, want)) in AT_ONCE.iter().enumerate() {
         let found = told_of_each(disk_of(first), disk_of(second), &disk_of(third));
         expect(&rt, row, found, Some(want));
     }
