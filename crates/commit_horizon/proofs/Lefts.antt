@@ -25,7 +25,7 @@ use Rattle.commit_horizon.specs.Merging.{Head, Heads, head_at, IsLeastHead}
 use Rattle.commit_horizon.specs.Horizon.{ActionsRise}
 use Rattle.commit_horizon.specs.Leading.{IsLeader}
 use Rattle.commit_horizon.specs.Telling.{MayBeTold}
-use Rattle.commit_horizon.specs.Untold.{actions_in, left_from, StandsIn, IsNextHead, PassesCrossings, IsNextHit, BeginsInRange, AllBeginInRange, AreFirstHeads, lefts, merged_of, CanBeTold, AllCanBeTold, CanBeTellings, AreUntold}
+use Rattle.commit_horizon.specs.Untold.{actions_in, left_from, StandsIn, IsNextHead, PassesCrossings, IsNextHit, BeginsInRange, AllBeginInRange, AreFirstHeads, lefts, merged_of, AllCanBeTold, CanBeTellings, AreUntold}
 use Rattle.commit_horizon.proofs.Heads.{rest_at, entry_at, native_entry, native_within, below_or_last}
 use Rattle.commit_horizon.proofs.Leaders.{leads_at, none_leads}
 use Rattle.commit_horizon.proofs.MergedLists.{merge_is, within_lists, NoneBeginsBefore, GoesFirst, least_goes, nothing_left, first_can, list_can}
