@@ -23,7 +23,7 @@ impl Model for Committed {
 pub enum Adopted {
     /// The region that was given, which stands on it.
     Kept(Region),
-    /// One that was opened anew, and why the given one doesn't stand on the state.
+    /// One that was opened again, and why the given one doesn't stand on the state.
     Made(Region, Differs),
 }
 
@@ -69,7 +69,7 @@ impl Committed {
     }
 
     /// A region for a number: the given one exactly where it stands on the committed state with this number,
-    /// whoever made it; else one that is opened anew.
+    /// whoever made it; else one that is opened again.
     ///
     /// # Errors
     /// Out of memory.

@@ -47,7 +47,7 @@ impl Committed {
     }
 
     /// Regions that stand on the committed state, by number: of those given exactly the ones that stand on
-    /// it, as [`adopt`](Committed::adopt) answers for each place, and others opened anew.
+    /// it, as [`adopt`](Committed::adopt) answers for each place, and others that are opened again.
     ///
     /// # Errors
     /// Out of memory.
@@ -61,7 +61,7 @@ impl Committed {
         Ok(regions)
     }
 
-    // Opens anew each region that doesn't stand on the committed state with its place as its number.
+    // Opens each region again that doesn't stand on the committed state with its place as its number.
     fn renew_all(&self, alloc: Global, regions: &mut [Region]) -> Result<(), AllocError>
         requires { length regions.old ≡ self.now.grid.regions }
         ensures adopted { OnOk result (AllAdopted self.now regions.old regions.new) }
@@ -74,7 +74,7 @@ impl Committed {
         Ok(())
     }
 
-    // Opens a region anew where it doesn't stand on the committed state with a number.
+    // Opens a region again if it doesn't stand on the committed state with a number.
     fn renew(&self, alloc: Global, number: u32, region: &mut Region) -> Result<(), AllocError>
         requires { IsRegion self.now.grid number }
         ensures { OnOk result (IsAdopted self.now number region.old region.new) }

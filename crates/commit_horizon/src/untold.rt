@@ -60,7 +60,7 @@ impl Untold {
         }
     }
 
-    /// Takes the logs out, to be filled anew. Nothing is untold then.
+    /// Takes the logs out, to be filled again. Nothing is untold then.
     pub(crate) fn take_logs(&mut self, alloc: Global) -> Vec<EventLog>
         ensures { self.new ≡ [] }
     {

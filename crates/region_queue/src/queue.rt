@@ -104,7 +104,7 @@ impl Queue {
     /// for this view where it stood for one that is the same at all other numbers.
     ///
     /// # Errors
-    /// Out of memory: the queue stands for no view that could be named, and has to be opened anew.
+    /// Out of memory: the queue stands for no view that could be named, and has to be opened again.
     pub fn touched(&mut self, alloc: Global, view: &View, ids: &[u32]) -> Result<(), AllocError>
         requires valid { IsValidPlacing self.old.rules self.old.grid (rows_in view.now) }
         ensures same { IsOf self.new self.old.rules self.old.grid self.old.region }
@@ -120,7 +120,7 @@ impl Queue {
     /// stands for this view where it stood for one that is the same at all other numbers.
     ///
     /// # Errors
-    /// Out of memory: the queue stands for no view that could be named, and has to be opened anew.
+    /// Out of memory: the queue stands for no view that could be named, and has to be opened again.
     pub fn struck(
         &mut self,
         alloc: Global,
@@ -141,7 +141,7 @@ impl Queue {
     /// stands for this view where it stood for one that is the same at all other numbers.
     ///
     /// # Errors
-    /// Out of memory: the queue stands for no view that could be named, and has to be opened anew.
+    /// Out of memory: the queue stands for no view that could be named, and has to be opened again.
     pub fn crossed(&mut self, alloc: Global, view: &View, disk: u32) -> Result<(), AllocError>
         requires valid { IsValidPlacing self.old.rules self.old.grid (rows_in view.now) }
         ensures same { IsOf self.new self.old.rules self.old.grid self.old.region }
@@ -158,7 +158,7 @@ impl Queue {
     /// this view where it stood for one that is the same at all numbers but those of the event's disks.
     ///
     /// # Errors
-    /// Out of memory: the queue stands for no view that could be named, and has to be opened anew.
+    /// Out of memory: the queue stands for no view that could be named, and has to be opened again.
     pub fn take_back(&mut self, alloc: Global, view: &View, event: &Stamp) -> Result<(), AllocError>
         requires valid { IsValidPlacing self.old.rules self.old.grid (rows_in view.now) }
         requires least { IsLeast (IsNative self.old.rules self.old.grid self.old.region (rows_in view.now)) event.now }

@@ -1,4 +1,4 @@
-//! Queues of regions that are kept while a cell run goes on, beside queues opened anew, and beside rows worked out by
+//! Queues of regions that are kept while a cell run goes on, beside queues that are opened again, and beside rows worked out by
 //! hand.
 
 ghost use Rattle.std.specs.Prelude.{◌≡◌, IfOk};
