@@ -9,8 +9,8 @@ use Rattle.report_audit.specs.Compared.{Compares, IsVerdict, LeavesNone}
 use Rattle.report_audit.specs.declared.verdict.Verdict.{Verdict}
 use Rattle.report_audit.specs.declared.verdict.Verdict.TheVariants.{Same, Line}
 use Rattle.report_audit.proofs.Fronts.{turned_leaves_nothing}
-use Rattle.hard_disks.specs.declared.audit.AuditFault.{AuditFault}
-use Rattle.hard_disks.specs.declared.audit.AuditFault.TheVariants.{Scene, ReadFault, NoMemory}
+use Rattle.hard_disks.specs.declared.auditing.AuditFault.{AuditFault}
+use Rattle.hard_disks.specs.declared.auditing.AuditFault.TheVariants.{Scene, ReadFault, NoMemory}
 use Rattle.hard_disks.specs.Audits.{HasRead, ComparesRun, IsUnrefused, IsAudit, IsAudited, IsClaimedOf, IsRead, Empties, CountsAudit}
 
 -- what is left after it is turned, of known bytes

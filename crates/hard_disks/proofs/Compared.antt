@@ -15,7 +15,7 @@ use Rattle.hard_disks.specs.Reports.{IsReport}
 use Rattle.hard_disks.specs.Answers.{Wrote, WroteWhole, WrotePrefix}
 use Rattle.hard_disks.specs.Shows.{IsOfScene}
 use Rattle.hard_disks.specs.Audits.{ComparesRun, IsUnrefused, CountsAudit, answer_of, is_whole}
-use Rattle.hard_disks.specs.declared.audit.AuditFault.{AuditFault}
+use Rattle.hard_disks.specs.declared.auditing.AuditFault.{AuditFault}
 use Rattle.report_audit.specs.Comparing.{CountsJudged}
 use Rattle.report_audit.specs.declared.verdict.NoVerdict.{NoVerdict}
 use Rattle.report_audit.specs.declared.verdict.NoVerdict.TheVariants.{Unread, Unfinished}

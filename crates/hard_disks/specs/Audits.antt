@@ -13,8 +13,8 @@ use Rattle.report_audit.specs.declared.verdict.NoVerdict.{NoVerdict}
 use Rattle.report_audit.specs.declared.verdict.NoVerdict.TheVariants.{Unread, Unfinished}
 use Rattle.hard_disks.specs.declared.status.Status.{Status}
 use Rattle.hard_disks.specs.declared.status.Status.TheVariants.{Done, SpeedLimit, RoundLimit}
-use Rattle.hard_disks.specs.declared.audit.AuditFault.{AuditFault}
-use Rattle.hard_disks.specs.declared.audit.AuditFault.TheVariants.{Scene, ReadFault, NoMemory}
+use Rattle.hard_disks.specs.declared.auditing.AuditFault.{AuditFault}
+use Rattle.hard_disks.specs.declared.auditing.AuditFault.TheVariants.{Scene, ReadFault, NoMemory}
 use Rattle.hard_disks.specs.Reports.{IsReport, IsReadingOf}
 
 -- ---- what an audit says

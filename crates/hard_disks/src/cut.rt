@@ -1,6 +1,7 @@
 //! A run up to a tick, and what is left of it.
 
 ghost use Rattle.std.specs.Prelude.{◌≤◌, IfOk, IfErr};
+ghost use Rattle.cell_grid.specs.Grid.{IsAsked};
 ghost use Rattle.event_rules.specs.Tellings.{AwaitsRun, RunTold, RunCutShort, CountsRun};
 ghost use Rattle.resume.specs.Parts.{before_scene};
 ghost use Rattle.hard_disks.specs.Cut.{CutTold};
@@ -8,7 +9,7 @@ ghost use Rattle.hard_disks.specs.Cut.{CutTold};
 use crate::engines::Engine;
 use event_rules::{Limit, Listener, Outcome, RunFault};
 use fixed_motion::Scene;
-use region_core::Gate;
+use region_core::{Burst, Gate, Idle};
 use resume::{before, rest};
 use std::alloc::Global;
 use std::sync::Wait;
@@ -23,17 +24,42 @@ pub enum Cut {
     Limit(Limit),
 }
 
-/// Runs a scene up to a tick, which is at most its last one, tells each change before it in the order
-/// of the stamps, and answers the rest as a scene of its own.
+/// Runs a scene over so many regions, 1 to [`MAX_REGIONS`](cell_grid::MAX_REGIONS), up to a tick, which is at most its
+/// last one, tells each change before it in the order of the stamps, and answers the rest as a scene of its own. The
+/// burst may do with the regions what it will: what is told and what is left are the same.
 ///
 /// # Errors
 /// The listener refused a change, and its count of refusals rose; or out of memory.
-pub fn cut_at<R: Threads + Wait + Sync, G: Gate, L: Listener>(
+pub fn cut_at<R: Threads + Wait + Sync, B: Burst<Idle, ()>, L: Listener>(
     rt: &R,
     alloc: Global,
     scene: &Scene,
     at: u64,
-    engine: &Engine<'_, G>,
+    regions: u32,
+    burst: &mut B,
+    listener: &mut L,
+) -> Result<Cut, RunFault>
+    requires asked { IsAsked regions }
+    requires at { at ≤ scene.now.rules.end }
+    requires awaited { AwaitsRun L.after L.awaits (before_scene scene.now at) (L.meaning listener.old) }
+    ensures cut { IfOk result (λ cut.
+        CutTold L.after scene.now at cut (L.meaning listener.old) (L.meaning listener.new)) }
+    ensures cut_short { IfErr result (λ fault.
+        RunCutShort L.after L.torn (before_scene scene.now at) fault
+        (L.meaning listener.old) (L.meaning listener.new)) }
+    ensures counts { CountsRun (L.faults listener.old) (L.faults listener.new) result }
+{
+    let mut engine = Engine::over(regions, burst);
+    cut_by(rt, alloc, scene, at, &mut engine, listener)
+}
+
+/// The same by an engine.
+pub fn cut_by<R: Threads + Wait + Sync, G: Gate, B: Burst<Idle, ()>, L: Listener>(
+    rt: &R,
+    alloc: Global,
+    scene: &Scene,
+    at: u64,
+    engine: &mut Engine<'_, G, B>,
     listener: &mut L,
 ) -> Result<Cut, RunFault>
     requires at { at ≤ scene.now.rules.end }
@@ -54,12 +80,12 @@ pub fn cut_at<R: Threads + Wait + Sync, G: Gate, L: Listener>(
 }
 
 // Runs the part of a scene before the tick.
-fn run_before<R: Threads + Wait + Sync, G: Gate, L: Listener>(
+fn run_before<R: Threads + Wait + Sync, G: Gate, B: Burst<Idle, ()>, L: Listener>(
     rt: &R,
     alloc: Global,
     scene: &Scene,
     at: u64,
-    engine: &Engine<'_, G>,
+    engine: &mut Engine<'_, G, B>,
     listener: &mut L,
 ) -> Result<Outcome, RunFault>
     requires at { at ≤ scene.now.rules.end }

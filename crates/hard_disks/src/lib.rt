@@ -2,10 +2,10 @@
 //! called with and the bytes of a scene to the bytes of the output.
 //!
 //! The program itself, `hard_disks_program`, calls [`top_gathered`] or [`top_watched`] over standard input and output,
-//! and adds nothing to what is written.
+//! and adds nothing to what is written. [`audit`] and [`cut_at`] are for a caller that brings a burst of its own.
 #![tactic(auto)]
 
-mod audit;
+mod auditing;
 mod calls;
 mod crew;
 mod cut;
@@ -15,6 +15,7 @@ mod foreground;
 mod gathering;
 mod laws;
 mod moments;
+mod over_burst;
 mod process;
 mod progress_line;
 mod refusals;
@@ -25,7 +26,9 @@ mod time_sharing;
 mod timely;
 mod verdicts;
 
+pub use auditing::{AuditFault, audit};
 pub use calls::{refuse_words, top, top_watched};
+pub use cut::{Cut, cut_at};
 pub use foreground::{Terminal, is_in_foreground};
 pub use gathering::top_gathered;
 pub use laws::{
@@ -33,6 +36,7 @@ pub use laws::{
     one_output, output_depends_on_alone,
 };
 pub use process::{Terminals, run_process, run_streams};
+pub use report_audit::{Line, Verdict};
 pub use status::Status;
 pub use time_sharing::TimeSharing;
 pub use timely::Timely;

@@ -7,7 +7,7 @@ ghost use Rattle.hard_disks.specs.Output.{IsCutText};
 ghost use Rattle.hard_disks.specs.Answers.{Wrote, CountsWrites};
 ghost use Rattle.hard_disks.specs.Shows.{IsOfScene};
 
-use crate::cut::{Cut, cut_at};
+use crate::cut::{Cut, cut_by};
 use crate::engines::Engine;
 use crate::refusals::late_cut_line;
 use crate::show::{end_report, status_of_fault, write_scene, write_text};
@@ -15,7 +15,7 @@ use crate::status::Status;
 use collision_report::{Format, Reporter, StateTable};
 use event_rules::Outcome;
 use fixed_motion::Scene;
-use region_core::Gate;
+use region_core::{Burst, Gate, Idle};
 use report_ports::Sink;
 use std::alloc::Global;
 use std::sync::Wait;
@@ -23,10 +23,10 @@ use std::thread::Threads;
 
 /// Runs the scene by an engine up to a tick, and writes what is left of it. A tick after its last one is
 /// refused.
-pub fn write_cut<R: Threads + Wait + Sync, G: Gate, K: Sink>(
+pub fn write_cut<R: Threads + Wait + Sync, G: Gate, B: Burst<Idle, ()>, K: Sink>(
     rt: &R,
     alloc: Global,
-    engine: &Engine<'_, G>,
+    engine: &mut Engine<'_, G, B>,
     format: Format,
     at: u64,
     scene: &Scene,
@@ -44,10 +44,10 @@ pub fn write_cut<R: Threads + Wait + Sync, G: Gate, K: Sink>(
 }
 
 // The same up to a tick of the scene.
-fn write_rest<R: Threads + Wait + Sync, G: Gate, K: Sink>(
+fn write_rest<R: Threads + Wait + Sync, G: Gate, B: Burst<Idle, ()>, K: Sink>(
     rt: &R,
     alloc: Global,
-    engine: &Engine<'_, G>,
+    engine: &mut Engine<'_, G, B>,
     format: Format,
     at: u64,
     scene: &Scene,
@@ -68,10 +68,10 @@ fn write_rest<R: Threads + Wait + Sync, G: Gate, K: Sink>(
 
 // The same with the table of a run that begins. Where the run passes a limit before the tick, its report is
 // written, in the short form, which has the end alone.
-fn write_left<R: Threads + Wait + Sync, G: Gate, K: Sink>(
+fn write_left<R: Threads + Wait + Sync, G: Gate, B: Burst<Idle, ()>, K: Sink>(
     rt: &R,
     alloc: Global,
-    engine: &Engine<'_, G>,
+    engine: &mut Engine<'_, G, B>,
     format: Format,
     at: u64,
     scene: &Scene,
@@ -86,7 +86,7 @@ fn write_left<R: Threads + Wait + Sync, G: Gate, K: Sink>(
     ensures counts { CountsWrites (K.faults sink.old) (K.faults sink.new) result }
 {
     let mut reporter = Reporter::new(table, sink, Format::Summary);
-    match cut_at(rt, alloc, scene, at, engine, &mut reporter) {
+    match cut_by(rt, alloc, scene, at, engine, &mut reporter) {
         Ok(Cut::Rest(rest)) => write_scene(alloc, "rest", format, &rest, sink),
         Ok(Cut::Limit(limit)) => end_report(&mut reporter, scene, &Outcome::Limit(limit)),
         Err(fault) => status_of_fault(fault),

@@ -7,12 +7,12 @@ ghost use Rattle.text_lines.specs.Lines.{line_of};
 ghost use Rattle.hard_disks.specs.Answers.{Answers, LeavesNothing, CountsReads, CountsWrites};
 ghost use Rattle.hard_disks.specs.Verdicts.{expected_line, verdict_text, verdict_status};
 
-use crate::audit::{AuditFault, audit};
+use crate::auditing::{AuditFault, audit_by};
 use crate::engines::Engine;
 use crate::refusals::refusal_line;
 use crate::show::write_text;
 use crate::status::Status;
-use region_core::Gate;
+use region_core::{Burst, Gate, Idle};
 use report_audit::Verdict;
 use report_ports::{Sink, Source};
 use std::alloc::Global;
@@ -21,10 +21,10 @@ use std::thread::Threads;
 use text_lines::Line;
 
 /// Audits the claimed report of a source, and writes the verdict, or the line of a refused scene.
-pub fn show_audit<R: Threads + Wait + Sync, G: Gate, S: Source, K: Sink>(
+pub fn show_audit<R: Threads + Wait + Sync, G: Gate, B: Burst<Idle, ()>, S: Source, K: Sink>(
     rt: &R,
     alloc: Global,
-    engine: &Engine<'_, G>,
+    engine: &mut Engine<'_, G, B>,
     source: &mut S,
     sink: &mut K,
 ) -> Status
@@ -34,7 +34,7 @@ pub fn show_audit<R: Threads + Wait + Sync, G: Gate, S: Source, K: Sink>(
     ensures reads { CountsReads (S.faults source.old) (S.faults source.new) result }
     ensures writes { CountsWrites (K.faults sink.old) (K.faults sink.new) result }
 {
-    match audit(rt, alloc, source, engine) {
+    match audit_by(rt, alloc, source, engine) {
         Ok(verdict) => {
             let text = verdict_text(&verdict);
             write_text(sink, text.as_bytes(), verdict_status(&verdict))

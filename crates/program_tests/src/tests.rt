@@ -1,5 +1,6 @@
 //! One module for each part.
 
+mod bursts;
 mod faults;
 mod gathering;
 mod helpers;

@@ -13,8 +13,8 @@ use Rattle.hard_disks.proofs.Watched.{broken_counts}
 use Rattle.hard_disks.proofs.Left.{cut_part, cut_rest, cut_limit}
 use Rattle.hard_disks.proofs.rest.write_left.Goals as goal
 
-pub cut_at-requires-clause-awaited : goal.cut_at-requires-clause-awaited
-cut_at-requires-clause-awaited g c κs within =
+pub cut_by-requires-clause-awaited : goal.cut_by-requires-clause-awaited
+cut_by-requires-clause-awaited g c κs within =
     let K = g.K.Sink in let scene = c.args.scene.now in
     let first = c.new-reporter.ensures.meaning ∙ ap (λ (t : TableData). so_far Summary t (K.taken c.args.sink.now) 0 0) c.requires.table in
     λ changes later steps. report_awaits Summary scene (K.taken c.args.sink.now) _ changes later c.requires.valid first

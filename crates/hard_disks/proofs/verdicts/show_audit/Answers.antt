@@ -1,6 +1,6 @@
 use Rattle.std.proofs.Common.{◌∙◌, Err, sym, subst}
 use Rattle.report_audit.specs.declared.verdict.Verdict.{Verdict}
-use Rattle.hard_disks.specs.declared.audit.AuditFault.{AuditFault}
+use Rattle.hard_disks.specs.declared.auditing.AuditFault.{AuditFault}
 use Rattle.hard_disks.specs.declared.status.Status.TheVariants.{SceneRefused}
 use Rattle.hard_disks.specs.Audits.{IsAudit, CountsAudit}
 use Rattle.hard_disks.proofs.Answered.{verdict_answered, refusal_answered, unread_answered, memory_answered, text_reads, own_verdict}
@@ -27,29 +27,29 @@ returns-in-Err-NoMemory-clause-answers g c = λ settings mode. memory_answered s
 
 pub returns-in-Err-ReadFault-clause-reads : goal.returns-in-Err-ReadFault-clause-reads
 returns-in-Err-ReadFault-clause-reads g c = let S = g.S.Source in
-    subst (λ (f : AuditFault). CountsAudit {A = Verdict} (S.faults c.args.source.now) (S.faults c.audit.new.source) (Err f)) c.in-Err-ReadFault.field-0-is
+    subst (λ (f : AuditFault). CountsAudit {A = Verdict} (S.faults c.args.source.now) (S.faults c.audit_by.new.source) (Err f)) c.in-Err-ReadFault.field-0-is
     c.in-Err-ReadFault.ensures.counts
 
 pub returns-in-Ok-clause-emptied : goal.returns-in-Ok-clause-emptied
 returns-in-Ok-clause-emptied g c = let K = g.K.Sink in let S = g.S.Source in
-    verdict_leaves (S.left c.args.source.now) (S.left c.audit.new.source) (K.taken c.args.sink.now) (K.taken c.write_text.new.sink) c.in-Ok.verdict
+    verdict_leaves (S.left c.args.source.now) (S.left c.audit_by.new.source) (K.taken c.args.sink.now) (K.taken c.write_text.new.sink) c.in-Ok.verdict
     c.as_bytes.result.now c.verdict_status.result c.write_text.result c.verdict_status.ensures.status c.in-Ok.ensures.emptied c.write_text.ensures.text
 
 pub returns-in-Err-Scene-clause-emptied : goal.returns-in-Err-Scene-clause-emptied
 returns-in-Err-Scene-clause-emptied g c = let K = g.K.Sink in let S = g.S.Source in
-    cut_leaves (S.left c.args.source.now) (S.left c.audit.new.source) c.write_text-in-Err-Scene.result
+    cut_leaves (S.left c.args.source.now) (S.left c.audit_by.new.source) c.write_text-in-Err-Scene.result
     (line_cut c.as_bytes-in-Err-Scene.result.now c.write_text-in-Err-Scene.result (K.taken c.args.sink.now) (K.taken c.write_text-in-Err-Scene.new.sink)
     c.write_text-in-Err-Scene.ensures.text)
 
 pub returns-in-Ok-clause-reads : goal.returns-in-Ok-clause-reads
 returns-in-Ok-clause-reads g c = let K = g.K.Sink in let S = g.S.Source in
-    text_reads (S.faults c.args.source.now) (S.faults c.audit.new.source) c.as_bytes.result.now c.verdict_status.result c.write_text.result
+    text_reads (S.faults c.args.source.now) (S.faults c.audit_by.new.source) c.as_bytes.result.now c.verdict_status.result c.write_text.result
     (K.taken c.args.sink.now) (K.taken c.write_text.new.sink) (subst IsOwn (sym c.verdict_status.ensures.status) (own_verdict c.in-Ok.verdict))
     c.write_text.ensures.text c.in-Ok.ensures.counts
 
 pub returns-in-Err-Scene-clause-reads : goal.returns-in-Err-Scene-clause-reads
 returns-in-Err-Scene-clause-reads g c = let K = g.K.Sink in let S = g.S.Source in
-    text_reads (S.faults c.args.source.now) (S.faults c.audit.new.source) c.as_bytes-in-Err-Scene.result.now SceneRefused c.write_text-in-Err-Scene.result
+    text_reads (S.faults c.args.source.now) (S.faults c.audit_by.new.source) c.as_bytes-in-Err-Scene.result.now SceneRefused c.write_text-in-Err-Scene.result
     (K.taken c.args.sink.now) (K.taken c.write_text-in-Err-Scene.new.sink) tt c.write_text-in-Err-Scene.ensures.text
-    (subst (λ (f : AuditFault). CountsAudit {A = Verdict} (S.faults c.args.source.now) (S.faults c.audit.new.source) (Err f)) c.in-Err-Scene.field-0-is
+    (subst (λ (f : AuditFault). CountsAudit {A = Verdict} (S.faults c.args.source.now) (S.faults c.audit_by.new.source) (Err f)) c.in-Err-Scene.field-0-is
     c.in-Err-Scene.ensures.counts)

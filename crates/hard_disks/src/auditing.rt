@@ -1,6 +1,7 @@
 //! The audit of a claimed report: whether it is the report of the scene that stands before it.
 
 ghost use Rattle.std.specs.Prelude.{◌≡◌, IfOk};
+ghost use Rattle.cell_grid.specs.Grid.{IsAsked};
 ghost use Rattle.hard_disks.specs.Answers.{Wrote};
 ghost use Rattle.hard_disks.specs.Reports.{IsReport};
 ghost use Rattle.hard_disks.specs.Shows.{IsOfScene};
@@ -12,7 +13,7 @@ use crate::status::Status;
 use collision_report::Format;
 use fixed_motion::Scene;
 use live_progress::Board;
-use region_core::Gate;
+use region_core::{Burst, Gate, Idle};
 use report_audit::{Comparing, NoVerdict, Parted, Unread, Verdict};
 use report_ports::{Sink, Source};
 use scene_reader::{SceneFault, read_scene};
@@ -31,22 +32,41 @@ pub enum AuditFault {
     NoMemory,
 }
 
-/// Reads a scene from the bytes before the parting line, runs it by the engine, and compares the report of its
-/// run with the bytes after that line while the run tells it. At the end of the first line that is wrong the run ends.
+/// Reads a scene from the bytes before the parting line, runs it over so many regions, 1 to
+/// [`MAX_REGIONS`](cell_grid::MAX_REGIONS), and compares the report of its run with the bytes after that line while the
+/// run tells it. At the end of the first line that is wrong the run ends. The burst may do with the regions what it will:
+/// the verdict is the same.
 ///
 /// # Errors
 /// The scene was refused, the source failed, or out of memory.
-pub fn audit<R: Threads + Wait + Sync, S: Source, G: Gate>(
+pub fn audit<R: Threads + Wait + Sync, S: Source, B: Burst<Idle, ()>>(
     rt: &R,
     alloc: Global,
     source: &mut S,
-    engine: &Engine<'_, G>,
+    regions: u32,
+    burst: &mut B,
 ) -> Result<Verdict, AuditFault>
+    requires asked { IsAsked regions }
     ensures audits { IsAudit (S.left source.old) result }
     // Where the claimed report is the report, the source was read to its end.
     ensures emptied { Empties (S.left source.old) (S.left source.new) result }
     // The source failed exactly where that is answered; so where it didn't, a verdict comes or a refusal,
     // unless out of memory.
+    ensures counts { CountsAudit (S.faults source.old) (S.faults source.new) result }
+{
+    let mut engine = Engine::over(regions, burst);
+    audit_by(rt, alloc, source, &mut engine)
+}
+
+/// The same by an engine.
+pub fn audit_by<R: Threads + Wait + Sync, S: Source, G: Gate, B: Burst<Idle, ()>>(
+    rt: &R,
+    alloc: Global,
+    source: &mut S,
+    engine: &mut Engine<'_, G, B>,
+) -> Result<Verdict, AuditFault>
+    ensures audits { IsAudit (S.left source.old) result }
+    ensures emptied { Empties (S.left source.old) (S.left source.new) result }
     ensures counts { CountsAudit (S.faults source.old) (S.faults source.new) result }
 {
     let mut parted = Parted::new(source);
@@ -90,10 +110,10 @@ fn audit_fault(fault: SceneFault) -> AuditFault
 
 // Compares the report of the scene's run with what the source has left, and gives the source back. The answer goes
 // another way: of a source within a pair a caller wouldn't know which loan it holds.
-fn compare_run<R: Threads + Wait + Sync, C: Source, G: Gate>(
+fn compare_run<R: Threads + Wait + Sync, C: Source, G: Gate, B: Burst<Idle, ()>>(
     rt: &R,
     alloc: Global,
-    engine: &Engine<'_, G>,
+    engine: &mut Engine<'_, G, B>,
     scene: &Scene,
     claimed: C,
     answer: &mut Result<Verdict, AuditFault>,
@@ -134,10 +154,10 @@ fn is_whole(status: Status) -> bool
 }
 
 // Writes the report of the scene's run, of which nothing is published: nobody looks at its board.
-fn write_unwatched<R: Threads + Wait + Sync, G: Gate, K: Sink>(
+fn write_unwatched<R: Threads + Wait + Sync, G: Gate, B: Burst<Idle, ()>, K: Sink>(
     rt: &R,
     alloc: Global,
-    engine: &Engine<'_, G>,
+    engine: &mut Engine<'_, G, B>,
     scene: &Scene,
     sink: &mut K,
 ) -> Status

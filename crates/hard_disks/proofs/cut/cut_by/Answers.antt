@@ -4,7 +4,7 @@ use Rattle.fixed_motion.specs.Scene.{IsValidScene}
 use Rattle.event_rules.specs.declared.outcome.Outcome.TheVariants.{Done, Limit as Passes}
 use Rattle.resume.specs.Parts.{before_scene}
 use Rattle.hard_disks.proofs.Cuts.{all_was_told, rest_told, limit_told, same_end}
-use Rattle.hard_disks.proofs.cut.cut_at.Goals as goal
+use Rattle.hard_disks.proofs.cut.cut_by.Goals as goal
 
 pub returns-in_err-rest-in-Done-clause-cut_short :
     goal.returns-in_err-rest-in-Done-clause-cut_short

@@ -1,5 +1,5 @@
 use Rattle.hard_disks.proofs.Answered.{scene_reading, scene_counts, read_whole, fault_audited, fault_counted}
-use Rattle.hard_disks.proofs.audit.read_front.Goals as goal
+use Rattle.hard_disks.proofs.auditing.read_front.Goals as goal
 
 pub returns-in-Ok-clause-reads : goal.returns-in-Ok-clause-reads
 returns-in-Ok-clause-reads g c =

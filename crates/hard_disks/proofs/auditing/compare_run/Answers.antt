@@ -1,7 +1,7 @@
 use Rattle.std.proofs.Common.{◌∙◌, ap, subst}
 use Rattle.report_audit.specs.Comparing.{CountsJudged}
 use Rattle.hard_disks.proofs.Compared.{run_compared, run_counted, run_unrefused}
-use Rattle.hard_disks.proofs.audit.compare_run.Goals as goal
+use Rattle.hard_disks.proofs.auditing.compare_run.Goals as goal
 
 pub returns-clause-compares : goal.returns-clause-compares
 returns-clause-compares g c =

@@ -1,0 +1,56 @@
+//! Bursts of a caller's own, by which a scene can be run.
+
+ghost use Rattle.cell_grid.specs.Grid.{IsAsked};
+
+use region_core::{Beside, Burst, Idle, Region};
+use std::alloc::{AllocError, Global};
+use std::sync::Wait;
+use std::thread::Threads;
+
+/// A burst with nothing to do beside, and over how many regions it is to work.
+#[derive(Drop)]
+pub struct OverBurst<'b, B> {
+    /// 1 to [`MAX_REGIONS`](cell_grid::MAX_REGIONS).
+    pub regions: u32,
+    /// What works on them.
+    pub burst: &'b mut B,
+    pub ghost asked: { IsAsked regions },
+}
+
+// A run hands each burst what is to be told beside it. The caller's burst is spared that, since the caller needn't know
+// who is told: what isn't told beside a burst is told after it.
+impl<S: Beside<W>, W, B: Burst<Idle, ()>> Burst<S, W> for OverBurst<'_, B> {
+    ghost keeping = { λ over. B.keeping over.burst.now };
+
+    fn keeps(&self) -> bool {
+        self.burst.keeps()
+    }
+
+    fn burst<R: Threads + Wait + Sync>(
+        &mut self,
+        rt: &R,
+        alloc: Global,
+        regions: Vec<Region>,
+        _beside: &mut S,
+        _lent: &mut W,
+    ) -> Result<Vec<Region>, AllocError> {
+        self.burst.burst(rt, alloc, regions, &mut Idle, &mut ())
+    }
+}
+
+/// Stands for a caller's burst where there is none: no value is of this type.
+#[derive(Drop)]
+pub enum NoBurst {}
+
+impl Burst<Idle, ()> for NoBurst {
+    fn burst<R: Threads + Wait + Sync>(
+        &mut self,
+        _rt: &R,
+        _alloc: Global,
+        _regions: Vec<Region>,
+        _beside: &mut Idle,
+        _lent: &mut (),
+    ) -> Result<Vec<Region>, AllocError> {
+        match *self {}
+    }
+}
