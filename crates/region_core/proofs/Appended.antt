@@ -25,7 +25,7 @@ use Rattle.local_run.specs.LocalRun.{Local, Trails, trail_of, told, IsInPlace, I
 use Rattle.local_run.specs.Answers.{with_entry, IsInTurn}
 use Rattle.region_parts.specs.Inbox.{InboxData, next_from, taken_from, with_taken}
 use Rattle.local_run.specs.Taken.{is_of, taken_of}
-use Rattle.region_core.specs.Live.{base_in, run_in, start_in, now_in, HasTrace, IsInbox, IsOutbox, IsLive}
+use Rattle.region_core.specs.Live.{base_in, run_in, start_in, now_in, HasTrace, IsInbox, IsOutbox, IsBodyOf}
 use Rattle.event_log.specs.Logged.{Logged, entries_in}
 use Rattle.event_log.specs.Undoing.{rows_by}
 use Rattle.event_log.specs.Traced.{IsTraced}
@@ -79,9 +79,9 @@ further_run floor live new e traced heard more set =
     }
 
 -- it keeps all again
-pub further_is : (home : Home) (floor : Stamp) (live new : Live) (e : Entry) → IsLive home floor live →
+pub further_is : (home : Home) (floor : Stamp) (live new : Live) (e : Entry) → IsBodyOf home floor live →
     length (entries_in live.log) < MAX_ENTRIES → IsInTurn (run_in floor live) (entry_stamp e) →
-    IsMove home (now_in live) e → IsFurther home live new e → IsLive home floor new
+    IsMove home (now_in live) e → IsFurther home live new e → IsBodyOf home floor new
 further_is home floor live new e kept room turn move is = record {
   right = subst (IsRight home) run (right_appended home (run_in floor live) e kept.right room turn move);
   inbox = subst (λ (r : Local). IsInbox home r.log new.inbox) run is.inbox;
@@ -154,7 +154,7 @@ outbox_native home floor live x sent is size each = record {
 
 -- a message that waits is that of a region
 pub sender_is_region : (home : Home) (floor : Stamp) (live : Live) (q : ℕ) (m : Message) →
-    IsLive home floor live → Fits home (run_in floor live) (TakeIn q m) → IsRegion home.grid q
+    IsBodyOf home floor live → Fits home (run_in floor live) (TakeIn q m) → IsRegion home.grid q
 sender_is_region home floor live q m is fits =
     let first = fits.2.first in
     let among = waiting_was_heard (start_in live) (entries_in live.log) q m
@@ -169,7 +169,7 @@ heard_among home floor live q m fits =
     (subst (IsAmong m) (sym fits.2.first.1) (inl refl))
 
 pub heard_valid : (home : Home) (floor : Stamp) (live : Live) (q : ℕ) (m : Message) → IsInPlace home →
-    IsLive home floor live → Fits home (run_in floor live) (TakeIn q m) →
+    IsBodyOf home floor live → Fits home (run_in floor live) (TakeIn q m) →
     IsValidPlacing live.queue.rules live.queue.grid (rows_in (set_rows live.view m.rows))
 heard_valid home floor live q m place is fits =
     let rows = ((is.right.heard q).rows m (heard_among home floor live q m fits)).1 in
@@ -185,14 +185,14 @@ heard_valid home floor live q m place is fits =
     }) valid)
 
 pub waits_in : (home : Home) (floor : Stamp) (live : Live) (q : ℕ) (m : Message) →
-    IsLive home floor live → Fits home (run_in floor live) (TakeIn q m) →
+    IsBodyOf home floor live → Fits home (run_in floor live) (TakeIn q m) →
     IsSome (next_from live.inbox q)
 waits_in home floor live q m is fits =
     subst (λ (o : Option Message). IsSome o)
     (sym (next_of_waits home live is.inbox q m fits.2.first.0 fits.2.first.1)) refl
 
 pub few_taken : (home : Home) (floor : Stamp) (live : Live) (q : ℕ) (m : Message) →
-    IsLive home floor live → Fits home (run_in floor live) (TakeIn q m) →
+    IsBodyOf home floor live → Fits home (run_in floor live) (TakeIn q m) →
     taken_from live.inbox q < MAX_ENTRIES
 few_taken home floor live q m is fits =
     let same = is.inbox.taken q (sender_is_region home floor live q m is fits) in
@@ -202,13 +202,13 @@ few_taken home floor live q m is fits =
 
 -- ---- what may be run
 pub native_action : (home : Home) (floor : Stamp) (live : Live) (x : Action) → IsInPlace home →
-    IsLive home floor live → Fits home (run_in floor live) (Run x) →
+    IsBodyOf home floor live → Fits home (run_in floor live) (Run x) →
     IsValidAction home.rules home.grid (rows_in (now_in live).view) (stamp_of x) x
 native_action home floor live x place is fits = valid_action home (now_in live) x place
     (valid_now home (run_in floor live) place is.right) fits.2
 
 pub native_valid : (home : Home) (floor : Stamp) (live : Live) (x : Action) → IsInPlace home →
-    IsLive home floor live → Fits home (run_in floor live) (Run x) →
+    IsBodyOf home floor live → Fits home (run_in floor live) (Run x) →
     IsValidPlacing live.queue.rules live.queue.grid (rows_in (after_action live.view x))
 native_valid home floor live x place is fits =
     let rows = (native_action home floor live x place is fits).rows in
@@ -224,14 +224,14 @@ native_valid home floor live x place is fits =
       grid = sym is.queue.grid i;
     }) valid)
 
-pub after_what_was_sent : (home : Home) (floor : Stamp) (live : Live) (x : Action) → IsLive home floor live →
+pub after_what_was_sent : (home : Home) (floor : Stamp) (live : Live) (x : Action) → IsBodyOf home floor live →
     Fits home (run_in floor live) (Run x) → (to : ℕ) → SendsTo home to →
     IsAfterAll (trail_of live.sent.items to) (stamp_of x)
 after_what_was_sent home floor live x is fits to sends m among =
     sent_before_turn home.grid to (base_in live) floor (stamp_of x) (entries_in live.log) is.right.rises fits.1.1 m
     (subst (IsAmong m) (is.sent.each to sends.0 sends.1) among)
 
-pub cells_are : (home : Home) (floor : Stamp) (live : Live) → IsInPlace home → IsLive home floor live →
+pub cells_are : (home : Home) (floor : Stamp) (live : Live) → IsInPlace home → IsBodyOf home floor live →
     HasCells home.grid (rows_in live.view)
 cells_are home floor live place is = subst (λ (v : ViewData). HasCells home.grid (rows_in v)) (now_is live is.traced)
     (valid_now home (run_in floor live) place is.right).cell
@@ -248,8 +248,8 @@ pub record HasActed (home : Home) (live new : Live) (x : Action) : Type 0 where
   pub told : (to : ℕ) → SendsTo home to → trail_of new.sent.items to ≡ trail_of live.sent.items to
       ++ told (message_of home.grid to (rows_in live.view) x) []
 
-pub acted_is_live : (home : Home) (floor : Stamp) (live new : Live) (x : Action) → IsLive home floor live →
-    Fits home (run_in floor live) (Run x) → HasActed home live new x → IsLive home floor new
+pub acted_is_live : (home : Home) (floor : Stamp) (live new : Live) (x : Action) → IsBodyOf home floor live →
+    Fits home (run_in floor live) (Run x) → HasActed home live new x → IsBodyOf home floor new
 acted_is_live home floor live new x kept fits is =
     further_is home floor live new (Native x) kept fits.0.0 fits.1 fits.2
     record {

@@ -8,6 +8,7 @@ use Rattle.local_run.specs.Answers.{StepsTo}
 use Rattle.local_run.specs.Running.{IsDueBefore, IsDueLater}
 use Rattle.local_run.specs.Steps.{Steps}
 use Rattle.region_core.specs.declared.live.Live.{Live}
+use Rattle.region_parts.specs.declared.place.Place.{Place}
 use Rattle.region_core.specs.Live.{run_in, region_in, HasDueBefore, HasDueLater}
 use Rattle.event_stamps.specs.Order.{Before}
 use Rattle.local_run.specs.declared.answers.Step.TheVariants.{Spent}
@@ -16,17 +17,16 @@ use Rattle.local_run.specs.Keeping.{IsDueIn}
 use Rattle.region_core.proofs.Shown.{seen_as}
 
 -- what the step makes of its body it makes of the region
-pub bounded_step : (home : Home) (floor bound : Stamp) (old new : Live) (last : Option Step) →
-    MatchOption last (HasDueLater home bound old × (new ≡ old))
-    (λ step. HasDueBefore home bound old × StepsTo home (run_in floor old) step (run_in floor new)) →
-    MatchOption last (IsDueLater bound (region_in home floor old)
-    × (region_in home floor new ≡ region_in home floor old))
-    (λ step. IsDueBefore bound (region_in home floor old)
-    × Steps (region_in home floor old) step (region_in home floor new))
-bounded_step home floor bound old new None (due, same) = (due, ap (region_in home floor) same)
-bounded_step home floor bound old new (Some step) (due, made) = (
+pub bounded_step : (place : Place) (bound : Stamp) (old new : Live) (last : Option Step) →
+    MatchOption last (HasDueLater place.home bound old × (new ≡ old))
+    (λ step. HasDueBefore place.home bound old
+    × StepsTo place.home (run_in place.floor old) step (run_in place.floor new)) →
+    MatchOption last (IsDueLater bound (region_in place old) × (region_in place new ≡ region_in place old))
+    (λ step. IsDueBefore bound (region_in place old) × Steps (region_in place old) step (region_in place new))
+bounded_step place bound old new None (due, same) = (due, ap (region_in place) same)
+bounded_step place bound old new (Some step) (due, made) = (
   due,
-  record { home = refl; floor = refl; run = (run_in floor new, made, refl) },
+  record { home = refl; floor = refl; run = (run_in place.floor new, made, refl) },
 )
 
 -- ---- what is known of an answer

@@ -3,7 +3,7 @@ use Rattle.std.proofs.Common.{◌≡◌, Option, Some, None, subst, sym, refl}
 use Rattle.std.specs.Prelude.{option_map, IfSome}
 use Rattle.event_stamps.specs.declared.Stamp.{Stamp}
 use Rattle.local_run.specs.declared.home.Home.{Home}
-use Rattle.region_parts.specs.declared.border.Border.{Border}
+use Rattle.region_parts.specs.declared.place.Place.{Place}
 use Rattle.region_core.specs.declared.live.Live.{Live}
 use Rattle.local_run.specs.LocalRun.{IsRight}
 use Rattle.local_run.specs.Opening.{RegionData}
@@ -11,43 +11,39 @@ use Rattle.region_core.specs.Live.{run_in, IsLive, IsSound}
 use Rattle.local_run.specs.Keeping.{IsKept}
 use Rattle.local_run.specs.RunOn.{BeginsAs}
 
-pub kept_is : {border : Border} (home : Home) (floor : Stamp) (live : Option Live) (region : RegionData) →
-    record { home = home; floor = floor; run = option_map (run_in floor) live } ≡ region →
-    IsSound home border floor live → IsKept region
-kept_is home floor live region is sound = subst IsKept is record {
-  place = sound.place;
-  floor = sound.in_time;
+pub kept_is : (place : Place) (live : Option Live) (region : RegionData) →
+    record { home = place.home; floor = place.floor; run = option_map (run_in place.floor) live } ≡ region →
+    IsSound place live → IsKept region
+kept_is place live region is sound = subst IsKept is record {
+  place = sound.place.home;
+  floor = sound.place.floor;
   run = right live sound.alive;
   begins = begins live;
 }
   where
-    right : (o : Option Live) → IfSome o (IsLive home floor) →
-        IfSome (option_map (run_in floor) o) (IsRight home)
+    right : (o : Option Live) → IfSome o (IsLive place) →
+        IfSome (option_map (run_in place.floor) o) (IsRight place.home)
     right None h = h
-    right (Some live) h = h.right
+    right (Some live) h = h.body.right
 
-    begins : (o : Option Live) → IfSome (option_map (run_in floor) o) (λ run. run.floor ≡ floor)
+    begins : (o : Option Live) → IfSome (option_map (run_in place.floor) o) (λ run. run.floor ≡ place.floor)
     begins None = tt
     begins (Some live) = refl
 
 -- ---- what it keeps after a step
-pub still_sound : {border : Border} (home : Home) (floor : Stamp) (old new : Option Live) →
-    IsSound home border floor old → IfSome new (IsLive home floor) → IsSound home border floor new
-still_sound home floor old new sound alive = record {
+pub still_sound : (place : Place) (old new : Option Live) → IsSound place old → IfSome new (IsLive place) →
+    IsSound place new
+still_sound place old new sound alive = record {
   place = sound.place;
-  far = sound.far;
-  in_time = sound.in_time;
   alive = alive;
 }
 
-pub spent_sound : {border : Border} (home : Home) (floor : Stamp) (old new : Option Live) →
-    IsSound home border floor old → new ≡ None → IsSound home border floor new
-spent_sound home floor old new sound gone = still_sound home floor old new sound
-    (subst (λ (o : Option Live). IfSome o (IsLive home floor)) (sym gone) tt)
+pub spent_sound : (place : Place) (old new : Option Live) → IsSound place old → new ≡ None → IsSound place new
+spent_sound place old new sound gone =
+    still_sound place old new sound (subst (λ (o : Option Live). IfSome o (IsLive place)) (sym gone) tt)
 
-pub body_is : {border : Border} (home : Home) (floor : Stamp) (o : Option Live) (live : Live) →
-    IsSound home border floor o → o ≡ Some live → IsLive home floor live
-body_is home floor o live sound here = subst (λ (p : Option Live). IfSome p (IsLive home floor)) here sound.alive
+pub body_is : (place : Place) (o : Option Live) (live : Live) → IsSound place o → o ≡ Some live → IsLive place live
+body_is place o live sound here = subst (λ (p : Option Live). IfSome p (IsLive place)) here sound.alive
 
 -- it begins as it did, where it is as it was
 pub still_begins : (home : Home) (floor : Stamp) (live : Option Live) (region : RegionData) →

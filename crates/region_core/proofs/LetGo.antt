@@ -16,7 +16,7 @@ use Rattle.region_parts.specs.Inbox.{InboxData, taken_from}
 use Rattle.local_run.specs.Taken.{taken_of}
 use Rattle.event_log.specs.Logged.{Logged, entries_in, backs_in}
 use Rattle.event_log.specs.Undoing.{undone}
-use Rattle.region_core.specs.Live.{base_in, run_in, start_in, HasTrace, IsInbox, IsOutbox, IsLive}
+use Rattle.region_core.specs.Live.{base_in, run_in, start_in, HasTrace, IsInbox, IsOutbox, IsBodyOf}
 use Rattle.local_run.specs.Raising.{raised_run, HasNoneWaitingBelow, IsRaised}
 use Rattle.region_core.proofs.Traced.{trace_raised, base_raised, entries_dropped}
 use Rattle.region_core.proofs.Rewound.{no_more_taken}
@@ -72,7 +72,7 @@ pub log_let_go : (to : Stamp) (old : Live) (log : List Logged) (gone : ℕ) →
     entries_in log ≡ entries_from to (entries_in old.log)
 log_let_go to old log gone rest left = ap entries_in left ∙ sym (entries_dropped gone old.log) ∙ rest
 
-pub raised_is : (home : Home) (floor to : Stamp) (old new : Live) (gone : ℕ) → IsLive home floor old →
+pub raised_is : (home : Home) (floor to : Stamp) (old new : Live) (gone : ℕ) → IsBodyOf home floor old →
     HasNoneWaitingBelow to (run_in floor old) → IsRaised home to (run_in floor old) →
     take gone (entries_in old.log) ≡ entries_below to (entries_in old.log) →
     drop gone (entries_in old.log) ≡ entries_from to (entries_in old.log) →
@@ -80,7 +80,7 @@ pub raised_is : (home : Home) (floor to : Stamp) (old new : Live) (gone : ℕ) �
     length new.inbox.taken ≡ length old.inbox.taken →
     ((q : ℕ) → taken_from new.inbox q + taken_of q (entries_below to (entries_in old.log))
     ≡ taken_from old.inbox q) →
-    new.sent.items ≡ map (from to) old.sent.items → new.queue ≡ old.queue → IsLive home to new
+    new.sent.items ≡ map (from to) old.sent.items → new.queue ≡ old.queue → IsBodyOf home to new
 raised_is home floor to old new gone is none raised below rest log view heard counts taken sent queue = record {
   right = subst (IsRight home) run raised.right;
   inbox = subst (λ (r : Local). IsInbox home r.log new.inbox) run
@@ -105,7 +105,7 @@ raised_is home floor to old new gone is none raised below rest log view heard co
 
 -- ---- the entries that go
 pub gone_taken : (home : Home) (floor to : Stamp) (live : Live) (es : List Entry) (q : ℕ) →
-    IsLive home floor live → es ≡ entries_below to (entries_in live.log) → taken_of q es ≤ taken_from live.inbox q
+    IsBodyOf home floor live → es ≡ entries_below to (entries_in live.log) → taken_of q es ≤ taken_from live.inbox q
 gone_taken home floor to live es q is gone =
     let same = ap (taken_of q) gone in
     let parts = taken_below q to (entries_in live.log) in

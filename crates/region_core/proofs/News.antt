@@ -23,7 +23,7 @@ use Rattle.local_run.specs.Answers.{HasHeard, HearsFrom}
 use Rattle.event_log.specs.Logged.{Logged, entries_in, backs_in}
 use Rattle.event_log.specs.Undoing.{undone}
 use Rattle.event_log.specs.Traced.{IsTraced}
-use Rattle.region_core.specs.Live.{base_in, run_in, IsInbox, IsOutbox, IsLive}
+use Rattle.region_core.specs.Live.{base_in, run_in, IsInbox, IsOutbox, IsBodyOf}
 use Rattle.region_parts.specs.Inbox.{mixed}
 use Rattle.region_core.specs.Replaced.{HearsOn, IsReplaced}
 use Rattle.local_run.proofs.Logs.{below_kept, kept_below, all_below, below_whole}
@@ -88,9 +88,9 @@ has_heard floor at k sent old mid new base heard log lt is = record {
 }
 
 pub news_live : (home : Home) (floor at : Stamp) (k : ℕ) (sent : List Message) (mid new : Live) →
-    IsLive home floor mid → entries_below at (entries_in mid.log) ≡ entries_in mid.log →
+    IsBodyOf home floor mid → entries_below at (entries_in mid.log) ≡ entries_in mid.log →
     AgreeBelow at (trail_of mid.inbox.heard k) sent → IsHearable home floor k sent →
-    k < length mid.inbox.heard → IsReplaced k sent mid new → IsLive home floor new
+    k < length mid.inbox.heard → IsReplaced k sent mid new → IsBodyOf home floor new
 news_live home floor at k sent mid new live all agree hearable lt is = record {
   right = subst (IsRight home) run (right_heard home (run_in floor mid) k sent at heard live.right agree hearable
       (heard_there mid.inbox.heard k sent lt) (λ q other. heard_elsewhere mid.inbox.heard k q sent other));
@@ -168,8 +168,8 @@ hears_all at k sent r new answer agree on = by_answer answer
 
 -- ---- what is sent is marked
 pub marked_live : (home : Home) (floor : Stamp) (old new : Live) → new.sent.items ≡ old.sent.items →
-    new ≡ record old { sent = new.sent } → IsLive home floor old → IsLive home floor new
-marked_live home floor old new sent rest live = subst (IsLive home floor) (sym rest) (record {
+    new ≡ record old { sent = new.sent } → IsBodyOf home floor old → IsBodyOf home floor new
+marked_live home floor old new sent rest live = subst (IsBodyOf home floor) (sym rest) (record {
   right = live.right;
   inbox = live.inbox;
   sent = subst (IsOutbox home (base_in old) (entries_in old.log)) (sym sent) live.sent;

@@ -23,7 +23,7 @@ use Rattle.local_run.specs.Answers.{HasDue, IsInTurn, IsShared}
 use Rattle.region_parts.specs.Inbox.{InboxData, next_from, head_stamp, IsFirstOf, IsLeastHead, IsSharedHead}
 use Rattle.local_run.specs.Taken.{taken_of}
 use Rattle.event_log.specs.Logged.{entries_in}
-use Rattle.region_core.specs.Live.{run_in, start_in, now_in, IsInbox, IsLive}
+use Rattle.region_core.specs.Live.{run_in, start_in, now_in, IsInbox, IsBodyOf}
 use Rattle.local_run.specs.Moves.{Fits, ComesAfter}
 use Rattle.local_run.proofs.Among.{waits_first, same_or_other}
 use Rattle.local_run.proofs.Heads.{NoHeadBefore, due_of_heads, none_waits}
@@ -87,7 +87,7 @@ next_of_waits home live inbox q m rest waits = by_next (next_from live.inbox q) 
 
 -- the least of the first messages is the least that waits
 pub least_waiting : (home : Home) (floor : Stamp) (live : Live) (head : Option (ℕ × Stamp)) →
-    IsLive home floor live → IsLeastHead live.inbox head →
+    IsBodyOf home floor live → IsLeastHead live.inbox head →
     IsLeastOf (IsWaiting (now_in live).waiting) (head_stamp head)
 least_waiting home floor live None is none =
     none_waits (now_in live).waiting (λ q. none_next home live is.inbox q (none q))
@@ -156,7 +156,7 @@ turn_by r s = by_log r.log
     by_log (e ∷ es) = (λ after. (after.0, inr after.1), λ turn. (turn.0, last e es turn.1))
 
 -- ---- messages
-pub tied_by_own : (h : Home) (floor : Stamp) (live : Live) (q : ℕ) (due : Stamp) → IsLive h floor live →
+pub tied_by_own : (h : Home) (floor : Stamp) (live : Live) (q : ℕ) (due : Stamp) → IsBodyOf h floor live →
     HasDue h (run_in floor live) due → IsInTurn (run_in floor live) due → IsFirstOf live.inbox q due →
     IsOwn h (now_in live).view due → Fits h (run_in floor live) (Answer (Tied due))
 tied_by_own h floor live q due is here turn (m, next, same) own =
@@ -165,7 +165,7 @@ tied_by_own h floor live q due is here turn (m, next, same) own =
     (waits_first (now_in live).waiting q m first.0 first.1) in
     (here, turn, inl (own, waits), refl)
 
-pub tied_by_other : (h : Home) (floor : Stamp) (live : Live) (q : ℕ) (due : Stamp) → IsLive h floor live →
+pub tied_by_other : (h : Home) (floor : Stamp) (live : Live) (q : ℕ) (due : Stamp) → IsBodyOf h floor live →
     HasDue h (run_in floor live) due → IsInTurn (run_in floor live) due → IsFirstOf live.inbox q due →
     IsSharedHead live.inbox q due → Fits h (run_in floor live) (Answer (Tied due))
 tied_by_other h floor live q due is here turn (m, next, same) (k, n, other, there, also) =
@@ -181,7 +181,7 @@ pub first_has : (inbox : InboxData) (q : ℕ) (s : Stamp) (m : Message) → IsFi
 first_has inbox q s m (n, next, same) here =
     ap (λ (v : Message). v.stamp) (same_Some m n (sym here ∙ next)) ∙ same
 
-pub take_fits : (h : Home) (floor : Stamp) (live : Live) (q : ℕ) (m : Message) → IsLive h floor live →
+pub take_fits : (h : Home) (floor : Stamp) (live : Live) (q : ℕ) (m : Message) → IsBodyOf h floor live →
     HasDue h (run_in floor live) m.stamp → IsInTurn (run_in floor live) m.stamp →
     next_from live.inbox q ≡ Some m → ¬ IsOwn h (now_in live).view m.stamp →
     ¬ IsSharedHead live.inbox q m.stamp → Fits h (run_in floor live) (TakeIn q m)
@@ -200,7 +200,7 @@ take_fits h floor live q m is due turn next alone only =
 
 -- ---- events
 pub event_fits : (h : Home) (floor : Stamp) (live : Live) (due : Stamp) (x : Action) → IsInPlace h →
-    IsLive h floor live → HasDue h (run_in floor live) due → IsInTurn (run_in floor live) due →
+    IsBodyOf h floor live → HasDue h (run_in floor live) due → IsInTurn (run_in floor live) due →
     ¬ IsWaiting (now_in live).waiting due → ComesTo h (now_in live).view due (Ok x) →
     Fits h (run_in floor live) (Run x)
 event_fits h floor live due x place is here turn alone comes =

@@ -15,7 +15,7 @@ use Rattle.region_core.specs.declared.live.Live.{Live}
 use Rattle.local_run.specs.LocalRun.{Local, now_of, IsRight}
 use Rattle.local_run.proofs.Opened.{no_trail, empty_run, empty_right}
 use Rattle.region_parts.specs.Inbox.{InboxData, empty_inbox, taken_from}
-use Rattle.region_core.specs.Live.{base_in, run_in, HasTrace, IsInbox, IsOutbox, IsLive}
+use Rattle.region_core.specs.Live.{base_in, run_in, HasTrace, IsInbox, IsOutbox, IsBodyOf}
 
 none_taken : (n q : ℕ) → taken_from (empty_inbox n) q ≡ 0
 none_taken zero q = refl
@@ -32,7 +32,7 @@ opened_there : (home : Home) (floor : Stamp) (live : Live) →
     live.log ≡ [] → live.inbox ≡ empty_inbox home.grid.regions →
     live.sent.items ≡ replicate home.grid.regions [] → HasTrace live →
     IsOf live.queue home.rules home.grid home.number → StandsFor live.queue (base_in live) →
-    IsLive home floor live
+    IsBodyOf home floor live
 unfolding empty_run
 opened_there home floor live valid in_time log inbox sent traced queue stands = record {
   right = subst (IsRight home) run (empty_right home floor (base_in live) valid in_time);
@@ -66,7 +66,7 @@ pub opened_is : (home : Home) (floor : Stamp) (base : ViewData) (live : Live) �
     live.log ≡ [] → live.view ≡ base → live.inbox ≡ empty_inbox home.grid.regions →
     live.sent.items ≡ replicate home.grid.regions [] →
     IsOf live.queue home.rules home.grid home.number → StandsFor live.queue base →
-    IsLive home floor live
+    IsBodyOf home floor live
 opened_is home floor base live valid in_time log view inbox sent queue stands =
     let first : base ≡ base_in live = sym (opened_base base live log view) in
     let traced : IsTraced base live.view live.log =

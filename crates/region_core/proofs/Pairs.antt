@@ -16,7 +16,7 @@ use Rattle.cell_grid.specs.Grid.{GridData, IsRegion, AreLinked}
 use Rattle.region_view.specs.declared.rows.Message.{Message}
 use Rattle.region_messages.proofs.Same.{same_by_code, stamp_eq, stamp_decides}
 use Rattle.local_run.specs.declared.home.Home.{Home}
-use Rattle.region_parts.specs.declared.border.Border.{Border}
+use Rattle.region_parts.specs.declared.place.Place.{Place}
 use Rattle.region_core.specs.declared.live.Live.{Live}
 use Rattle.local_run.specs.declared.answers.Hearing.{Hearing}
 use Rattle.local_run.specs.declared.answers.Hearing.TheVariants.{Same, Rewound, Later, Apart}
@@ -247,27 +247,28 @@ heard_region x y f g live new p a b ms answer here there =
     (sent.3 ∙ ap (λ (grid : GridData). sent_to grid x.number sent.0.base sent.0.log) (sym alike.1)) hears)))
 
 -- the local run of a region
-run_of : (y : Home) (g : Stamp) (p : Option Live) (r : Local) → IfSome p (IsLive y g) →
-    option_map (run_in g) p ≡ Some r → IsRight y r × (g ≡ r.floor)
-run_of y g None r alive is = absurd (none-some r is)
-run_of y g (Some live) r alive is =
-    let same : run_in g live ≡ r = same_Some (run_in g live) r is in
-    (subst (IsRight y) same alive.right, ap (λ (v : Local). v.floor) same)
+run_of : (y : Place) (p : Option Live) (r : Local) → IfSome p (IsLive y) → option_map (run_in y.floor) p ≡ Some r →
+    IsRight y.home r × (y.floor ≡ r.floor)
+run_of y None r alive is = absurd (none-some r is)
+run_of y (Some live) r alive is =
+    let same : run_in y.floor live ≡ r = same_Some (run_in y.floor live) r is in
+    (subst (IsRight y.home) same alive.body.right, ap (λ (v : Local). v.floor) same)
 
-pub heard_hearable : {border : Border} (x y : Home) (f g : Stamp) (o p : Option Live) (a b : RegionData)
-    (ms : List Message) → seen_as x f o ≡ a → seen_as y g p ≡ b → IsSound y border g p → ¬ AreApart a b →
-    IsSent b a.home.number ms → IsHearable x f y.number ms
-heard_hearable x y f g o p a b ms here there sound =
-    subst (λ (v : RegionData). ¬ AreApart v b → IsSent b v.home.number ms → IsHearable x f y.number ms) here
-    (subst (λ (w : RegionData). ¬ AreApart (seen_as x f o) w → IsSent w x.number ms →
-    IsHearable x f y.number ms) there
+pub heard_hearable : (x y : Place) (o p : Option Live) (a b : RegionData) (ms : List Message) →
+    seen_as x.home x.floor o ≡ a → seen_as y.home y.floor p ≡ b → IsSound y p → ¬ AreApart a b →
+    IsSent b a.home.number ms → IsHearable x.home x.floor y.home.number ms
+heard_hearable x y o p a b ms here there sound =
+    subst (λ (v : RegionData). ¬ AreApart v b → IsSent b v.home.number ms →
+    IsHearable x.home x.floor y.home.number ms) here
+    (subst (λ (w : RegionData). ¬ AreApart (seen_as x.home x.floor o) w → IsSent w x.home.number ms →
+    IsHearable x.home x.floor y.home.number ms) there
     (λ not sent.
-    let alike = alike_of (seen_as x f o) (seen_as y g p) not in
-    let run = run_of y g p sent.0 sound.alive sent.1 in
-    subst (IsHearable x f y.number)
-    (ap (λ (grid : GridData). sent_to grid x.number sent.0.base sent.0.log) alike.1 ∙ sym sent.3)
-    (heard_from x y sent.0 f alike.0 alike.1 (alike.2 ∙ run.1) sound.place run.0
-    (subst (λ (grid : GridData). AreLinked grid y.number x.number) (sym alike.1) sent.2.1))))
+    let alike = alike_of (seen_as x.home x.floor o) (seen_as y.home y.floor p) not in
+    let run = run_of y p sent.0 sound.alive sent.1 in
+    subst (IsHearable x.home x.floor y.home.number)
+    (ap (λ (grid : GridData). sent_to grid x.home.number sent.0.base sent.0.log) alike.1 ∙ sym sent.3)
+    (heard_from x.home y.home sent.0 x.floor alike.0 alike.1 (alike.2 ∙ run.1) sound.place.home run.0
+    (subst (λ (grid : GridData). AreLinked grid y.home.number x.home.number) (sym alike.1) sent.2.1))))
 
 pub no_apart : (k : ℕ) (ms : List Message) (r new : Local) (answer : Hearing) →
     HearsFrom k ms r answer new → ¬ (answer ≡ Apart)

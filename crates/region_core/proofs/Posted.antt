@@ -9,7 +9,7 @@ use Rattle.local_run.specs.Opening.{RegionData}
 use Rattle.local_run.specs.Keeping.{SendsTo}
 use Rattle.local_run.proofs.Valid.{sent_hearable}
 use Rattle.region_core.specs.declared.live.Live.{Live}
-use Rattle.region_core.specs.Live.{run_in, IsLive}
+use Rattle.region_core.specs.Live.{run_in, IsBodyOf}
 use Rattle.region_core.specs.Posts.{home_at, IsPost}
 use Rattle.region_core.proofs.Shown.{seen_as}
 
@@ -36,14 +36,14 @@ both_hearable h floor k first second ms rises either one other = record {
 }
 
 -- what is kept of what goes to a region may be heard there
-sent_is_post : (home : Home) (floor : Stamp) (live : Live) (to : ℕ) → IsInPlace home → IsLive home floor live →
+sent_is_post : (home : Home) (floor : Stamp) (live : Live) (to : ℕ) → IsInPlace home → IsBodyOf home floor live →
     SendsTo home to → IsHearable (home_at home to) floor home.number (trail_of live.sent.items to)
 sent_is_post home floor live to place alive sends =
     subst (IsHearable (home_at home to) floor home.number) (sym (alive.sent.each to sends.0 sends.1))
     (sent_hearable home (run_in floor live) to place alive.right sends.1)
 
 pub posted_on : (home : Home) (floor : Stamp) (o : Option Live) (live : Live) (region : RegionData) (to : ℕ)
-    (old new : List Message) → seen_as home floor o ≡ region → IsInPlace home → IsLive home floor live →
+    (old new : List Message) → seen_as home floor o ≡ region → IsInPlace home → IsBodyOf home floor live →
     SendsTo home to → (Rises old → Rises new) → IsOfBoth old (trail_of live.sent.items to) new →
     IsPost region to old → IsPost region to new
 posted_on home floor o live region to old new here place alive sends rises either =

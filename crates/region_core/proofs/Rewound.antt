@@ -14,7 +14,7 @@ use Rattle.local_run.specs.LocalRun.{Local, Trails, start_of, after_log, IsRight
 use Rattle.region_parts.specs.Inbox.{InboxData, taken_from}
 use Rattle.local_run.specs.Taken.{taken_of}
 use Rattle.event_log.specs.Logged.{entries_in}
-use Rattle.region_core.specs.Live.{base_in, run_in, IsInbox, IsOutbox, IsLive, GoesAlong}
+use Rattle.region_core.specs.Live.{base_in, run_in, IsInbox, IsOutbox, IsBodyOf, IsPartOf}
 use Rattle.local_run.proofs.Taken.{taken_below, taken_fits}
 use Rattle.region_parts.proofs.Firsts.{below_or_past, no_trail_past}
 use Rattle.local_run.proofs.Sent.{sent_below}
@@ -22,7 +22,7 @@ use Rattle.local_run.proofs.Right.{right_rewound}
 
 -- ---- what was taken in
 -- the counts of a body are those of its log
-pub no_more_taken : (home : Home) (floor : Stamp) (live : Live) (q : ℕ) → IsLive home floor live →
+pub no_more_taken : (home : Home) (floor : Stamp) (live : Live) (q : ℕ) → IsBodyOf home floor live →
     taken_of q (entries_in live.log) ≤ taken_from live.inbox q
 no_more_taken home floor live q is = elim (below_or_past q home.grid.regions) [
   | inl region ↦ let same = is.inbox.taken q region in omega arith
@@ -63,12 +63,12 @@ outbox_rewound home base floor at log sent rises is = record {
 abbrev rewound_run : Stamp → Stamp → Live → Local
 rewound_run floor at live = record (run_in floor live) { log = entries_below at (entries_in live.log) }
 
-pub rewound_is : (home : Home) (floor at : Stamp) (old new : Live) → IsLive home floor old →
+pub rewound_is : (home : Home) (floor at : Stamp) (old new : Live) → IsBodyOf home floor old →
     base_in new ≡ base_in old → entries_in new.log ≡ entries_below at (entries_in old.log) →
     new.inbox.heard ≡ old.inbox.heard → length new.inbox.taken ≡ length old.inbox.taken →
     ((q : ℕ) → taken_from new.inbox q + taken_of q (entries_from at (entries_in old.log))
     ≡ taken_from old.inbox q) →
-    new.sent.items ≡ map (below at) old.sent.items → GoesAlong home new → IsLive home floor new
+    new.sent.items ≡ map (below at) old.sent.items → IsPartOf home floor new → IsBodyOf home floor new
 rewound_is home floor at old new is base log heard counts taken sent along = record {
   right = subst (IsRight home) run (right_rewound home (run_in floor old) at is.right);
   inbox = subst (λ (es : List Entry). IsInbox home es new.inbox) (sym log)
@@ -77,9 +77,9 @@ rewound_is home floor at old new is base log heard counts taken sent along = rec
       (subst (λ (b : ViewData). IsOutbox home b (entries_below at (entries_in old.log)) new.sent.items) (sym base)
       (subst (IsOutbox home (base_in old) (entries_below at (entries_in old.log))) (sym sent)
       (outbox_rewound home (base_in old) floor at (entries_in old.log) old.sent.items is.right.rises is.sent)));
-  traced = along.1.traced;
-  queue = along.1.queue;
-  stands = along.1.stands;
+  traced = along.traced;
+  queue = along.queue;
+  stands = along.stands;
 }
   where
     run : rewound_run floor at old ≡ run_in floor new
@@ -91,12 +91,12 @@ rewound_is home floor at old new is base log heard counts taken sent along = rec
     }
 
 -- it is right and its queue stands for its view also where what was taken in waits again
-pub still_right : (home : Home) (floor : Stamp) (live : Live) (heard : Trails) → IsLive home floor live →
+pub still_right : (home : Home) (floor : Stamp) (live : Live) (heard : Trails) → IsBodyOf home floor live →
     heard ≡ live.inbox.heard → IsRight home (record (run_in floor live) { heard = heard })
 still_right home floor live heard is same =
     subst (λ (ts : Trails). IsRight home (record (run_in floor live) { heard = ts })) (sym same) is.right
 
-pub still_stands : (home : Home) (floor : Stamp) (live : Live) (heard : Trails) → IsLive home floor live →
+pub still_stands : (home : Home) (floor : Stamp) (live : Live) (heard : Trails) → IsBodyOf home floor live →
     heard ≡ live.inbox.heard →
     StandsFor live.queue (after_log (record { view = base_in live; waiting = heard }) (entries_in live.log)).view
 still_stands home floor live heard is same = subst (λ (ts : Trails). StandsFor live.queue

@@ -43,7 +43,7 @@ use Rattle.event_log.specs.Running.{collision, redisked_row, IsMoved}
 use Rattle.region_core.specs.declared.live.Live.{Live}
 use Rattle.region_parts.specs.Border.{IsFar, IsFarRow, IsUntold}
 use Rattle.region_core.specs.Choices.{IsAtTurn}
-use Rattle.region_core.specs.Live.{run_in, now_in, IsLive, HasTrace}
+use Rattle.region_core.specs.Live.{run_in, now_in, IsBodyOf, HasTrace}
 use Rattle.region_core.specs.RunsOn.{FailsLimit}
 use Rattle.region_parts.proofs.Borders.{crossing_untold, pair_untold}
 use Rattle.region_core.proofs.Traced.{now_is}
@@ -83,11 +83,11 @@ pub own_at_turn : (h : Home) (floor : Stamp) (live : Live) (s : Stamp) → IsAtT
     IsOwn h (now_in live).view s
 own_at_turn h floor live s at = own_due h (now_in live) s at.due.1 at.alone
 
-row_now : (h : Home) (floor : Stamp) (live : Live) (i : ℕ) (p : Placed) → IsLive h floor live →
+row_now : (h : Home) (floor : Stamp) (live : Live) (i : ℕ) (p : Placed) → IsBodyOf h floor live →
     rows_in live.view i ≡ Some p → rows_in (now_in live).view i ≡ Some p
 row_now h floor live i p is at = ap (λ (v : ViewData). rows_in v i) (now_is live is.traced) ∙ at
 
-pub valid_row : (h : Home) (floor : Stamp) (live : Live) (i : ℕ) (p : Placed) → IsInPlace h → IsLive h floor live →
+pub valid_row : (h : Home) (floor : Stamp) (live : Live) (i : ℕ) (p : Placed) → IsInPlace h → IsBodyOf h floor live →
     rows_in live.view i ≡ Some p → IsValidDisk h.rules p.disk × IsCell h.grid p.cell
 valid_row h floor live i p place is at =
     let valid = valid_now h (run_in floor live) place is.right in
@@ -95,12 +95,12 @@ valid_row h floor live i p place is at =
     (valid.disk i p here, valid.cell i p here)
 
 -- what the event at its turn comes to is what comes next
-pub turn_fits : (h : Home) (floor : Stamp) (live : Live) (s : Stamp) (x : Action) → IsInPlace h → IsLive h floor live →
+pub turn_fits : (h : Home) (floor : Stamp) (live : Live) (s : Stamp) (x : Action) → IsInPlace h → IsBodyOf h floor live →
     IsAtTurn h (run_in floor live) s → ComesTo h (now_in live).view s (Ok x) → Fits h (run_in floor live) (Run x)
 turn_fits h floor live s x place is at comes = event_fits h floor live s x place is at.due at.turn at.alone comes
 
 pub turn_ran : (h : Home) (floor : Stamp) (live : Live) (s : Stamp) (x : Action) (new : Local) → IsInPlace h →
-    IsLive h floor live → IsAtTurn h (run_in floor live) s → ComesTo h (now_in live).view s (Ok x) →
+    IsBodyOf h floor live → IsAtTurn h (run_in floor live) s → ComesTo h (now_in live).view s (Ok x) →
     new ≡ with_entry (run_in floor live) (Native x) → StepsTo h (run_in floor live) (Ran s) new
 turn_ran h floor live s x new place is at comes run =
     let valid = actions_are_valid h.rules h.grid (rows_in (now_in live).view) s x place.checked place.grid
@@ -112,7 +112,7 @@ turn_ran h floor live s x new place is at comes run =
 no_pair : (k : Kind) → k ≡ Crossing → ¬ (k ≡ Pair)
 no_pair k crossing pair = cc
 
-pub crossing_event : (h : Home) (floor : Stamp) (live : Live) (s : Stamp) (p : Placed) → IsLive h floor live →
+pub crossing_event : (h : Home) (floor : Stamp) (live : Live) (s : Stamp) (p : Placed) → IsBodyOf h floor live →
     IsAtTurn h (run_in floor live) s → s.kind ≡ Crossing → rows_in live.view s.first ≡ Some p →
     IsCrossEvent h.rules h.grid s.first p.disk p.cell s
 crossing_event h floor live s p is at kind here =
@@ -121,7 +121,7 @@ crossing_event h floor live s p is at kind here =
     (row_now h floor live s.first p is here))
 
 pub crossing_comes : (h : Home) (floor : Stamp) (live : Live) (s : Stamp) (p : Placed) (r : Result Action Limit) →
-    IsLive h floor live → s.kind ≡ Crossing → rows_in live.view s.first ≡ Some p →
+    IsBodyOf h floor live → s.kind ≡ Crossing → rows_in live.view s.first ≡ Some p →
     crossed h.rules h.grid s p.disk ≡ r → ComesTo h (now_in live).view s r
 crossing_comes h floor live s p r is kind here comes =
     alone_comes h (now_in live).view s p r (no_pair s.kind kind) (row_now h floor live s.first p is here)
@@ -143,7 +143,7 @@ crossing_is_untold h at s cell p here far =
     crossing_untold h at s cell (subst (IsFarRow h) (sym here) far.0) far.1
 
 -- ---- collisions of two disks
-pub pair_event : (h : Home) (floor : Stamp) (live : Live) (s : Stamp) (p q : Placed) → IsLive h floor live →
+pub pair_event : (h : Home) (floor : Stamp) (live : Live) (s : Stamp) (p q : Placed) → IsBodyOf h floor live →
     IsAtTurn h (run_in floor live) s → s.kind ≡ Pair → rows_in live.view s.first ≡ Some p →
     rows_in live.view s.second ≡ Some q → IsPairEvent h.rules s.first p.disk s.second q.disk s
 pair_event h floor live s p q is at kind here beside =
@@ -152,7 +152,7 @@ pair_event h floor live s p q is at kind here beside =
     (row_now h floor live s.first p is here) (row_now h floor live s.second q is beside))
 
 pub hit_comes : (h : Home) (floor : Stamp) (live : Live) (s : Stamp) (p q : Placed) (r : Result Change Limit) →
-    IsLive h floor live → s.kind ≡ Pair → rows_in live.view s.first ≡ Some p → rows_in live.view s.second ≡ Some q →
+    IsBodyOf h floor live → s.kind ≡ Pair → rows_in live.view s.first ≡ Some p → rows_in live.view s.second ≡ Some q →
     r ≡ applied h.rules s p.disk (Some q.disk) → ComesTo h (now_in live).view s (hit_of r)
 hit_comes h floor live s p q r is kind here beside comes =
     pair_comes h (now_in live).view s p q (hit_of r) kind (row_now h floor live s.first p is here)

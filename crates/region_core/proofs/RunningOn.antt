@@ -23,6 +23,7 @@ use Rattle.local_run.specs.Steps.{Steps}
 use Rattle.local_run.proofs.Logs.{now_appended}
 use Rattle.local_run.proofs.Running.{IsUnderWayBefore, one_more_made_before}
 use Rattle.region_core.specs.declared.live.Live.{Live}
+use Rattle.region_parts.specs.declared.place.Place.{Place}
 use Rattle.region_core.specs.Choices.{IsAtTurn}
 use Rattle.region_core.specs.Live.{run_in, region_in}
 use Rattle.region_core.specs.RunsOn.{IsClear, IsOwnInTurn, RunsNext, RunsOrFails, RunsOn, Follow, answer_after}
@@ -91,12 +92,12 @@ next_in_turn h limit s r new (Some t) next least later =
     found_in_turn h new (Some t) least (later_in_turn h limit s t r new next later)
 
 -- the key of an event that ran is before that of the limit
-pub ran_next : (h : Home) (floor limit s : Stamp) (live new : Live) (top before : Option Stamp) (ran : Bool) →
-    top ≡ Some s → before ≡ Some limit → IsKeyBefore top before → ran ≡ true → RunsOrFails h floor s live new ran →
-    RunsNext h limit s (run_in floor live) (run_in floor new)
-ran_next h floor limit s live new top before ran is at near did steps = (
+pub ran_next : (place : Place) (limit s : Stamp) (live new : Live) (top before : Option Stamp) (ran : Bool) →
+    top ≡ Some s → before ≡ Some limit → IsKeyBefore top before → ran ≡ true → RunsOrFails place s live new ran →
+    RunsNext place.home limit s (run_in place.floor live) (run_in place.floor new)
+ran_next place limit s live new top before ran is at near did steps = (
   subst (λ (k : Option Stamp). IsKeyBefore (Some s) k) at (subst (λ (k : Option Stamp). IsKeyBefore k before) is near),
-  subst (RunsOrFails h floor s live new) did steps,
+  subst (RunsOrFails place s live new) did steps,
 )
 
 -- a step that runs an event appends one entry
@@ -107,40 +108,40 @@ one_longer h floor limit s live new (near, (due, turn, (x, same, move, run))) =
     ∙ length-append (entries_in live.log) (Native x ∷ []) ∙ ap (λ (n : ℕ). n + 1) (as_many live.log)
 
 -- ---- what follows
-pub next_follows : (home : Home) (floor bound limit s : Stamp) (live new : Live) → ¬ Before bound limit →
-    RunsNext home limit s (run_in floor live) (run_in floor new) →
-    IsDueBefore bound (region_in home floor live) × Steps (region_in home floor live) (Ran s) (region_in home floor new)
-next_follows home floor bound limit s live new near next = (
+pub next_follows : (place : Place) (bound limit s : Stamp) (live new : Live) → ¬ Before bound limit →
+    RunsNext place.home limit s (run_in place.floor live) (run_in place.floor new) →
+    IsDueBefore bound (region_in place live) × Steps (region_in place live) (Ran s) (region_in place new)
+next_follows place bound limit s live new near next = (
   (s, inl next.1.0.1, before_not_before s bound limit next.0 near),
-  record { home = refl; floor = refl; run = (run_in floor new, next.1, refl) },
+  record { home = refl; floor = refl; run = (run_in place.floor new, next.1, refl) },
 )
 
 -- one more step after those that follow
-pub one_follows : (home : Home) (floor bound limit s : Stamp) (made : ℕ) (given before : Step) (old : RegionData)
-    (live new : Live) → ¬ Before bound limit → Follow bound made given old before (region_in home floor live) →
-    RunsNext home limit s (run_in floor live) (run_in floor new) →
-    Follow bound (made + 1) given old (Ran s) (region_in home floor new)
-one_follows home floor bound limit s made given before old live new near follow next =
-    let step = next_follows home floor bound limit s live new near next in
+pub one_follows : (place : Place) (bound limit s : Stamp) (made : ℕ) (given before : Step) (old : RegionData)
+    (live new : Live) → ¬ Before bound limit → Follow bound made given old before (region_in place live) →
+    RunsNext place.home limit s (run_in place.floor live) (run_in place.floor new) →
+    Follow bound (made + 1) given old (Ran s) (region_in place new)
+one_follows place bound limit s made given before old live new near follow next =
+    let step = next_follows place bound limit s live new near next in
     let more : suc made ≡ made + 1 = omega arith in
-    subst (λ (n : ℕ). Follow bound n given old (Ran s) (region_in home floor new)) more
-    (before, region_in home floor live, follow, step.0, step.1, tt)
+    subst (λ (n : ℕ). Follow bound n given old (Ran s) (region_in place new)) more
+    (before, region_in place live, follow, step.0, step.1, tt)
 
 -- the same of what is equal
-pub still_follows : (home : Home) (floor bound : Stamp) (given : Step) (old : RegionData) (made n : ℕ)
+pub still_follows : (place : Place) (bound : Stamp) (given : Step) (old : RegionData) (made n : ℕ)
     (last event : Option Stamp) (live new : Live) → n ≡ made → event ≡ last → new ≡ live →
-    Follow bound made given old (answer_after given last) (region_in home floor live) →
-    Follow bound n given old (answer_after given event) (region_in home floor new)
-still_follows home floor bound given old made n last event live new many which same follow =
-    subst (λ (k : ℕ). Follow bound k given old (answer_after given event) (region_in home floor new)) (sym many)
-    (subst (λ (e : Option Stamp). Follow bound made given old (answer_after given e) (region_in home floor new)) (sym which)
-    (subst (λ (l : Live). Follow bound made given old (answer_after given last) (region_in home floor l)) (sym same)
+    Follow bound made given old (answer_after given last) (region_in place live) →
+    Follow bound n given old (answer_after given event) (region_in place new)
+still_follows place bound given old made n last event live new many which same follow =
+    subst (λ (k : ℕ). Follow bound k given old (answer_after given event) (region_in place new)) (sym many)
+    (subst (λ (e : Option Stamp). Follow bound made given old (answer_after given e) (region_in place new)) (sym which)
+    (subst (λ (l : Live). Follow bound made given old (answer_after given last) (region_in place l)) (sym same)
     follow))
 
 -- an event that fails changes nothing
-pub failed_same : (h : Home) (floor s : Stamp) (live new : Live) (ran : Bool) → ran ≡ false →
-    RunsOrFails h floor s live new ran → new ≡ live
-failed_same h floor s live new ran is steps = (subst (RunsOrFails h floor s live new) is steps).0
+pub failed_same : (place : Place) (s : Stamp) (live new : Live) (ran : Bool) → ran ≡ false →
+    RunsOrFails place s live new ran → new ≡ live
+failed_same place s live new ran is steps = (subst (RunsOrFails place s live new) is steps).0
 
 -- so many steps, with what they came to
 pub runs_on : (bound : Stamp) (given so_far : RunSoFar) (made : ℕ) (old new : RegionData) (last : Option Stamp) →

@@ -22,7 +22,7 @@ use Rattle.event_log.specs.Traced.{IsTraced}
 use Rattle.event_log.proofs.AtFloor.{view_of_log}
 use Rattle.event_log.proofs.Traced.{traced_popped}
 use Rattle.region_core.specs.declared.live.Live.{Live}
-use Rattle.region_core.specs.Live.{base_in, run_in, start_in, HasTrace, IsAlong}
+use Rattle.region_core.specs.Live.{base_in, run_in, start_in, HasTrace, IsPartOf}
 use Rattle.local_run.proofs.Logs.{moves_split, after_join}
 use Rattle.local_run.proofs.Right.{right_before}
 use Rattle.region_parts.proofs.Lists.{as_many}
@@ -79,7 +79,7 @@ pub record IsShorter (home : Home) (run : Local) (queue : QueueData) (xs : List 
   pub stands : StandsFor queue (after_entry (after_log (start_of run) xs) e).view
 
 pub shorter_is : (home : Home) (floor : Stamp) (live : Live) (xs : List Entry) (e : Entry) → IsInPlace home →
-    IsAlong home floor live → entries_in live.log ≡ xs ++ e ∷ [] →
+    IsPartOf home floor live → entries_in live.log ≡ xs ++ e ∷ [] →
     IsShorter home (run_in floor live) live.queue xs e
 shorter_is home floor live xs e place along parts = record {
   right = right_before home run xs (e ∷ []) parts along.right;
@@ -161,7 +161,7 @@ taken_back live view log e traced left set last = record {
 pub along_before : (home : Home) (floor : Stamp) (live : Live) (view : ViewData) (log : List Logged)
     (queue : QueueData) (e : Entry) → IsTakenBack live view log e →
     IsShorter home (run_in floor live) live.queue (entries_in log) e → IsOf queue home.rules home.grid home.number →
-    StandsFor queue view → IsAlong home floor (record live { view = view; log = log; queue = queue })
+    StandsFor queue view → IsPartOf home floor (record live { view = view; log = log; queue = queue })
 along_before home floor live view log queue e back shorter of stands = record {
   right = subst (λ (b : ViewData). IsRight home (record {
     floor = floor;

@@ -15,7 +15,7 @@ use Rattle.event_log.specs.Traced.{IsTraced}
 use Rattle.event_log.proofs.AtFloor.{view_of_log}
 use Rattle.event_log.proofs.Traced.{undone_is, traced_dropped}
 use Rattle.region_core.specs.declared.live.Live.{Live}
-use Rattle.region_core.specs.Live.{base_in, start_in, now_in, HasTrace, IsLive}
+use Rattle.region_core.specs.Live.{base_in, start_in, now_in, HasTrace, IsBodyOf}
 
 -- ---- the two views
 -- after the whole log the view is the newest one
@@ -31,7 +31,7 @@ has_trace base live is =
     subst (λ (v : ViewData). IsTraced v live.view live.log) (sym (base_is base live is)) is
 
 -- the queue stands for the newest view
-pub stands_newest : (home : Home) (floor : Stamp) (live : Live) → IsLive home floor live →
+pub stands_newest : (home : Home) (floor : Stamp) (live : Live) → IsBodyOf home floor live →
     StandsFor live.queue live.view
 stands_newest home floor live is = subst (StandsFor live.queue) (now_is live is.traced) is.stands
 

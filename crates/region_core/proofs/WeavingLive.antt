@@ -29,7 +29,7 @@ use Rattle.event_log.specs.Undoing.{LeadBack, view_after, AreAside as AreSpared}
 use Rattle.event_log.specs.Traced.{IsTraced}
 use Rattle.event_log.proofs.AtFloor.{view_of_log}
 use Rattle.event_log.proofs.Traced.{traced_dropped, traced_woven}
-use Rattle.region_core.specs.Live.{base_in, run_in, start_in, now_in, HasTrace, IsLive}
+use Rattle.region_core.specs.Live.{base_in, run_in, start_in, now_in, HasTrace, IsBodyOf}
 use Rattle.local_run.specs.Weaving.{IsWoven, MayWeave, IsApart, AreAside}
 use Rattle.region_parts.specs.Aside.{IsLateAside, IsValidBack}
 use Rattle.region_core.specs.Weaving.{IsSetLate, BeginsAfter, IsTried, Weaves}
@@ -91,10 +91,10 @@ hearable_one h floor q m ms all among = record {
 
 -- ---- the same body with its view and its queue
 pub same_live : (home : Home) (floor : Stamp) (old : Live) (view : ViewData) (queue : QueueData) →
-    IsLive home floor old → view ≡ old.view → IsOf queue home.rules home.grid home.number →
-    StandsFor queue view → IsLive home floor (record old { view = view; queue = queue })
+    IsBodyOf home floor old → view ≡ old.view → IsOf queue home.rules home.grid home.number →
+    StandsFor queue view → IsBodyOf home floor (record old { view = view; queue = queue })
 same_live home floor old view queue live same of stands =
-    subst (λ (v : ViewData). IsLive home floor (record old { view = v; queue = queue })) (sym same) (record {
+    subst (λ (v : ViewData). IsBodyOf home floor (record old { view = v; queue = queue })) (sym same) (record {
       right = live.right;
       inbox = live.inbox;
       sent = live.sent;
@@ -105,7 +105,7 @@ same_live home floor old view queue live same of stands =
 
 -- ---- what is asked of the view
 pub set_valid : (home : Home) (floor : Stamp) (live : Live) (q : ℕ) (m : Message) → IsInPlace home →
-    IsLive home floor live → IsHearable home floor q (m ∷ []) →
+    IsBodyOf home floor live → IsHearable home floor q (m ∷ []) →
     IsValidPlacing live.queue.rules live.queue.grid (rows_in live.view)
     × IsValidPlacing live.queue.rules live.queue.grid (rows_in (set_rows live.view m.rows))
 set_valid home floor live q m place is hearable =
@@ -125,7 +125,7 @@ set_valid home floor live q m place is hearable =
         (valid_now home (run_in floor live) place is.right)
 
 -- what leads back over the entries is valid
-pub back_valid : (home : Home) (floor : Stamp) (live : Live) → IsInPlace home → IsLive home floor live →
+pub back_valid : (home : Home) (floor : Stamp) (live : Live) → IsInPlace home → IsBodyOf home floor live →
     All (λ l. IsValidBack home l.1) live.log
 back_valid home floor live place is =
     backs_valid home (start_in live) live.log place is.right.base
@@ -163,7 +163,7 @@ back_from live kept m traced parted =
     subst (λ (v : ViewData). LeadBack v (drop kept live.log)) (sym (middle_is live kept m parted))
     (traced_dropped (base_in live) live.view live.log kept traced).back
 
-moves_from : (home : Home) (floor : Stamp) (live : Live) (kept : ℕ) (m : Message) → IsLive home floor live →
+moves_from : (home : Home) (floor : Stamp) (live : Live) (kept : ℕ) (m : Message) → IsBodyOf home floor live →
     IsParted live kept m → Moves home (middle_of live m) (entries_in (drop kept live.log))
 moves_from home floor live kept m is parted =
     subst (Moves home (middle_of live m)) (sym (entries_last live kept m parted))
@@ -196,7 +196,7 @@ last_is_clock f last [] is = cc
 last_is_clock f last (e ∷ es) is = same_Some last (clock_of (entry_stamp e) es) is
 
 pub may_be_woven : (home : Home) (floor : Stamp) (live : Live) (q kept : ℕ) (m : Message) (last : Stamp) →
-    IsLive home floor live → IsParted live kept m → IsTried q kept m live →
+    IsBodyOf home floor live → IsParted live kept m → IsTried q kept m live →
     All (IsLateAside home m.rows) (drop kept live.log) → Some last ≡ last_stamp (entries_in live.log) →
     ((s : Stamp) → IsOwn home (set_rows (now_in live).view m.rows) s → Before last s) →
     MayWeave home (run_in floor live) m
@@ -233,7 +233,7 @@ pub record IsPutInto (home : Home) (q kept : ℕ) (m : Message) (old new : Live)
   pub stands : StandsFor new.queue new.view
 
 -- its log leads from the same view to the newest one
-put_traced : (home : Home) (floor : Stamp) (q kept : ℕ) (m : Message) (old new : Live) → IsLive home floor old →
+put_traced : (home : Home) (floor : Stamp) (q kept : ℕ) (m : Message) (old new : Live) → IsBodyOf home floor old →
     IsParted old kept m → IsTried q kept m old → IsPutInto home q kept m old new →
     IsTraced (base_in old) new.view new.log
 put_traced home floor q kept m old new is parted tried put =
@@ -246,9 +246,9 @@ put_traced home floor q kept m old new is parted tried put =
     (moves_from home floor old kept m is parted)))))
 
 pub put_live : (home : Home) (floor : Stamp) (q kept : ℕ) (m : Message) (old new : Live) →
-    IsRegion home.grid q → IsLive home floor old → IsParted old kept m → IsTried q kept m old →
+    IsRegion home.grid q → IsBodyOf home floor old → IsParted old kept m → IsTried q kept m old →
     MayWeave home (run_in floor old) m → IsHearable home floor q (m ∷ []) → IsPutInto home q kept m old new →
-    IsLive home floor new × IsWoven q m (run_in floor old) (run_in floor new)
+    IsBodyOf home floor new × IsWoven q m (run_in floor old) (run_in floor new)
 put_live home floor q kept m old new region is parted tried may one put = (
   woven_live home floor q m old new region is may hearable (record {
     base = base;
@@ -317,7 +317,7 @@ all_later home queue last view now new rows of same set later s own = later s
     }) own))
 
 pub few_taken : (home : Home) (floor : Stamp) (live : Live) (q kept : ℕ) (m : Message) →
-    IsRegion home.grid q → IsLive home floor live → IsTried q kept m live →
+    IsRegion home.grid q → IsBodyOf home floor live → IsTried q kept m live →
     taken_from live.inbox q < MAX_ENTRIES
 few_taken home floor live q kept m region is tried =
     let same = is.inbox.taken q region in

@@ -16,7 +16,7 @@ use Rattle.local_run.specs.LocalRun.{Local, trail_of, now_of, IsHearable, IsRigh
 use Rattle.region_parts.specs.Inbox.{InboxData, taken_from}
 use Rattle.local_run.specs.Taken.{taken_of}
 use Rattle.event_log.specs.Logged.{entries_in}
-use Rattle.region_core.specs.Live.{base_in, run_in, HasTrace, IsInbox, IsLive}
+use Rattle.region_core.specs.Live.{base_in, run_in, HasTrace, IsInbox, IsBodyOf}
 use Rattle.local_run.specs.Weaving.{IsWoven, MayWeave}
 use Rattle.region_core.specs.Weaving.{Weaves}
 use Rattle.local_run.proofs.Among.{same_or_other}
@@ -83,9 +83,9 @@ pub record IsWovenInto (home : Home) (q : ℕ) (m : Message) (old new : Live) : 
   pub stands : StandsFor new.queue new.view
 
 pub woven_live : (home : Home) (floor : Stamp) (q : ℕ) (m : Message) (old new : Live) →
-    IsRegion home.grid q → IsLive home floor old → MayWeave home (run_in floor old) m →
+    IsRegion home.grid q → IsBodyOf home floor old → MayWeave home (run_in floor old) m →
     IsHearable home floor q (with_message m (trail_of old.inbox.heard q)) →
-    IsWovenInto home q m old new → IsLive home floor new
+    IsWovenInto home q m old new → IsBodyOf home floor new
 woven_live home floor q m old new region live may hearable is = record {
   right = law.0;
   inbox = subst (λ (es : List Entry). IsInbox home es new.inbox) (sym is.log)

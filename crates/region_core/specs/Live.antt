@@ -1,16 +1,16 @@
 -- What a region keeps beside its local run, so that it need not be found again.
 use Rattle.std.specs.Prelude.{◌≡◌, ℕ, List, length, Option, Some, None, IfSome}
 use Rattle.event_stamps.specs.declared.Stamp.{Stamp}
-use Rattle.event_stamps.specs.Order.{Before, end_stamp}
+use Rattle.event_stamps.specs.Order.{Before}
 use Rattle.cell_grid.specs.Grid.{IsRegion, AreLinked}
 use Rattle.region_view.specs.Views.{ViewData}
 use Rattle.region_queue.specs.Queue.{IsOf, StandsFor}
 use Rattle.local_run.specs.declared.home.Home.{Home}
 use Rattle.local_run.specs.declared.entry.Entry.{Entry}
 use Rattle.region_core.specs.declared.live.Live.{Live}
-use Rattle.region_parts.specs.declared.border.Border.{Border}
-use Rattle.local_run.specs.LocalRun.{Local, At, Trails, trail_of, after_log, sent_to, IsDueOrEnd, IsInPlace, IsRight}
-use Rattle.region_parts.specs.Border.{IsBorderOf}
+use Rattle.region_parts.specs.declared.place.Place.{Place}
+use Rattle.local_run.specs.LocalRun.{Local, At, Trails, trail_of, after_log, sent_to, IsDueOrEnd, IsRight}
+use Rattle.region_parts.specs.Place.{IsPlace}
 use Rattle.region_parts.specs.Inbox.{InboxData, taken_from}
 use Rattle.local_run.specs.Opening.{RegionData}
 use Rattle.local_run.specs.Taken.{taken_of}
@@ -32,8 +32,8 @@ run_in floor live = record {
 }
 
 -- a region that isn't spent
-abbrev pub region_in : Home → Stamp → Live → RegionData
-region_in home floor live = record { home = home; floor = floor; run = Some (run_in floor live) }
+abbrev pub region_in : Place → Live → RegionData
+region_in place live = record { home = place.home; floor = place.floor; run = Some (run_in place.floor live) }
 
 -- what the region is at where it begins, and after its whole log
 abbrev pub start_in : Live → At
@@ -59,7 +59,7 @@ abbrev pub HasTrace : Live → Type 0
 HasTrace live = IsTraced (base_in live) live.view live.log
 
 -- a right local run, and what is kept beside it is what it comes to
-pub record IsLive (home : Home) (floor : Stamp) (live : Live) : Type 0 where
+pub record IsBodyOf (home : Home) (floor : Stamp) (live : Live) : Type 0 where
   pub right : IsRight home (run_in floor live)
   pub inbox : IsInbox home (entries_in live.log) live.inbox
   pub sent : IsOutbox home (base_in live) (entries_in live.log) live.sent.items
@@ -67,9 +67,10 @@ pub record IsLive (home : Home) (floor : Stamp) (live : Live) : Type 0 where
   pub queue : IsOf live.queue home.rules home.grid home.number
   pub stands : StandsFor live.queue (now_in live).view
 
--- the same from some floor on
-abbrev pub HasRun : Home → Live → Type 0
-HasRun home live = (floor : Stamp) × IsLive home floor live
+-- the body of a region that has this place
+pub record IsLive (place : Place) (live : Live) : Type 0 where
+  pub place : IsPlace place
+  pub body : IsBodyOf place.home place.floor live
 
 -- what is due, or the end stamp where nothing is, is before a bound
 abbrev pub HasDueBefore : Home → Stamp → Live → Type 0
@@ -85,19 +86,18 @@ IsHeldBack home None live = ⊥
 IsHeldBack home (Some bound) live = HasDueLater home bound live
 
 -- a right local run, whatever it sent and took in, with the newest view and the queue of its log
-pub record IsAlong (home : Home) (floor : Stamp) (live : Live) : Type 0 where
+pub record IsPartOf (home : Home) (floor : Stamp) (live : Live) : Type 0 where
   pub right : IsRight home (run_in floor live)
   pub traced : HasTrace live
   pub queue : IsOf live.queue home.rules home.grid home.number
   pub stands : StandsFor live.queue (now_in live).view
 
--- the same from some floor on
-abbrev pub GoesAlong : Home → Live → Type 0
-GoesAlong home live = (floor : Stamp) × IsAlong home floor live
+-- so much is known while entries are taken back
+pub record IsAlong (place : Place) (live : Live) : Type 0 where
+  pub place : IsPlace place
+  pub body : IsPartOf place.home place.floor live
 
 -- what each region keeps
-pub record IsSound (home : Home) (border : Border) (floor : Stamp) (live : Option Live) : Type 0 where
-  pub place : IsInPlace home
-  pub far : IsBorderOf home border
-  pub in_time : ¬ Before (end_stamp home.rules.end) floor
-  pub alive : IfSome live (IsLive home floor)
+pub record IsSound (place : Place) (live : Option Live) : Type 0 where
+  pub place : IsPlace place
+  pub alive : IfSome live (IsLive place)

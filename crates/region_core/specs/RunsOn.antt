@@ -13,6 +13,7 @@ use Rattle.region_view.specs.Views.{ViewData}
 use Rattle.local_run.specs.Opening.{RegionData}
 use Rattle.local_run.specs.Running.{GoesOn, IsDueBefore}
 use Rattle.local_run.specs.Steps.{Steps}
+use Rattle.region_parts.specs.declared.place.Place.{Place}
 use Rattle.region_core.specs.declared.running_on.RunSoFar.{RunSoFar}
 use Rattle.region_core.specs.declared.live.Live.{Live}
 use Rattle.region_core.specs.Live.{run_in, now_in}
@@ -22,9 +23,9 @@ abbrev pub FailsLimit : Home → ViewData → Stamp → Type 0
 FailsLimit h view s = (limit : Limit) × ComesTo h view s (Err limit)
 
 -- the event ran, or it fails at a limit and nothing changed
-abbrev pub RunsOrFails : Home → Stamp → Stamp → Live → Live → Bool → Type 0
-RunsOrFails h floor s old new true = StepsTo h (run_in floor old) (Ran s) (run_in floor new)
-RunsOrFails h floor s old new false = (new ≡ old) × FailsLimit h (now_in old).view s
+abbrev pub RunsOrFails : Place → Stamp → Live → Live → Bool → Type 0
+RunsOrFails place s old new true = StepsTo place.home (run_in place.floor old) (Ran s) (run_in place.floor new)
+RunsOrFails place s old new false = (new ≡ old) × FailsLimit place.home (now_in old).view s
 
 -- the least native candidate, if there is one, is in turn
 abbrev pub IsOwnInTurn : Home → Local → Type 0

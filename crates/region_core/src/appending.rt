@@ -14,9 +14,9 @@ ghost use Rattle.region_view.specs.Naming.{IsSameBut};
 ghost use Rattle.region_queue.specs.Queue.{IsOf, StandsFor};
 ghost use Rattle.local_run.specs.declared.entry.Entry.TheVariants.{Native, Heard};
 ghost use Rattle.local_run.specs.declared.moves.Move.TheVariants.{Run, TakeIn};
-ghost use Rattle.local_run.specs.LocalRun.{IsInPlace, trail_of, told};
+ghost use Rattle.local_run.specs.LocalRun.{trail_of, told};
 ghost use Rattle.local_run.specs.Answers.{with_entry};
-ghost use Rattle.region_parts.specs.Border.{IsBorderOf, IsUntold};
+ghost use Rattle.region_parts.specs.Border.{IsUntold};
 ghost use Rattle.region_core.specs.Live.{run_in, IsLive};
 ghost use Rattle.local_run.specs.Keeping.{SendsTo};
 ghost use Rattle.local_run.specs.Moves.{Fits};
@@ -26,7 +26,7 @@ use crate::{Entry, Home};
 use event_rules::Change;
 use event_stamps::Stamp;
 use region_messages::Trail;
-use region_parts::Border;
+use region_parts::Place;
 use region_queue::Queue;
 use region_view::{Action, Message, Rows, View, message_for};
 use std::alloc::{AllocError, Global};
@@ -39,20 +39,16 @@ impl Live {
     pub(crate) fn take_in(
         &mut self,
         alloc: Global,
-        home: &Home,
-        floor: Stamp,
+        place: &Place,
         from: u32,
         message: Message,
     ) -> Result<(), AllocError>
-        requires place { IsInPlace home.now }
-        requires live { IsLive home.now floor self.old }
-        requires fits { Fits home.now (run_in floor self.old) (TakeIn from message) }
-        ensures live { OnOk result (IsLive home.now floor self.new) }
+        requires live { IsLive place.now self.old }
+        requires fits { Fits place.now.home (run_in place.now.floor self.old) (TakeIn from message) }
+        ensures live { OnOk result (IsLive place.now self.new) }
         ensures run { OnOk result
-            (run_in floor self.new ≡ with_entry (run_in floor self.old) (Heard from message)) }
+            (run_in place.now.floor self.new ≡ with_entry (run_in place.now.floor self.old) (Heard from message)) }
     {
-        let _home = home;
-        let _floor = floor;
         let entry = Entry::Heard { from, message };
         self.log.append(&mut self.view, &entry, &message.rows)?;
         touch(alloc, &mut self.queue, &self.view, &message.rows)?;
@@ -69,22 +65,17 @@ impl Live {
     pub(crate) fn run(
         &mut self,
         alloc: Global,
-        home: &Home,
-        border: &Border,
-        floor: Stamp,
+        place: &Place,
         action: Action,
     ) -> Result<(), AllocError>
-        requires place { IsInPlace home.now }
-        requires border { IsBorderOf home.now border.now }
-        requires live { IsLive home.now floor self.old }
-        requires fits { Fits home.now (run_in floor self.old) (Run action) }
-        ensures live { OnOk result (IsLive home.now floor self.new) }
+        requires live { IsLive place.now self.old }
+        requires fits { Fits place.now.home (run_in place.now.floor self.old) (Run action) }
+        ensures live { OnOk result (IsLive place.now self.new) }
         ensures run { OnOk result
-            (run_in floor self.new ≡ with_entry (run_in floor self.old) (Native action)) }
+            (run_in place.now.floor self.new ≡ with_entry (run_in place.now.floor self.old) (Native action)) }
     {
-        let _floor = floor;
-        let is_untold = border.is_untold(home, &self.view, &action);
-        send_if_told(&mut self.sent, home, &self.view, &action, is_untold)?;
+        let is_untold = place.is_untold(&self.view, &action);
+        send_if_told(&mut self.sent, &place.home, &self.view, &action, is_untold)?;
         self.log.act(&mut self.view, &action)?;
         tell(alloc, &mut self.queue, &self.view, &action)?;
         Ok(())

@@ -21,32 +21,30 @@ pub(crate) struct Live {
 }
 
 ghost use Rattle.std.specs.Prelude.{◌≡◌, [], replicate, IfOk, MatchOption};
-ghost use Rattle.event_stamps.specs.declared.Stamp.{Stamp};
-ghost use Rattle.event_stamps.specs.Order.{Before, end_stamp};
 ghost use Rattle.region_view.specs.Views.{rows_in};
 ghost use Rattle.region_view.specs.Placing.{IsValidPlacing};
-ghost use Rattle.cell_grid.specs.Grid.{IsRegion};
-ghost use Rattle.local_run.specs.LocalRun.{IsInPlace, trail_of, sent_to};
+ghost use Rattle.local_run.specs.LocalRun.{trail_of, sent_to};
 ghost use Rattle.event_log.specs.Logged.{entries_in};
 ghost use Rattle.region_parts.specs.Inbox.{empty_inbox};
-ghost use Rattle.region_core.specs.Live.{base_in, IsLive, IsInbox, IsOutbox};
+ghost use Rattle.region_parts.specs.Place.{IsPlace};
+ghost use Rattle.region_core.specs.Live.{base_in, IsLive};
 ghost use Rattle.local_run.specs.Keeping.{SendsTo, HearsOf};
 
 use crate::Home;
-use region_parts::empty_trails;
+use region_parts::{Place, empty_trails};
 use std::alloc::{AllocError, Global};
 
 impl Live {
     /// An empty log over a view, with nothing heard.
-    pub(crate) fn open(alloc: Global, home: &Home, base: View) -> Result<Live, AllocError>
-        requires place { IsInPlace home.now }
-        requires valid { IsValidPlacing home.now.rules home.now.grid (rows_in base) }
+    pub(crate) fn open(alloc: Global, place: &Place, base: View) -> Result<Live, AllocError>
+        requires place { IsPlace place.now }
+        requires valid { IsValidPlacing place.now.home.rules place.now.home.grid (rows_in base) }
         ensures base { IfOk result (λ live. base_in live ≡ base) }
-        ensures heard { IfOk result (λ live. live.inbox.heard ≡ replicate home.now.grid.regions []) }
+        ensures heard { IfOk result (λ live. live.inbox.heard ≡ replicate place.now.home.grid.regions []) }
         ensures log { IfOk result (λ live. live.log ≡ []) }
-        ensures live { IfOk result (λ live. (floor : Stamp) → ¬ Before (end_stamp home.now.rules.end) floor →
-            IsLive home.now floor live) }
+        ensures live { IfOk result (IsLive place.now) }
     {
+        let home = &place.home;
         let queue = Queue::open(alloc, &base, &home.grid, &home.rules, home.number)?;
         let (inbox, sent) = no_messages(alloc, home)?;
         Ok(Live {
@@ -59,14 +57,13 @@ impl Live {
     }
 
     /// What goes to a region; none where the two aren't linked.
-    pub(crate) fn sent_to(&self, home: &Home, to: u32) -> Option<&Trail>
-        requires number { IsRegion home.now.grid home.now.number }
-        requires sent { IsOutbox home.now (base_in self.now) (entries_in self.now.log) self.now.sent.items }
-        ensures { MatchOption result (¬ SendsTo home.now to)
-            (λ trail. SendsTo home.now to
-            × (trail.now ≡ sent_to home.now.grid to (base_in self.now) (entries_in self.now.log))) }
+    pub(crate) fn sent_to(&self, place: &Place, to: u32) -> Option<&Trail>
+        requires { IsLive place.now self.now }
+        ensures { MatchOption result (¬ SendsTo place.now.home to)
+            (λ trail. SendsTo place.now.home to
+            × (trail.now ≡ sent_to place.now.home.grid to (base_in self.now) (entries_in self.now.log))) }
     {
-        if home.sends_to(to) {
+        if place.home.sends_to(to) {
             self.sent.get(to as usize)
         } else {
             None
@@ -74,13 +71,12 @@ impl Live {
     }
 
     /// What was heard from a region; none where the two aren't linked.
-    pub(crate) fn heard_from(&self, home: &Home, from: u32) -> Option<&Trail>
-        requires number { IsRegion home.now.grid home.now.number }
-        requires inbox { IsInbox home.now (entries_in self.now.log) self.now.inbox }
-        ensures { MatchOption result (¬ HearsOf home.now from)
-            (λ trail. HearsOf home.now from × (trail.now ≡ trail_of self.now.inbox.heard from)) }
+    pub(crate) fn heard_from(&self, place: &Place, from: u32) -> Option<&Trail>
+        requires { IsLive place.now self.now }
+        ensures { MatchOption result (¬ HearsOf place.now.home from)
+            (λ trail. HearsOf place.now.home from × (trail.now ≡ trail_of self.now.inbox.heard from)) }
     {
-        if home.hears_of(from) {
+        if place.home.hears_of(from) {
             self.inbox.heard(from)
         } else {
             None

@@ -8,17 +8,14 @@ mod standing;
 use crate::Home;
 use crate::live::Live;
 use event_stamps::Stamp;
-use region_parts::Border;
+use region_parts::{Border, Place};
 use std::marker::Model;
 
 /// One region of a grid, with its run from a floor on.
 ///
 /// After want of memory it is spent: it has no run any more, and is opened anew.
 pub struct Region {
-    home: Home,
-    // Which of its columns others see.
-    border: Border,
-    floor: Stamp,
+    place: Place,
     // None: it is spent.
     live: Option<Live>,
 }
@@ -27,12 +24,7 @@ pub struct Region {
 // how all that is in one is let go.
 impl Drop for Region {
     fn drop(self) {
-        let Region {
-            home: _,
-            border: _,
-            floor: _,
-            live: _,
-        } = self;
+        let Region { place: _, live: _ } = self;
     }
 }
 
@@ -47,12 +39,12 @@ impl Model for Region {
     ghost coded = { region_code };
 
     ghost view = { λ s. record {
-      home = s.home;
-      floor = s.floor;
-      run = option_map (run_in s.floor) s.live;
+      home = s.place.home;
+      floor = s.place.floor;
+      run = option_map (run_in s.place.floor) s.live;
     } };
 
-    ghost invariant = { λ s. IsSound s.home s.border s.floor s.live };
+    ghost invariant = { λ s. IsSound s.place s.live };
 }
 
 ghost use Rattle.std.specs.Prelude.{◌≡◌, ◌↔◌, ◌⊎◌, List, length, slice_get, None, option_map, IsTrue, IfOk, IfSome, OnErr, MatchOption};
@@ -89,11 +81,14 @@ impl Region {
             grid: *state.grid(),
         };
         let base = opening(alloc, state.placed(), state.grid(), number)?;
-        let live = Live::open(alloc, &home, base)?;
-        Ok(Region {
+        let place = Place {
             home,
             border: Border::new(&home),
             floor: state.floor(),
+        };
+        let live = Live::open(alloc, &place, base)?;
+        Ok(Region {
+            place,
             live: Some(live),
         })
     }
@@ -114,9 +109,11 @@ impl Region {
             grid: *grid,
         };
         Region {
-            home,
-            border: Border::new(&home),
-            floor,
+            place: Place {
+                home,
+                border: Border::new(&home),
+                floor,
+            },
             live: None,
         }
     }
@@ -132,7 +129,7 @@ impl Region {
         let Some(live) = &mut self.live else {
             return Ok(Step::Spent);
         };
-        match live.step(alloc, &self.home, &self.border, self.floor, None) {
+        match live.step(alloc, &self.place, None) {
             Ok(Some(step)) => Ok(step),
             Ok(None) => unreachable!(),
             Err(error) => {
@@ -147,7 +144,7 @@ impl Region {
         ensures value { result ≡ self.now.home.number }
         ensures kept { IsKept self.now }
     {
-        self.home.number
+        self.place.home.number
     }
 
     /// The rules of the scene.
@@ -155,7 +152,7 @@ impl Region {
         ensures value { result.now ≡ self.now.home.rules }
         ensures kept { IsKept self.now }
     {
-        &self.home.rules
+        &self.place.home.rules
     }
 
     /// The grid.
@@ -163,7 +160,7 @@ impl Region {
         ensures value { result.now ≡ self.now.home.grid }
         ensures kept { IsKept self.now }
     {
-        &self.home.grid
+        &self.place.home.grid
     }
 
     /// The stamp from which on it runs events.
@@ -171,7 +168,7 @@ impl Region {
         ensures value { result ≡ self.now.floor }
         ensures kept { IsKept self.now }
     {
-        self.floor
+        self.place.floor
     }
 
     /// Whether it has no run any more, since there was no memory for it.
@@ -259,8 +256,8 @@ impl Region {
         ensures kept { IsKept self.now }
     {
         match &self.live {
-            Some(live) => live.due_or_end(&self.home),
-            None => self.floor,
+            Some(live) => live.due_or_end(&self.place),
+            None => self.place.floor,
         }
     }
 
@@ -272,7 +269,7 @@ impl Region {
         ensures kept { IsKept self.now }
     {
         match &self.live {
-            Some(live) => live.sent_to(&self.home, to),
+            Some(live) => live.sent_to(&self.place, to),
             None => None,
         }
     }
@@ -285,7 +282,7 @@ impl Region {
         ensures kept { IsKept self.now }
     {
         match &self.live {
-            Some(live) => live.heard_from(&self.home, from),
+            Some(live) => live.heard_from(&self.place, from),
             None => None,
         }
     }

@@ -1,20 +1,19 @@
 //! Rollback: taking back what a region did too early.
 
 ghost use Rattle.std.specs.Prelude.{◌≡◌, ◌-◌, length, take, OnOk};
-ghost use Rattle.event_stamps.specs.declared.Stamp.{Stamp};
 ghost use Rattle.region_view.specs.Placing.{IsValidPlacing};
 ghost use Rattle.region_view.specs.Views.{rows_in};
 ghost use Rattle.region_queue.specs.Queue.{IsOf, StandsFor};
 ghost use Rattle.local_run.specs.Entries.{entries_below};
-ghost use Rattle.local_run.specs.LocalRun.{At, IsInPlace, IsMove, after_entry};
+ghost use Rattle.local_run.specs.LocalRun.{At, IsMove, after_entry};
 ghost use Rattle.event_log.specs.Logged.{entries_in};
-ghost use Rattle.region_core.specs.Live.{base_in, IsLive, GoesAlong, HasRun};
+ghost use Rattle.region_core.specs.Live.{base_in, IsLive, IsAlong};
 
 use crate::appending::touch;
 use crate::live::Live;
 use crate::{Entry, Home};
 use event_stamps::Stamp;
-use region_parts::cut_from;
+use region_parts::{Place, cut_from};
 use region_queue::Queue;
 use region_view::View;
 use std::alloc::{AllocError, Global};
@@ -25,43 +24,44 @@ impl Live {
     ///
     /// # Errors
     /// Out of memory: what is left is to be dropped.
-    pub(crate) fn rewind(&mut self, alloc: Global, home: &Home, at: Stamp) -> Result<(), AllocError>
-        requires place { IsInPlace home.now }
-        requires live { HasRun home.now self.old }
+    pub(crate) fn rewind(
+        &mut self,
+        alloc: Global,
+        place: &Place,
+        at: Stamp,
+    ) -> Result<(), AllocError>
+        requires { IsLive place.now self.old }
         ensures base { OnOk result (base_in self.new ≡ base_in self.old) }
         ensures heard { OnOk result (self.new.inbox.heard ≡ self.old.inbox.heard) }
         ensures log { OnOk result (entries_in self.new.log ≡ entries_below at (entries_in self.old.log)) }
-        ensures live { OnOk result ((floor : Stamp) → IsLive home.now floor self.old →
-            IsLive home.now floor self.new) }
+        ensures live { OnOk result (IsLive place.now self.new) }
     {
         let kept = self.log.count_before(at);
         self.inbox.give_back(&self.log, kept);
         cut_from(&mut self.sent, at);
-        self.drop_down_to(alloc, home, kept)?;
+        self.drop_down_to(alloc, place, kept)?;
         Ok(())
     }
 
     // Takes entries back, the last one first, until no more than so many are left.
-    fn drop_down_to(&mut self, alloc: Global, home: &Home, kept: usize) -> Result<(), AllocError>
-        requires place { IsInPlace home.now }
-        requires along { GoesAlong home.now self.old }
-        ensures along { OnOk result (GoesAlong home.now self.new) }
+    fn drop_down_to(&mut self, alloc: Global, place: &Place, kept: usize) -> Result<(), AllocError>
+        requires { IsAlong place.now self.old }
+        ensures along { OnOk result (IsAlong place.now self.new) }
         ensures log { OnOk result (self.new.log ≡ take kept self.old.log) }
         ensures base { OnOk result (base_in self.new ≡ base_in self.old) }
         ensures inbox { self.new.inbox ≡ self.old.inbox }
         ensures sent { self.new.sent ≡ self.old.sent }
     {
         while self.log.len() > kept {
-            self.drop_last(alloc, home)?;
+            self.drop_last(alloc, place)?;
         }
         Ok(())
     }
 
     // Takes the last entry back, if there is one.
-    fn drop_last(&mut self, alloc: Global, home: &Home) -> Result<(), AllocError>
-        requires place { IsInPlace home.now }
-        requires along { GoesAlong home.now self.old }
-        ensures along { OnOk result (GoesAlong home.now self.new) }
+    fn drop_last(&mut self, alloc: Global, place: &Place) -> Result<(), AllocError>
+        requires { IsAlong place.now self.old }
+        ensures along { OnOk result (IsAlong place.now self.new) }
         ensures log { OnOk result (self.new.log ≡ take (length self.old.log - 1) self.old.log) }
         ensures base { OnOk result (base_in self.new ≡ base_in self.old) }
         ensures inbox { self.new.inbox ≡ self.old.inbox }
@@ -70,7 +70,7 @@ impl Live {
         let Some(entry) = self.log.take_back(&mut self.view)? else {
             return Ok(());
         };
-        take_back(alloc, home, &mut self.queue, &self.view, &entry)
+        take_back(alloc, &place.home, &mut self.queue, &self.view, &entry)
     }
 }
 

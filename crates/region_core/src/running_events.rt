@@ -6,19 +6,17 @@ ghost use Rattle.event_stamps.specs.declared.Kind.TheVariants.{Cross as Crossing
 ghost use Rattle.region_view.specs.declared.action.Action.TheVariants.{Cross, Hit};
 ghost use Rattle.region_view.specs.Views.{rows_in};
 ghost use Rattle.region_view.specs.Compact.{IsRowThere, IsSmall};
-ghost use Rattle.local_run.specs.LocalRun.{IsInPlace};
 ghost use Rattle.local_run.specs.declared.entry.Entry.TheVariants.{Native};
 ghost use Rattle.local_run.specs.declared.moves.Move.TheVariants.{Run};
 ghost use Rattle.local_run.specs.Answers.{with_entry};
 ghost use Rattle.local_run.specs.Moves.{Fits};
 ghost use Rattle.event_log.specs.Heads.{disk_or};
 ghost use Rattle.event_log.specs.Running.{collision, IsMoved};
-ghost use Rattle.region_parts.specs.Border.{IsBorderOf, IsUntold};
+ghost use Rattle.region_parts.specs.Border.{IsUntold};
 ghost use Rattle.region_core.specs.Choices.{IsAtTurn};
 ghost use Rattle.region_core.specs.Live.{run_in, IsLive};
 ghost use Rattle.region_core.specs.RunsOn.{RunsOrFails};
 
-use crate::Home;
 use crate::appending::{send_crossing, send_hit};
 use crate::live::Live;
 use crate::moves::outcome;
@@ -26,7 +24,7 @@ use event_log::HitRows;
 use event_rules::{Change, apply};
 use event_stamps::{Kind, Stamp};
 use fixed_motion::Disk;
-use region_parts::Border;
+use region_parts::Place;
 use region_view::{Compact, Placed, crossed_cell};
 use std::alloc::{AllocError, Global};
 
@@ -40,22 +38,18 @@ impl Live {
     pub(crate) fn run_event(
         &mut self,
         alloc: Global,
-        home: &Home,
-        border: &Border,
-        floor: &Stamp,
+        place: &Place,
         due: &Stamp,
     ) -> Result<bool, AllocError>
-        requires place { IsInPlace home.now }
-        requires border { IsBorderOf home.now border.now }
-        requires live { IsLive home.now floor.now self.old }
-        requires turn { IsAtTurn home.now (run_in floor.now self.old) due.now }
-        ensures live { OnOk result (IsLive home.now floor.now self.new) }
-        ensures steps { IfOk result (RunsOrFails home.now floor.now due.now self.old self.new) }
+        requires live { IsLive place.now self.old }
+        requires turn { IsAtTurn place.now.home (run_in place.now.floor self.old) due.now }
+        ensures live { OnOk result (IsLive place.now self.new) }
+        ensures steps { IfOk result (RunsOrFails place.now due.now self.old self.new) }
     {
         match due.kind {
-            Kind::Cross => self.run_crossing(alloc, home, border, floor, due),
-            Kind::Pair => self.run_pair(alloc, home, border, floor, due),
-            Kind::Wall => self.run_any(alloc, home, border, floor, due),
+            Kind::Cross => self.run_crossing(alloc, place, due),
+            Kind::Pair => self.run_pair(alloc, place, due),
+            Kind::Wall => self.run_any(alloc, place, due),
         }
     }
 
@@ -64,27 +58,23 @@ impl Live {
     fn run_crossing(
         &mut self,
         alloc: Global,
-        home: &Home,
-        border: &Border,
-        floor: &Stamp,
+        place: &Place,
         due: &Stamp,
     ) -> Result<bool, AllocError>
-        requires place { IsInPlace home.now }
-        requires border { IsBorderOf home.now border.now }
-        requires live { IsLive home.now floor.now self.old }
-        requires turn { IsAtTurn home.now (run_in floor.now self.old) due.now }
+        requires live { IsLive place.now self.old }
+        requires turn { IsAtTurn place.now.home (run_in place.now.floor self.old) due.now }
         requires kind { due.now.kind ≡ Crossing }
-        ensures live { OnOk result (IsLive home.now floor.now self.new) }
-        ensures steps { IfOk result (RunsOrFails home.now floor.now due.now self.old self.new) }
+        ensures live { OnOk result (IsLive place.now self.new) }
+        ensures steps { IfOk result (RunsOrFails place.now due.now self.old self.new) }
     {
         let Some(before) = self.view.narrow(due.first) else {
-            return self.run_any(alloc, home, border, floor, due);
+            return self.run_any(alloc, place, due);
         };
         let row = before.get().unwrap();
-        match crossed_cell(&home.rules, &home.grid, due, &row.disk) {
+        match crossed_cell(&place.home.rules, &place.home.grid, due, &row.disk) {
             Some(cell) => {
-                let is_untold = border.are_far(home, row.cell, cell);
-                self.cross_and_send(alloc, home, floor, due, &before, cell, is_untold)?;
+                let is_untold = place.are_far(row.cell, cell);
+                self.cross_and_send(alloc, place, due, &before, cell, is_untold)?;
                 Ok(true)
             }
             None => Ok(false),
@@ -93,37 +83,28 @@ impl Live {
 
     // The same of a collision of two disks.
     #[inline(never)]
-    fn run_pair(
-        &mut self,
-        alloc: Global,
-        home: &Home,
-        border: &Border,
-        floor: &Stamp,
-        due: &Stamp,
-    ) -> Result<bool, AllocError>
-        requires place { IsInPlace home.now }
-        requires border { IsBorderOf home.now border.now }
-        requires live { IsLive home.now floor.now self.old }
-        requires turn { IsAtTurn home.now (run_in floor.now self.old) due.now }
+    fn run_pair(&mut self, alloc: Global, place: &Place, due: &Stamp) -> Result<bool, AllocError>
+        requires live { IsLive place.now self.old }
+        requires turn { IsAtTurn place.now.home (run_in place.now.floor self.old) due.now }
         requires kind { due.now.kind ≡ Pair }
-        ensures live { OnOk result (IsLive home.now floor.now self.new) }
-        ensures steps { IfOk result (RunsOrFails home.now floor.now due.now self.old self.new) }
+        ensures live { OnOk result (IsLive place.now self.new) }
+        ensures steps { IfOk result (RunsOrFails place.now due.now self.old self.new) }
     {
         let Some(before) = self.view.narrow(due.first) else {
-            return self.run_any(alloc, home, border, floor, due);
+            return self.run_any(alloc, place, due);
         };
         let Some(beside) = self.view.narrow(due.second) else {
-            return self.run_any(alloc, home, border, floor, due);
+            return self.run_any(alloc, place, due);
         };
         let first = before.get().unwrap();
         let second = beside.get().unwrap();
-        match apply(&home.rules, due, &first.disk, Some(&second.disk)) {
+        match apply(&place.home.rules, due, &first.disk, Some(&second.disk)) {
             Ok(change) => {
-                let is_untold = border.are_far(home, first.cell, second.cell);
+                let is_untold = place.are_far(first.cell, second.cell);
                 let partner = change.second.unwrap();
                 let one = rows_of_hit(before, first.cell, change.first);
                 let other = rows_of_hit(beside, second.cell, partner);
-                self.collide_and_send(alloc, home, floor, &change, &one, &other, is_untold)?;
+                self.collide_and_send(alloc, place, &change, &one, &other, is_untold)?;
                 Ok(true)
             }
             Err(_) => Ok(false),
@@ -132,24 +113,15 @@ impl Live {
 
     // The same of any event.
     #[inline(never)]
-    fn run_any(
-        &mut self,
-        alloc: Global,
-        home: &Home,
-        border: &Border,
-        floor: &Stamp,
-        due: &Stamp,
-    ) -> Result<bool, AllocError>
-        requires place { IsInPlace home.now }
-        requires border { IsBorderOf home.now border.now }
-        requires live { IsLive home.now floor.now self.old }
-        requires turn { IsAtTurn home.now (run_in floor.now self.old) due.now }
-        ensures live { OnOk result (IsLive home.now floor.now self.new) }
-        ensures steps { IfOk result (RunsOrFails home.now floor.now due.now self.old self.new) }
+    fn run_any(&mut self, alloc: Global, place: &Place, due: &Stamp) -> Result<bool, AllocError>
+        requires live { IsLive place.now self.old }
+        requires turn { IsAtTurn place.now.home (run_in place.now.floor self.old) due.now }
+        ensures live { OnOk result (IsLive place.now self.new) }
+        ensures steps { IfOk result (RunsOrFails place.now due.now self.old self.new) }
     {
-        match outcome(home, &self.view, due) {
+        match outcome(place, &self.view, due) {
             Ok(action) => {
-                self.run(alloc, home, border, *floor, action)?;
+                self.run(alloc, place, action)?;
                 Ok(true)
             }
             Err(_) => Ok(false),
@@ -162,24 +134,28 @@ impl Live {
     fn cross_and_send(
         &mut self,
         alloc: Global,
-        home: &Home,
-        floor: &Stamp,
+        place: &Place,
         stamp: &Stamp,
         before: &Compact,
         cell: u32,
         is_untold: bool,
     ) -> Result<(), AllocError>
-        requires place { IsInPlace home.now }
-        requires live { IsLive home.now floor.now self.old }
-        requires fits { Fits home.now (run_in floor.now self.old) (Run (Cross stamp.now cell)) }
+        requires live { IsLive place.now self.old }
+        requires fits { Fits place.now.home (run_in place.now.floor self.old) (Run (Cross stamp.now cell)) }
         requires before { IsRowThere (map.get self.old.view stamp.now.first) before.now }
-        requires untold { IsTrue is_untold → IsUntold home.now (rows_in self.old.view) (Cross stamp.now cell) }
-        ensures live { OnOk result (IsLive home.now floor.now self.new) }
-        ensures run { OnOk result (run_in floor.now self.new
-            ≡ with_entry (run_in floor.now self.old) (Native (Cross stamp.now cell))) }
+        requires untold { IsTrue is_untold → IsUntold place.now.home (rows_in self.old.view) (Cross stamp.now cell) }
+        ensures live { OnOk result (IsLive place.now self.new) }
+        ensures run { OnOk result (run_in place.now.floor self.new
+            ≡ with_entry (run_in place.now.floor self.old) (Native (Cross stamp.now cell))) }
     {
-        let _floor = floor;
-        send_crossing(&mut self.sent, home, &self.view, stamp, cell, is_untold)?;
+        send_crossing(
+            &mut self.sent,
+            &place.home,
+            &self.view,
+            stamp,
+            cell,
+            is_untold,
+        )?;
         self.log.cross(&mut self.view, stamp, before, cell)?;
         self.queue.crossed(alloc, &self.view, stamp.first)?;
         Ok(())
@@ -190,26 +166,23 @@ impl Live {
     fn collide_and_send(
         &mut self,
         alloc: Global,
-        home: &Home,
-        floor: &Stamp,
+        place: &Place,
         change: &Change,
         first: &HitRows,
         second: &HitRows,
         is_untold: bool,
     ) -> Result<(), AllocError>
-        requires place { IsInPlace home.now }
-        requires live { IsLive home.now floor.now self.old }
-        requires fits { Fits home.now (run_in floor.now self.old) (Run (Hit change.now)) }
+        requires live { IsLive place.now self.old }
+        requires fits { Fits place.now.home (run_in place.now.floor self.old) (Run (Hit change.now)) }
         requires change { change.now ≡ collision change.now.stamp first.now second.now }
         requires first { IsMoved (map.get self.old.view change.now.stamp.first) (disk_or first.now.after) first.now }
         requires second { IsMoved (map.get self.old.view change.now.stamp.second) (disk_or second.now.after) second.now }
-        requires untold { IsTrue is_untold → IsUntold home.now (rows_in self.old.view) (Hit change.now) }
-        ensures live { OnOk result (IsLive home.now floor.now self.new) }
-        ensures run { OnOk result (run_in floor.now self.new
-            ≡ with_entry (run_in floor.now self.old) (Native (Hit change.now))) }
+        requires untold { IsTrue is_untold → IsUntold place.now.home (rows_in self.old.view) (Hit change.now) }
+        ensures live { OnOk result (IsLive place.now self.new) }
+        ensures run { OnOk result (run_in place.now.floor self.new
+            ≡ with_entry (run_in place.now.floor self.old) (Native (Hit change.now))) }
     {
-        let _floor = floor;
-        send_hit(&mut self.sent, home, &self.view, change, is_untold)?;
+        send_hit(&mut self.sent, &place.home, &self.view, change, is_untold)?;
         let stamp = change.stamp;
         self.log.collide(&mut self.view, &stamp, first, second)?;
         self.queue

@@ -3,17 +3,17 @@
 ghost use Rattle.std.specs.Prelude.{◌≡◌, ◌↔◌, ◌+◌, ◌≤◌, length, IfOk, OnOk, IsTrue};
 ghost use Rattle.event_stamps.specs.Order.{Before, IsInRange};
 ghost use Rattle.event_stamps.specs.Least.{IsLeastOf};
-ghost use Rattle.local_run.specs.LocalRun.{IsInPlace, IsOwn};
-ghost use Rattle.region_parts.specs.Border.{IsBorderOf};
-ghost use Rattle.region_core.specs.Live.{run_in, now_in, region_in, IsLive, HasRun};
+ghost use Rattle.local_run.specs.LocalRun.{IsOwn};
+ghost use Rattle.region_parts.specs.declared.place.Place.{Place};
+ghost use Rattle.region_core.specs.Live.{run_in, now_in, region_in, IsLive};
 ghost use Rattle.region_core.specs.RunsOn.{IsClear, IsOwnInTurn, RunsOn, answer_after};
 
 use crate::live::Live;
 use crate::moves::is_in_turn;
-use crate::{Home, MAX_ENTRIES, Step};
+use crate::{MAX_ENTRIES, Step};
 use event_stamps::Stamp;
 use event_tree::Packed;
-use region_parts::{Border, is_before};
+use region_parts::{Place, is_before};
 use std::alloc::{AllocError, Global};
 
 /// What a run of steps came to so far.
@@ -35,38 +35,34 @@ impl Live {
     pub(crate) fn run_on(
         &mut self,
         alloc: Global,
-        home: &Home,
-        border: &Border,
-        floor: Stamp,
+        place: &Place,
         bound: &Stamp,
         so_far: RunSoFar,
     ) -> Result<RunSoFar, AllocError>
-        requires place { IsInPlace home.now }
-        requires border { IsBorderOf home.now border.now }
-        requires live { IsLive home.now floor self.old }
-        ensures live { OnOk result (IsLive home.now floor self.new) }
-        ensures ran { IfOk result (RunsOn bound.now so_far (region_in home.now floor self.old)
-            (region_in home.now floor self.new)) }
+        requires live { IsLive place.now self.old }
+        ensures live { OnOk result (IsLive place.now self.new) }
+        ensures ran { IfOk result (RunsOn bound.now so_far (region_in place.now self.old)
+            (region_in place.now self.new)) }
     {
-        let limit = self.limit(home, bound);
-        if !is_in_range(&limit) || !self.is_own_in_turn(home, &floor) {
+        let limit = self.limit(bound);
+        if !is_in_range(&limit) || !self.is_own_in_turn(place) {
             return Ok(so_far);
         }
         let limit_key = Packed::new(Some(limit));
-        let most = self.room(home).min(so_far.left);
+        let most = self.room().min(so_far.left);
         let mut ran = 0;
         let mut last = Packed::new(None);
-        let mut top = self.top_own(home);
+        let mut top = self.top_own();
         while ran < most && top.is_before(limit_key) {
             let Some(due) = top.key() else {
                 break;
             };
-            if !self.run_event(alloc, home, border, &floor, &due)? {
+            if !self.run_event(alloc, place, &due)? {
                 break;
             }
             ran += 1;
             last = top;
-            top = self.top_own(home);
+            top = self.top_own();
             // What comes next is later, or it isn't in turn.
             if !last.is_before(top) {
                 break;
@@ -76,12 +72,10 @@ impl Live {
     }
 
     // The earlier one of a bound and of the first message that waits.
-    fn limit(&self, home: &Home, bound: &Stamp) -> Stamp
-        requires { HasRun home.now self.now }
+    fn limit(&self, bound: &Stamp) -> Stamp
         ensures bound { ¬ Before bound.now result }
-        ensures clear { IsClear result (now_in self.now).waiting }
+        ensures clear { (place : Place) → IsLive place self.now → IsClear result (now_in self.now).waiting }
     {
-        let _home = home;
         match self.inbox.least() {
             Some((_, stamp)) => {
                 if is_before(&stamp, bound) {
@@ -96,31 +90,29 @@ impl Live {
 
     // The least stamp of its native candidates, packed.
     #[inline(always)]
-    fn top_own(&self, home: &Home) -> Packed
-        requires { HasRun home.now self.now }
-        ensures { IsLeastOf (IsOwn home.now (now_in self.now).view) result }
+    fn top_own(&self) -> Packed
+        ensures { (place : Place) → IsLive place self.now →
+            IsLeastOf (IsOwn place.home (now_in self.now).view) result }
     {
-        let _home = home;
         self.queue.top()
     }
 
     // Whether the least of its native candidates, if there is one, is in turn.
-    fn is_own_in_turn(&self, home: &Home, floor: &Stamp) -> bool
-        requires { IsLive home.now floor.now self.now }
-        ensures { IsTrue result → IsOwnInTurn home.now (run_in floor.now self.now) }
+    fn is_own_in_turn(&self, place: &Place) -> bool
+        requires { IsLive place.now self.now }
+        ensures { IsTrue result → IsOwnInTurn place.now.home (run_in place.now.floor self.now) }
     {
-        match self.least_own(home) {
-            Some(own) => is_in_turn(floor, self.log.last_stamp(), &own),
+        match self.least_own() {
+            Some(own) => is_in_turn(&place.floor, self.log.last_stamp(), &own),
             None => true,
         }
     }
 
     // How many more entries the log has room for.
-    fn room(&self, home: &Home) -> u32
-        requires { HasRun home.now self.now }
+    fn room(&self) -> u32
+        requires { length self.now.log ≤ MAX_ENTRIES }
         ensures { length self.now.log + result ≡ MAX_ENTRIES }
     {
-        let _home = home;
         (MAX_ENTRIES - self.log.len()) as u32
     }
 }

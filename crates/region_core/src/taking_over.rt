@@ -7,17 +7,17 @@ ghost use Rattle.region_view.specs.declared.rows.Message.{Message};
 ghost use Rattle.region_messages.specs.Trails.{IsAmong, Rises};
 ghost use Rattle.local_run.specs.declared.entry.Entry.{Entry};
 ghost use Rattle.local_run.specs.Entries.{RiseFrom, entries_below, last_stamp};
-ghost use Rattle.local_run.specs.LocalRun.{IsInPlace, IsHearable, trail_of};
+ghost use Rattle.local_run.specs.LocalRun.{IsHearable, trail_of};
 ghost use Rattle.local_run.specs.Answers.{HearsFrom};
-ghost use Rattle.region_core.specs.Live.{base_in, run_in, IsLive, HasRun};
+ghost use Rattle.region_core.specs.Live.{base_in, run_in, IsLive};
 ghost use Rattle.region_parts.specs.Inbox.{mixed};
 ghost use Rattle.region_core.specs.Replaced.{HearsOn, IsReplaced};
 
+use crate::Hearing;
 use crate::live::Live;
-use crate::{Hearing, Home};
 use event_stamps::Stamp;
 use region_messages::{Trail, first_news};
-use region_parts::is_before;
+use region_parts::{Place, is_before};
 use std::alloc::{AllocError, Global};
 
 impl Live {
@@ -28,22 +28,21 @@ impl Live {
     pub(crate) fn hear(
         &mut self,
         alloc: Global,
-        home: &Home,
+        place: &Place,
         from: u32,
         sent: &Trail,
     ) -> Result<Hearing, AllocError>
-        requires place { IsInPlace home.now }
-        requires live { HasRun home.now self.old }
-        requires region { IsRegion home.now.grid from }
-        ensures hears { IfOk result (λ answer. (floor : Stamp) →
-            HearsFrom from sent.now (run_in floor self.old) answer (run_in floor self.new)) }
-        ensures live { OnOk result ((floor : Stamp) → IsLive home.now floor self.old →
-            IsHearable home.now floor from sent.now → IsLive home.now floor self.new) }
+        requires live { IsLive place.now self.old }
+        requires region { IsRegion place.now.home.grid from }
+        ensures hears { IfOk result (λ answer.
+            HearsFrom from sent.now (run_in place.now.floor self.old) answer (run_in place.now.floor self.new)) }
+        ensures live { OnOk result (IsHearable place.now.home place.now.floor from sent.now →
+            IsLive place.now self.new) }
     {
         let Some(at) = self.inbox.first_new(from, sent) else {
             return Ok(Hearing::Same);
         };
-        self.hear_from(alloc, home, from, at, sent)
+        self.hear_from(alloc, place, from, at, sent)
     }
 
     /// Hears what is new since the other's last mark: all that stood then is taken to be heard, and
@@ -55,23 +54,21 @@ impl Live {
     pub(crate) fn catch_up(
         &mut self,
         alloc: Global,
-        home: &Home,
-        floor: Stamp,
+        place: &Place,
         from: u32,
         sent: &Trail,
         clock: Option<Stamp>,
     ) -> Result<(), AllocError>
-        requires place { IsInPlace home.now }
-        requires live { IsLive home.now floor self.old }
-        requires region { IsRegion home.now.grid from }
-        requires hearable { IsHearable home.now floor from sent.now }
+        requires live { IsLive place.now self.old }
+        requires region { IsRegion place.now.home.grid from }
+        requires hearable { IsHearable place.now.home place.now.floor from sent.now }
         ensures base { OnOk result (base_in self.new ≡ base_in self.old) }
-        ensures live { OnOk result (IsLive home.now floor self.new) }
+        ensures live { OnOk result (IsLive place.now self.new) }
     {
-        let Some(at) = self.weave_news(alloc, home, floor, from, sent, clock)? else {
+        let Some(at) = self.weave_news(alloc, place, from, sent, clock)? else {
             return Ok(());
         };
-        self.hear_from(alloc, home, from, at, sent)?;
+        self.hear_from(alloc, place, from, at, sent)?;
         Ok(())
     }
 
@@ -79,26 +76,24 @@ impl Live {
     fn hear_from(
         &mut self,
         alloc: Global,
-        home: &Home,
+        place: &Place,
         from: u32,
         at: Stamp,
         sent: &Trail,
     ) -> Result<Hearing, AllocError>
-        requires place { IsInPlace home.now }
-        requires live { HasRun home.now self.old }
-        requires region { IsRegion home.now.grid from }
-        ensures hears { IfOk result (λ answer. (floor : Stamp) →
-            HearsOn at from (mixed at (trail_of self.old.inbox.heard from) sent.now)
-            (run_in floor self.old) answer (run_in floor self.new)) }
+        requires live { IsLive place.now self.old }
+        requires region { IsRegion place.now.home.grid from }
+        ensures hears { IfOk result (λ answer. HearsOn at from (mixed at (trail_of self.old.inbox.heard from) sent.now)
+            (run_in place.now.floor self.old) answer (run_in place.now.floor self.new)) }
         ensures base { OnOk result (base_in self.new ≡ base_in self.old) }
-        ensures live { OnOk result ((floor : Stamp) → IsLive home.now floor self.old →
-            IsHearable home.now floor from sent.now → IsLive home.now floor self.new) }
+        ensures live { OnOk result (IsHearable place.now.home place.now.floor from sent.now →
+            IsLive place.now self.new) }
     {
         if ends_before(self.log.last_stamp(), at) {
             self.replace(from, at, sent)?;
             Ok(Hearing::Later(at))
         } else {
-            self.rewind(alloc, home, at)?;
+            self.rewind(alloc, place, at)?;
             self.replace(from, at, sent)?;
             Ok(Hearing::Rewound(at))
         }

@@ -10,19 +10,19 @@ ghost use Rattle.region_view.specs.Setting.{set_rows, rows_at, AreValidRows};
 ghost use Rattle.region_view.specs.Views.{ViewData, rows_in};
 ghost use Rattle.region_queue.specs.Queue.{IsOf, StandsFor};
 ghost use Rattle.local_run.specs.Entries.{entries_below, entries_from};
-ghost use Rattle.local_run.specs.LocalRun.{IsInPlace, IsHearable};
+ghost use Rattle.local_run.specs.LocalRun.{IsHearable};
 ghost use Rattle.event_log.specs.Logged.{entries_in};
 ghost use Rattle.region_core.specs.Live.{base_in, run_in, IsLive};
-ghost use Rattle.region_parts.specs.Aside.{IsValidBack, IsLateAside};
+ghost use Rattle.region_parts.specs.Aside.{IsLateAside};
 ghost use Rattle.region_core.specs.Weaving.{disk_of, Weaves, IsSetLate, BeginsAfter, IsTried};
 
 use crate::appending::touch;
 use crate::live::Live;
-use crate::{Entry, Home, MAX_ENTRIES};
+use crate::{Entry, MAX_ENTRIES};
 use event_log::EventLog;
 use event_stamps::Stamp;
 use region_messages::{News, Trail};
-use region_parts::{first_in_way, is_before};
+use region_parts::{Place, first_in_way, is_before};
 use region_queue::Queue;
 use region_view::{Message, Placed, Rows, View};
 use std::alloc::{AllocError, Global};
@@ -37,17 +37,15 @@ impl Live {
     pub(crate) fn weave_news(
         &mut self,
         alloc: Global,
-        home: &Home,
-        floor: Stamp,
+        place: &Place,
         from: u32,
         sent: &Trail,
         clock: Option<Stamp>,
     ) -> Result<Option<Stamp>, AllocError>
-        requires place { IsInPlace home.now }
-        requires live { IsLive home.now floor self.old }
-        requires region { IsRegion home.now.grid from }
-        requires hearable { IsHearable home.now floor from sent.now }
-        ensures live { OnOk result (IsLive home.now floor self.new) }
+        requires live { IsLive place.now self.old }
+        requires region { IsRegion place.now.home.grid from }
+        requires hearable { IsHearable place.now.home place.now.floor from sent.now }
+        ensures live { OnOk result (IsLive place.now self.new) }
         ensures base { OnOk result (base_in self.new ≡ base_in self.old) }
     {
         let mut known = 0;
@@ -58,7 +56,7 @@ impl Live {
             let Some(message) = told_at(sent, &news) else {
                 return Ok(Some(news.at));
             };
-            if !self.weave_or_rewind(alloc, home, floor, from, message)? {
+            if !self.weave_or_rewind(alloc, place, from, message)? {
                 return Ok(Some(news.at));
             }
             known = news.known;
@@ -72,25 +70,23 @@ impl Live {
     fn weave_or_rewind(
         &mut self,
         alloc: Global,
-        home: &Home,
-        floor: Stamp,
+        place: &Place,
         from: u32,
         message: Message,
     ) -> Result<bool, AllocError>
-        requires place { IsInPlace home.now }
-        requires live { IsLive home.now floor self.old }
-        requires region { IsRegion home.now.grid from }
-        requires hearable { IsHearable home.now floor from (message ∷ []) }
-        ensures live { OnOk result (IsLive home.now floor self.new) }
+        requires live { IsLive place.now self.old }
+        requires region { IsRegion place.now.home.grid from }
+        requires hearable { IsHearable place.now.home place.now.floor from (message ∷ []) }
+        ensures live { OnOk result (IsLive place.now self.new) }
         ensures base { OnOk result (base_in self.new ≡ base_in self.old) }
     {
-        let Some(at) = self.weave(alloc, home, floor, from, message)? else {
+        let Some(at) = self.weave(alloc, place, from, message)? else {
             return Ok(true);
         };
         if !is_before(&message.stamp, &at) {
             return Ok(false);
         }
-        self.rewind(alloc, home, at)?;
+        self.rewind(alloc, place, at)?;
         Ok(true)
     }
 
@@ -103,21 +99,19 @@ impl Live {
     pub(crate) fn weave(
         &mut self,
         alloc: Global,
-        home: &Home,
-        floor: Stamp,
+        place: &Place,
         from: u32,
         message: Message,
     ) -> Result<Option<Stamp>, AllocError>
-        requires place { IsInPlace home.now }
-        requires live { IsLive home.now floor self.old }
-        requires region { IsRegion home.now.grid from }
-        requires hearable { IsHearable home.now floor from (message ∷ []) }
-        ensures live { OnOk result (IsLive home.now floor self.new) }
+        requires live { IsLive place.now self.old }
+        requires region { IsRegion place.now.home.grid from }
+        requires hearable { IsHearable place.now.home place.now.floor from (message ∷ []) }
+        ensures live { OnOk result (IsLive place.now self.new) }
         ensures weaves { IfOk result (λ hindrance.
-            Weaves from message (run_in floor self.old) hindrance (run_in floor self.new)) }
+            Weaves from message (run_in place.now.floor self.old) hindrance (run_in place.now.floor self.new)) }
         ensures hindrance { IfOk result (λ hindrance. IfSome hindrance (λ at. ¬ Before at message.stamp)) }
     {
-        let hindrance = self.weave_if_aside(alloc, home, floor, from, message)?;
+        let hindrance = self.weave_if_aside(alloc, place, from, message)?;
         Ok(not_before(hindrance, &message.stamp))
     }
 
@@ -125,33 +119,30 @@ impl Live {
     fn weave_if_aside(
         &mut self,
         alloc: Global,
-        home: &Home,
-        floor: Stamp,
+        place: &Place,
         from: u32,
         message: Message,
     ) -> Result<Option<Stamp>, AllocError>
-        requires place { IsInPlace home.now }
-        requires live { IsLive home.now floor self.old }
-        requires region { IsRegion home.now.grid from }
-        requires hearable { IsHearable home.now floor from (message ∷ []) }
-        ensures { IfOk result (λ hindrance. IsLive home.now floor self.new
-            × Weaves from message (run_in floor self.old) hindrance (run_in floor self.new)) }
+        requires live { IsLive place.now self.old }
+        requires region { IsRegion place.now.home.grid from }
+        requires hearable { IsHearable place.now.home place.now.floor from (message ∷ []) }
+        ensures { IfOk result (λ hindrance. IsLive place.now self.new
+            × Weaves from message (run_in place.now.floor self.old) hindrance (run_in place.now.floor self.new)) }
     {
         let kept = self.log.count_before(message.stamp);
-        match self.hindrance(home, from, kept, &message) {
+        match self.hindrance(place, from, kept, &message) {
             Some(at) => Ok(Some(at)),
-            None => self.weave_at(alloc, home, floor, from, kept, message),
+            None => self.weave_at(alloc, place, from, kept, message),
         }
     }
 
     // What keeps a message of a region from coming before the entries from a place on, by the log and what was heard.
-    fn hindrance(&self, home: &Home, from: u32, kept: usize, message: &Message) -> Option<Stamp>
-        requires place { IsInPlace home.now }
-        requires valid { All (λ l. IsValidBack home.now l.1) self.now.log }
-        requires rows { AreValidRows home.now.rules home.now.grid message.now.rows }
-        requires heard { from < length self.now.inbox.heard }
+    fn hindrance(&self, place: &Place, from: u32, kept: usize, message: &Message) -> Option<Stamp>
+        requires live { IsLive place.now self.now }
+        requires region { IsRegion place.now.home.grid from }
+        requires rows { AreValidRows place.now.home.rules place.now.home.grid message.now.rows }
         ensures tried { result ≡ None → IsTried from kept message.now self.now }
-        ensures aside { result ≡ None → All (IsLateAside home.now message.now.rows) (drop kept self.now.log) }
+        ensures aside { result ≡ None → All (IsLateAside place.now.home message.now.rows) (drop kept self.now.log) }
     {
         if !begins_after(&self.log, kept, &message.stamp) {
             return Some(message.stamp);
@@ -162,32 +153,29 @@ impl Live {
         if self.log.len() >= MAX_ENTRIES {
             return Some(self.log.last_stamp().unwrap_or(message.stamp));
         }
-        first_in_way(&self.log, kept, &message.rows, home)
+        first_in_way(&self.log, kept, &message.rows, &place.home)
     }
 
     // The same before the entries from a place on, where these are no hindrance.
     fn weave_at(
         &mut self,
         alloc: Global,
-        home: &Home,
-        floor: Stamp,
+        place: &Place,
         from: u32,
         kept: usize,
         message: Message,
     ) -> Result<Option<Stamp>, AllocError>
-        requires place { IsInPlace home.now }
-        requires live { IsLive home.now floor self.old }
-        requires region { IsRegion home.now.grid from }
-        requires hearable { IsHearable home.now floor from (message ∷ []) }
+        requires live { IsLive place.now self.old }
+        requires region { IsRegion place.now.home.grid from }
+        requires hearable { IsHearable place.now.home place.now.floor from (message ∷ []) }
         requires below { take kept (entries_in self.old.log) ≡ entries_below message.stamp (entries_in self.old.log) }
         requires rest { drop kept (entries_in self.old.log) ≡ entries_from message.stamp (entries_in self.old.log) }
         requires within { kept ≤ length self.old.log }
         requires tried { IsTried from kept message self.old }
-        requires aside { All (IsLateAside home.now message.rows) (drop kept self.old.log) }
-        ensures { IfOk result (λ hindrance. IsLive home.now floor self.new
-            × Weaves from message (run_in floor self.old) hindrance (run_in floor self.new)) }
+        requires aside { All (IsLateAside place.now.home message.rows) (drop kept self.old.log) }
+        ensures { IfOk result (λ hindrance. IsLive place.now self.new
+            × Weaves from message (run_in place.now.floor self.old) hindrance (run_in place.now.floor self.new)) }
     {
-        let _floor = floor;
         let Some(last) = self.log.last_stamp() else {
             return Ok(Some(message.stamp));
         };

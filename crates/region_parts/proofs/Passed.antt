@@ -15,7 +15,7 @@ use Rattle.event_log.specs.Logged.{Logged, logged_stamp, entries_in}
 use Rattle.event_log.specs.Nearness.{AreAway, IsFar, AllUpTo}
 use Rattle.region_parts.specs.Aside.{IsOwnTouch, TouchAfter, IsLateAside, IsOutOfWay}
 use Rattle.region_parts.proofs.Lists.{as_many}
-use Rattle.region_parts.proofs.Aside.{all_from}
+use Rattle.region_parts.proofs.Hindrances.{all_from}
 
 -- ---- what is far
 -- what stands in cells that aren't adjacent has no event

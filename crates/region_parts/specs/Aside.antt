@@ -5,9 +5,10 @@ use Rattle.event_stamps.specs.Order.{Before}
 use Rattle.cell_grid.specs.Grid.{Owns}
 use Rattle.region_view.specs.declared.action.Placed.{Placed}
 use Rattle.region_view.specs.Events.{IsNear}
-use Rattle.region_view.specs.Setting.{RowList, get_over, IsValidPlaced}
+use Rattle.region_view.specs.Setting.{RowList, get_over, AreValidRows, IsValidPlaced}
 use Rattle.region_messages.specs.Trails.{IsAmong}
 use Rattle.local_run.specs.declared.home.Home.{Home}
+use Rattle.local_run.specs.LocalRun.{IsInPlace}
 use Rattle.local_run.specs.Weaving.{IsApart, AreOthers}
 use Rattle.event_log.specs.Logged.{Logged, logged_stamp}
 
@@ -40,3 +41,8 @@ IsOutOfWay h rows l = IsApart rows l.0 × IsLateAside h rows l
 -- what stands in rows that lead back is valid
 abbrev pub IsValidBack : Home → RowList → Type 0
 IsValidBack h back = (i : ℕ) (p : Placed) → get_over back i None ≡ Some p → IsValidPlaced h.rules h.grid (Some p)
+
+-- rows that may stand in the grid of a region that is in its place
+pub record MayStand (h : Home) (rows : RowList) : Type 0 where
+  pub place : IsInPlace h
+  pub valid : AreValidRows h.rules h.grid rows

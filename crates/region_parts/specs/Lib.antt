@@ -1,3 +1,4 @@
 pub mod Inbox
 pub mod Border
 pub mod Aside
+pub mod Place

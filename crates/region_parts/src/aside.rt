@@ -6,13 +6,13 @@ ghost use Rattle.std.specs.List.{Contains};
 ghost use Rattle.event_stamps.specs.declared.Stamp.{Stamp};
 ghost use Rattle.event_stamps.specs.Order.{Before};
 ghost use Rattle.region_view.specs.declared.action.Placed.{Placed};
-ghost use Rattle.region_view.specs.Setting.{AreValidRows, IsValidPlaced, numbers_of};
+ghost use Rattle.region_view.specs.Setting.{IsValidPlaced, numbers_of};
 ghost use Rattle.region_messages.specs.Trails.{IsAmong};
 ghost use Rattle.region_view.specs.Naming.{Names};
 ghost use Rattle.local_run.specs.LocalRun.{IsInPlace};
 ghost use Rattle.local_run.specs.Weaving.{IsApart, AreOthers};
 ghost use Rattle.event_log.specs.Logged.{entries_in};
-ghost use Rattle.region_parts.specs.Aside.{IsOwnTouch, TouchAfter, AllTouchAfter, IsStepAside, IsLateAside, IsOutOfWay, IsValidBack};
+ghost use Rattle.region_parts.specs.Aside.{IsOwnTouch, TouchAfter, AllTouchAfter, IsStepAside, IsLateAside, IsOutOfWay, IsValidBack, MayStand};
 
 use crate::stamps::is_before;
 use event_log::EventLog;
@@ -23,9 +23,8 @@ use region_view::{Placed, Rows, near_event};
 /// The stamp of the first entry of a log from a place on that has one of the disks of some rows, or over which rows
 /// lead back that touch them.
 pub fn first_in_way(log: &EventLog, kept: usize, rows: &Rows, home: &Home) -> Option<Stamp>
-    requires place { IsInPlace home.now }
     requires valid { All (λ l. IsValidBack home.now l.1) log.now }
-    requires rows { AreValidRows home.now.rules home.now.grid rows.now }
+    requires rows { MayStand home.now rows.now }
     ensures apart { result ≡ None → All (IsApart rows.now) (drop kept (entries_in log.now)) }
     ensures aside { result ≡ None → All (IsLateAside home.now rows.now) (drop kept log.now) }
 {
@@ -41,9 +40,8 @@ pub fn first_in_way(log: &EventLog, kept: usize, rows: &Rows, home: &Home) -> Op
 
 // Whether an entry of a log, by its place, has one of the disks of some rows, or rows lead back over it that touch them.
 fn is_hindrance(log: &EventLog, i: usize, rows: &Rows, home: &Home) -> bool
-    requires place { IsInPlace home.now }
     requires valid { All (λ l. IsValidBack home.now l.1) log.now }
-    requires rows { AreValidRows home.now.rules home.now.grid rows.now }
+    requires rows { MayStand home.now rows.now }
     requires within { i < length log.now }
     ensures { result ≡ false → IfSome (slice_get log.now i) (IsOutOfWay home.now rows.now) }
 {
@@ -103,9 +101,8 @@ fn has_row(rows: &Rows, disk: u32) -> bool
 // Whether rows that lead back are of the same disks as some rows, or what stood in them would touch these up to a
 // stamp.
 fn is_in_way(at: &Stamp, back: &Rows, rows: &Rows, home: &Home) -> bool
-    requires place { IsInPlace home.now }
     requires back { IsValidBack home.now back.now }
-    requires rows { AreValidRows home.now.rules home.now.grid rows.now }
+    requires rows { MayStand home.now rows.now }
     ensures { result ≡ false → IsStepAside home.now rows.now at.now back.now }
 {
     have_common(rows, back) || is_one_touched(at, back, rows, home)
@@ -113,9 +110,8 @@ fn is_in_way(at: &Stamp, back: &Rows, rows: &Rows, home: &Home) -> bool
 
 // Whether what stands in one of some rows would touch others up to a stamp.
 fn is_one_touched(at: &Stamp, back: &Rows, rows: &Rows, home: &Home) -> bool
-    requires place { IsInPlace home.now }
     requires back { IsValidBack home.now back.now }
-    requires rows { AreValidRows home.now.rules home.now.grid rows.now }
+    requires rows { MayStand home.now rows.now }
     ensures { result ≡ false → AllTouchAfter home.now at.now back.now rows.now }
 {
     match back.as_slice() {
@@ -129,9 +125,8 @@ fn is_one_touched(at: &Stamp, back: &Rows, rows: &Rows, home: &Home) -> bool
 
 // Whether what stands in a row would touch one of some rows up to a stamp.
 fn is_touched(at: &Stamp, row: (u32, Option<Placed>), rows: &Rows, home: &Home) -> bool
-    requires place { IsInPlace home.now }
     requires row { IsValidPlaced home.now.rules home.now.grid row.1 }
-    requires rows { AreValidRows home.now.rules home.now.grid rows.now }
+    requires rows { MayStand home.now rows.now }
     ensures { result ≡ false → (other : ℕ × Option Placed) → IsAmong other rows.now →
         TouchAfter home.now at.now row other }
 {

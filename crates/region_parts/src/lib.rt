@@ -7,11 +7,13 @@
 mod aside;
 mod border;
 mod inbox;
+mod place;
 mod stamps;
 mod trails;
 
 pub use aside::first_in_way;
 pub use border::Border;
 pub use inbox::Inbox;
+pub use place::Place;
 pub use stamps::is_before;
 pub use trails::{cut_from, drop_before, empty_trails};

@@ -29,11 +29,10 @@ impl Region {
     {
         let _alloc = alloc;
         let Some(live) = &mut self.live else {
-            self.floor = to;
+            self.place.floor = to;
             return Ok(());
         };
-        live.raise_floor(&self.home, to);
-        self.floor = to;
+        live.raise_floor(&mut self.place, to);
         Ok(())
     }
 
@@ -51,15 +50,12 @@ impl Region {
         ensures cut { OnOk result (entries_in into.new ≡ entries_below to (entries_of self.old)) }
     {
         let Some(live) = &mut self.live else {
-            self.floor = to;
+            self.place.floor = to;
             into.truncate(0);
             return Ok(());
         };
-        match live.cut_floor(&self.home, to, into) {
-            Ok(()) => {
-                self.floor = to;
-                Ok(())
-            }
+        match live.cut_floor(&mut self.place, to, into) {
+            Ok(()) => Ok(()),
             Err(error) => {
                 let_go(&mut self.live);
                 Err(error)

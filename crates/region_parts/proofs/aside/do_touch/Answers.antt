@@ -1,6 +1,6 @@
 use Rattle.std.proofs.Common.{sym, ◌∙◌, Option, subst}
 use Rattle.std.proofs.lemmas.Bool.{false≢true}
-use Rattle.region_parts.proofs.Aside.{touch_after, none_touched}
+use Rattle.region_parts.proofs.Hindrances.{touch_after, none_touched}
 use Rattle.region_view.specs.declared.action.Placed.{Placed}
 use Rattle.region_view.specs.Setting.{IsValidPlaced}
 use Rattle.region_parts.specs.Aside.{TouchAfter}

@@ -1,6 +1,6 @@
 use Rattle.std.proofs.Common.{slice_get, ◌∙◌, sym, Option, subst}
 use Rattle.event_log.specs.Logged.{entries_in}
-use Rattle.region_parts.proofs.Aside.{named_at}
+use Rattle.region_parts.proofs.Hindrances.{named_at}
 use Rattle.std.specs.Prelude.{IfSome}
 use Rattle.local_run.specs.declared.entry.Entry.{Entry}
 use Rattle.local_run.specs.Weaving.{IsApart}

@@ -1,4 +1,4 @@
-use Rattle.region_parts.proofs.Aside.{within_two}
+use Rattle.region_parts.proofs.Hindrances.{within_two}
 use Rattle.region_parts.proofs.aside.has_row.Goals as goal
 
 pub bounds-row-0 : goal.bounds-row-0

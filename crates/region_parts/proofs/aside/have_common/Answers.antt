@@ -2,7 +2,7 @@ use Rattle.std.proofs.Common.{sym, subst, ◌∙◌}
 use Rattle.std.proofs.lemmas.Bool.{false≢true}
 use Rattle.region_view.specs.Setting.{AreRows, RowList}
 use Rattle.local_run.specs.Weaving.{AreOthers}
-use Rattle.region_parts.proofs.Aside.{within_two, others_none, others_one, others_two}
+use Rattle.region_parts.proofs.Hindrances.{within_two, others_none, others_one, others_two}
 use Rattle.region_parts.proofs.aside.have_common.Goals as goal
 
 pub returns-then-has_row : goal.returns-then-has_row

@@ -1,5 +1,5 @@
 use Rattle.region_parts.specs.Aside.{IsValidBack}
-use Rattle.region_parts.proofs.Aside.{back_at, late_at}
+use Rattle.region_parts.proofs.Hindrances.{back_at, late_at}
 use Rattle.region_parts.proofs.Passed.{tested_at}
 use Rattle.std.proofs.Common.{sym, ◌∙◌}
 use Rattle.std.proofs.lemmas.Bool.{false≢true}
@@ -23,9 +23,6 @@ back-requires c = record { within = c.requires.within }
 
 pub stamp-requires : goal.stamp-requires
 stamp-requires c = record { within = c.requires.within }
-
-pub is_in_way-requires-clause-place : goal.is_in_way-requires-clause-place
-is_in_way-requires-clause-place c = c.requires.place
 
 pub is_in_way-requires-clause-rows : goal.is_in_way-requires-clause-rows
 is_in_way-requires-clause-rows c = c.requires.rows

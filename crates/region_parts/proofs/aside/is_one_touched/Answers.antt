@@ -2,7 +2,7 @@ use Rattle.std.proofs.Common.{sym, subst, arith, ◌∙◌}
 use Rattle.region_view.specs.Setting.{AreRows}
 use Rattle.region_messages.specs.Trails.{IsAmong}
 use Rattle.region_parts.specs.Aside.{TouchAfter, IsValidBack}
-use Rattle.region_parts.proofs.Aside.{of_one, of_two, first_back, second_back, of_none, within_two}
+use Rattle.region_parts.proofs.Hindrances.{of_one, of_two, first_back, second_back, of_none, within_two}
 use Rattle.std.proofs.lemmas.Bool.{false≢true}
 use Rattle.region_parts.proofs.aside.is_one_touched.Goals as goal
 
@@ -48,14 +48,8 @@ returns-in-empty c = λ off row other among also.
 pub is_touched-requires-else-is_touched-clause-rows : goal.is_touched-requires-else-is_touched-clause-rows
 is_touched-requires-else-is_touched-clause-rows c = c.requires.rows
 
-pub is_touched-requires-else-is_touched-clause-place : goal.is_touched-requires-else-is_touched-clause-place
-is_touched-requires-else-is_touched-clause-place c = c.requires.place
-
 pub is_touched-requires-in-len2-up-clause-rows : goal.is_touched-requires-in-len2-up-clause-rows
 is_touched-requires-in-len2-up-clause-rows c = c.requires.rows
-
-pub is_touched-requires-in-len2-up-clause-place : goal.is_touched-requires-in-len2-up-clause-place
-is_touched-requires-in-len2-up-clause-place c = c.requires.place
 
 pub bounds-row-0 : goal.bounds-row-0
 bounds-row-0 c = c.in-len1.len_at_least

@@ -2,13 +2,13 @@ use Rattle.std.proofs.Common.{sym, subst, arith, ◌∙◌}
 use Rattle.region_view.specs.Setting.{AreRows, AreValidRows}
 use Rattle.region_messages.specs.Trails.{IsAmong}
 use Rattle.region_parts.specs.Aside.{TouchAfter}
-use Rattle.region_parts.proofs.Aside.{of_one, of_two, first_valid, second_valid, of_none, within_two}
+use Rattle.region_parts.proofs.Hindrances.{of_one, of_two, first_valid, second_valid, of_none, within_two}
 use Rattle.std.proofs.lemmas.Bool.{false≢true}
 use Rattle.region_parts.proofs.aside.is_touched.Goals as goal
 
 pub do_touch-requires-clause-other : goal.do_touch-requires-clause-other
 do_touch-requires-clause-other c = first_valid c.args.home.now.rules c.args.home.now.grid c.as_slice.result.now _
-    (subst (AreValidRows c.args.home.now.rules c.args.home.now.grid) (sym c.as_slice.ensures.value) c.requires.rows)
+    (subst (AreValidRows c.args.home.now.rules c.args.home.now.grid) (sym c.as_slice.ensures.value) c.requires.rows.valid)
     c.in-len1.len_at_least
 
 pub returns-in-len1 : goal.returns-in-len1
@@ -20,13 +20,13 @@ returns-in-len1 c = λ off other among.
 pub do_touch-requires-in-len2-up-clause-other : goal.do_touch-requires-in-len2-up-clause-other
 do_touch-requires-in-len2-up-clause-other c = first_valid c.args.home.now.rules c.args.home.now.grid
     c.as_slice.result.now _
-    (subst (AreValidRows c.args.home.now.rules c.args.home.now.grid) (sym c.as_slice.ensures.value) c.requires.rows)
+    (subst (AreValidRows c.args.home.now.rules c.args.home.now.grid) (sym c.as_slice.ensures.value) c.requires.rows.valid)
     (let some = c.in-len2-up.len_at_least in omega arith)
 
 pub do_touch-requires-else-do_touch-clause-other : goal.do_touch-requires-else-do_touch-clause-other
 do_touch-requires-else-do_touch-clause-other c = second_valid c.args.home.now.rules c.args.home.now.grid
     c.as_slice.result.now _
-    (subst (AreValidRows c.args.home.now.rules c.args.home.now.grid) (sym c.as_slice.ensures.value) c.requires.rows)
+    (subst (AreValidRows c.args.home.now.rules c.args.home.now.grid) (sym c.as_slice.ensures.value) c.requires.rows.valid)
     c.in-len2-up.len_at_least
 
 pub returns-else-do_touch : goal.returns-else-do_touch
@@ -48,16 +48,16 @@ pub do_touch-requires-else-do_touch-clause-row : goal.do_touch-requires-else-do_
 do_touch-requires-else-do_touch-clause-row c = c.requires.row
 
 pub do_touch-requires-else-do_touch-clause-place : goal.do_touch-requires-else-do_touch-clause-place
-do_touch-requires-else-do_touch-clause-place c = c.requires.place
+do_touch-requires-else-do_touch-clause-place c = c.requires.rows.place
 
 pub do_touch-requires-in-len2-up-clause-row : goal.do_touch-requires-in-len2-up-clause-row
 do_touch-requires-in-len2-up-clause-row c = c.requires.row
 
 pub do_touch-requires-in-len2-up-clause-place : goal.do_touch-requires-in-len2-up-clause-place
-do_touch-requires-in-len2-up-clause-place c = c.requires.place
+do_touch-requires-in-len2-up-clause-place c = c.requires.rows.place
 
 pub do_touch-requires-clause-place : goal.do_touch-requires-clause-place
-do_touch-requires-clause-place c = c.requires.place
+do_touch-requires-clause-place c = c.requires.rows.place
 
 pub bounds-other-0 : goal.bounds-other-0
 bounds-other-0 c = c.in-len1.len_at_least

@@ -8,16 +8,13 @@ pub returns-in_default-clause-base : goal.returns-in_default-clause-base
 returns-in_default-clause-base c = c.in_ok-at.ensures.base
 
 pub hear_from-requires-clause-live : goal.hear_from-requires-clause-live
-hear_from-requires-clause-live c = (c.args.floor, c.in_ok-at.ensures.live)
+hear_from-requires-clause-live c = c.in_ok-at.ensures.live
 
 pub returns-clause-live : goal.returns-clause-live
-returns-clause-live c = c.in_ok-hear_from.ensures.live c.args.floor c.in_ok-at.ensures.live c.requires.hearable
+returns-clause-live c = c.in_ok-hear_from.ensures.live c.requires.hearable
 
 pub returns-clause-base : goal.returns-clause-base
 returns-clause-base c = c.in_ok-hear_from.ensures.base ∙ c.in_ok-at.ensures.base
 
 pub hear_from-requires-clause-region : goal.hear_from-requires-clause-region
 hear_from-requires-clause-region c = c.requires.region
-
-pub hear_from-requires-clause-place : goal.hear_from-requires-clause-place
-hear_from-requires-clause-place c = c.requires.place

@@ -17,21 +17,21 @@ use Rattle.region_core.proofs.live.Live.collide_and_send.Goals as goal
 
 pub send_hit-requires-clause-cells : goal.send_hit-requires-clause-cells
 send_hit-requires-clause-cells c =
-    cells_are c.args.home.now c.args.floor.now c.args.self.now c.requires.place c.requires.live
+    cells_are c.args.place.now.home c.args.place.now.floor c.args.self.now c.requires.live.place.home c.requires.live.body
 
 pub send_hit-requires-clause-order : goal.send_hit-requires-clause-order
-send_hit-requires-clause-order c = (native_action c.args.home.now c.args.floor.now c.args.self.now
-    (Hit c.args.change.now) c.requires.place c.requires.live c.requires.fits).order
+send_hit-requires-clause-order c = (native_action c.args.place.now.home c.args.place.now.floor c.args.self.now
+    (Hit c.args.change.now) c.requires.live.place.home c.requires.live.body c.requires.fits).order
 
 pub send_hit-requires-clause-after : goal.send_hit-requires-clause-after
-send_hit-requires-clause-after c = after_what_was_sent c.args.home.now c.args.floor.now c.args.self.now
-    (Hit c.args.change.now) c.requires.live c.requires.fits
+send_hit-requires-clause-after c = after_what_was_sent c.args.place.now.home c.args.place.now.floor c.args.self.now
+    (Hit c.args.change.now) c.requires.live.body c.requires.fits
 
 pub collide-requires-clause-order : goal.collide-requires-clause-order
 collide-requires-clause-order c =
     subst (λ (x : Change). IsInOrder (Hit x)) c.requires.change
-    (native_action c.args.home.now c.args.floor.now c.args.self.now
-    (Hit c.args.change.now) c.requires.place c.requires.live c.requires.fits).order
+    (native_action c.args.place.now.home c.args.place.now.floor c.args.self.now
+    (Hit c.args.change.now) c.requires.live.place.home c.requires.live.body c.requires.fits).order
 
 pub struck-requires : goal.struck-requires
 struck-requires c =
@@ -40,40 +40,43 @@ struck-requires c =
       valid = subst (λ (v : ViewData). IsValidPlacing live.queue.rules live.queue.grid (rows_in v))
           (sym (c.in_ok-collide.ensures.view ∙ ap (λ (x : Change). after_action live.view (Hit x))
           (sym c.requires.change)))
-          (native_valid c.args.home.now c.args.floor.now live (Hit c.args.change.now) c.requires.place c.requires.live
+          (native_valid c.args.place.now.home c.args.place.now.floor live (Hit c.args.change.now) c.requires.live.place.home c.requires.live.body
           c.requires.fits);
     }
 
 pub returns-clause-live : goal.returns-clause-live
 returns-clause-live c =
-    let home = c.args.home.now in
+    let home = c.args.place.now.home in
     let live = c.args.self.now in
     let stamp = c.args.change.now.stamp in
     let ids = stamp.first ∷ stamp.second ∷ [] in
-    acted_is_live home c.args.floor.now live _ (Hit c.args.change.now) c.requires.live c.requires.fits
     record {
-      inbox = refl;
-      log = c.in_ok-collide.ensures.log
-          ∙ ap (λ (x : Change). live.log ++ acted live.view (Hit x) ∷ []) (sym c.requires.change);
-      view = c.in_ok-collide.ensures.view
-          ∙ ap (λ (x : Change). after_action live.view (Hit x)) (sym c.requires.change);
-      queue = c.struck.ensures.same;
-      stands = c.in_ok-struck.ensures.stands live.view (stands_newest home c.args.floor.now live c.requires.live)
-          (subst (IsSameBut ids live.view) (sym c.in_ok-collide.ensures.view)
-          (hit_leaves live.view (collision stamp c.args.first.now c.args.second.now) ids
-          (here_first stamp.first (stamp.second ∷ []))
-          (later_still stamp.first (stamp.second ∷ []) stamp.second (here_first stamp.second []))))
-          (subst (KeepCells live.view) (sym c.in_ok-collide.ensures.view)
-          (hit_keeps_cells live.view (collision stamp c.args.first.now c.args.second.now)));
-      size = c.in_ok-send_hit.ensures.size;
-      told = c.in_ok-send_hit.ensures.told;
+      place = c.requires.live.place;
+      body = acted_is_live home c.args.place.now.floor live _ (Hit c.args.change.now) c.requires.live.body c.requires.fits
+          record {
+            inbox = refl;
+            log = c.in_ok-collide.ensures.log
+                ∙ ap (λ (x : Change). live.log ++ acted live.view (Hit x) ∷ []) (sym c.requires.change);
+            view = c.in_ok-collide.ensures.view
+                ∙ ap (λ (x : Change). after_action live.view (Hit x)) (sym c.requires.change);
+            queue = c.struck.ensures.same;
+            stands = c.in_ok-struck.ensures.stands live.view (stands_newest home c.args.place.now.floor live c.requires.live.body)
+                (subst (IsSameBut ids live.view) (sym c.in_ok-collide.ensures.view)
+                (hit_leaves live.view (collision stamp c.args.first.now c.args.second.now) ids
+                (here_first stamp.first (stamp.second ∷ []))
+                (later_still stamp.first (stamp.second ∷ []) stamp.second (here_first stamp.second []))))
+                (subst (KeepCells live.view) (sym c.in_ok-collide.ensures.view)
+                (hit_keeps_cells live.view (collision stamp c.args.first.now c.args.second.now)));
+            size = c.in_ok-send_hit.ensures.size;
+            told = c.in_ok-send_hit.ensures.told;
+          };
     }
 
 pub returns-clause-run : goal.returns-clause-run
 returns-clause-run c =
     let live = c.args.self.now in
-    further_run c.args.floor.now live (record live { view = c.collide.new.view; log = c.collide.new.self })
-    (Native (Hit c.args.change.now)) c.requires.live.traced refl
+    further_run c.args.place.now.floor live (record live { view = c.collide.new.view; log = c.collide.new.self })
+    (Native (Hit c.args.change.now)) c.requires.live.body.traced refl
     (c.in_ok-collide.ensures.log
     ∙ ap (λ (x : Change). live.log ++ acted live.view (Hit x) ∷ []) (sym c.requires.change))
     (c.in_ok-collide.ensures.view ∙ ap (λ (x : Change). after_action live.view (Hit x)) (sym c.requires.change))

@@ -1,11 +1,11 @@
 -- What is to be left is there still, with its view and its queue.
 use Rattle.std.proofs.Common.{◌≡◌, length, take}
-use Rattle.region_core.specs.Live.{base_in, GoesAlong}
+use Rattle.region_core.specs.Live.{base_in, IsAlong}
 use Rattle.region_core.proofs.live.Live.drop_down_to.Given as goal
 
 abbrev pub invariant-loop-alloc : goal.invariant-loop-alloc
 invariant-loop-alloc l = record {
-  along : GoesAlong l.home l.self;
+  along : IsAlong l.place l.self;
   left : take l.kept l.self.log ≡ take l.kept l.fn.self.log;
   base : base_in l.self ≡ base_in l.fn.self;
   inbox : l.self.inbox ≡ l.fn.self.inbox;

@@ -1,5 +1,6 @@
-use Rattle.std.proofs.Common.{arith, sym}
+use Rattle.std.proofs.Common.{arith, sym, subst, ℕ, ◌<◌}
 use Rattle.std.proofs.lemmas.Option.{none-some}
+use Rattle.region_core.proofs.WeavingLive.{back_valid}
 use Rattle.region_core.proofs.live.Live.hindrance.Goals as goal
 
 pub returns-clause-tried : goal.returns-clause-tried
@@ -28,17 +29,15 @@ returns-then-not-begins_after-clause-aside c = λ none. absurd (none-some _ (sym
 pub returns-then-not-begins_after-clause-tried : goal.returns-then-not-begins_after-clause-tried
 returns-then-not-begins_after-clause-tried c = λ none. absurd (none-some _ (sym none))
 
-pub first_in_way-requires-clause-place : goal.first_in_way-requires-clause-place
-first_in_way-requires-clause-place c = c.requires.place
-
 pub first_in_way-requires-clause-valid : goal.first_in_way-requires-clause-valid
-first_in_way-requires-clause-valid c = c.requires.valid
+first_in_way-requires-clause-valid c =
+    back_valid c.args.place.now.home c.args.place.now.floor c.args.self.now c.requires.live.place.home c.requires.live.body
 
 pub first_in_way-requires-clause-rows : goal.first_in_way-requires-clause-rows
-first_in_way-requires-clause-rows c = c.requires.rows
+first_in_way-requires-clause-rows c = record { place = c.requires.live.place.home; valid = c.requires.rows }
 
 pub is_free-requires : goal.is_free-requires
-is_free-requires c = c.requires.heard
+is_free-requires c = subst (λ (n : ℕ). c.args.from < n) (sym c.requires.live.body.inbox.regions) c.requires.region
 
 pub returns-clause-aside : goal.returns-clause-aside
 returns-clause-aside c = c.first_in_way.ensures.aside

@@ -16,7 +16,7 @@ is_so false off = absurd (false≢true (sym off))
 pub returns-in-Some-clause-held : goal.returns-in-Some-clause-held
 returns-in-Some-clause-held c = λ later.
     let live = c.args.self.now in
-    subst (λ (bound : Option Stamp). IsHeldBack c.args.home.now bound live) (sym c.in-Some.is) (
+    subst (λ (bound : Option Stamp). IsHeldBack c.args.place.now.home bound live) (sym c.in-Some.is) (
       c.or_end.result,
       c.or_end.ensures (now_in live) c.requires,
       λ before. never_both _ later (c.is_before.ensures.1 before),
@@ -25,7 +25,7 @@ returns-in-Some-clause-held c = λ later.
 pub returns-in-Some-clause-free : goal.returns-in-Some-clause-free
 returns-in-Some-clause-free c = λ off.
     let live = c.args.self.now in
-    subst (λ (bound : Option Stamp). IfSome bound (λ b. HasDueBefore c.args.home.now b live)) (sym c.in-Some.is) (
+    subst (λ (bound : Option Stamp). IfSome bound (λ b. HasDueBefore c.args.place.now.home b live)) (sym c.in-Some.is) (
       c.or_end.result,
       c.or_end.ensures (now_in live) c.requires,
       c.is_before.ensures.0 (is_so _ off),
@@ -36,5 +36,5 @@ returns-in-None-clause-held c = λ never. absurd (false≢true never)
 
 pub returns-in-None-clause-free : goal.returns-in-None-clause-free
 returns-in-None-clause-free c = λ off.
-    subst (λ (bound : Option Stamp). IfSome bound (λ b. HasDueBefore c.args.home.now b c.args.self.now))
+    subst (λ (bound : Option Stamp). IfSome bound (λ b. HasDueBefore c.args.place.now.home b c.args.self.now))
     (sym c.in-None.is) tt

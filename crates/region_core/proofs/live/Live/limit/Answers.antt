@@ -8,24 +8,24 @@ use Rattle.region_core.proofs.RunningOn.{clear_of_first, clear_of_bound}
 use Rattle.region_core.proofs.live.Live.limit.Goals as goal
 
 pub returns-then-is_before-clause-clear : goal.returns-then-is_before-clause-clear
-returns-then-is_before-clause-clear c =
+returns-then-is_before-clause-clear c = λ place is.
     let live = c.args.self.now in
     clear_of_first c.in-Some.stamp (now_in live).waiting
-    (least_waiting c.args.home.now c.requires.0 live (Some (c.in-Some.field-0-0, c.in-Some.stamp)) c.requires.1
+    (least_waiting place.home place.floor live (Some (c.in-Some.field-0-0, c.in-Some.stamp)) is.body
     (subst (IsLeastHead live.inbox) c.in-Some.is c.least.ensures))
 
 pub returns-else-is_before-clause-clear : goal.returns-else-is_before-clause-clear
-returns-else-is_before-clause-clear c =
+returns-else-is_before-clause-clear c = λ place is.
     let live = c.args.self.now in
     clear_of_bound c.in-Some.stamp c.args.bound.now (now_in live).waiting
-    (least_waiting c.args.home.now c.requires.0 live (Some (c.in-Some.field-0-0, c.in-Some.stamp)) c.requires.1
+    (least_waiting place.home place.floor live (Some (c.in-Some.field-0-0, c.in-Some.stamp)) is.body
     (subst (IsLeastHead live.inbox) c.in-Some.is c.least.ensures))
     (λ lt. false≢true (sym c.if-is_before.false ∙ c.is_before.ensures.1 lt))
 
 pub returns-in-None-clause-clear : goal.returns-in-None-clause-clear
-returns-in-None-clause-clear c =
+returns-in-None-clause-clear c = λ place is.
     let live = c.args.self.now in
-    let none = least_waiting c.args.home.now c.requires.0 live None c.requires.1
+    let none = least_waiting place.home place.floor live None is.body
     (subst (IsLeastHead live.inbox) c.in-None.is c.least.ensures) in
     λ s waits lt. none s waits
 

@@ -17,25 +17,22 @@ give_back-requires-clause-taken c = λ q.
     let log = entries_in c.args.self.now.log in
     let dropped = ap (taken_of q) c.count_before-kept.ensures.from in
     let parts = taken_below q c.args.at log in
-    let all = no_more_taken c.args.home.now c.requires.live.0 c.args.self.now q c.requires.live.1 in
+    let all = no_more_taken c.args.place.now.home c.args.place.now.floor c.args.self.now q c.requires.body in
     omega arith
 
 pub drop_down_to-requires : goal.drop_down_to-requires
 drop_down_to-requires c =
-    let live = c.requires.live.1 in
+    let live = c.requires.body in
     record {
       place = c.requires.place;
-      along = (
-        c.requires.live.0,
-        record {
-          right = still_right c.args.home.now c.requires.live.0 c.args.self.now c.give_back.new.self.heard
-              live c.give_back.ensures.heard;
-          traced = live.traced;
-          queue = live.queue;
-          stands = still_stands c.args.home.now c.requires.live.0 c.args.self.now c.give_back.new.self.heard
-              live c.give_back.ensures.heard;
-        },
-      );
+      body = record {
+        right = still_right c.args.place.now.home c.args.place.now.floor c.args.self.now c.give_back.new.self.heard
+            live c.give_back.ensures.heard;
+        traced = live.traced;
+        queue = live.queue;
+        stands = still_stands c.args.place.now.home c.args.place.now.floor c.args.self.now c.give_back.new.self.heard
+            live c.give_back.ensures.heard;
+      };
     }
 
 pub returns-clause-log : goal.returns-clause-log
@@ -44,25 +41,28 @@ returns-clause-log c =
     ∙ sym (entries_taken c.count_before-kept.result c.args.self.now.log) ∙ c.count_before-kept.ensures.before
 
 pub returns-clause-live : goal.returns-clause-live
-returns-clause-live c = λ floor is.
+returns-clause-live c =
     let log = entries_in c.args.self.now.log in
     let inbox = c.drop_down_to.ensures.inbox in
     let cut : c.cut_from.new.trails ≡ map (below c.args.at) c.args.self.now.sent.items =
     c.cut_from.ensures ∙ ap (map (below c.args.at)) c.deref_mut.ensures.value in
-    rewound_is c.args.home.now floor c.args.at c.args.self.now c.drop_down_to.new.self is
-    c.in_ok-drop_down_to.ensures.base
-    (ap entries_in c.in_ok-drop_down_to.ensures.log
-    ∙ sym (entries_taken c.count_before-kept.result c.args.self.now.log) ∙ c.count_before-kept.ensures.before)
-    (ap (λ (x : InboxData). x.heard) inbox ∙ c.give_back.ensures.heard)
-    (ap (λ (x : InboxData). length x.taken) inbox ∙ c.give_back.ensures.counts)
-    (λ q. ap (λ (x : InboxData). taken_from x q + taken_of q (entries_from c.args.at log)) inbox
-    ∙ ap (λ (v : List Entry). taken_from c.give_back.new.self q + taken_of q v) (sym c.count_before-kept.ensures.from)
-    ∙ c.give_back.ensures.taken q)
-    ((λ i. (c.drop_down_to.ensures.sent i).items)
-    ∙ with_items_is c.args.self.now.sent c.cut_from.new.trails
-    (ap length c.cut_from.ensures ∙ length-map c.deref_mut.result.now (below c.args.at)
-    ∙ c.deref_mut.ensures.len) ∙ cut)
-    c.in_ok-drop_down_to.ensures.along
+    record {
+      place = c.requires.place;
+      body = rewound_is c.args.place.now.home c.args.place.now.floor c.args.at c.args.self.now c.drop_down_to.new.self c.requires.body
+          c.in_ok-drop_down_to.ensures.base
+          (ap entries_in c.in_ok-drop_down_to.ensures.log
+          ∙ sym (entries_taken c.count_before-kept.result c.args.self.now.log) ∙ c.count_before-kept.ensures.before)
+          (ap (λ (x : InboxData). x.heard) inbox ∙ c.give_back.ensures.heard)
+          (ap (λ (x : InboxData). length x.taken) inbox ∙ c.give_back.ensures.counts)
+          (λ q. ap (λ (x : InboxData). taken_from x q + taken_of q (entries_from c.args.at log)) inbox
+          ∙ ap (λ (v : List Entry). taken_from c.give_back.new.self q + taken_of q v) (sym c.count_before-kept.ensures.from)
+          ∙ c.give_back.ensures.taken q)
+          ((λ i. (c.drop_down_to.ensures.sent i).items)
+          ∙ with_items_is c.args.self.now.sent c.cut_from.new.trails
+          (ap length c.cut_from.ensures ∙ length-map c.deref_mut.result.now (below c.args.at)
+          ∙ c.deref_mut.ensures.len) ∙ cut)
+          c.in_ok-drop_down_to.ensures.along.body;
+    }
 
 pub returns-clause-heard : goal.returns-clause-heard
 returns-clause-heard c = ap (λ (x : InboxData). x.heard) c.drop_down_to.ensures.inbox ∙ c.give_back.ensures.heard
@@ -71,4 +71,4 @@ pub returns-clause-base : goal.returns-clause-base
 returns-clause-base c = c.in_ok-drop_down_to.ensures.base
 
 pub count_before-kept-requires : goal.count_before-kept-requires
-count_before-kept-requires c = (c.requires.live.0, c.requires.live.1.right.rises)
+count_before-kept-requires c = (c.args.place.now.floor, c.requires.body.right.rises)

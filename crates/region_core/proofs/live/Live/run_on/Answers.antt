@@ -17,15 +17,15 @@ new-limit_key-requires c = c.is_in_range.ensures c.if-not-is_in_range.false
 
 pub loop-ran-init : goal.loop-ran-init
 loop-ran-init c =
-    let home = c.args.home.now in
-    let old = region_in home c.args.floor c.args.self.now in
+    let home = c.args.place.now.home in
+    let old = region_in c.args.place.now c.args.self.now in
     let given = c.args.so_far.answer in
     let few = min-le_left c.room.result c.args.so_far.left in
     record {
       live = c.requires.live;
       clear = subst (λ (k : Option Stamp). IfSome k (λ limit. IsClear limit (now_in c.args.self.now).waiting))
-          (sym c.new-limit_key.ensures) c.limit-limit.ensures.clear;
-      top = c.top_own-top.ensures;
+          (sym c.new-limit_key.ensures) (c.limit-limit.ensures.clear c.args.place.now c.requires.live);
+      top = c.top_own-top.ensures c.args.place.now c.requires.live;
       turn = c.is_own_in_turn.ensures c.if-not-is_own_in_turn.false;
       room = omega (arith, few, c.room.ensures, c.min-most.ensures);
       within = omega arith;
@@ -35,8 +35,8 @@ loop-ran-init c =
 
 pub run_event-requires-clause-turn : goal.run_event-requires-clause-turn
 run_event-requires-clause-turn c =
-    let home = c.args.home.now in
-    let r = run_in c.args.floor c.loop-ran.self in
+    let home = c.args.place.now.home in
+    let r = run_in c.args.place.now.floor c.loop-ran.self in
     let limit = c.limit-limit.result in
     let due = c.in-Some.due in
     let inv = c.loop-ran.invariant in
@@ -50,20 +50,17 @@ run_event-requires-clause-turn c =
     clear_turn home r due limit (omega (arith, many, inv.room, c.loop-ran-test.true)) least near clear
     (inv.turn due least)
 
-pub run_event-requires-clause-border : goal.run_event-requires-clause-border
-run_event-requires-clause-border c = c.requires.border
-
 pub loop-ran-preserved : goal.loop-ran-preserved
 loop-ran-preserved c =
-    let home = c.args.home.now in
-    let floor = c.args.floor in
+    let home = c.args.place.now.home in
+    let floor = c.args.place.now.floor in
     let old = c.loop-ran.self in
     let new = c.run_event.new.self in
     let limit = c.limit-limit.result in
     let due = c.in-Some.due in
     let inv = c.loop-ran.invariant in
     let is : c.loop-ran.top ≡ Some due = sym c.key.ensures.value ∙ c.in-Some.is in
-    let next = ran_next home floor limit due old new c.loop-ran.top c.new-limit_key.result _ is c.new-limit_key.ensures
+    let next = ran_next c.args.place.now limit due old new c.loop-ran.top c.new-limit_key.result _ is c.new-limit_key.ensures
     (c.is_before.ensures.0 c.if-is_before.true) c.if-not-branch.false c.in_ok-run_event.ensures.steps in
     let clear = subst (λ (k : Option Stamp). IfSome k (λ limit. IsClear limit (now_in old).waiting))
     c.new-limit_key.ensures inv.clear in
@@ -73,17 +70,17 @@ loop-ran-preserved c =
       live = c.in_ok-run_event.ensures.live;
       clear = subst (λ (k : Option Stamp). IfSome k (λ limit. IsClear limit (now_in new).waiting))
           (sym c.new-limit_key.ensures) (still_clear home limit due (run_in floor old) (run_in floor new) next clear);
-      top = c.top_own-top-in-loop-ran.ensures;
+      top = c.top_own-top-in-loop-ran.ensures c.args.place.now c.in_ok-run_event.ensures.live;
       turn = next_in_turn home limit due (run_in floor old) (run_in floor new) c.top_own-top-in-loop-ran.result next
-          c.top_own-top-in-loop-ran.ensures
+          (c.top_own-top-in-loop-ran.ensures c.args.place.now c.in_ok-run_event.ensures.live)
           (subst (λ (k : Option Stamp). IsKeyBefore k c.top_own-top-in-loop-ran.result) is
           (c.is_before-in-loop-ran.ensures.0 c.if-not-is_before.false));
       room = let before = inv.room in omega arith;
       within = omega arith;
       ran = subst (λ (last : Option Stamp). Follow c.args.bound.now (c.loop-ran.ran + 1) c.args.so_far.answer
-          (region_in home floor c.args.self.now) (answer_after c.args.so_far.answer last) (region_in home floor new))
-          (sym is) (one_follows home floor c.args.bound.now limit due c.loop-ran.ran c.args.so_far.answer
-          (answer_after c.args.so_far.answer c.loop-ran.last) (region_in home floor c.args.self.now) old new
+          (region_in c.args.place.now c.args.self.now) (answer_after c.args.so_far.answer last) (region_in c.args.place.now new))
+          (sym is) (one_follows c.args.place.now c.args.bound.now limit due c.loop-ran.ran c.args.so_far.answer
+          (answer_after c.args.so_far.answer c.loop-ran.last) (region_in c.args.place.now c.args.self.now) old new
           c.limit-limit.ensures.bound inv.ran next);
     }
 
@@ -103,7 +100,7 @@ after-requires c =
 
 pub returns-clause-live : goal.returns-clause-live
 returns-clause-live c =
-    let here = IsLive c.args.home.now c.args.floor in
+    let here = IsLive c.args.place.now in
     let live = c.loop-ran.invariant.live in
     elim c.loop-ran-test.branch [
       | then-loop-ran-test+else-is_before w ↦ subst here (sym w.self-is) live
@@ -117,35 +114,35 @@ returns-clause-live c =
 
 pub returns-clause-ran : goal.returns-clause-ran
 returns-clause-ran c =
-    let home = c.args.home.now in
-    let floor = c.args.floor in
+    let home = c.args.place.now.home in
+    let floor = c.args.place.now.floor in
     let bound = c.args.bound.now in
     let given = c.args.so_far in
-    let first = region_in home floor c.args.self.now in
+    let first = region_in c.args.place.now c.args.self.now in
     let old = c.loop-ran.self in
     let end = c.loop-ran-test in
     let ran = c.loop-ran.invariant.ran in
-    let follows = still_follows home floor bound given.answer first c.loop-ran.ran end.ran c.loop-ran.last end.last old
+    let follows = still_follows c.args.place.now bound given.answer first c.loop-ran.ran end.ran c.loop-ran.last end.last old
     end.self in
-    runs_on bound given c.after.result end.ran first (region_in home floor end.self) end.last c.after.ensures.answer
+    runs_on bound given c.after.result end.ran first (region_in c.args.place.now end.self) end.last c.after.ensures.answer
     c.after.ensures.left
     (elim c.loop-ran-test.branch [
       | then-loop-ran-test+else-is_before w ↦ follows w.ran-is w.last-is w.self-is ran
       | else-loop-ran-test w ↦ follows w.ran-is w.last-is w.self-is ran
       | then-loop-ran-test+then-is_before+in_default w ↦ follows w.ran-is w.last-is w.self-is ran
       | then-loop-ran-test+then-is_before+in-Some+in_ok-run_event+then-not-branch w ↦
-          follows w.ran-is w.last-is (w.self-is ∙ failed_same home floor w.in-Some.due old w.run_event.new.self _
+          follows w.ran-is w.last-is (w.self-is ∙ failed_same c.args.place.now w.in-Some.due old w.run_event.new.self _
           w.if-not-branch.true w.in_ok-run_event.ensures.steps) ran
       | then-loop-ran-test+then-is_before+in-Some+in_ok-run_event+else-not-branch+then-not-is_before w ↦
           let limit = c.limit-limit.result in
           let due = w.in-Some.due in
           let new = w.run_event.new.self in
           let is : c.loop-ran.top ≡ Some due = sym w.key.ensures.value ∙ w.in-Some.is in
-          let next = ran_next home floor limit due old new c.loop-ran.top c.new-limit_key.result _ is
+          let next = ran_next c.args.place.now limit due old new c.loop-ran.top c.new-limit_key.result _ is
           c.new-limit_key.ensures (w.is_before.ensures.0 w.if-is_before.true) w.if-not-branch.false
           w.in_ok-run_event.ensures.steps in
-          still_follows home floor bound given.answer first (c.loop-ran.ran + 1) end.ran (Some due) end.last new end.self
+          still_follows c.args.place.now bound given.answer first (c.loop-ran.ran + 1) end.ran (Some due) end.last new end.self
           w.ran-is (w.last-is ∙ is) w.self-is
-          (one_follows home floor bound limit due c.loop-ran.ran given.answer (answer_after given.answer c.loop-ran.last)
+          (one_follows c.args.place.now bound limit due c.loop-ran.ran given.answer (answer_after given.answer c.loop-ran.last)
           first old new c.limit-limit.ensures.bound ran next)
     ])

@@ -10,14 +10,14 @@ use Rattle.region_core.proofs.live.Live.run_on.Given as goal
 
 abbrev pub invariant-loop-ran : goal.invariant-loop-ran
 invariant-loop-ran l = record {
-  live : IsLive l.home l.floor l.self;
+  live : IsLive l.place l.self;
   clear : IfSome l.limit_key (λ limit. IsClear limit (now_in l.self).waiting);
-  top : IsLeastOf (IsOwn l.home (now_in l.self).view) l.top;
-  turn : IsOwnInTurn l.home (run_in l.floor l.self);
+  top : IsLeastOf (IsOwn l.place.home (now_in l.self).view) l.top;
+  turn : IsOwnInTurn l.place.home (run_in l.place.floor l.self);
   room : length l.self.log + l.most ≤ MAX_ENTRIES + l.ran;
   within : l.ran ≤ l.most;
-  ran : Follow l.bound l.ran l.so_far.answer (region_in l.home l.floor l.fn.self)
-      (answer_after l.so_far.answer l.last) (region_in l.home l.floor l.self);
+  ran : Follow l.bound l.ran l.so_far.answer (region_in l.place l.fn.self)
+      (answer_after l.so_far.answer l.last) (region_in l.place l.self);
 }
 
 abbrev pub decreases-loop-ran : goal.decreases-loop-ran

@@ -17,10 +17,10 @@ run_event-requires-clause-turn c = c.in-Run.ensures
 
 pub returns-else-branch-clause-steps : goal.returns-else-branch-clause-steps
 returns-else-branch-clause-steps c =
-    let home = c.args.home.now in
-    let floor = c.args.floor in
+    let home = c.args.place.now.home in
+    let floor = c.args.place.now.floor in
     let new = c.run_event.new.self in
-    let same = failed_same home floor c.in-Run.due c.args.self.now new _ c.if-branch.false
+    let same = failed_same c.args.place.now c.in-Run.due c.args.self.now new _ c.if-branch.false
     c.in_ok-run_event-in-Run.ensures.steps in (
       c.is_held_back.ensures.free c.if-is_held_back.false,
       subst (λ (live : Live). StepsTo home (run_in floor live) (Halted c.limit_of.result) (run_in floor new)) same
@@ -41,9 +41,6 @@ returns-in_ok-take_in-in-TakeIn-clause-steps c =
       ),
     )
 
-pub run_event-requires-clause-border : goal.run_event-requires-clause-border
-run_event-requires-clause-border c = c.requires.border
-
 pub returns-in_ok-take_in-in-TakeIn-clause-live : goal.returns-in_ok-take_in-in-TakeIn-clause-live
 returns-in_ok-take_in-in-TakeIn-clause-live c = c.in_ok-take_in-in-TakeIn.ensures.live
 
@@ -53,29 +50,20 @@ returns-in-Answer-clause-live c = c.requires.live
 pub returns-then-is_held_back-clause-live : goal.returns-then-is_held_back-clause-live
 returns-then-is_held_back-clause-live c = c.requires.live
 
-pub take_in-requires-clause-place : goal.take_in-requires-clause-place
-take_in-requires-clause-place c = c.requires.place
-
 pub take_in-requires-clause-live : goal.take_in-requires-clause-live
 take_in-requires-clause-live c = c.requires.live
-
-pub run_event-requires-clause-place : goal.run_event-requires-clause-place
-run_event-requires-clause-place c = c.requires.place
 
 pub run_event-requires-clause-live : goal.run_event-requires-clause-live
 run_event-requires-clause-live c = c.requires.live
 
 pub next_move-requires-clause-due : goal.next_move-requires-clause-due
-next_move-requires-clause-due c = c.due_beside-due.ensures
+next_move-requires-clause-due c = c.due_beside-due.ensures c.args.place.now c.requires.live
 
 pub next_move-requires-clause-head : goal.next_move-requires-clause-head
 next_move-requires-clause-head c = c.least-head.ensures
-
-pub next_move-requires-clause-place : goal.next_move-requires-clause-place
-next_move-requires-clause-place c = c.requires.place
 
 pub next_move-requires-clause-live : goal.next_move-requires-clause-live
 next_move-requires-clause-live c = c.requires.live
 
 pub is_held_back-requires : goal.is_held_back-requires
-is_held_back-requires c = c.due_beside-due.ensures
+is_held_back-requires c = c.due_beside-due.ensures c.args.place.now c.requires.live

@@ -21,48 +21,51 @@ touch-requires c =
     let queue = c.args.self.now.queue in
     record {
       valid = subst (λ (view : ViewData). IsValidPlacing queue.rules queue.grid (rows_in view))
-          (sym c.in_ok-append.ensures.view) (heard_valid c.args.home.now c.args.floor c.args.self.now c.args.from
-          c.args.message c.requires.place c.requires.live c.requires.fits);
+          (sym c.in_ok-append.ensures.view) (heard_valid c.args.place.now.home c.args.place.now.floor c.args.self.now c.args.from
+          c.args.message c.requires.live.place.home c.requires.live.body c.requires.fits);
     }
 
 pub take-requires : goal.take-requires
 take-requires c = record {
-  waits = waits_in c.args.home.now c.args.floor c.args.self.now c.args.from c.args.message c.requires.live
+  waits = waits_in c.args.place.now.home c.args.place.now.floor c.args.self.now c.args.from c.args.message c.requires.live.body
       c.requires.fits;
-  room = few_taken c.args.home.now c.args.floor c.args.self.now c.args.from c.args.message c.requires.live
+  room = few_taken c.args.place.now.home c.args.place.now.floor c.args.self.now c.args.from c.args.message c.requires.live.body
       c.requires.fits;
 }
 
 pub returns-clause-live : goal.returns-clause-live
 returns-clause-live c =
-    let home = c.args.home.now in
+    let home = c.args.place.now.home in
     let live = c.args.self.now in
     let e = Heard c.args.from c.args.message in
     let queue = c.touch.ensures.queue in
-    further_is home c.args.floor live _ e c.requires.live c.requires.fits.0.0 c.requires.fits.1
-    c.requires.fits.2
     record {
-      heard = ap (λ (x : InboxData). x.heard) c.take.ensures;
-      log = c.in_ok-append.ensures.log;
-      view = c.in_ok-append.ensures.view;
-      queue = record {
-        rules = queue.rules ∙ c.requires.live.queue.rules;
-        grid = queue.grid ∙ c.requires.live.queue.grid;
-        region = queue.region ∙ c.requires.live.queue.region;
-      };
-      stands = c.in_ok-touch.ensures.stands live.view (stands_newest home c.args.floor live c.requires.live)
-          (set_differs live.view c.append.new.view c.args.message.rows c.in_ok-append.ensures.view);
-      inbox = subst (IsInbox home (entries_in live.log ++ e ∷ [])) (sym c.take.ensures)
-          (inbox_heard home (entries_in live.log) live.inbox c.args.from c.args.message
-          (sender_is_region home c.args.floor live c.args.from c.args.message c.requires.live
-          c.requires.fits) c.requires.live.inbox);
-      sent = outbox_heard home c.args.floor live c.args.from c.args.message c.requires.live.sent;
+      place = c.requires.live.place;
+      body = further_is home c.args.place.now.floor live _ e c.requires.live.body c.requires.fits.0.0 c.requires.fits.1
+          c.requires.fits.2
+          record {
+            heard = ap (λ (x : InboxData). x.heard) c.take.ensures;
+            log = c.in_ok-append.ensures.log;
+            view = c.in_ok-append.ensures.view;
+            queue = record {
+              rules = queue.rules ∙ c.requires.live.body.queue.rules;
+              grid = queue.grid ∙ c.requires.live.body.queue.grid;
+              region = queue.region ∙ c.requires.live.body.queue.region;
+            };
+            stands = c.in_ok-touch.ensures.stands live.view (stands_newest home c.args.place.now.floor live c.requires.live.body)
+                (set_differs live.view c.append.new.view c.args.message.rows c.in_ok-append.ensures.view);
+            inbox = subst (IsInbox home (entries_in live.log ++ e ∷ [])) (sym c.take.ensures)
+                (inbox_heard home (entries_in live.log) live.inbox c.args.from c.args.message
+                (sender_is_region home c.args.place.now.floor live c.args.from c.args.message c.requires.live.body
+                c.requires.fits) c.requires.live.body.inbox);
+            sent = outbox_heard home c.args.place.now.floor live c.args.from c.args.message c.requires.live.body.sent;
+          };
     }
 
 pub returns-clause-run : goal.returns-clause-run
 returns-clause-run c =
     let live = c.args.self.now in
-    further_run c.args.floor live
+    further_run c.args.place.now.floor live
     (record live { view = c.append.new.view; log = c.append.new.self; inbox = c.take.new.self })
-    (Heard c.args.from c.args.message) c.requires.live.traced (ap (λ (x : InboxData). x.heard) c.take.ensures)
+    (Heard c.args.from c.args.message) c.requires.live.body.traced (ap (λ (x : InboxData). x.heard) c.take.ensures)
     c.in_ok-append.ensures.log c.in_ok-append.ensures.view

@@ -4,8 +4,8 @@ use Rattle.region_core.proofs.live.Live.weave.Goals as goal
 
 pub returns-clause-weaves : goal.returns-clause-weaves
 returns-clause-weaves c =
-    still_weaves c.args.from c.args.message (run_in c.args.floor c.args.self.now)
-    (run_in c.args.floor c.weave_if_aside.new.self) c.in_ok-hindrance.hindrance c.not_before.result
+    still_weaves c.args.from c.args.message (run_in c.args.place.now.floor c.args.self.now)
+    (run_in c.args.place.now.floor c.weave_if_aside.new.self) c.in_ok-hindrance.hindrance c.not_before.result
     c.in_ok-hindrance.ensures.1 c.not_before.ensures.none
 
 pub returns-clause-live : goal.returns-clause-live

@@ -1,10 +1,5 @@
-use Rattle.std.proofs.Common.{inl, refl, ℕ, ◌<◌, sym, subst}
-use Rattle.region_core.proofs.WeavingLive.{back_valid}
+use Rattle.std.proofs.Common.{inl, refl}
 use Rattle.region_core.proofs.live.Live.weave_if_aside.Goals as goal
-
-pub hindrance-requires-clause-valid : goal.hindrance-requires-clause-valid
-hindrance-requires-clause-valid c =
-    back_valid c.args.home.now c.args.floor c.args.self.now c.requires.place c.requires.live
 
 pub hindrance-requires-clause-rows : goal.hindrance-requires-clause-rows
 hindrance-requires-clause-rows c = (c.requires.hearable.rows c.args.message (inl refl)).1
@@ -27,9 +22,6 @@ weave_at-requires-clause-below c = c.count_before-kept.ensures.before
 pub weave_at-requires-clause-region : goal.weave_at-requires-clause-region
 weave_at-requires-clause-region c = c.requires.region
 
-pub weave_at-requires-clause-place : goal.weave_at-requires-clause-place
-weave_at-requires-clause-place c = c.requires.place
-
 pub weave_at-requires-clause-live : goal.weave_at-requires-clause-live
 weave_at-requires-clause-live c = c.requires.live
 
@@ -43,7 +35,4 @@ pub returns-in-None : goal.returns-in-None
 returns-in-None c = c.weave_at.ensures
 
 pub count_before-kept-requires : goal.count_before-kept-requires
-count_before-kept-requires c = (c.args.floor, c.requires.live.right.rises)
-
-pub hindrance-requires-clause-heard : goal.hindrance-requires-clause-heard
-hindrance-requires-clause-heard c = subst (λ (n : ℕ). c.args.from < n) (sym c.requires.live.inbox.regions) c.requires.region
+count_before-kept-requires c = (c.args.place.now.floor, c.requires.live.body.right.rises)

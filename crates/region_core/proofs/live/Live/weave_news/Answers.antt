@@ -3,7 +3,7 @@ use Rattle.std.proofs.Common.{◌∙◌, ℕ, ◌<◌, sym, subst}
 use Rattle.region_core.proofs.live.Live.weave_news.Goals as goal
 
 pub weave_or_rewind-requires-clause-hearable : goal.weave_or_rewind-requires-clause-hearable
-weave_or_rewind-requires-clause-hearable c = hearable_one c.args.home.now c.args.floor c.args.from
+weave_or_rewind-requires-clause-hearable c = hearable_one c.args.place.now.home c.args.place.now.floor c.args.from
     c.in-Some-told_at.message c.args.sent.now c.requires.hearable c.in-Some-told_at.ensures
 
 pub loop-preserved : goal.loop-preserved
@@ -35,9 +35,6 @@ returns-clause-base c = c.loop.invariant.1
 pub returns-clause-live : goal.returns-clause-live
 returns-clause-live c = c.loop.invariant.0
 
-pub weave_or_rewind-requires-clause-place : goal.weave_or_rewind-requires-clause-place
-weave_or_rewind-requires-clause-place c = c.requires.place
-
 pub weave_or_rewind-requires-clause-region : goal.weave_or_rewind-requires-clause-region
 weave_or_rewind-requires-clause-region c = c.requires.region
 
@@ -45,7 +42,7 @@ pub weave_or_rewind-requires-clause-live : goal.weave_or_rewind-requires-clause-
 weave_or_rewind-requires-clause-live c = c.loop.invariant.0
 
 pub first_news-news-requires : goal.first_news-news-requires
-first_news-news-requires c = subst (λ (n : ℕ). c.args.from < n) (sym c.loop.invariant.0.inbox.regions) c.requires.region
+first_news-news-requires c = subst (λ (n : ℕ). c.args.from < n) (sym c.loop.invariant.0.body.inbox.regions) c.requires.region
 
 pub first_news-requires : goal.first_news-requires
-first_news-requires c = subst (λ (n : ℕ). c.args.from < n) (sym c.loop.invariant.0.inbox.regions) c.requires.region
+first_news-requires c = subst (λ (n : ℕ). c.args.from < n) (sym c.loop.invariant.0.body.inbox.regions) c.requires.region

@@ -8,7 +8,7 @@ returns-in_default-clause-live c = c.in_ok-at.ensures.live
 
 pub returns-in_default-clause-base : goal.returns-in_default-clause-base
 returns-in_default-clause-base c =
-    let floor = c.args.floor in
+    let floor = c.args.place.now.floor in
     woven_base c.args.from c.args.message (run_in floor c.args.self.now) (run_in floor c.weave.new.self)
     c.in_ok-at.field-0 c.in_ok-at.ensures.weaves
 
@@ -17,22 +17,19 @@ returns-then-not-is_before-clause-live c = c.in_ok-at.ensures.live
 
 pub returns-then-not-is_before-clause-base : goal.returns-then-not-is_before-clause-base
 returns-then-not-is_before-clause-base c =
-    let floor = c.args.floor in
+    let floor = c.args.place.now.floor in
     woven_base c.args.from c.args.message (run_in floor c.args.self.now) (run_in floor c.weave.new.self)
     c.in_ok-at.field-0 c.in_ok-at.ensures.weaves
 
-pub rewind-requires-clause-live : goal.rewind-requires-clause-live
-rewind-requires-clause-live c = (c.args.floor, c.in_ok-at.ensures.live)
+pub rewind-requires : goal.rewind-requires
+rewind-requires c = c.in_ok-at.ensures.live
 
 pub returns-clause-live : goal.returns-clause-live
-returns-clause-live c = c.in_ok-rewind.ensures.live c.args.floor c.in_ok-at.ensures.live
+returns-clause-live c = c.in_ok-rewind.ensures.live
 
 pub returns-clause-base : goal.returns-clause-base
 returns-clause-base c =
-    let floor = c.args.floor in
+    let floor = c.args.place.now.floor in
     c.in_ok-rewind.ensures.base
     ∙ woven_base c.args.from c.args.message (run_in floor c.args.self.now) (run_in floor c.weave.new.self)
     c.in_ok-at.field-0 c.in_ok-at.ensures.weaves
-
-pub rewind-requires-clause-place : goal.rewind-requires-clause-place
-rewind-requires-clause-place c = c.requires.place

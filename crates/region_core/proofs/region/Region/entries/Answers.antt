@@ -10,10 +10,10 @@ pub returns-in-Some-clause-value : goal.returns-in-Some-clause-value
 returns-in-Some-clause-value c =
     c.len.ensures ∙ sym (as_many c.in-Some.live.log)
     ∙ ap (λ (region : RegionData). length (entries_of region))
-    (ap (seen_as c.self.inside.home c.self.inside.floor) (sym c.in-Some.is) ∙ c.self.view_is)
+    (ap (seen_as c.self.inside.place.home c.self.inside.place.floor) (sym c.in-Some.is) ∙ c.self.view_is)
 
 pub returns-in-Some-clause-kept : goal.returns-in-Some-clause-kept
-returns-in-Some-clause-kept c = kept_is _ _ _ _ c.self.view_is c.self.invariant
+returns-in-Some-clause-kept c = kept_is _ _ _ c.self.view_is c.self.invariant
 
 pub returns-in-None-clause-kept : goal.returns-in-None-clause-kept
-returns-in-None-clause-kept c = kept_is _ _ _ _ c.self.view_is c.self.invariant
+returns-in-None-clause-kept c = kept_is _ _ _ c.self.view_is c.self.invariant

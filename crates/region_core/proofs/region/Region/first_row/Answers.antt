@@ -19,11 +19,11 @@ row_shown home floor live region disk row is here =
 
 pub returns-in-Some-clause-value : goal.returns-in-Some-clause-value
 returns-in-Some-clause-value c =
-    row_shown c.self.inside.home c.self.inside.floor c.in-Some.live c.args.self.now c.args.disk _
-    (ap (seen_as c.self.inside.home c.self.inside.floor) (sym c.in-Some.is) ∙ c.self.view_is) (search rules)
+    row_shown c.self.inside.place.home c.self.inside.place.floor c.in-Some.live c.args.self.now c.args.disk _
+    (ap (seen_as c.self.inside.place.home c.self.inside.place.floor) (sym c.in-Some.is) ∙ c.self.view_is) (search rules)
 
 pub returns-in-Some-clause-kept : goal.returns-in-Some-clause-kept
-returns-in-Some-clause-kept c = kept_is _ _ _ _ c.self.view_is c.self.invariant
+returns-in-Some-clause-kept c = kept_is _ _ _ c.self.view_is c.self.invariant
 
 pub returns-in-None-clause-kept : goal.returns-in-None-clause-kept
-returns-in-None-clause-kept c = kept_is _ _ _ _ c.self.view_is c.self.invariant
+returns-in-None-clause-kept c = kept_is _ _ _ c.self.view_is c.self.invariant

@@ -48,32 +48,24 @@ open-requires-clause-valid c =
     }) valid
 
 pub open-requires-clause-place : goal.open-requires-clause-place
-open-requires-clause-place c =
-    subst IsInPlace
-    (λ i. record {
-      number = c.args.number;
-      rules = sym c.rules.ensures.value i;
-      grid = sym c.grid.ensures.value i;
-    }) (state_place c.args.state.now c.args.number c.rules.ensures.kept c.requires)
+open-requires-clause-place c = record {
+  home = subst IsInPlace
+      (λ i. record {
+        number = c.args.number;
+        rules = sym c.rules.ensures.value i;
+        grid = sym c.grid.ensures.value i;
+      }) (state_place c.args.state.now c.args.number c.rules.ensures.kept c.requires);
+  far = c.new.ensures;
+  floor = subst (λ (rules : Rules). ¬ Before (end_stamp rules.end) c.floor.result) (sym c.rules.ensures.value)
+      (subst (λ (s : Stamp). ¬ Before (end_stamp c.args.state.now.rules.end) s) (sym c.floor.ensures.value)
+      c.floor.ensures.kept.before_end);
+}
 
 pub invariant_of-result : goal.invariant_of-result
-invariant_of-result c =
-    let in_time : ¬ Before (end_stamp c.rules.result.now.end) c.floor.result =
-    subst (λ (rules : Rules). ¬ Before (end_stamp rules.end) c.floor.result)
-    (sym c.rules.ensures.value)
-    (subst (λ (s : Stamp). ¬ Before (end_stamp c.args.state.now.rules.end) s)
-    (sym c.floor.ensures.value) c.floor.ensures.kept.before_end) in
-    record {
-      place = subst IsInPlace
-          (λ i. record {
-            number = c.args.number;
-            rules = sym c.rules.ensures.value i;
-            grid = sym c.grid.ensures.value i;
-          }) (state_place c.args.state.now c.args.number c.rules.ensures.kept c.requires);
-      far = c.new.ensures;
-      in_time = in_time;
-      alive = c.in_ok-live.ensures.live c.floor.result in_time;
-    }
+invariant_of-result c = record {
+  place = c.in_ok-live.ensures.live.place;
+  alive = c.in_ok-live.ensures.live;
+}
 
 pub returns : goal.returns
 unfolding empty_run

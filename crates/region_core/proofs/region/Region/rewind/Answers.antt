@@ -5,24 +5,19 @@ use Rattle.region_core.proofs.Kept.{still_sound, spent_sound, body_is}
 use Rattle.region_core.proofs.Shown.{seen_as}
 use Rattle.region_core.proofs.region.Region.rewind.Goals as goal
 
-pub rewind-requires-clause-live : goal.rewind-requires-clause-live
-rewind-requires-clause-live c = (
-  c.self.inside.floor,
-  body_is c.self.inside.home c.self.inside.floor c.self.inside.live c.in-Some.live c.self.invariant c.in-Some.is,
-)
+pub rewind-requires : goal.rewind-requires
+rewind-requires c =
+    body_is c.self.inside.place c.self.inside.live c.in-Some.live c.self.invariant c.in-Some.is
 
 pub invariant_of-self-in-Ok : goal.invariant_of-self-in-Ok
 invariant_of-self-in-Ok c =
-    let home = c.self.inside.home in
-    let floor = c.self.inside.floor in
-    still_sound home floor c.self.inside.live (Some c.rewind.new.self) c.self.invariant
-    (c.in-Ok.ensures.live floor
-    (body_is home floor c.self.inside.live c.in-Some.live c.self.invariant c.in-Some.is))
+    still_sound c.self.inside.place c.self.inside.live (Some c.rewind.new.self) c.self.invariant
+    c.in-Ok.ensures.live
 
 pub returns-in-Ok-clause-rewound : goal.returns-in-Ok-clause-rewound
 returns-in-Ok-clause-rewound c =
-    let home = c.self.inside.home in
-    let floor = c.self.inside.floor in
+    let home = c.self.inside.place.home in
+    let floor = c.self.inside.place.floor in
     (λ i. record {
       home = home;
       floor = floor;
@@ -36,14 +31,14 @@ returns-in-Ok-clause-rewound c =
     ∙ ap (rewound c.args.at) (ap (seen_as home floor) (sym c.in-Some.is) ∙ c.self.view_is)
 
 pub invariant_of-self-in-Err : goal.invariant_of-self-in-Err
-invariant_of-self-in-Err c = spent_sound c.self.inside.home c.self.inside.floor c.self.inside.live c.let_go.new.live
+invariant_of-self-in-Err c = spent_sound c.self.inside.place c.self.inside.live c.let_go.new.live
     c.self.invariant c.let_go.ensures
 
 pub returns-in-Err-clause-spent : goal.returns-in-Err-clause-spent
 returns-in-Err-clause-spent c =
-    ap (seen_as c.self.inside.home c.self.inside.floor) c.let_go.ensures ∙ ap spent c.self.view_is
+    ap (seen_as c.self.inside.place.home c.self.inside.place.floor) c.let_go.ensures ∙ ap spent c.self.view_is
 
 pub returns-in_default-clause-rewound : goal.returns-in_default-clause-rewound
 returns-in_default-clause-rewound c =
-    let seen = seen_as c.self.inside.home c.self.inside.floor in
+    let seen = seen_as c.self.inside.place.home c.self.inside.place.floor in
     ap seen c.in_default.is ∙ ap (rewound c.args.at) (ap seen (sym c.in_default.is) ∙ c.self.view_is)

@@ -16,5 +16,5 @@ returns-then-is_none c = elim c.then-is_none.branch [
 
 pub returns : goal.returns
 returns c = sent_seen (λ t. t.now) c.sent.result _ _ c.self.inside.live c.args.self.now c.args.from.now
-    c.self.view_is c.if-is_none.ensures c.self.invariant.place (c.is_like.ensures.0 c.if-not-is_like.false)
+    c.self.view_is c.if-is_none.ensures c.self.invariant.place.home (c.is_like.ensures.0 c.if-not-is_like.false)
     c.sent.ensures.value

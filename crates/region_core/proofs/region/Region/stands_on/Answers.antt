@@ -15,18 +15,18 @@ use Rattle.region_core.proofs.region.Region.stands_on.Goals as goal
 
 pub returns-then-ne-clause-value : goal.returns-then-ne-clause-value
 returns-then-ne-clause-value c =
-    let run = run_seen c.self.inside.home c.self.inside.floor c.self.inside.live c.in-Some.live c.args.self.now
+    let run = run_seen c.self.inside.place.home c.self.inside.place.floor c.self.inside.live c.in-Some.live c.args.self.now
     c.self.view_is c.in-Some.is in (
-      not_spent (run_in c.self.inside.floor c.in-Some.live) c.args.self.now run,
+      not_spent (run_in c.self.inside.place.floor c.in-Some.live) c.args.self.now run,
       sym c.number-own.ensures.value ∙ c.if-own-number.false,
       differ c.rules.ensures.value c.rules-2.ensures.value (rules_decide _ _) c.ne.ensures c.if-ne.true,
     )
 
 pub returns-then-ne-2-clause-value : goal.returns-then-ne-2-clause-value
 returns-then-ne-2-clause-value c =
-    let run = run_seen c.self.inside.home c.self.inside.floor c.self.inside.live c.in-Some.live c.args.self.now
+    let run = run_seen c.self.inside.place.home c.self.inside.place.floor c.self.inside.live c.in-Some.live c.args.self.now
     c.self.view_is c.in-Some.is in (
-      not_spent (run_in c.self.inside.floor c.in-Some.live) c.args.self.now run,
+      not_spent (run_in c.self.inside.place.floor c.in-Some.live) c.args.self.now run,
       sym c.number-own.ensures.value ∙ c.if-own-number.false,
       agree c.rules.ensures.value c.rules-2.ensures.value (rules_decide _ _) c.ne.ensures c.if-ne.false,
       differ c.grid.ensures.value c.grid-grid.ensures.value (grid_decides _ _) c.ne-2.ensures c.if-ne-2.true,
@@ -34,9 +34,9 @@ returns-then-ne-2-clause-value c =
 
 pub returns-then-ne-3-clause-value : goal.returns-then-ne-3-clause-value
 returns-then-ne-3-clause-value c =
-    let run = run_seen c.self.inside.home c.self.inside.floor c.self.inside.live c.in-Some.live c.args.self.now
+    let run = run_seen c.self.inside.place.home c.self.inside.place.floor c.self.inside.live c.in-Some.live c.args.self.now
     c.self.view_is c.in-Some.is in (
-      not_spent (run_in c.self.inside.floor c.in-Some.live) c.args.self.now run,
+      not_spent (run_in c.self.inside.place.floor c.in-Some.live) c.args.self.now run,
       sym c.number-own.ensures.value ∙ c.if-own-number.false,
       agree c.rules.ensures.value c.rules-2.ensures.value (rules_decide _ _) c.ne.ensures c.if-ne.false,
       agree c.grid.ensures.value c.grid-grid.ensures.value (grid_decides _ _) c.ne-2.ensures c.if-ne-2.false,
@@ -69,14 +69,14 @@ first_apart-requires-clause-count c =
 
 pub returns-in-Some-first_apart-clause-value : goal.returns-in-Some-first_apart-clause-value
 returns-in-Some-first_apart-clause-value c =
-    let run = run_seen c.self.inside.home c.self.inside.floor c.self.inside.live c.in-Some.live c.args.self.now
+    let run = run_seen c.self.inside.place.home c.self.inside.place.floor c.self.inside.live c.in-Some.live c.args.self.now
     c.self.view_is c.in-Some.is in (
       sym c.number-own.ensures.value ∙ c.if-own-number.false,
       agree c.rules.ensures.value c.rules-2.ensures.value (rules_decide _ _) c.ne.ensures c.if-ne.false,
       agree c.grid.ensures.value c.grid-grid.ensures.value (grid_decides _ _) c.ne-2.ensures c.if-ne-2.false,
       agree c.floor.ensures.value c.floor-floor.ensures.value (stamp_decides _ _) c.ne-3.ensures c.if-ne-3.false,
       (
-        run_in c.self.inside.floor c.in-Some.live,
+        run_in c.self.inside.place.floor c.in-Some.live,
         run,
         differs_in_row c.args.state.now c.args.number (base_in c.in-Some.live) c.grid-grid.result.now
             c.placed.result.now c.in-Some-first_apart.disk c.grid-grid.ensures.value c.placed.ensures.value
@@ -86,9 +86,9 @@ returns-in-Some-first_apart-clause-value c =
 
 pub returns-in-None-clause-value : goal.returns-in-None-clause-value
 returns-in-None-clause-value c =
-    let run = run_seen c.self.inside.home c.self.inside.floor c.self.inside.live c.in-Some.live c.args.self.now
+    let run = run_seen c.self.inside.place.home c.self.inside.place.floor c.self.inside.live c.in-Some.live c.args.self.now
     c.self.view_is c.in-Some.is in
-    stands c.args.state.now c.args.number (run_in c.self.inside.floor c.in-Some.live) c.args.self.now
+    stands c.args.state.now c.args.number (run_in c.self.inside.place.floor c.in-Some.live) c.args.self.now
     c.grid-grid.result.now c.placed.result.now run
     (sym c.number-own.ensures.value ∙ c.if-own-number.false)
     (agree c.rules.ensures.value c.rules-2.ensures.value (rules_decide _ _) c.ne.ensures c.if-ne.false)
@@ -98,11 +98,11 @@ returns-in-None-clause-value c =
 
 pub first_apart-requires-clause-few : goal.first_apart-requires-clause-few
 first_apart-requires-clause-few c =
-    (subst (λ (o : Option Live). IfSome o (IsLive c.self.inside.home c.self.inside.floor)) c.in-Some.is
-    c.self.invariant.alive).right.base.number
+    (subst (λ (o : Option Live). IfSome o (IsLive c.self.inside.place)) c.in-Some.is
+    c.self.invariant.alive).body.right.base.number
 
 pub returns-in_default-clause-kept : goal.returns-in_default-clause-kept
-returns-in_default-clause-kept c = kept_is _ _ _ _ c.self.view_is c.self.invariant
+returns-in_default-clause-kept c = kept_is _ _ _ c.self.view_is c.self.invariant
 
 pub returns-in-Some-first_apart-clause-kept : goal.returns-in-Some-first_apart-clause-kept
 returns-in-Some-first_apart-clause-kept c = c.number-own.ensures.kept

@@ -11,8 +11,8 @@ use Rattle.region_core.proofs.region.Region.step.Goals as goal
 
 pub returns-in-Ok-Some-clause-step : goal.returns-in-Ok-Some-clause-step
 returns-in-Ok-Some-clause-step c =
-    let home = c.self.inside.home in
-    let floor = c.self.inside.floor in
+    let home = c.self.inside.place.home in
+    let floor = c.self.inside.place.floor in
     let left = run_in floor c.step.new.self in
     record {
       home = ap (λ (region : RegionData). region.home) c.self.view_is;
@@ -26,25 +26,22 @@ returns-in-Ok-Some-clause-step c =
 
 pub step-requires-clause-live : goal.step-requires-clause-live
 step-requires-clause-live c =
-    body_is c.self.inside.home c.self.inside.floor c.self.inside.live c.in-Some.live c.self.invariant c.in-Some.is
+    body_is c.self.inside.place c.self.inside.live c.in-Some.live c.self.invariant c.in-Some.is
 
 pub invariant_of-self-in-Err : goal.invariant_of-self-in-Err
 invariant_of-self-in-Err c =
-    spent_sound c.self.inside.home c.self.inside.floor c.self.inside.live c.let_go.new.live c.self.invariant
+    spent_sound c.self.inside.place c.self.inside.live c.let_go.new.live c.self.invariant
     c.let_go.ensures
-
-pub step-requires-clause-border : goal.step-requires-clause-border
-step-requires-clause-border c = c.self.invariant.far
 
 pub returns-in-Err-clause-spent : goal.returns-in-Err-clause-spent
 returns-in-Err-clause-spent c =
-    ap (seen_as c.self.inside.home c.self.inside.floor) c.let_go.ensures ∙ ap spent c.self.view_is
+    ap (seen_as c.self.inside.place.home c.self.inside.place.floor) c.let_go.ensures ∙ ap spent c.self.view_is
 
 pub invariant_of-self-in-Ok-Some : goal.invariant_of-self-in-Ok-Some
-invariant_of-self-in-Ok-Some c = still_sound c.self.inside.home c.self.inside.floor c.self.inside.live (Some c.step.new.self) c.self.invariant c.in-Ok-Some.ensures.live
+invariant_of-self-in-Ok-Some c = still_sound c.self.inside.place c.self.inside.live (Some c.step.new.self) c.self.invariant c.in-Ok-Some.ensures.live
 
 pub unreachable-requires : goal.unreachable-requires
 unreachable-requires c = (of_none _ _ _ c.in-Ok-None.field-0-is c.in-Ok-None.ensures.steps).0
 
 pub returns-in_default-clause-step : goal.returns-in_default-clause-step
-returns-in_default-clause-step c = steps_spent c.self.inside.home c.self.inside.floor c.self.inside.live c.args.self.now c.in_default.is c.self.view_is
+returns-in_default-clause-step c = steps_spent c.self.inside.place.home c.self.inside.place.floor c.self.inside.live c.args.self.now c.in_default.is c.self.view_is

@@ -15,43 +15,37 @@ use Rattle.region_core.proofs.region.Region.step_before.Goals as goal
 
 pub returns-in-Ok-clause-step : goal.returns-in-Ok-clause-step
 returns-in-Ok-clause-step c =
-    let home = c.self.inside.home in
-    let floor = c.self.inside.floor in
+    let home = c.self.inside.place.home in
+    let floor = c.self.inside.place.floor in
     let bound = c.args.bound.now in
-    let new = region_in home floor c.step.new.self in
+    let new = region_in c.self.inside.place c.step.new.self in
     let Made : RegionData → Type 0 = λ old. MatchOption c.in-Ok.last (IsDueLater bound old × (new ≡ old))
     (λ answer. IsDueBefore bound old × Steps old answer new) in
     subst Made c.self.view_is
     (subst (λ (o : Option Live). Made (record { home = home; floor = floor; run = option_map (run_in floor) o }))
     (sym c.in-Some.is)
-    (bounded_step home floor bound c.in-Some.live c.step.new.self c.in-Ok.last c.in-Ok.ensures.steps))
+    (bounded_step c.self.inside.place bound c.in-Some.live c.step.new.self c.in-Ok.last c.in-Ok.ensures.steps))
 
 pub step-requires-clause-live : goal.step-requires-clause-live
 step-requires-clause-live c =
-    body_is c.self.inside.home c.self.inside.floor c.self.inside.live c.in-Some.live c.self.invariant c.in-Some.is
+    body_is c.self.inside.place c.self.inside.live c.in-Some.live c.self.invariant c.in-Some.is
 
 pub invariant_of-self-in-Err : goal.invariant_of-self-in-Err
 invariant_of-self-in-Err c =
-    spent_sound c.self.inside.home c.self.inside.floor c.self.inside.live c.let_go.new.live c.self.invariant
+    spent_sound c.self.inside.place c.self.inside.live c.let_go.new.live c.self.invariant
     c.let_go.ensures
-
-pub step-requires-clause-border : goal.step-requires-clause-border
-step-requires-clause-border c = c.self.invariant.far
 
 pub returns-in-Err-clause-spent : goal.returns-in-Err-clause-spent
 returns-in-Err-clause-spent c =
-    ap (seen_as c.self.inside.home c.self.inside.floor) c.let_go.ensures ∙ ap spent c.self.view_is
+    ap (seen_as c.self.inside.place.home c.self.inside.place.floor) c.let_go.ensures ∙ ap spent c.self.view_is
 
 pub invariant_of-self-in-Ok : goal.invariant_of-self-in-Ok
-invariant_of-self-in-Ok c = still_sound c.self.inside.home c.self.inside.floor c.self.inside.live (Some c.step.new.self) c.self.invariant c.in-Ok.ensures.live
-
-pub step-requires-clause-place : goal.step-requires-clause-place
-step-requires-clause-place c = c.self.invariant.place
+invariant_of-self-in-Ok c = still_sound c.self.inside.place c.self.inside.live (Some c.step.new.self) c.self.invariant c.in-Ok.ensures.live
 
 pub returns-in_default-clause-step : goal.returns-in_default-clause-step
 returns-in_default-clause-step c =
-    let home = c.self.inside.home in
-    let floor = c.self.inside.floor in
+    let home = c.self.inside.place.home in
+    let floor = c.self.inside.place.floor in
     let bound = c.args.bound.now in
     elim c.if-is_before.branch [
       | then-is_before w ↦ as_some c.if-is_before.result Spent _ _ w.result-is (spent_before home floor bound

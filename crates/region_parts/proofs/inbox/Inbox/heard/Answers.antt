@@ -2,7 +2,7 @@ use Rattle.std.proofs.Common.{ap, ◌∙◌}
 use Rattle.std.specs.Prelude.{slice_get}
 use Rattle.local_run.specs.LocalRun.{Trails}
 use Rattle.region_parts.specs.Inbox.{InboxData}
-use Rattle.region_parts.proofs.Trails.{got_at}
+use Rattle.region_parts.proofs.AtNumber.{got_at}
 use Rattle.region_parts.proofs.inbox.Inbox.heard.Goals as goal
 
 pub returns : goal.returns

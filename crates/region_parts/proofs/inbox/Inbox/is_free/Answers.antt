@@ -3,7 +3,7 @@ use Rattle.std.specs.Prelude.{◌↔◌, IsTrue}
 use Rattle.region_view.specs.declared.rows.Message.{Message}
 use Rattle.region_messages.specs.Trails.{IsFree}
 use Rattle.region_parts.specs.Inbox.{InboxData}
-use Rattle.region_parts.proofs.Trails.{item_is}
+use Rattle.region_parts.proofs.AtNumber.{item_is}
 use Rattle.local_run.specs.LocalRun.{Trails}
 use Rattle.region_parts.proofs.inbox.Inbox.is_free.Goals as goal
 

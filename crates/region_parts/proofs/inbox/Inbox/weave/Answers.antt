@@ -3,7 +3,7 @@ use Rattle.region_messages.specs.Trails.{IsFree, with_message}
 use Rattle.local_run.specs.LocalRun.{Trails}
 use Rattle.region_parts.specs.Inbox.{InboxData, HasHead, inbox_of}
 use Rattle.region_parts.proofs.Lists.{item_changed, item_kept, item_read}
-use Rattle.region_parts.proofs.Trails.{item_is}
+use Rattle.region_parts.proofs.AtNumber.{item_is}
 use Rattle.std.proofs.lemmas.List.{length-set}
 use Rattle.region_parts.proofs.Heads.{least_found}
 use Rattle.region_parts.proofs.inbox.Inbox.weave.Goals as goal
