@@ -11,18 +11,10 @@ ghost use Rattle.std.specs.Prelude.{◌<◌};
 use crossbeam_utils::CachePadded;
 use event_stamps::Stamp;
 use region_core::Region;
+use region_workers::pace::{LEAST_STEPS, steps_of};
 use region_workers::virtual_time::{from_parts, to_parts};
 use std::alloc::{AllocError, Global};
 use std::sync::atomic::{AtomicU64, Ordering};
-
-// How many disks of a region there are for each step of a slice: few disks are touched twice in one then.
-const DISKS_A_STEP: u64 = 32;
-
-// How many steps of a region a slice has at least, however few disks there are, and at most. A slice without a bound,
-// from which one learns how far to run, has the least.
-const LEAST_STEPS: u32 = 16;
-
-const MOST_STEPS: u32 = 128;
 
 // How many times as long a lead gets in one slice at most: a region that ran out of events tells of no rate.
 const MOST_GROWTH: u64 = 4;
@@ -144,12 +136,4 @@ impl Pace {
             (lead / 2 + found.min(lead.saturating_mul(MOST_GROWTH)) / 2).max(1)
         }
     }
-}
-
-// How many steps of a region a slice has at most, where there are so many disks and regions.
-fn steps_of(disks: u64, regions: u64) -> u32
-    ensures { 0 < result }
-{
-    let share = disks / DISKS_A_STEP.saturating_mul(regions).max(1);
-    share.clamp(u64::from(LEAST_STEPS), u64::from(MOST_STEPS)) as u32
 }

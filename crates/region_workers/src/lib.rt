@@ -1,7 +1,8 @@
 //! Workers: threads that run the regions side by side between two commits.
 //!
-//! How far regions run before they hear each other ([`pace`], [`virtual_time`]) and where a burst stands ([`roll`],
-//! [`rendezvous`]) is public for the tests alone, which stand in a crate of their own.
+//! How many steps a slice has ([`pace::steps_of`]) and virtual time in numbers ([`virtual_time`]) are public since the
+//! workers on a table go by them too, in `region_table`. How far regions run before they hear each other ([`pace`]) and
+//! where a burst stands ([`roll`], [`rendezvous`]) is public for the tests alone, which stand in a crate of their own.
 #![tactic(auto)]
 
 mod by_call;

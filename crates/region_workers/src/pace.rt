@@ -20,10 +20,11 @@ use std::sync::atomic::{AtomicU64, Ordering};
 // How many disks of a region there are for each step of a slice: few disks are touched twice in one then.
 const DISKS_A_STEP: u64 = 32;
 
-// How many steps of a region a slice has at least, however few disks there are, and at most. The first slice, from
-// which one learns how far to run, has the least.
-const LEAST_STEPS: u32 = 16;
+/// How many steps of a region a slice has at least, however few disks there are. A slice without a bound, from which
+/// one learns how far to run, has no more.
+pub const LEAST_STEPS: u32 = 16;
 
+// How many it has at most.
 const MOST_STEPS: u32 = 128;
 
 // From how many disks on a region isn't held by a cache of a megabyte.
@@ -168,8 +169,8 @@ impl Pace {
     }
 }
 
-// How many steps of a region a slice has at most, where there are so many disks and regions.
-fn steps_of(disks: u64, regions: u64) -> u32
+/// How many steps of a region a slice has at most, where there are so many disks and regions.
+pub fn steps_of(disks: u64, regions: u64) -> u32
     ensures { 0 < result }
 {
     let share = disks / DISKS_A_STEP.saturating_mul(regions).max(1);
