@@ -7,19 +7,17 @@ ghost use Rattle.command_words.specs.Ranges.{AreInRange};
 
 use command_words::{BurstKind, Settings};
 use region_core::{Beside, Gate, Region};
-use region_table::TableWorkers;
+use region_table::burst_in_table;
 use region_workers::Workers;
 use std::alloc::{AllocError, Global};
 use std::sync::Wait;
 use std::thread::{Scope, Threads};
 
-/// Workers of one of the two kinds.
+/// Workers, and where the regions are while they work.
 #[derive(Drop)]
-pub enum Crew<'g, G: Gate> {
-    /// Those whose regions are under locks.
-    Locks(Workers<'g, G>),
-    /// Those whose regions lie in a table.
-    Table(TableWorkers<'g, G>),
+pub struct Crew<'g, G: Gate> {
+    workers: Workers<'g, G>,
+    burst: BurstKind,
 }
 
 impl<'g, G: Gate> Crew<'g, G> {
@@ -27,25 +25,21 @@ impl<'g, G: Gate> Crew<'g, G> {
     pub fn new(settings: &Settings, gate: &'g G) -> Crew<'g, G>
         requires { AreInRange settings.now }
     {
-        match settings.burst {
-            BurstKind::Locks => Crew::Locks(Workers {
-                workers: settings.workers,
-                turns: settings.turns,
-                steps: settings.steps,
-                gate,
-            }),
-            BurstKind::Table => Crew::Table(TableWorkers {
-                workers: settings.workers,
-                turns: settings.turns,
-                steps: settings.steps,
-                gate,
-            }),
+        let workers = Workers {
+            workers: settings.workers,
+            turns: settings.turns,
+            steps: settings.steps,
+            gate,
+        };
+        Crew {
+            workers,
+            burst: settings.burst,
         }
     }
 
-    /// Works on the regions of a grid, as a burst does that keeps them: gives back each at its place, run on. Workers
-    /// with locks work by threads of the scope, which may end after it, and the first of them goes on with what is beside
-    /// where it would wait; those with a table by threads of their own, which have ended then.
+    /// Works on the regions of a grid, as a burst does that keeps them: gives back each at its place, run on. Under
+    /// locks the workers are threads of the scope, which may end after it, and the first of them goes on with what is
+    /// beside where it would wait; in a table they are threads of their own, which have ended then.
     ///
     /// # Errors
     /// Out of memory.
@@ -66,9 +60,11 @@ impl<'g, G: Gate> Crew<'g, G> {
         ensures kept { IfOk result (λ worked. AreRunOn regions.items worked.items) }
         ensures beside { S.goes beside.old lent.old beside.new lent.new }
     {
-        match self {
-            Crew::Locks(workers) => workers.burst_in(rt, alloc, regions, scope, beside, lent),
-            Crew::Table(workers) => workers.burst(rt, alloc, regions),
+        match self.burst {
+            BurstKind::Locks => self
+                .workers
+                .burst_in(rt, alloc, regions, scope, beside, lent),
+            BurstKind::Table => burst_in_table(&self.workers, rt, alloc, regions),
         }
     }
 }

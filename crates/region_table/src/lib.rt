@@ -19,4 +19,4 @@ pub use laws::{homes_still_stand, taken_still_stand};
 pub use seat::TableSeat;
 pub use table::RegionTable;
 pub use take_out::TakeOut;
-pub use workers::TableWorkers;
+pub use workers::burst_in_table;

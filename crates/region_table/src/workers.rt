@@ -1,9 +1,13 @@
 //! Workers on regions in one table.
+//!
+//! The steps of a turn are made in slices. In a slice a worker goes through all regions: it takes one out, lets it run
+//! some steps, but not far ahead of the last one, puts it back, and lets it hear what is new of those that it is linked
+//! with. What another worker has out, it passes over. Once it found that no region has anything to do, the turns that it
+//! has left only pass the gate.
 
-ghost use Rattle.std.specs.Prelude.{◌≡◌, ◌<◌, ◌≤◌, ◌^◌, [], length, All, IfOk, IsFalse};
+ghost use Rattle.std.specs.Prelude.{◌≡◌, [], length, All, IfOk, IsFalse};
 ghost use Rattle.local_run.specs.Bursts.{AreTogether};
 ghost use Rattle.local_run.specs.RunOn.{AreRunOn};
-ghost use Rattle.region_workers.specs.declared.workers.TheConstants.{MAX_WORKERS};
 ghost use Rattle.region_table.specs.Bases.{AreAlive};
 ghost use Rattle.region_table.specs.Rule.{slots_of};
 ghost use Rattle.region_table.specs.Tables.{IsSeatOf};
@@ -14,105 +18,85 @@ use crate::pace::Pace;
 use crate::{RegionTable, TableSeat};
 use cell_grid::Grid;
 use region_core::{Gate, Region};
+use region_workers::Workers;
 use std::alloc::{AllocError, Global};
 use std::sync::Wait;
 use std::thread;
 use std::thread::Threads;
 
-/// What works on the regions between two commits: threads, each of which makes some turns. The steps of a turn are made
-/// in slices. In a slice a worker goes through all regions: it takes one out, lets it run some steps, but not far ahead
-/// of the last one, puts it back, and lets it hear what is new of those that it is linked with. What another worker has
-/// out, it passes over. Once it found that no region has anything to do, the turns that it has left only pass the gate.
-#[derive(Drop)]
-pub struct TableWorkers<'g, G: Gate> {
-    /// How many threads there are, 1 to [`MAX_WORKERS`](region_workers::MAX_WORKERS); no more than there are regions are started.
-    pub workers: u32,
-    /// How many turns each makes in a burst, at least 1.
-    pub turns: u32,
-    /// How many steps a region runs in a turn, at least 1.
-    pub steps: u32,
-    /// What each worker passes before each turn.
-    pub gate: &'g G,
-    ghost some_workers: { 0 < workers },
-    ghost few_workers: { workers ≤ MAX_WORKERS },
-    ghost some_turns: { 0 < turns },
-    ghost some_steps: { 0 < steps },
+/// Lets workers work on the regions of a grid in a table, as a burst does that keeps them: gives back each at its place,
+/// run on. All threads that it starts have ended then.
+///
+/// # Errors
+/// Out of memory.
+pub fn burst_in_table<R: Threads + Wait + Sync, G: Gate>(
+    workers: &Workers<'_, G>,
+    rt: &R,
+    alloc: Global,
+    regions: Vec<Region>,
+) -> Result<Vec<Region>, AllocError>
+    requires together { AreTogether regions.items }
+    ensures count { IfOk result (λ worked. length worked.items ≡ length regions.items) }
+    ensures kept { IfOk result (λ worked. AreRunOn regions.items worked.items) }
+{
+    let Some(first) = regions.first() else {
+        return Ok(regions);
+    };
+    let grid = *first.grid();
+    let jobs = workers.workers.min(grid.regions());
+    let pace = Pace::new(alloc, &regions)?;
+    let (table, mut seat) = RegionTable::open(alloc, regions)?;
+    run_jobs(workers, rt, alloc, &table, &grid, &pace, jobs, &mut seat)?;
+    let worked = table.close(alloc, seat)?;
+    // A region is spent only for want of memory, and then a worker said so; but no slot tells.
+    if has_spent(&worked) {
+        return Err(AllocError);
+    }
+    Ok(worked)
 }
 
-impl<'g, G: Gate> TableWorkers<'g, G> {
-    /// Works on the regions of a grid, as a burst does that keeps them: gives back each at its place, run on.
-    ///
-    /// # Errors
-    /// Out of memory.
-    pub fn burst<R: Threads + Wait + Sync>(
-        &self,
-        rt: &R,
-        alloc: Global,
-        regions: Vec<Region>,
-    ) -> Result<Vec<Region>, AllocError>
-        requires together { AreTogether regions.items }
-        ensures count { IfOk result (λ worked. length worked.items ≡ length regions.items) }
-        ensures kept { IfOk result (λ worked. AreRunOn regions.items worked.items) }
+// Runs so many jobs side by side. Each takes a seat along that is split off this one, and brings it back.
+fn run_jobs<R: Threads + Wait + Sync, G: Gate>(
+    workers: &Workers<'_, G>,
+    rt: &R,
+    alloc: Global,
+    table: &RegionTable,
+    grid: &Grid,
+    pace: &Pace,
+    jobs: u32,
+    seat: &mut TableSeat,
+) -> Result<(), AllocError>
+    requires each { length table.now.opened ≡ grid.now.regions }
+    requires seat { IsSeatOf table.now seat.old }
+    requires idle { seat.old.view.held ≡ [] }
+    ensures seat { IsSeatOf table.now seat.new }
+    ensures idle { seat.new.view.held ≡ [] }
+{
+    let changes = Changes::new();
+    let run_one = |start: (u32, TableSeat)| -> Result<TableSeat, AllocError>
+        requires { IsSeatOf table.now start.1 × (slots_of start.1.view.held ≡ []) × (length table.now.opened ≡ grid.now.regions) }
+        ensures { IfOk result (λ seat. IsSeatOf table.entry.now seat × (seat.view.held ≡ [])) }
     {
-        let Some(first) = regions.first() else {
-            return Ok(regions);
+        let (worker, mut seat) = start;
+        let job = Job {
+            alloc,
+            table,
+            grid,
+            gate: workers.gate,
+            changes: &changes,
+            pace,
+            worker,
+            workers: jobs,
+            steps: workers.steps,
         };
-        let grid = *first.grid();
-        let jobs = self.workers.min(grid.regions());
-        let pace = Pace::new(alloc, &regions)?;
-        let (table, mut seat) = RegionTable::open(alloc, regions)?;
-        self.run_jobs(rt, alloc, &table, &grid, &pace, jobs, &mut seat)?;
-        let worked = table.close(alloc, seat)?;
-        // A region is spent only for want of memory, and then a worker said so; but no slot tells.
-        if has_spent(&worked) {
-            return Err(AllocError);
-        }
-        Ok(worked)
+        job.run(&mut seat, workers.turns)?;
+        Ok(seat)
+    };
+    let starts = starts_of(alloc, table, jobs, seat)?;
+    for done in thread::map_vec(rt, starts, &run_one)? {
+        table.join(seat, done?);
     }
-
-    // Runs so many jobs side by side. Each takes a seat along that is split off this one, and brings it back.
-    fn run_jobs<R: Threads + Wait + Sync>(
-        &self,
-        rt: &R,
-        alloc: Global,
-        table: &RegionTable,
-        grid: &Grid,
-        pace: &Pace,
-        jobs: u32,
-        seat: &mut TableSeat,
-    ) -> Result<(), AllocError>
-        requires each { length table.now.opened ≡ grid.now.regions }
-        requires seat { IsSeatOf table.now seat.old }
-        requires idle { seat.old.view.held ≡ [] }
-        ensures seat { IsSeatOf table.now seat.new }
-        ensures idle { seat.new.view.held ≡ [] }
-    {
-        let changes = Changes::new();
-        let run_one = |start: (u32, TableSeat)| -> Result<TableSeat, AllocError>
-            requires { IsSeatOf table.now start.1 × (slots_of start.1.view.held ≡ []) × (length table.now.opened ≡ grid.now.regions) }
-            ensures { IfOk result (λ seat. IsSeatOf table.entry.now seat × (seat.view.held ≡ [])) }
-        {
-            let (worker, mut seat) = start;
-            let job = Job {
-                alloc,
-                table,
-                grid,
-                gate: self.gate,
-                changes: &changes,
-                pace,
-                worker,
-                workers: jobs,
-                steps: self.steps,
-            };
-            job.run(&mut seat, self.turns)?;
-            Ok(seat)
-        };
-        let starts = starts_of(alloc, table, jobs, seat)?;
-        for done in thread::map_vec(rt, starts, &run_one)? {
-            table.join(seat, done?);
-        }
-        Ok(())
-    }
+    Ok(())
 }
 
 // Whether one of them is spent.

@@ -11,8 +11,8 @@ use event_rules::{Change, Deaf, Listener};
 use event_stamps::{Kind, Stamp};
 use fixed_motion::Scene;
 use region_core::{Beside, Gate, OpenGate, Region};
-use region_table::TableWorkers;
-use region_workers::{ByCall, Call};
+use region_table::burst_in_table;
+use region_workers::{ByCall, Call, Workers};
 use run_core::{Telling, simulate};
 use std::alloc::{AllocError, Global};
 use std::sync::Wait;
@@ -79,13 +79,13 @@ fn one_step_on<R: Threads + Wait + Sync>(
 ) -> Result<Option<[Option<Seen>; 5]>, AllocError>
     requires { AreTogether regions.items }
 {
-    let workers = TableWorkers {
+    let workers = Workers {
         workers: 1,
         turns: 1,
         steps: 1,
         gate: &OpenGate,
     };
-    let worked = workers.burst(rt, alloc, regions)?;
+    let worked = burst_in_table(&workers, rt, alloc, regions)?;
     Ok(Some([
         seen_at(&worked, 0),
         seen_at(&worked, 1),
@@ -165,7 +165,7 @@ fn changes_by<R: Threads + Wait + Sync, G: Gate>(
     rt: &R,
     alloc: Global,
     scene: &Scene,
-    workers: &TableWorkers<'_, G>,
+    workers: &Workers<'_, G>,
 ) -> Option<u32> {
     changes_by_call(
         rt,
@@ -188,7 +188,7 @@ type Worked = Result<Vec<Region>, AllocError>;
 fn work_alone<R: Threads + Wait + Sync, G: Gate, S: Beside<W>, W>(
     rt: &R,
     alloc: Global,
-    workers: &TableWorkers<'_, G>,
+    workers: &Workers<'_, G>,
     regions: Vec<Region>,
     _beside: &mut S,
     _lent: &mut W,
@@ -198,7 +198,7 @@ fn work_alone<R: Threads + Wait + Sync, G: Gate, S: Beside<W>, W>(
         × AreRunOn regions.items worked.items) }
     ensures beside { S.goes _beside.old _lent.old _beside.new _lent.new }
 {
-    workers.burst(rt, alloc, regions)
+    burst_in_table(workers, rt, alloc, regions)
 }
 
 fn changes_by_call<R: Threads + Wait + Sync, C: Call<Telling, Counter> + Drop>(
@@ -234,7 +234,7 @@ fn met_in<R: Threads + Wait + Sync>(rt: &R, alloc: Global, scene: &Scene) -> (Op
         met: AtomicBool::new(false),
         waited: AtomicBool::new(false),
     };
-    let workers = TableWorkers {
+    let workers = Workers {
         workers: 2,
         turns: 3,
         steps: 5,
