@@ -17,14 +17,13 @@ ghost use Rattle.region_core.specs.Choices.{IsAtTurn};
 ghost use Rattle.region_core.specs.Live.{run_in, IsLive};
 ghost use Rattle.region_core.specs.RunsOn.{RunsOrFails};
 
-use crate::appending::{send_crossing, send_hit};
 use crate::live::Live;
 use crate::moves::outcome;
 use event_log::HitRows;
 use event_rules::{Change, apply};
 use event_stamps::{Kind, Stamp};
 use fixed_motion::Disk;
-use region_parts::Place;
+use region_parts::{Place, send_crossing, send_hit};
 use region_view::{Compact, Placed, crossed_cell};
 use std::alloc::{AllocError, Global};
 

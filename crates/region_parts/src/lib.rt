@@ -1,5 +1,5 @@
 //! Parts of a region, each of which can be told without the others: its input queue, which of its columns no other
-//! region sees, and what keeps a late message from its place in a log.
+//! region sees, what it sends of an action, and what keeps a late message from its place in a log.
 //!
 //! Nothing here has to do with a region that runs: `region_core` puts these parts together.
 #![tactic(auto)]
@@ -8,6 +8,7 @@ mod aside;
 mod border;
 mod inbox;
 mod place;
+mod sending;
 mod stamps;
 mod trails;
 
@@ -15,5 +16,6 @@ pub use aside::first_in_way;
 pub use border::Border;
 pub use inbox::Inbox;
 pub use place::Place;
+pub use sending::{send_crossing, send_hit, send_if_told};
 pub use stamps::is_before;
 pub use trails::{cut_from, drop_before, empty_trails};

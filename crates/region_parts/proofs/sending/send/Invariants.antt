@@ -1,6 +1,6 @@
 use Rattle.region_view.specs.Views.{rows_in}
 use Rattle.local_run.proofs.Sending.{IsSentBelow}
-use Rattle.region_core.proofs.appending.send.Given as goal
+use Rattle.region_parts.proofs.sending.send.Given as goal
 
 abbrev pub invariant-loop-to : goal.invariant-loop-to
 invariant-loop-to l =

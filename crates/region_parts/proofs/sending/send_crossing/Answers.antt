@@ -2,7 +2,7 @@ use Rattle.std.proofs.Common.{◌++◌, [], Option, ap, sym, ◌∙◌}
 use Rattle.std.proofs.lemmas.List.{append-nil}
 use Rattle.region_view.specs.declared.rows.Message.{Message}
 use Rattle.local_run.specs.LocalRun.{trail_of, told}
-use Rattle.region_core.proofs.appending.send_crossing.Goals as goal
+use Rattle.region_parts.proofs.sending.send_crossing.Goals as goal
 
 pub returns-then-is_untold-clause-told : goal.returns-then-is_untold-clause-told
 returns-then-is_untold-clause-told c = λ to sends.

@@ -6,7 +6,7 @@ use Rattle.region_view.specs.Views.{rows_in}
 use Rattle.region_view.specs.declared.rows.Message.{Message}
 use Rattle.local_run.specs.LocalRun.{trail_of, told}
 use Rattle.local_run.proofs.Sending.{none_sent_yet, all_below_end, one_skipped, one_sent, comes_after_sent}
-use Rattle.region_core.proofs.appending.send.Goals as goal
+use Rattle.region_parts.proofs.sending.send.Goals as goal
 
 pub loop-to-init : goal.loop-to-init
 loop-to-init c = none_sent_yet c.args.home.now (rows_in c.args.before.now) c.args.action.now
