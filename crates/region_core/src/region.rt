@@ -13,7 +13,7 @@ use std::marker::Model;
 
 /// One region of a grid, with its run from a floor on.
 ///
-/// After want of memory it is spent: it has no run any more, and is opened anew.
+/// After want of memory it is spent: it has no run any more, and is opened again.
 pub struct Region {
     place: Place,
     // None: it is spent.

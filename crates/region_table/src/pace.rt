@@ -1,8 +1,8 @@
 //! How far the regions of a table run before they hear each other.
 //!
-//! What a region runs on old news is done again or put right later, and a worker waits for nobody. So all regions run
-//! to a bound: the least virtual time to which a slice's steps bring any of them, from what is due there on, by what
-//! they lately took. A region without events bounds nobody, since what is due there is far.
+//! What a region runs on old news is done again or put right later, and a worker waits for nobody. So in a slice all
+//! regions run to the same bound. For each region take what is due there and add the virtual time that its recent slices
+//! covered; the bound is the least of these sums. A region without events bounds nobody, since what is due there is far.
 //!
 //! Nothing is claimed of it: the table keeps the regions right, however far they run.
 
@@ -39,7 +39,7 @@ pub(crate) struct Pace {
 struct Mark {
     // What is due, in parts of a tick.
     due: AtomicU64,
-    // How many parts a slice's steps lately took.
+    // How many parts of a tick the steps of recent slices covered.
     lead: AtomicU64,
 }
 

@@ -1,9 +1,10 @@
 //! How far regions run before they hear each other.
 //!
-//! What a region runs on old news is done again or put right later, so no region runs far ahead of the last one; but
-//! each slice costs a wait. So all regions run to a bound that is so far after the least due stamp of them all
-//! as a slice's steps lately took in virtual time. It goes by what is due and not by what was done last, since a
-//! region without events would hold up all others.
+//! What a region runs on old news is done again or put right later, so no region should run far ahead of the last one.
+//! But each slice costs a wait. So in a slice all regions run to the same bound. It lies a *lead* beyond the earliest
+//! stamp still due anywhere; the lead is the virtual time that recent slices covered in the slowest region, less an
+//! eighth. It counts from what is due and not from what was done last, since a region without events would hold up all
+//! others.
 //!
 //! Nothing is claimed of it: the locks keep the regions right, however far they run.
 
@@ -33,7 +34,7 @@ const MANY_DISKS: u64 = 16_384;
 // A lead that isn't known yet.
 const UNKNOWN: u64 = u64::MAX;
 
-/// How far the regions of a burst came lately, and how far they run next.
+/// How far the regions of a burst came in the last slices, and how far they run next.
 #[derive(Drop)]
 pub struct Pace {
     // How many there are, one at least.
@@ -52,7 +53,7 @@ pub struct Pace {
 struct Mark {
     // What is due, in parts of a tick.
     due: AtomicU64,
-    // How many parts a slice's steps lately took.
+    // How many parts of a tick the steps of recent slices covered.
     lead: AtomicU64,
 }
 
@@ -154,7 +155,7 @@ impl Pace {
         (due, lead)
     }
 
-    // The lead of a region that made so many steps in so many parts. Somewhat less than a slice's steps take, so that
+    // The lead of a region that made so many steps in so many parts. An eighth less than a slice's steps take, so that
     // slices are seldom cut by their number. A region without steps mustn't hold up the others for long.
     fn lead_after(&self, lead: u64, span: u64, steps: u32) -> u64 {
         if steps == 0 {
