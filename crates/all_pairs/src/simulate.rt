@@ -4,7 +4,7 @@ ghost use Rattle.std.specs.Prelude.{◌≡◌, ◌<◌, length, IfOk, IfErr, IfS
 ghost use Rattle.fixed_motion.specs.Rules.{IsChecked};
 ghost use Rattle.event_rules.specs.Run.{IsNext, IsValidState, ComesTo, effect, spots_of};
 ghost use Rattle.event_rules.specs.declared.outcome.Outcome.TheVariants.{Done};
-ghost use Rattle.event_rules.specs.Tellings.{AwaitsRun, RunTold, RunCutShort, RunDone, StepsCutShort, CountsRun, scene_of};
+ghost use Rattle.event_rules.specs.Tellings.{AwaitsRun, RunTold, RunCutShort, RunDone, StepsCutShort, CountsRun, bare_scene};
 
 use crate::search::next;
 use event_rules::{Change, FinalState, Limit, Listener, Outcome, RunFault, Spot, apply};
@@ -88,13 +88,13 @@ fn run<L: Listener>(
 ) -> Result<Outcome, RunFault>
     requires checked { IsChecked rules.now }
     requires valid { IsValidState rules.now disks.old.items }
-    requires awaited { AwaitsRun L.after L.awaits (scene_of rules.now disks.old.items)
+    requires awaited { AwaitsRun L.after L.awaits (bare_scene rules.now disks.old.items)
         (L.meaning listener.old) }
     ensures run { IfOk result (λ outcome.
-        RunDone L.after (scene_of rules.now disks.old.items) outcome
+        RunDone L.after (bare_scene rules.now disks.old.items) outcome
         (L.meaning listener.old) (L.meaning listener.new)) }
     ensures cut_short { IfErr result (λ fault.
-        StepsCutShort L.after L.torn (scene_of rules.now disks.old.items) fault
+        StepsCutShort L.after L.torn (bare_scene rules.now disks.old.items) fault
         (L.meaning listener.old) (L.meaning listener.new)) }
     ensures counts { CountsRun (L.faults listener.old) (L.faults listener.new) result }
 {

@@ -23,7 +23,7 @@ use Rattle.fixed_motion.specs.declared.rules.Rules.{Rules}
 use Rattle.fixed_motion.specs.declared.disk.Disk.{Disk}
 use Rattle.fixed_motion.specs.Scene.{SceneData}
 use Rattle.scene_maker.specs.Canonical.{canonical_text, every_text, row_line, key_line}
-use Rattle.canonical_scenes.specs.Parsed.{row_numbers, cells, rows, AllFit, RowsFit, every_numbers, Fits, members_of, CanonicalTextsParse}
+use Rattle.canonical_scenes.specs.Parsed.{row_numbers, cells, rows, AllFit, RowsFit, every_numbers, FitsNumbers, members_of, CanonicalTextsParse}
 
 -- ---- a row
 -- the numbers with what stands between them, and the bracket after them
@@ -226,7 +226,7 @@ every_read : (every : Option ℕ) (es : List Entry) → AllFit (every_numbers ev
 every_read None es h k = k
 every_read (Some ticks) es h k = (number_reads (codes "every") (pos ticks) h.0, k)
 
-all_read : (scene : SceneData) → Fits scene → AllRead (entries scene)
+all_read : (scene : SceneData) → FitsNumbers scene → AllRead (entries scene)
 all_read scene h = (
   number_reads (codes "width") scene.rules.width h.rules.0,
   (

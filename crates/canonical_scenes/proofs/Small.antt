@@ -19,7 +19,7 @@ use Rattle.fixed_motion.specs.Scene.{SceneData, IsAtStart, IsEvery, IsValidScene
 use Rattle.fixed_motion.proofs.Sizes.{slow_size, inside_in_box, in_box_size}
 use Rattle.text_lines.specs.Lines.{ended}
 use Rattle.scene_maker.specs.Canonical.{key_line, rules_text, every_text, size_text, row_line, canonical_text}
-use Rattle.canonical_scenes.specs.Parsed.{row_numbers, AllFit, RowsFit, every_numbers, Fits}
+use Rattle.canonical_scenes.specs.Parsed.{row_numbers, AllFit, RowsFit, every_numbers, FitsNumbers}
 
 -- ---- small numbers
 abbrev pub IsSmall : ℤ → Type 0
@@ -110,7 +110,7 @@ rows_fit : (rules : Rules) (disks : List Disk) → AllSmall disks → RowsFit ru
 rows_fit rules [] h = tt
 rows_fit rules (disk ∷ disks) h = (row_fits rules disk h.0, rows_fit rules disks h.1)
 
-pub valid_fits : (scene : SceneData) → IsValidScene scene → Fits scene
+pub valid_fits : (scene : SceneData) → IsValidScene scene → FitsNumbers scene
 valid_fits scene h =
     let r = rules_small scene.rules h.rules in
     record {

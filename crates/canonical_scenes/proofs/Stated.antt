@@ -10,14 +10,14 @@ use Rattle.toml.specs.Data.{Data, array, Members}
 use Rattle.toml.specs.Parse.{parse_document}
 use Rattle.fixed_motion.specs.declared.rules.Rules.{Rules}
 use Rattle.fixed_motion.specs.declared.disk.Disk.{Disk}
-use Rattle.fixed_motion.specs.Rules.{numbers_of, IsChecked, is_in}
+use Rattle.fixed_motion.specs.Rules.{six_numbers, IsChecked, is_in}
 use Rattle.fixed_motion.specs.Scene.{SceneData, IsAtStart, IsEvery, IsValidScene}
 use Rattle.fixed_motion.proofs.Ranges.{no_fault}
 use Rattle.scene_reader.specs.declared.fault.SceneFault.{SceneFault}
 use Rattle.scene_reader.specs.declared.fault.SceneFault.TheVariants.{NotToml, BadRow, BadSize, Outside, TooFast, Overlap, Rules as BadRules}
 use Rattle.scene_reader.specs.Steps.{◌>>=◌, ◌>>◌, none_found, needed}
 use Rattle.scene_reader.specs.Numbers.{Parts, rules_with, rules_of, every_range, every_of}
-use Rattle.scene_reader.specs.Rows.{row_of, rows_of, item_count, disks_of}
+use Rattle.scene_reader.specs.Rows.{disk_in_row, disks_from_row, item_count, disks_of_rows}
 use Rattle.scene_reader.specs.Disks.{disks_pass}
 use Rattle.scene_reader.specs.Laws.{Claims}
 use Rattle.scene_reader.specs.Says.{parts_of, scene_of, document_says, document_of}
@@ -33,11 +33,11 @@ abbrev row_data : List ℤ → Data
 row_data ns = array (cells ns)
 
 row_back : (rules : Rules) (disk : Disk) → disk.base ≡ 0 → disk.mark ≡ 0 →
-    row_of rules.diameter (row_data (row_numbers rules disk)) ≡ Some disk
+    disk_in_row rules.diameter (row_data (row_numbers rules disk)) ≡ Some disk
 row_back rules disk base mark = by_size (int_eq disk.size rules.diameter) refl
   where
     by_size : (t : Bool) → int_eq disk.size rules.diameter ≡ t →
-        row_of rules.diameter (row_data (disk.x ∷ disk.y ∷ disk.vx ∷ disk.vy ∷ (if t then [] else disk.size ∷ []))) ≡ Some disk
+        disk_in_row rules.diameter (row_data (disk.x ∷ disk.y ∷ disk.vx ∷ disk.vy ∷ (if t then [] else disk.size ∷ []))) ≡ Some disk
     by_size true e =
         let same : disk.size ≡ rules.diameter = (Decides-int_eq disk.size rules.diameter).0 e in
         (λ i. Some (record { x = disk.x; y = disk.y; vx = disk.vx; vy = disk.vy; size = sym same i; base = sym base i; mark = sym mark i }))
@@ -47,13 +47,13 @@ row_back rules disk base mark = by_size (int_eq disk.size rules.diameter) refl
 abbrev AreAtStart : Rules → List Disk → Type 0
 AreAtStart rules disks = (i : ℕ) (disk : Disk) → slice_get disks i ≡ Some disk → IsAtStart rules disk
 
-rows_back : (rules : Rules) (i : ℕ) (disks : List Disk) → AreAtStart rules disks → rows_of rules.diameter i (rows rules disks) ≡ Ok disks
+rows_back : (rules : Rules) (i : ℕ) (disks : List Disk) → AreAtStart rules disks → disks_from_row rules.diameter i (rows rules disks) ≡ Ok disks
 rows_back rules i [] h = refl
 rows_back rules i (disk ∷ disks) h =
     let at = h 0 disk refl in
     let here = row_back rules disk at.base at.mark in
     let later = rows_back rules (i + 1) disks (λ k d e. h (suc k) d e) in
-    ap (λ (o : Option Disk). needed (BadRow i) o >>= (λ d. rows_of rules.diameter (i + 1) (rows rules disks) >>= (λ ds. Ok (d ∷ ds)))) here
+    ap (λ (o : Option Disk). needed (BadRow i) o >>= (λ d. disks_from_row rules.diameter (i + 1) (rows rules disks) >>= (λ ds. Ok (d ∷ ds)))) here
     ∙ ap (λ (r : Result (List Disk) SceneFault). r >>= (λ ds. Ok (disk ∷ ds))) later
 
 count_rows : (rules : Rules) (disks : List Disk) → item_count (rows rules disks) ≡ length disks
@@ -63,7 +63,7 @@ count_rows rules (disk ∷ disks) = let more = count_rows rules disks in omega a
 not_above : (m n : ℕ) → m ≤ n → nat_lt n m ≡ false
 not_above m n h = grind (arith, nat_tests)
 
-disks_back : (scene : SceneData) → IsValidScene scene → disks_of scene.rules.diameter (rows scene.rules scene.disks) ≡ Ok scene.disks
+disks_back : (scene : SceneData) → IsValidScene scene → disks_of_rows scene.rules.diameter (rows scene.rules scene.disks) ≡ Ok scene.disks
 disks_back scene h =
     let count = h.count in
     let few : nat_lt 65536 (item_count (rows scene.rules scene.disks)) ≡ false =
@@ -86,9 +86,9 @@ all_pass scene h = by_result (disks_pass scene.rules scene.disks) refl
     by_result (Err fault) e = absurd (no_claim scene h fault (claims scene.rules scene.disks fault e))
 
 -- ---- the numbers
-rules_back : (rules : Rules) → IsChecked rules → rules_of (numbers_of rules) ≡ Ok rules
+rules_back : (rules : Rules) → IsChecked rules → rules_of (six_numbers rules) ≡ Ok rules
 rules_back rules h =
-    ap (λ o. none_found BadRules o >> Ok (rules_with (numbers_of rules))) (no_fault (numbers_of rules) h)
+    ap (λ o. none_found BadRules o >> Ok (rules_with (six_numbers rules))) (no_fault (six_numbers rules) h)
 
 abbrev every_number : Option ℕ → Option ℤ
 every_number None = None
@@ -102,7 +102,7 @@ every_back (Some ticks) h =
 
 -- ---- the scene
 abbrev parts : SceneData → Parts
-parts scene = record { numbers = numbers_of scene.rules; every = every_number scene.every; rows = rows scene.rules scene.disks }
+parts scene = record { numbers = six_numbers scene.rules; every = every_number scene.every; rows = rows scene.rules scene.disks }
 
 parts_back : (scene : SceneData) → parts_of (members_of scene) ≡ Ok (parts scene)
 parts_back scene = by_every scene.every

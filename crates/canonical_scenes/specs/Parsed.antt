@@ -51,11 +51,11 @@ every_numbers None = []
 every_numbers (Some ticks) = pos ticks ∷ []
 
 -- each number fits 64 bits
-pub record Fits (scene : SceneData) : Type 0 where
+pub record FitsNumbers (scene : SceneData) : Type 0 where
   pub rules : AllFit (scene.rules.width ∷ scene.rules.height ∷ scene.rules.diameter ∷ scene.rules.speed_limit
       ∷ pos scene.rules.round_limit ∷ pos scene.rules.end ∷ [])
   pub every : AllFit (every_numbers scene.every)
   pub rows : RowsFit scene.rules scene.disks
 
 abbrev pub CanonicalTextsParse : Type 0
-CanonicalTextsParse = (scene : SceneData) → Fits scene → parse_document (canonical_text scene) ≡ Some (members_of scene)
+CanonicalTextsParse = (scene : SceneData) → FitsNumbers scene → parse_document (canonical_text scene) ≡ Some (members_of scene)

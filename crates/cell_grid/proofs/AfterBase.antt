@@ -10,7 +10,7 @@ use Rattle.cell_grid.specs.declared.room.Room.{Room}
 use Rattle.cell_grid.specs.Grid.{GridData}
 use Rattle.cell_grid.specs.Crossing.{HasLeft, IsCrossEvent}
 use Rattle.cell_grid.specs.Leaving.{EndsAt, IsInRoomAfter, IsRoomOf}
-use Rattle.cell_grid.specs.Later.{IsLaterTick, LeavesEarly, later_stamp}
+use Rattle.cell_grid.specs.Later.{IsLaterTick, LeavesEarly, later_crossing}
 use Rattle.cell_grid.proofs.Ends.{leaves_at_end, only_crossing}
 
 -- what holds at the last number before the end ends later than at 0
@@ -42,7 +42,7 @@ later_mark a tick later = grind arith
 -- a crossing after the base tick is in round 0
 pub only_later : (rules : Rules) (grid : GridData) (disk : ℕ) (a : Disk) (cell tick : ℕ) → IsLaterTick rules grid a cell tick →
     IsInside rules a (place_of a tick) → tick < rules.end →
-    IsOnly (IsCrossEvent rules grid disk a cell) (later_stamp disk tick)
+    IsOnly (IsCrossEvent rules grid disk a cell) (later_crossing disk tick)
 only_later rules grid disk a cell tick later inside before =
-    only_crossing rules grid disk a cell tick (later_stamp disk tick) later.0 inside before
+    only_crossing rules grid disk a cell tick (later_crossing disk tick) later.0 inside before
     (λ i. record { tick = tick; round = sym (later_mark a tick later.1) i; kind = Cross; first = disk; second = 0 })

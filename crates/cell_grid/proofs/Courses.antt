@@ -18,7 +18,7 @@ use Rattle.fixed_motion.proofs.Sizes.{radius_least, two_radii}
 use Rattle.cell_grid.specs.declared.bounds.Bounds.{Bounds}
 use Rattle.cell_grid.specs.declared.bounds.Course.{Course}
 use Rattle.cell_grid.specs.Grid.{along}
-use Rattle.cell_grid.specs.Leaving.{EndsAt, IsWithin, IsWithinAfter, AreSmall, AreOfColumn}
+use Rattle.cell_grid.specs.Leaving.{EndsAt, IsWithinBounds, IsWithinAfter, AreSmall, AreOfColumn}
 
 abbrev pub bounds : ℤ → ℤ → Bounds
 bounds least greatest = record { least = least; greatest = greatest }
@@ -158,7 +158,7 @@ greater_sent m n k hm hn e =
 
 -- the bounds that two have in common
 pub record AreShared (a b c : Bounds) : Type 0 where
-  pub both : (n : ℤ) → IsWithin c n ↔ (IsWithin a n × IsWithin b n)
+  pub both : (n : ℤ) → IsWithinBounds c n ↔ (IsWithinBounds a n × IsWithinBounds b n)
   pub small : AreSmall c
 
 pub shared : (a b : Bounds) (least greatest : ℤ) → AreSmall a → AreSmall b →
@@ -245,7 +245,7 @@ ends_never b c still = record {
 
     again : (m n : ℕ) → IsWithinAfter b c m → IsWithinAfter b c n
     again m n here =
-        subst (IsWithin b) (sym (stays c.start c.velocity n still)) (subst (IsWithin b) (stays c.start c.velocity m still) here)
+        subst (IsWithinBounds b) (sym (stays c.start c.velocity n still)) (subst (IsWithinBounds b) (stays c.start c.velocity m still) here)
 
 -- where it is past that already, it is never within
 pub ends_at_once : (b : Bounds) (c : Course) (ahead : ℤ) → IsAhead b c ahead → ¬ (c.velocity ≡ pos 0) → ahead <ℤ pos 0 →
@@ -328,8 +328,8 @@ box_room rules a r side size fits most e =
 pub within_axis : (radius length : ℤ) (side count index : ℕ) (outer column both : Bounds) (p : ℤ) → pos 1 ≤ℤ radius →
     length ≤ℤ pos 1073741824 →
     outer.least ≡ radius → outer.greatest ≡ length -ℤ radius → AreOfColumn side count index column →
-    ((n : ℤ) → IsWithin both n ↔ (IsWithin outer n × IsWithin column n)) →
-    IsWithin both p ↔ (IsBetween radius (length -ℤ radius) p × (along side count p ≡ index))
+    ((n : ℤ) → IsWithinBounds both n ↔ (IsWithinBounds outer n × IsWithinBounds column n)) →
+    IsWithinBounds both p ↔ (IsBetween radius (length -ℤ radius) p × (along side count p ≡ index))
 within_axis radius length side count index outer column both p some most el eg of h = (
   λ k.
       let parts = (h p).0 k in

@@ -11,9 +11,9 @@ use Rattle.fixed_motion.proofs.Sizes.{inside_in_box, in_box_size, slow_size}
 use Rattle.event_stamps.specs.declared.Stamp.{Stamp}
 use Rattle.event_stamps.specs.Least.{HasNone, IsOnly}
 use Rattle.cell_grid.specs.Grid.{GridData, HasSizes, cell_number, column_of, row_of}
-use Rattle.cell_grid.specs.Crossing.{IsIn, IsLeavingTick, IsCrossEvent, cross_stamp}
+use Rattle.cell_grid.specs.Crossing.{IsInCell, IsLeavingTick, IsCrossEvent, cross_stamp}
 use Rattle.cell_grid.specs.declared.room.Room.{Room}
-use Rattle.cell_grid.specs.Leaving.{IsFrom, EndsAt, IsWithin, IsAcross, IsUpwards, IsInRoomAfter, IsRoomOf, IsSlowDisk}
+use Rattle.cell_grid.specs.Leaving.{IsFrom, EndsAt, IsWithinBounds, IsAcross, IsUpwards, IsInRoomAfter, IsRoomOf, IsSlowDisk}
 use Rattle.cell_grid.proofs.Cells.{column_at, row_at}
 use Rattle.cell_grid.proofs.Leaving.{one_leaving_tick, one_crossing}
 
@@ -90,7 +90,7 @@ slow_disk rules a checked valid = record {
 -- ---- the two axes
 -- a disk is in a cell where it is in its column and in its row
 in_by_axes : (rules : Rules) (grid : GridData) (a : Disk) (cell : ℕ) → HasSizes grid → (place : Vector) →
-    (IsAcross rules grid a cell place.x × IsUpwards rules grid a cell place.y) ↔ IsIn rules grid a cell place
+    (IsAcross rules grid a cell place.x × IsUpwards rules grid a cell place.y) ↔ IsInCell rules grid a cell place
 in_by_axes rules grid a cell sizes place = (
   λ h. (
     record { left = h.0.0.0; right = h.0.0.1; bottom = h.1.0.0; top = h.1.0.1 },
@@ -107,8 +107,8 @@ in_by_axes rules grid a cell sizes place = (
 
 -- so the places within the bounds of both axes are those in the cell
 pub room_of : (rules : Rules) (grid : GridData) (a : Disk) (cell : ℕ) (room : Room) → HasSizes grid →
-    ((n : ℤ) → IsWithin room.across n ↔ IsAcross rules grid a cell n) →
-    ((n : ℤ) → IsWithin room.upwards n ↔ IsUpwards rules grid a cell n) → IsRoomOf rules grid a cell room
+    ((n : ℤ) → IsWithinBounds room.across n ↔ IsAcross rules grid a cell n) →
+    ((n : ℤ) → IsWithinBounds room.upwards n ↔ IsUpwards rules grid a cell n) → IsRoomOf rules grid a cell room
 room_of rules grid a cell room sizes across upwards place =
     let both = in_by_axes rules grid a cell sizes place in (
       λ h. both.0 ((across place.x).0 h.0, (upwards place.y).0 h.1),

@@ -12,7 +12,7 @@ use Rattle.fixed_motion.proofs.Sizes.{inside_x, inside_y}
 use Rattle.contact_predictor.specs.Contact.{coordinate_after}
 use Rattle.contact_predictor.proofs.Approaching.{coordinate_next}
 use Rattle.cell_grid.specs.Grid.{GridData, least_side, along, cell_at, IsBeside, column_of, row_of}
-use Rattle.cell_grid.specs.Crossing.{IsIn, HasLeft, IsLeavingTick, cross_stamp}
+use Rattle.cell_grid.specs.Crossing.{IsInCell, HasLeft, IsLeavingTick, cross_stamp}
 use Rattle.cell_grid.specs.Laws.{MovesToAdjacent, LeavesAfterLast, CrossesLater, OneCrossing}
 use Rattle.cell_grid.proofs.Along as columns
 use Rattle.cell_grid.proofs.Cells.{IsSound, column_at, row_at, sound as sound_grid}
@@ -47,7 +47,7 @@ same_column side count m k n some (inr h) hm hk hn e =
 -- a disk that is in a cell at two ticks is in it between
 in_between : (rules : Rules) (grid : GridData) (a : Disk) (cell s t u : ℕ) → IsChecked rules → IsSound rules grid →
     IsSize rules a.size → a.base ≤ s → s ≤ t → t ≤ u →
-    IsIn rules grid a cell (place_of a s) → IsIn rules grid a cell (place_of a u) → IsIn rules grid a cell (place_of a t)
+    IsInCell rules grid a cell (place_of a s) → IsInCell rules grid a cell (place_of a u) → IsInCell rules grid a cell (place_of a t)
 in_between rules grid a cell s t u checked sound size base p q hs hu =
     let bx = way_between a.x a.vx (s - a.base) (t - a.base) (u - a.base) (omega arith) (omega arith) in
     let by = way_between a.y a.vy (s - a.base) (t - a.base) (u - a.base) (omega arith) (omega arith) in
@@ -76,7 +76,7 @@ in_between rules grid a cell s t u checked sound size base p q hs hu =
 -- a disk that was in a cell at a tick and isn't at the next never is again
 pub left_for_good : (rules : Rules) (grid : GridData) (a : Disk) (cell tick : ℕ) → IsChecked rules →
     IsSound rules grid → IsSize rules a.size → a.base ≤ tick →
-    IsIn rules grid a cell (place_of a tick) → ¬ IsIn rules grid a cell (place_of a (tick + 1)) → HasLeft rules grid a cell (tick + 1)
+    IsInCell rules grid a cell (place_of a tick) → ¬ IsInCell rules grid a cell (place_of a (tick + 1)) → HasLeft rules grid a cell (tick + 1)
 left_for_good rules grid a cell tick checked sound size base here gone t le back =
     gone (in_between rules grid a cell tick (tick + 1) t checked sound size base (omega arith) le here back)
 

@@ -9,12 +9,12 @@ use Rattle.event_stamps.specs.declared.Kind.TheVariants.{Cross}
 use Rattle.cell_grid.specs.Grid.{GridData, cell_at}
 
 -- at this place the disk is inside the box and in the cell
-abbrev pub IsIn : Rules → GridData → Disk → ℕ → Vector → Type 0
-IsIn rules grid a cell place = IsInside rules a place × (cell_at grid place ≡ cell)
+abbrev pub IsInCell : Rules → GridData → Disk → ℕ → Vector → Type 0
+IsInCell rules grid a cell place = IsInside rules a place × (cell_at grid place ≡ cell)
 
 -- a disk that keeps its course is in the cell at no tick from this one on
 abbrev pub HasLeft : Rules → GridData → Disk → ℕ → ℕ → Type 0
-HasLeft rules grid a cell tick = (t : ℕ) → tick ≤ t → ¬ IsIn rules grid a cell (place_of a t)
+HasLeft rules grid a cell tick = (t : ℕ) → tick ≤ t → ¬ IsInCell rules grid a cell (place_of a t)
 
 -- the first tick, from the base tick on, at which the disk has left its recorded cell;
 -- it may have entered the cell after its base tick, or never

@@ -19,11 +19,11 @@ abbrev pub LeavesEarly : Rules → GridData → Disk → ℕ → Type 0
 LeavesEarly rules grid a cell = (tick : ℕ) → IsLeavingTick rules grid a cell tick → tick ≡ a.base
 
 -- of a crossing after the base tick, in round 0
-abbrev pub later_stamp : ℕ → ℕ → Stamp
-later_stamp disk tick = record { tick = tick; round = 0; kind = Cross; first = disk; second = 0 }
+abbrev pub later_crossing : ℕ → ℕ → Stamp
+later_crossing disk tick = record { tick = tick; round = 0; kind = Cross; first = disk; second = 0 }
 
 -- the disk's only crossing is at this tick in round 0; it has none; or it leaves at no later tick than its base tick
 abbrev pub IsDeparture : Rules → GridData → ℕ → Disk → ℕ → Departure → Type 0
-IsDeparture rules grid disk a cell (At tick) = IsOnly (IsCrossEvent rules grid disk a cell) (later_stamp disk tick)
+IsDeparture rules grid disk a cell (At tick) = IsOnly (IsCrossEvent rules grid disk a cell) (later_crossing disk tick)
 IsDeparture rules grid disk a cell Never = HasNone (IsCrossEvent rules grid disk a cell)
 IsDeparture rules grid disk a cell Unknown = LeavesEarly rules grid a cell

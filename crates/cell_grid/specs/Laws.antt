@@ -9,7 +9,7 @@ use Rattle.fixed_motion.specs.Motion.{IsInside, IsInBox, IsValidDisk, place_of, 
 use Rattle.contact_predictor.specs.Contact.{IsContact}
 use Rattle.event_stamps.specs.declared.Stamp.{Stamp}
 use Rattle.cell_grid.specs.Grid.{GridData, HasSizes, IsGridOf, IsCell, IsRegion, least_side, cell_at, IsAdjacent, Owns, Reaches, AreLinked}
-use Rattle.cell_grid.specs.Crossing.{IsIn, IsCrossTick, IsCrossEvent}
+use Rattle.cell_grid.specs.Crossing.{IsInCell, IsCrossTick, IsCrossEvent}
 
 abbrev pub GridsHaveSizes : Type 0
 GridsHaveSizes = (rules : Rules) (grid : GridData) → IsChecked rules → IsGridOf rules grid → HasSizes grid
@@ -50,14 +50,14 @@ MovesToAdjacent = (rules : Rules) (grid : GridData) (a : Disk) (tick : ℕ) → 
     IsAdjacent grid (cell_at grid (place_of a tick)) (cell_at grid (place_of a (tick + 1)))
 
 -- on one axis two places are further apart than the least side of a cell
-abbrev pub AreApart : Rules → Vector → Vector → Type 0
-AreApart rules p q =
+abbrev pub AreFarOnAnAxis : Rules → Vector → Vector → Type 0
+AreFarOnAnAxis rules p q =
     (least_side rules < nat_abs (difference p q).x) ⊎ (least_side rules < nat_abs (difference p q).y)
 
 -- so are those in cells that aren't adjacent
 abbrev pub FarUnlessAdjacent : Type 0
 FarUnlessAdjacent = (rules : Rules) (grid : GridData) (p q : Vector) → IsChecked rules → IsGridOf rules grid →
-    IsInBox p → IsInBox q → ¬ IsAdjacent grid (cell_at grid p) (cell_at grid q) → AreApart rules p q
+    IsInBox p → IsInBox q → ¬ IsAdjacent grid (cell_at grid p) (cell_at grid q) → AreFarOnAnAxis rules p q
 
 -- two disks that are at their last whole tick before they touch are in adjacent cells
 abbrev pub TouchInAdjacent : Type 0
@@ -70,14 +70,14 @@ TouchInAdjacent = (rules : Rules) (grid : GridData) (a b : Disk) (p q : Vector) 
 -- a disk that was in a cell at a tick and isn't at the next has left it there, and not before
 abbrev pub LeavesAfterLast : Type 0
 LeavesAfterLast = (rules : Rules) (grid : GridData) (a : Disk) (cell tick : ℕ) → IsChecked rules → IsGridOf rules grid →
-    IsValidDisk rules a → a.base ≤ tick → IsIn rules grid a cell (place_of a tick) →
-    ¬ IsIn rules grid a cell (place_of a (tick + 1)) → IsInside rules a (place_of a (tick + 1)) →
+    IsValidDisk rules a → a.base ≤ tick → IsInCell rules grid a cell (place_of a tick) →
+    ¬ IsInCell rules grid a cell (place_of a (tick + 1)) → IsInside rules a (place_of a (tick + 1)) →
     IsCrossTick rules grid a cell (tick + 1)
 
 -- a disk that is in its cell at a tick crosses later
 abbrev pub CrossesLater : Type 0
 CrossesLater = (rules : Rules) (grid : GridData) (a : Disk) (cell tick t : ℕ) →
-    IsIn rules grid a cell (place_of a tick) →
+    IsInCell rules grid a cell (place_of a tick) →
     IsCrossTick rules grid a cell t → tick < t
 
 -- a disk has at most one crossing

@@ -12,7 +12,7 @@ use Rattle.cell_grid.specs.declared.bounds.Bounds.{Bounds}
 use Rattle.cell_grid.specs.declared.bounds.Course.{Course}
 use Rattle.cell_grid.specs.declared.room.Room.{Room}
 use Rattle.cell_grid.specs.Grid.{GridData, along, column_of, row_of}
-use Rattle.cell_grid.specs.Crossing.{IsIn}
+use Rattle.cell_grid.specs.Crossing.{IsInCell}
 
 -- a number from a first one on, where there is a first one
 abbrev pub IsFrom : Option ℕ → ℕ → Type 0
@@ -31,11 +31,11 @@ pub record EndsAt (P : ℕ → Type 0) (end : Option ℕ) : Type 0 where
 abbrev pub place_after : Course → ℕ → ℤ
 place_after course ticks = coordinate_after course.start course.velocity ticks
 
-abbrev pub IsWithin : Bounds → ℤ → Type 0
-IsWithin bounds n = IsBetween bounds.least bounds.greatest n
+abbrev pub IsWithinBounds : Bounds → ℤ → Type 0
+IsWithinBounds bounds n = IsBetween bounds.least bounds.greatest n
 
 abbrev pub IsWithinAfter : Bounds → Course → ℕ → Type 0
-IsWithinAfter bounds course ticks = IsWithin bounds (place_after course ticks)
+IsWithinAfter bounds course ticks = IsWithinBounds bounds (place_after course ticks)
 
 pub record AreSmall (bounds : Bounds) : Type 0 where
   pub least : nat_abs bounds.least ≤ 2 ^ 30
@@ -48,7 +48,7 @@ pub record IsSlowCourse (course : Course) : Type 0 where
 -- these bound the column, or the row, of this index
 abbrev pub AreOfColumn : ℕ → ℕ → ℕ → Bounds → Type 0
 AreOfColumn side count index bounds =
-    (n : ℤ) → IsBetween (pos 0) MAX_SIDE n → (IsWithin bounds n ↔ (along side count n ≡ index))
+    (n : ℤ) → IsBetween (pos 0) MAX_SIDE n → (IsWithinBounds bounds n ↔ (along side count n ≡ index))
 
 -- ---- a disk in a cell
 -- at this coordinate a disk is between the left and the right side of the box, and in the column of the cell
@@ -62,14 +62,14 @@ IsUpwards rules grid a cell n =
     IsBetween (radius_of a) (rules.height -ℤ radius_of a) n × (along grid.side_y grid.rows n ≡ row_of grid cell)
 
 abbrev pub IsInRoom : Room → Vector → Type 0
-IsInRoom room place = IsWithin room.across place.x × IsWithin room.upwards place.y
+IsInRoom room place = IsWithinBounds room.across place.x × IsWithinBounds room.upwards place.y
 
 abbrev pub IsInRoomAfter : Room → Disk → ℕ → Type 0
 IsInRoomAfter room a ticks = IsInRoom room (after (centre_of a) (velocity_of a) ticks)
 
 -- at the places in the room, and no others, the disk is inside the box and in the cell
 abbrev pub IsRoomOf : Rules → GridData → Disk → ℕ → Room → Type 0
-IsRoomOf rules grid a cell room = (place : Vector) → (IsInRoom room place ↔ IsIn rules grid a cell place)
+IsRoomOf rules grid a cell room = (place : Vector) → (IsInRoom room place ↔ IsInCell rules grid a cell place)
 
 pub record IsSmallRoom (room : Room) : Type 0 where
   pub across : AreSmall room.across

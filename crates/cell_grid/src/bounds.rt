@@ -3,13 +3,13 @@
 ghost use Rattle.std.specs.Prelude.{◌≡◌, ◌↔◌, ◌⊎◌, ℕ, ℤ, pos, ◌*◌, ◌^◌, ◌<◌, ◌≤◌, ◌-ℤ◌, ◌<ℤ◌, IsTrue, IsNone, IfSome};
 ghost use Rattle.fixed_motion.specs.Rules.{IsChecked};
 ghost use Rattle.fixed_motion.specs.Motion.{IsValidDisk, radius_of};
-ghost use Rattle.cell_grid.specs.Leaving.{IsFrom, EndsAt, IsWithin, IsWithinAfter, AreSmall, IsSlowCourse, AreOfColumn};
+ghost use Rattle.cell_grid.specs.Leaving.{IsFrom, EndsAt, IsWithinBounds, IsWithinAfter, AreSmall, IsSlowCourse, AreOfColumn};
 
 use fixed_motion::{Disk, MAX_SIDE, Rules};
 
 // A side of the box, cut into so many cells of one side, in units of length; the last may be longer.
 #[derive(Clone, Copy)]
-pub(crate) struct Cut {
+pub(crate) struct Division {
     pub(crate) side: u32,
     pub(crate) count: u32,
 }
@@ -28,7 +28,7 @@ pub(crate) struct Course {
     pub(crate) velocity: i64,
 }
 
-impl Cut {
+impl Division {
     // The coordinates in the box that are in the cell of this index.
     pub(crate) fn bounds(self, index: u32) -> Bounds
         requires side { 1 ≤ self.side }
@@ -87,7 +87,7 @@ impl Bounds {
     pub(crate) fn shared(self, other: Bounds) -> Bounds
         requires own { AreSmall self }
         requires other { AreSmall other }
-        ensures both { (n : ℤ) → (IsWithin result n ↔ (IsWithin self n × IsWithin other n)) }
+        ensures both { (n : ℤ) → (IsWithinBounds result n ↔ (IsWithinBounds self n × IsWithinBounds other n)) }
         ensures small { AreSmall result }
     {
         Bounds {
@@ -97,7 +97,7 @@ impl Bounds {
     }
 
     pub(crate) fn holds(self, coordinate: i64) -> bool
-        ensures { IsTrue result ↔ IsWithin self coordinate }
+        ensures { IsTrue result ↔ IsWithinBounds self coordinate }
     {
         self.least <= coordinate && coordinate <= self.greatest
     }

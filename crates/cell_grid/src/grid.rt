@@ -66,7 +66,7 @@ ghost use Rattle.fixed_motion.specs.Rules.{IsChecked};
 ghost use Rattle.fixed_motion.specs.Motion.{IsInBox};
 ghost use Rattle.cell_grid.specs.Grid.{grid_of, cells_along, IsAsked, IsGridOf, HasSizes, IsCell, IsRegion, IsAdjacent, IsBeside, IsStripOf, Owns, Reaches, AreLinked, cell_at, column_of, row_of, strip_start};
 
-use crate::bounds::Cut;
+use crate::bounds::Division;
 use fixed_motion::Rules;
 
 impl Grid {
@@ -146,22 +146,22 @@ impl Grid {
     }
 
     // The width of the box, cut into columns.
-    pub(crate) fn width_cut(&self) -> Cut
+    pub(crate) fn width_cut(&self) -> Division
         ensures side { result.side ≡ self.now.side_x }
         ensures count { result.count ≡ self.now.columns }
     {
-        Cut {
+        Division {
             side: self.side_x,
             count: self.columns,
         }
     }
 
     // The height of the box, cut into rows.
-    pub(crate) fn height_cut(&self) -> Cut
+    pub(crate) fn height_cut(&self) -> Division
         ensures side { result.side ≡ self.now.side_y }
         ensures count { result.count ≡ self.now.rows }
     {
-        Cut {
+        Division {
             side: self.side_y,
             count: self.rows,
         }

@@ -4,7 +4,7 @@ ghost use Rattle.std.specs.Prelude.{◌↔◌, ◌^◌, ◌≤◌, ℤ, IsTrue, 
 ghost use Rattle.fixed_motion.specs.Rules.{IsChecked};
 ghost use Rattle.fixed_motion.specs.Motion.{IsValidDisk};
 ghost use Rattle.cell_grid.specs.Grid.{IsGridOf, IsCell};
-ghost use Rattle.cell_grid.specs.Leaving.{EndsAt, IsWithin, AreSmall, IsAcross, IsUpwards, IsInRoom, IsInRoomAfter, IsRoomOf, IsSmallRoom, IsSlowDisk};
+ghost use Rattle.cell_grid.specs.Leaving.{EndsAt, IsWithinBounds, AreSmall, IsAcross, IsUpwards, IsInRoom, IsInRoomAfter, IsRoomOf, IsSmallRoom, IsSlowDisk};
 
 use crate::Grid;
 use crate::bounds::{Bounds, Course, lesser};
@@ -82,7 +82,7 @@ impl Grid {
         requires valid { IsValidDisk rules.now a.now }
         requires cell { IsCell self.now cell }
         ensures coordinates { (n : ℤ) →
-            (IsWithin result n ↔ IsAcross rules.now self.now a.now cell n) }
+            (IsWithinBounds result n ↔ IsAcross rules.now self.now a.now cell n) }
         ensures small { AreSmall result }
     {
         let column = self.width_cut().bounds(self.column(cell));
@@ -96,7 +96,7 @@ impl Grid {
         requires valid { IsValidDisk rules.now a.now }
         requires cell { IsCell self.now cell }
         ensures coordinates { (n : ℤ) →
-            (IsWithin result n ↔ IsUpwards rules.now self.now a.now cell n) }
+            (IsWithinBounds result n ↔ IsUpwards rules.now self.now a.now cell n) }
         ensures small { AreSmall result }
     {
         let row = self.height_cut().bounds(self.row(cell));

@@ -5,7 +5,7 @@ use Rattle.std.proofs.lemmas.Bool.{cases_lt}
 use Rattle.cell_grid.specs.Grid.{GridData, column_of, row_of}
 use Rattle.cell_lists.specs.declared.near.Block.{Block}
 use Rattle.cell_lists.specs.Listing.{ListsData, IsListed}
-use Rattle.cell_lists.specs.Nearby.{columns_to, IsWithin, IsListedWithin}
+use Rattle.cell_lists.specs.Nearby.{columns_to, IsWithinBlock, IsListedWithin}
 
 -- the rows of a block below one
 abbrev pub rows_to : Block → ℕ → Block
@@ -58,7 +58,7 @@ in_last_column lists block row column i left lt y = (row * lists.grid.columns + 
     in_row : row_of lists.grid (row * lists.grid.columns + column) ≡ row
     in_row = div-mul-add row lists.grid.columns column lt
 
-    is_in : IsWithin lists.grid (columns_to block row (column + 1)) (row * lists.grid.columns + column)
+    is_in : IsWithinBlock lists.grid (columns_to block row (column + 1)) (row * lists.grid.columns + column)
     is_in = rw (in_column, in_row) ((left, next column), (same row, next row))
 
 -- one more row
@@ -78,15 +78,15 @@ join_row lists block row i low x = elim x [
 
 -- the cells of one more row
 pub row_cells : (grid : GridData) (block : Block) (row cell : ℕ) → block.low ≤ row → block.left ≤ block.right → block.right ≤ grid.columns →
-    (IsWithin grid (rows_to block (row + 1)) cell ↔
-    (IsWithin grid (rows_to block row) cell ⊎ ((row * grid.columns + block.left ≤ cell) × (cell < row * grid.columns + block.right))))
+    (IsWithinBlock grid (rows_to block (row + 1)) cell ↔
+    (IsWithinBlock grid (rows_to block row) cell ⊎ ((row * grid.columns + block.left ≤ cell) × (cell < row * grid.columns + block.right))))
 row_cells grid block row cell low order most = (λ h. forward h (less_or_last (row_of grid cell) row h.1.1), λ h. backward h)
   where
     whole : row_of grid cell * grid.columns + column_of grid cell ≡ cell
     whole = div-add-mod' cell grid.columns
 
-    forward : IsWithin grid (rows_to block (row + 1)) cell → (row_of grid cell < row) ⊎ (row_of grid cell ≡ row) →
-        IsWithin grid (rows_to block row) cell ⊎ ((row * grid.columns + block.left ≤ cell) × (cell < row * grid.columns + block.right))
+    forward : IsWithinBlock grid (rows_to block (row + 1)) cell → (row_of grid cell < row) ⊎ (row_of grid cell ≡ row) →
+        IsWithinBlock grid (rows_to block row) cell ⊎ ((row * grid.columns + block.left ≤ cell) × (cell < row * grid.columns + block.right))
     forward h (inl less) = inl (h.0, (h.1.0, less))
     forward h (inr last) =
         let is : row * grid.columns + column_of grid cell ≡ cell = ap (λ n. n * grid.columns + column_of grid cell) (sym last) ∙ whole in
@@ -94,8 +94,8 @@ row_cells grid block row cell low order most = (λ h. forward h (less_or_last (r
         let below : column_of grid cell < block.right = h.0.1 in
         inr (omega arith, omega arith)
 
-    backward : IsWithin grid (rows_to block row) cell ⊎ ((row * grid.columns + block.left ≤ cell) × (cell < row * grid.columns + block.right)) →
-        IsWithin grid (rows_to block (row + 1)) cell
+    backward : IsWithinBlock grid (rows_to block row) cell ⊎ ((row * grid.columns + block.left ≤ cell) × (cell < row * grid.columns + block.right)) →
+        IsWithinBlock grid (rows_to block (row + 1)) cell
     backward (inl h) = let less : row_of grid cell < row = h.1.1 in (h.0, (h.1.0, omega arith))
     backward (inr (from, below)) =
         let is : cell ≡ row * grid.columns + (cell - row * grid.columns) = omega arith in

@@ -7,7 +7,7 @@ use Rattle.std.specs.Prelude.{Bool, true, false, eqb, replicate, Option, Some, N
 use Rattle.std.proofs.lemmas.List.{get_or-set_same, get_or-set_other, get_or_past, get_or_default, get_or-replicate, length-set, length-replicate}
 use Rattle.cell_lists.specs.declared.pointer.Pointer.{Pointer}
 use Rattle.cell_lists.specs.Pointer.{no_pointer, disk_of, SaysMore, pointer_at}
-use Rattle.cell_lists.specs.Chain.{ChainsData, chains_of, at, pointer_from, IsPointed, LeadsTo, IsMarkedAnew, IsLinked, IsUnlinked, IsIn, InBucket, IsFirst, IsLast, LeadsOn, IsChained}
+use Rattle.cell_lists.specs.Chain.{ChainsData, chains_of, at, pointer_from, IsPointed, LeadsTo, IsMarkedAnew, IsLinked, IsUnlinked, IsCellOf, InBucket, IsFirst, IsLast, LeadsOn, IsChained}
 use Rattle.cell_lists.proofs.Firsts.{after_of, IsBefore, ascent, falls, first_kept, first_before, first_is, first_later, first_earlier, first_after_last, head_not_last, next_not_last, beyond, none_before, first_one, first_there}
 
 -- ---- a disk that is listed, or taken off
@@ -633,22 +633,22 @@ next_falls heads nexts chains b i read is here next =
 
 -- no disk of the cell is between, since none of its bucket is
 pub passed_more : (cells : List (Option ℕ)) (m cell from below i : ℕ) → IsFirst cells m (cell % m) below (Some i) →
-    ((j : ℕ) → from ≤ j → j < below → IsIn cells cell j → ⊥) → (j : ℕ) → from ≤ j → j < i → IsIn cells cell j → ⊥
+    ((j : ℕ) → from ≤ j → j < below → IsCellOf cells cell j → ⊥) → (j : ℕ) → from ≤ j → j < i → IsCellOf cells cell j → ⊥
 passed_more cells m cell from below i h passed j le lt here = elim (cases_lt j below) [
   | inl less ↦ passed j le less here
   | inr more ↦ h.2 j more lt (cell, here, refl)
 ]
 
 pub passed_all : (cells : List (Option ℕ)) (m cell from below : ℕ) → IsFirst cells m (cell % m) below None →
-    ((j : ℕ) → from ≤ j → j < below → IsIn cells cell j → ⊥) → (j : ℕ) → from ≤ j → IsIn cells cell j → ⊥
+    ((j : ℕ) → from ≤ j → j < below → IsCellOf cells cell j → ⊥) → (j : ℕ) → from ≤ j → IsCellOf cells cell j → ⊥
 passed_all cells m cell from below h passed j le here = elim (cases_lt j below) [
   | inl less ↦ passed j le less here
   | inr more ↦ h j more (cell, here, refl)
 ]
 
-pub passed_one : (cells : List (Option ℕ)) (cell from i : ℕ) → ((j : ℕ) → from ≤ j → j < i → IsIn cells cell j → ⊥) → ¬ IsIn cells cell i →
-    (j : ℕ) → from ≤ j → j < i + 1 → IsIn cells cell j → ⊥
+pub passed_one : (cells : List (Option ℕ)) (cell from i : ℕ) → ((j : ℕ) → from ≤ j → j < i → IsCellOf cells cell j → ⊥) → ¬ IsCellOf cells cell i →
+    (j : ℕ) → from ≤ j → j < i + 1 → IsCellOf cells cell j → ⊥
 passed_one cells cell from i passed not_here j le lt here = elim (same_or_not j i) [
-  | inl e ↦ not_here (subst (λ (n : ℕ). IsIn cells cell n) e here)
+  | inl e ↦ not_here (subst (λ (n : ℕ). IsCellOf cells cell n) e here)
   | inr ne ↦ passed j le (omega arith) here
 ]

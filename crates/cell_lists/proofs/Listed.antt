@@ -14,7 +14,7 @@ use Rattle.cell_lists.specs.Listing.{ListsData, lists_of, IsListed, IsFirstIn, w
 use Rattle.cell_lists.specs.Nearby.{AreGathered}
 use Rattle.cell_lists.specs.Gathering.{AreGatheredIn}
 use Rattle.cell_lists.proofs.Firsts.{first_kept}
-use Rattle.cell_lists.specs.Chain.{at, IsIn, entries_from, cells_in, AreCells}
+use Rattle.cell_lists.specs.Chain.{at, IsCellOf, numbered_cells, cells_in, AreCells}
 
 tied : (q : ℕ) → eq_by_cmp nat_cmp q q ≡ true
 tied q = grind arith
@@ -23,32 +23,32 @@ untied : (q n : ℕ) → q ≢ n → eq_by_cmp nat_cmp q n ≡ false
 untied q n ne = grind arith
 
 -- no entry of a number below the first
-find_below : (n q : ℕ) (xs : List (Option ℕ)) → q < n → find nat_cmp q (entries_from n xs) ≡ None
+find_below : (n q : ℕ) (xs : List (Option ℕ)) → q < n → find nat_cmp q (numbered_cells n xs) ≡ None
 find_below n q [] lt = refl
 find_below n q (None ∷ xs) lt = find_below (n + 1) q xs (omega arith)
 find_below n q (Some cell ∷ xs) lt =
-    ap (λ b. cond b (Some cell) (find nat_cmp q (entries_from (n + 1) xs))) (untied q n (λ e. absurd (omega arith)))
+    ap (λ b. cond b (Some cell) (find nat_cmp q (numbered_cells (n + 1) xs))) (untied q n (λ e. absurd (omega arith)))
     ∙ find_below (n + 1) q xs (omega arith)
 
 later : (n k : ℕ) → (n + 1) + k ≡ n + suc k
 later n k = omega arith
 
-find_at : (n k : ℕ) (xs : List (Option ℕ)) → find nat_cmp (n + k) (entries_from n xs) ≡ get_or xs k None
+find_at : (n k : ℕ) (xs : List (Option ℕ)) → find nat_cmp (n + k) (numbered_cells n xs) ≡ get_or xs k None
 find_at n k [] = refl
 find_at n zero (None ∷ xs) = find_below (n + 1) (n + 0) xs (omega arith)
-find_at n (suc k) (None ∷ xs) = subst (λ (q : ℕ). find nat_cmp q (entries_from (n + 1) xs) ≡ get_or xs k None) (later n k) (find_at (n + 1) k xs)
-find_at n zero (Some cell ∷ xs) = ap (λ b. cond b (Some cell) (find nat_cmp (n + 0) (entries_from (n + 1) xs))) (same n)
+find_at n (suc k) (None ∷ xs) = subst (λ (q : ℕ). find nat_cmp q (numbered_cells (n + 1) xs) ≡ get_or xs k None) (later n k) (find_at (n + 1) k xs)
+find_at n zero (Some cell ∷ xs) = ap (λ b. cond b (Some cell) (find nat_cmp (n + 0) (numbered_cells (n + 1) xs))) (same n)
   where
     same : (n : ℕ) → eq_by_cmp nat_cmp (n + 0) n ≡ true
     same n = grind arith
 find_at n (suc k) (Some cell ∷ xs) =
-    ap (λ b. cond b (Some cell) (find nat_cmp (n + suc k) (entries_from (n + 1) xs))) (untied (n + suc k) n (λ e. absurd (omega arith)))
-    ∙ subst (λ (q : ℕ). find nat_cmp q (entries_from (n + 1) xs) ≡ get_or xs k None) (later n k) (find_at (n + 1) k xs)
+    ap (λ b. cond b (Some cell) (find nat_cmp (n + suc k) (numbered_cells (n + 1) xs))) (untied (n + suc k) n (λ e. absurd (omega arith)))
+    ∙ subst (λ (q : ℕ). find nat_cmp q (numbered_cells (n + 1) xs) ≡ get_or xs k None) (later n k) (find_at (n + 1) k xs)
 
 pub cell_of : (xs : List (Option ℕ)) (disk : ℕ) → map.get (cells_in xs) disk ≡ at xs disk
 cell_of xs disk =
-    map.get-from_entries nat_cmp_total (entries_from 0 xs) disk
-    ∙ subst (λ (q : ℕ). find nat_cmp q (entries_from 0 xs) ≡ at xs disk) (from_none disk) (find_at 0 disk xs)
+    map.get-from_entries nat_cmp_total (numbered_cells 0 xs) disk
+    ∙ subst (λ (q : ℕ). find nat_cmp q (numbered_cells 0 xs) ≡ at xs disk) (from_none disk) (find_at 0 disk xs)
   where
     from_none : (q : ℕ) → 0 + q ≡ q
     from_none q = omega arith
@@ -97,8 +97,8 @@ pub cell_seen : (grid : GridData) (xs : List (Option ℕ)) (lists : ListsData) (
 cell_seen grid xs lists disk o seen is = sym (cell_of xs disk) ∙ ap (λ (l : ListsData). map.get l.cells disk) seen ∙ is
 
 pub first_seen : (grid : GridData) (xs : List (Option ℕ)) (lists : ListsData) (cell from : ℕ) (o : Option ℕ) → lists_of grid (cells_in xs) ≡ lists →
-    IsFirstOf (IsIn xs cell) from o → IsFirstIn lists cell from o
-first_seen grid xs lists cell from o seen h = first_kept (IsIn xs cell) (IsListed lists cell) from o
+    IsFirstOf (IsCellOf xs cell) from o → IsFirstIn lists cell from o
+first_seen grid xs lists cell from o seen h = first_kept (IsCellOf xs cell) (IsListed lists cell) from o
     (λ j le. (λ here. sym (ap (λ (l : ListsData). map.get l.cells j) seen) ∙ cell_of xs j ∙ here, λ here. cell_seen grid xs lists j (Some cell) seen here)) h
 
 pub put_seen : (grid : GridData) (old room new : List (Option ℕ)) (lists : ListsData) (disk cell : ℕ) → lists_of grid (cells_in old) ≡ lists →

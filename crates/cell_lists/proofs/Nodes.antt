@@ -9,7 +9,7 @@ use Rattle.cell_lists.specs.declared.chains.Node.{Node}
 use Rattle.cell_lists.specs.declared.pointer.Pointer.{Pointer}
 use Rattle.cell_lists.specs.Pointer.{no_pointer, pointer_at}
 use Rattle.cell_lists.specs.Nodes.{pointers_of, cells_of}
-use Rattle.cell_lists.specs.Chain.{ChainsData, chains_of, with_cell, at, IsIn, InBucket, IsLast, pointer_from, IsPointed, IsMarkedAnew, IsChained, IsLinked, IsUnlinked}
+use Rattle.cell_lists.specs.Chain.{ChainsData, chains_of, with_cell, at, IsCellOf, InBucket, IsLast, pointer_from, IsPointed, IsMarkedAnew, IsChained, IsLinked, IsUnlinked}
 use Rattle.cell_lists.specs.Gathering.{LeadsIn}
 use Rattle.cell_lists.proofs.Chaining.{within, chained_none, pointed_count, marked_count}
 
@@ -26,7 +26,7 @@ next_at nodes i node lt e = next_read nodes i node e
 
 -- where the node of a listed disk leads
 pub node_leads : (cells : List (Option ℕ)) (nodes : List Node) (disk : ℕ) (d : Node) → length nodes ≡ length cells →
-    ((i cell : ℕ) → IsIn cells cell i → LeadsIn cells cell (i + 1) (pointer_at (pointers_of nodes) i)) → (cell : ℕ) → IsIn cells cell disk →
+    ((i cell : ℕ) → IsCellOf cells cell i → LeadsIn cells cell (i + 1) (pointer_at (pointers_of nodes) i)) → (cell : ℕ) → IsCellOf cells cell disk →
     (disk < length nodes) × LeadsIn cells cell (disk + 1) (get_or nodes disk d).next
 node_leads cells nodes disk d as_many leads cell here = (
   lt,

@@ -13,11 +13,11 @@ use Rattle.cell_lists.specs.declared.pointer.Pointer.{Pointer}
 use Rattle.cell_lists.specs.declared.places.Places.{Places}
 use Rattle.cell_lists.specs.declared.gathered.TheConstants.{MOST_GATHERED}
 use Rattle.cell_lists.specs.Firsts.{IsFirstOf}
-use Rattle.cell_lists.specs.Nearby.{IsWithin}
+use Rattle.cell_lists.specs.Nearby.{IsWithinBlock}
 use Rattle.cell_lists.specs.Pointer.{disk_of, SaysMore}
 use Rattle.cell_lists.specs.Places.{Holds}
-use Rattle.cell_lists.specs.Chain.{ChainsData, IsIn, InBucket, IsFirst, LeadsOn}
-use Rattle.cell_lists.specs.Gathering.{with_offered, HaveOwnBuckets, AreListed, IsFromOneOf, StartsAdded, HasLater, SaysLater, LeadsIn, ArePending, AreFollowed, AreGatheredIn}
+use Rattle.cell_lists.specs.Chain.{ChainsData, IsCellOf, InBucket, IsFirst, LeadsOn}
+use Rattle.cell_lists.specs.Gathering.{with_offered, HaveOwnBuckets, AreAllListed, IsFromOneOf, StartsAdded, HasLater, SaysLater, LeadsIn, ArePending, AreFollowed, AreGatheredIn}
 use Rattle.cell_lists.proofs.Firsts.{first_kept}
 use Rattle.cell_lists.proofs.Chaining.{same_or_not}
 
@@ -45,20 +45,20 @@ all_taken count disks most long = length-take-le count disks (subst (λ (n : ℕ
 -- ---- a bucket of one cell
 -- the disks of the bucket are those of the cell
 pub own_bucket : (chains : ChainsData) (cell : ℕ) → HaveOwnBuckets chains → cell < chains.buckets → (j : ℕ) →
-    (InBucket chains.cells chains.buckets cell j ↔ IsIn chains.cells cell j)
+    (InBucket chains.cells chains.buckets cell j ↔ IsCellOf chains.cells cell j)
 own_bucket chains cell own lt j = (
   λ h. (let same : h.0 ≡ cell = sym (mod-eq_of_lt (own j h.0 h.1)) ∙ h.2 in
-      subst (λ (n : ℕ). IsIn chains.cells n j) same h.1),
+      subst (λ (n : ℕ). IsCellOf chains.cells n j) same h.1),
   λ here. (cell, here, mod-eq_of_lt lt),
 )
 
 own_first : (chains : ChainsData) (cell from : ℕ) (o : Option ℕ) → HaveOwnBuckets chains → cell < chains.buckets →
-    IsFirst chains.cells chains.buckets cell from o → IsFirstOf (IsIn chains.cells cell) from o
+    IsFirst chains.cells chains.buckets cell from o → IsFirstOf (IsCellOf chains.cells cell) from o
 own_first chains cell from o own lt h =
-    first_kept (InBucket chains.cells chains.buckets cell) (IsIn chains.cells cell) from o (λ j le. own_bucket chains cell own lt j) h
+    first_kept (InBucket chains.cells chains.buckets cell) (IsCellOf chains.cells cell) from o (λ j le. own_bucket chains cell own lt j) h
 
 -- ---- disks in one cell
-one_cell : (cells : List (Option ℕ)) (a b disk : ℕ) → IsIn cells a disk → IsIn cells b disk → a ≡ b
+one_cell : (cells : List (Option ℕ)) (a b disk : ℕ) → IsCellOf cells a disk → IsCellOf cells b disk → a ≡ b
 one_cell cells a b disk first second = cc
 
 not_less : (i j : ℕ) → ¬ (j < i) → i ≤ j
@@ -71,22 +71,22 @@ from_later : (cells : List (Option ℕ)) (xs ys : List ℕ) (disk : ℕ) → IsF
 from_later cells xs ys disk h = (h.0, Contains-append_right xs ys h.0 h.1, h.2)
 
 -- ---- the first disks of cells
-pub head_added : (cells : List (Option ℕ)) (cell : ℕ) (old : List ℕ) (o : Option ℕ) → IsFirstOf (IsIn cells cell) 0 o →
+pub head_added : (cells : List (Option ℕ)) (cell : ℕ) (old : List ℕ) (o : Option ℕ) → IsFirstOf (IsCellOf cells cell) 0 o →
     StartsAdded cells (λ n. n ≡ cell) old (with_offered old o)
 head_added cells cell old None h = (
   [],
   sym (append-nil old),
   record {
     listed = λ disk here. absurd (none_in disk here);
-    all = λ disk n here same. absurd (h disk (omega arith) (subst (λ (m : ℕ). IsIn cells m disk) same here));
+    all = λ disk n here same. absurd (h disk (omega arith) (subst (λ (m : ℕ). IsCellOf cells m disk) same here));
   },
 )
 head_added cells cell old (Some i) h = (
   i ∷ [],
   refl,
   record {
-    listed = λ disk is. (cell, subst (λ (n : ℕ). IsIn cells cell n) (sym (the_one i disk is)) h.1, refl);
-    all = λ disk n here same. (let in_cell = subst (λ (m : ℕ). IsIn cells m disk) same here in
+    listed = λ disk is. (cell, subst (λ (n : ℕ). IsCellOf cells cell n) (sym (the_one i disk is)) h.1, refl);
+    all = λ disk n here same. (let in_cell = subst (λ (m : ℕ). IsCellOf cells m disk) same here in
         (i, one_in i, (cell, h.1, in_cell, not_less i disk (λ less. h.2 disk (omega arith) less in_cell))));
   },
 )
@@ -111,11 +111,11 @@ both_added cells First Second Both a b c (xs, xs_added, x) (ys, ys_added, y) spl
   },
 )
   where
-    listed : (disk : ℕ) → Contains xs disk ⊎ Contains ys disk → (cell : ℕ) × IsIn cells cell disk × Both cell
+    listed : (disk : ℕ) → Contains xs disk ⊎ Contains ys disk → (cell : ℕ) × IsCellOf cells cell disk × Both cell
     listed disk (inl is) = let h = x.listed disk is in (h.0, h.1, (split h.0).1 (inl h.2))
     listed disk (inr is) = let h = y.listed disk is in (h.0, h.1, (split h.0).1 (inr h.2))
 
-    all : (disk cell : ℕ) → IsIn cells cell disk → First cell ⊎ Second cell → IsFromOneOf cells (xs ++ ys) disk
+    all : (disk cell : ℕ) → IsCellOf cells cell disk → First cell ⊎ Second cell → IsFromOneOf cells (xs ++ ys) disk
     all disk cell here (inl such) = from_more cells xs ys disk (x.all disk cell here such)
     all disk cell here (inr such) = from_later cells xs ys disk (y.all disk cell here such)
 
@@ -124,7 +124,7 @@ next_cell : (first cell n : ℕ) → first ≤ cell → (((first ≤ n) × (n < 
 next_cell first cell n le = grind arith
 
 pub cell_added : (cells : List (Option ℕ)) (first cell : ℕ) (a b : List ℕ) (o : Option ℕ) → first ≤ cell →
-    StartsAdded cells (λ n. (first ≤ n) × (n < cell)) a b → IsFirstOf (IsIn cells cell) 0 o →
+    StartsAdded cells (λ n. (first ≤ n) × (n < cell)) a b → IsFirstOf (IsCellOf cells cell) 0 o →
     StartsAdded cells (λ n. (first ≤ n) × (n < cell + 1)) a (with_offered b o)
 cell_added cells first cell a b o le h is =
     both_added cells (λ n. (first ≤ n) × (n < cell)) (λ n. n ≡ cell) (λ n. (first ≤ n) × (n < cell + 1)) a b (with_offered b o) h
@@ -145,11 +145,11 @@ own_later chains cell from x own lt leads = says (disk_of x) leads.0 leads.1
         later.1,
         later.4,
         (own_bucket chains cell own lt later.1).1
-            (subst (λ (n : ℕ). IsIn chains.cells n later.1) (one_cell chains.cells later.0 cell i later.2 here) later.3),
+            (subst (λ (n : ℕ). IsCellOf chains.cells n later.1) (one_cell chains.cells later.0 cell i later.2 here) later.3),
       ),
     )
       where
-        here : IsIn chains.cells cell i
+        here : IsCellOf chains.cells cell i
         here = (own_bucket chains cell own lt i).0 first.1
 
 -- where no place is held yet, none of the disks has to be looked at
@@ -204,13 +204,13 @@ leads_in chains cell from x own lt leads = (
 -- ---- the next disks
 -- the disk is in the cell of this one, and after it
 abbrev IsAfter : List (Option ℕ) → ℕ → ℕ → Type 0
-IsAfter cells start disk = (cell : ℕ) × IsIn cells cell start × IsIn cells cell disk × (start < disk)
+IsAfter cells start disk = (cell : ℕ) × IsCellOf cells cell start × IsCellOf cells cell disk × (start < disk)
 
 -- what is gathered while disks are followed: what comes from the old ones is there, or after one at a place that is held
 pub record IsFollowing (cells : List (Option ℕ)) (old : List ℕ) (first : ℕ) (new : List ℕ) (places : Places) : Type 0 where
   pub kept : take first new ≡ take first old
   pub some : first ≤ length new
-  pub listed : AreListed cells (drop first new)
+  pub listed : AreAllListed cells (drop first new)
   pub held : (p : ℕ) → Holds places p → (first ≤ p) × (p < length new) × HasLater cells (get_or new p 0)
   pub same : (disk : ℕ) → (IsFromOneOf cells (drop first old) disk ↔
       (Contains (drop first new) disk ⊎ ((p : ℕ) × Holds places p × IsAfter cells (get_or new p 0) disk)))
@@ -224,7 +224,7 @@ behind xs first p from lt = (p - first, inside, there ∙ get_or_default xs p (g
     there : get_or (drop first xs) (p - first) (get_or xs p 0) ≡ get_or xs p (get_or xs p 0)
     there = get_or-drop first xs (p - first) (get_or xs p 0) ∙ ap (λ n. get_or xs n (get_or xs p 0)) (let sum : first + (p - first) ≡ p = omega arith in sum)
 
-pub following_starts : (cells : List (Option ℕ)) (old : List ℕ) (first : ℕ) (places : Places) → first ≤ length old → AreListed cells (drop first old) →
+pub following_starts : (cells : List (Option ℕ)) (old : List ℕ) (first : ℕ) (places : Places) → first ≤ length old → AreAllListed cells (drop first old) →
     ArePending cells first old places → IsFollowing cells old first old places
 following_starts cells old first places some listed pending = record {
   kept = refl;
@@ -267,12 +267,12 @@ following_starts cells old first places some listed pending = record {
 
 -- a disk that has a later one in its cell has a next one
 next_there : (cells : List (Option ℕ)) (s : ℕ) (o : Option ℕ) → HasLater cells s →
-    ((cell : ℕ) → IsIn cells cell s → IsFirstOf (IsIn cells cell) (s + 1) o) → (n : ℕ) × (o ≡ Some n)
+    ((cell : ℕ) → IsCellOf cells cell s → IsFirstOf (IsCellOf cells cell) (s + 1) o) → (n : ℕ) × (o ≡ Some n)
 next_there cells s None later next = absurd (let less = later.4 in next later.0 later.2 later.1 (omega arith) later.3)
 next_there cells s (Some n) later next = (n, refl)
 
 pub longer : (cells : List (Option ℕ)) (disks : List ℕ) (s : ℕ) (o : Option ℕ) → HasLater cells s →
-    ((cell : ℕ) → IsIn cells cell s → IsFirstOf (IsIn cells cell) (s + 1) o) → length (with_offered disks o) ≡ length disks + 1
+    ((cell : ℕ) → IsCellOf cells cell s → IsFirstOf (IsCellOf cells cell) (s + 1) o) → length (with_offered disks o) ≡ length disks + 1
 longer cells disks s o later next =
     let there = next_there cells s o later next in
     subst (λ (o : Option ℕ). length (with_offered disks o) ≡ length disks + 1) (sym there.1) (one_more disks there.0)
@@ -280,7 +280,7 @@ longer cells disks s o later next =
 -- the next of one disk at a place that was held
 pub following_more : (cells : List (Option ℕ)) (old : List ℕ) (first : ℕ) (new : List ℕ) (before after : Places) (q : ℕ) (x : Pointer) →
     IsFollowing cells old first new before → Holds before q →
-    ((cell : ℕ) → IsIn cells cell (get_or new q 0) → IsFirstOf (IsIn cells cell) (get_or new q 0 + 1) (disk_of x)) → SaysLater cells x →
+    ((cell : ℕ) → IsCellOf cells cell (get_or new q 0) → IsFirstOf (IsCellOf cells cell) (get_or new q 0 + 1) (disk_of x)) → SaysLater cells x →
     ((p : ℕ) → (Holds after p ↔ ((Holds before p × (p ≢ q)) ⊎ ((p ≡ length new) × SaysMore x)))) →
     IsFollowing cells old first (with_offered new (disk_of x)) after
 following_more cells old first new before after q x following holds next says step = more (disk_of x) next says
@@ -288,7 +288,7 @@ following_more cells old first new before after q x following holds next says st
     held : (first ≤ q) × (q < length new) × HasLater cells (get_or new q 0)
     held = following.held q holds
 
-    more : (o : Option ℕ) → ((cell : ℕ) → IsIn cells cell (get_or new q 0) → IsFirstOf (IsIn cells cell) (get_or new q 0 + 1) o) →
+    more : (o : Option ℕ) → ((cell : ℕ) → IsCellOf cells cell (get_or new q 0) → IsFirstOf (IsCellOf cells cell) (get_or new q 0 + 1) o) →
         (SaysMore x ↔ IsSomeAnd o (HasLater cells)) → IsFollowing cells old first (with_offered new o) after
     more None next says = let there = next_there cells (get_or new q 0) None held.2 next in absurd (none-some there.0 there.1)
     more (Some n) next says = record {
@@ -302,15 +302,15 @@ following_more cells old first new before after q x following holds next says st
       );
     }
       where
-        first_next : IsFirstOf (IsIn cells held.2.0) (get_or new q 0 + 1) (Some n)
+        first_next : IsFirstOf (IsCellOf cells held.2.0) (get_or new q 0 + 1) (Some n)
         first_next = next held.2.0 held.2.2
 
         parts : drop first (new ++ (n ∷ [])) ≡ drop first new ++ (n ∷ [])
         parts = drop-append-le first new (n ∷ []) following.some
 
-        listed : (disk : ℕ) → Contains (drop first new) disk ⊎ Contains (n ∷ []) disk → (cell : ℕ) × IsIn cells cell disk
+        listed : (disk : ℕ) → Contains (drop first new) disk ⊎ Contains (n ∷ []) disk → (cell : ℕ) × IsCellOf cells cell disk
         listed disk (inl is) = following.listed disk is
-        listed disk (inr is) = (held.2.0, subst (λ (m : ℕ). IsIn cells held.2.0 m) (sym (the_one n disk is)) first_next.1)
+        listed disk (inr is) = (held.2.0, subst (λ (m : ℕ). IsCellOf cells held.2.0 m) (sym (the_one n disk is)) first_next.1)
 
         held_still : (p : ℕ) → (Holds before p × (p ≢ q)) ⊎ ((p ≡ length new) × SaysMore x) →
             (first ≤ p) × (p < length (new ++ (n ∷ []))) × HasLater cells (get_or (new ++ (n ∷ [])) p 0)
@@ -331,8 +331,8 @@ following_more cells old first new before after q x following holds next says st
             Contains (drop first (new ++ (n ∷ []))) disk ⊎ ((p : ℕ) × Holds after p × IsAfter cells (get_or (new ++ (n ∷ [])) p 0) disk)
         from_q disk h which = by_order which
           where
-            here : IsIn cells held.2.0 disk
-            here = subst (λ (m : ℕ). IsIn cells m disk) (one_cell cells h.0 held.2.0 (get_or new q 0) h.1 held.2.2) h.2
+            here : IsCellOf cells held.2.0 disk
+            here = subst (λ (m : ℕ). IsCellOf cells m disk) (one_cell cells h.0 held.2.0 (get_or new q 0) h.1 held.2.2) h.2
 
             by_order : (n < disk) ⊎ ((n ≡ disk) ⊎ (disk < n)) →
                 Contains (drop first (new ++ (n ∷ []))) disk ⊎ ((p : ℕ) × Holds after p × IsAfter cells (get_or (new ++ (n ∷ [])) p 0) disk)
@@ -357,7 +357,7 @@ following_more cells old first new before after q x following holds next says st
         from_n disk h =
             let less = h.3 in
             let more : get_or new q 0 + 1 ≤ n = first_next.0 in
-            (held.2.0, held.2.2, subst (λ (m : ℕ). IsIn cells m disk) (one_cell cells h.0 held.2.0 n h.1 first_next.1) h.2, omega arith)
+            (held.2.0, held.2.2, subst (λ (m : ℕ). IsCellOf cells m disk) (one_cell cells h.0 held.2.0 n h.1 first_next.1) h.2, omega arith)
 
         backward : (disk : ℕ) → Contains (drop first (new ++ (n ∷ []))) disk ⊎ ((p : ℕ) × Holds after p × IsAfter cells (get_or (new ++ (n ∷ [])) p 0) disk) →
             Contains (drop first new) disk ⊎ ((p : ℕ) × Holds before p × IsAfter cells (get_or new p 0) disk)
@@ -385,12 +385,12 @@ walk_held cells old first count disks places q most long following holds =
 
 pub walk_step : (cells : List (Option ℕ)) (old : List ℕ) (first count : ℕ) (disks : List ℕ) (before without after : Places) (q : ℕ) (x : Pointer) →
     count ≤ MOST_GATHERED → length disks ≡ MOST_GATHERED → IsFollowing cells old first (take count disks) before → Holds before q →
-    ((cell : ℕ) → IsIn cells cell (get_or disks q 0) → IsFirstOf (IsIn cells cell) (get_or disks q 0 + 1) (disk_of x)) → SaysLater cells x →
+    ((cell : ℕ) → IsCellOf cells cell (get_or disks q 0) → IsFirstOf (IsCellOf cells cell) (get_or disks q 0 + 1) (disk_of x)) → SaysLater cells x →
     ((p : ℕ) → (Holds without p ↔ (Holds before p × (p ≢ q)))) → ((p : ℕ) → (Holds after p ↔ (Holds without p ⊎ ((p ≡ count) × SaysMore x)))) →
     IsFollowing cells old first (with_offered (take count disks) (disk_of x)) after
 walk_step cells old first count disks before without after q x most long following holds next says taken_out put_in =
     following_more cells old first (take count disks) before after q x following holds
-    (subst (λ (s : ℕ). (cell : ℕ) → IsIn cells cell s → IsFirstOf (IsIn cells cell) (s + 1) (disk_of x)) (sym (get_or-take count disks q 0 less)) next) says step
+    (subst (λ (s : ℕ). (cell : ℕ) → IsCellOf cells cell s → IsFirstOf (IsCellOf cells cell) (s + 1) (disk_of x)) (sym (get_or-take count disks q 0 less)) next) says step
   where
     taken : length (take count disks) ≡ count
     taken = all_taken count disks most long
@@ -411,7 +411,7 @@ walk_step cells old first count disks before without after q x most long followi
 
 pub walk_longer : (cells : List (Option ℕ)) (count : ℕ) (disks : List ℕ) (q count' : ℕ) (disks' : List ℕ) (x : Pointer) → count ≤ MOST_GATHERED →
     length disks ≡ MOST_GATHERED → count' ≤ MOST_GATHERED → length disks' ≡ MOST_GATHERED → HasLater cells (get_or disks q 0) →
-    ((cell : ℕ) → IsIn cells cell (get_or disks q 0) → IsFirstOf (IsIn cells cell) (get_or disks q 0 + 1) (disk_of x)) →
+    ((cell : ℕ) → IsCellOf cells cell (get_or disks q 0) → IsFirstOf (IsCellOf cells cell) (get_or disks q 0 + 1) (disk_of x)) →
     take count' disks' ≡ with_offered (take count disks) (disk_of x) → count' ≡ count + 1
 walk_longer cells count disks q count' disks' x most long most' long' later next offered =
     sym (all_taken count' disks' most' long') ∙ ap length offered ∙ longer cells (take count disks) (get_or disks q 0) (disk_of x) later next
@@ -429,11 +429,11 @@ following_ends cells old first new places following none = record {
 }
 
 -- ---- all disks of a block
-pub starts_behind : (cells : List (Option ℕ)) (IsSuch : ℕ → Type 0) (old new : List ℕ) → StartsAdded cells IsSuch old new → AreListed cells (drop (length old) new)
-starts_behind cells IsSuch old new (starts, added, are) = subst (AreListed cells) (sym (ap (drop (length old)) added ∙ drop_at old starts (length old) refl))
+pub starts_behind : (cells : List (Option ℕ)) (IsSuch : ℕ → Type 0) (old new : List ℕ) → StartsAdded cells IsSuch old new → AreAllListed cells (drop (length old) new)
+starts_behind cells IsSuch old new (starts, added, are) = subst (AreAllListed cells) (sym (ap (drop (length old)) added ∙ drop_at old starts (length old) refl))
     (λ disk is. (let h = are.listed disk is in (h.0, h.1)))
 
-pub gathered_in : (cells : List (Option ℕ)) (grid : GridData) (block : Block) (old starts new : List ℕ) → StartsAdded cells (IsWithin grid block) old starts →
+pub gathered_in : (cells : List (Option ℕ)) (grid : GridData) (block : Block) (old starts new : List ℕ) → StartsAdded cells (IsWithinBlock grid block) old starts →
     AreFollowed cells (length old) starts new → AreGatheredIn cells grid block old new
 gathered_in cells grid block old mid new (starts, added, are) followed disk = (
   λ is. forward (Contains-append_cases (take (length old) new) (drop (length old) new) disk (subst (λ (xs : List ℕ). Contains xs disk) (sym whole) is)),
@@ -450,14 +450,14 @@ gathered_in cells grid block old mid new (starts, added, are) followed disk = (
     behind = ap (drop (length old)) added ∙ drop_at old starts (length old) refl
 
     forward : Contains (take (length old) new) disk ⊎ Contains (drop (length old) new) disk →
-        Contains old disk ⊎ ((cell : ℕ) × IsIn cells cell disk × IsWithin grid block cell)
+        Contains old disk ⊎ ((cell : ℕ) × IsCellOf cells cell disk × IsWithinBlock grid block cell)
     forward (inl is) = inl (subst (λ (xs : List ℕ). Contains xs disk) before is)
     forward (inr is) =
         let from = subst (λ (xs : List ℕ). IsFromOneOf cells xs disk) behind ((followed.all disk).0 is) in
         let start = are.listed from.0 from.1 in
-        inr (start.0, subst (λ (n : ℕ). IsIn cells n disk) (one_cell cells from.2.0 start.0 from.0 from.2.1 start.1) from.2.2, start.2)
+        inr (start.0, subst (λ (n : ℕ). IsCellOf cells n disk) (one_cell cells from.2.0 start.0 from.0 from.2.1 start.1) from.2.2, start.2)
 
-    backward : Contains old disk ⊎ ((cell : ℕ) × IsIn cells cell disk × IsWithin grid block cell) → Contains (take (length old) new ++ drop (length old) new) disk
+    backward : Contains old disk ⊎ ((cell : ℕ) × IsCellOf cells cell disk × IsWithinBlock grid block cell) → Contains (take (length old) new ++ drop (length old) new) disk
     backward (inl is) = Contains-append_left (take (length old) new) (drop (length old) new) disk (subst (λ (xs : List ℕ). Contains xs disk) (sym before) is)
     backward (inr h) = Contains-append_right (take (length old) new) (drop (length old) new) disk
         ((followed.all disk).1 (subst (λ (xs : List ℕ). IsFromOneOf cells xs disk) (sym behind) (are.all disk h.0 h.1 h.2)))

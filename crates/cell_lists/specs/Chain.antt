@@ -27,8 +27,8 @@ abbrev pub at : List (Option ℕ) → ℕ → Option ℕ
 at xs i = slice_index_or xs i None
 
 -- the disk is listed in the cell
-abbrev pub IsIn : List (Option ℕ) → ℕ → ℕ → Type 0
-IsIn cells cell i = at cells i ≡ Some cell
+abbrev pub IsCellOf : List (Option ℕ) → ℕ → ℕ → Type 0
+IsCellOf cells cell i = at cells i ≡ Some cell
 
 -- the disk is listed in a cell of the bucket, of so many
 abbrev pub InBucket : List (Option ℕ) → ℕ → ℕ → ℕ → Type 0
@@ -84,20 +84,20 @@ abbrev pub IsUnlinked : List Pointer → List Pointer → ℕ → ℕ → Option
 IsUnlinked heads nexts b d before heads' nexts' = IsPointed heads nexts b before (pointer_at nexts d) heads' nexts'
 
 -- the same disks are listed, and there is room for so many
-abbrev pub HasRoom : List (Option ℕ) → ℕ → List (Option ℕ) → Type 0
-HasRoom old room new = (length new ≡ room) × ((i : ℕ) → at new i ≡ at old i)
+abbrev pub HasRoomFor : List (Option ℕ) → ℕ → List (Option ℕ) → Type 0
+HasRoomFor old room new = (length new ≡ room) × ((i : ℕ) → at new i ≡ at old i)
 
 -- ---- chains as a map
 -- the entries of an array of cells by disk, of which the first is that of the disk n
-abbrev pub entries_from : ℕ → List (Option ℕ) → List (ℕ × ℕ)
-entries_from n [] = []
-entries_from n (None ∷ xs) = entries_from (n + 1) xs
-entries_from n (Some cell ∷ xs) = (n, cell) ∷ entries_from (n + 1) xs
+abbrev pub numbered_cells : ℕ → List (Option ℕ) → List (ℕ × ℕ)
+numbered_cells n [] = []
+numbered_cells n (None ∷ xs) = numbered_cells (n + 1) xs
+numbered_cells n (Some cell ∷ xs) = (n, cell) ∷ numbered_cells (n + 1) xs
 
 -- the map from each listed disk to its cell
 abbrev pub cells_in : List (Option ℕ) → map.FinMap nat_cmp ℕ
-cells_in xs = map.from_entries (entries_from 0 xs)
+cells_in xs = map.from_entries (numbered_cells 0 xs)
 
 -- each cell in which a disk is listed is one of the grid
 abbrev pub AreCells : GridData → List (Option ℕ) → Type 0
-AreCells grid xs = (disk cell : ℕ) → IsIn xs cell disk → IsCell grid cell
+AreCells grid xs = (disk cell : ℕ) → IsCellOf xs cell disk → IsCell grid cell

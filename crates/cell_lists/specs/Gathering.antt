@@ -8,8 +8,8 @@ use Rattle.cell_lists.specs.declared.places.Places.{Places}
 use Rattle.cell_lists.specs.Pointer.{disk_of, SaysMore}
 use Rattle.cell_lists.specs.Places.{Holds}
 use Rattle.cell_lists.specs.Firsts.{IsFirstOf}
-use Rattle.cell_lists.specs.Chain.{ChainsData, IsIn}
-use Rattle.cell_lists.specs.Nearby.{IsWithin}
+use Rattle.cell_lists.specs.Chain.{ChainsData, IsCellOf}
+use Rattle.cell_lists.specs.Nearby.{IsWithinBlock}
 
 -- with a number at the end, where there is one
 abbrev pub with_offered : List ℕ → Option ℕ → List ℕ
@@ -18,21 +18,21 @@ with_offered disks (Some disk) = disks ++ (disk ∷ [])
 
 -- each cell in which a disk is listed has a bucket of its own: that of its number
 abbrev pub HaveOwnBuckets : ChainsData → Type 0
-HaveOwnBuckets chains = (disk cell : ℕ) → IsIn chains.cells cell disk → cell < chains.buckets
+HaveOwnBuckets chains = (disk cell : ℕ) → IsCellOf chains.cells cell disk → cell < chains.buckets
 
 -- each of the disks is listed in a cell
-abbrev pub AreListed : List (Option ℕ) → List ℕ → Type 0
-AreListed cells disks = (disk : ℕ) → Contains disks disk → (cell : ℕ) × IsIn cells cell disk
+abbrev pub AreAllListed : List (Option ℕ) → List ℕ → Type 0
+AreAllListed cells disks = (disk : ℕ) → Contains disks disk → (cell : ℕ) × IsCellOf cells cell disk
 
 -- the disk is in the cell of one of these, and is this one or after it
 abbrev pub IsFromOneOf : List (Option ℕ) → List ℕ → ℕ → Type 0
 IsFromOneOf cells starts disk =
-    (start : ℕ) × Contains starts start × ((cell : ℕ) × IsIn cells cell start × IsIn cells cell disk × (start ≤ disk))
+    (start : ℕ) × Contains starts start × ((cell : ℕ) × IsCellOf cells cell start × IsCellOf cells cell disk × (start ≤ disk))
 
 -- these disks are in such cells, and each disk of such a cell is one of these or after one in its cell
 pub record AreStarts (cells : List (Option ℕ)) (IsSuch : ℕ → Type 0) (starts : List ℕ) : Type 0 where
-  pub listed : (disk : ℕ) → Contains starts disk → (cell : ℕ) × IsIn cells cell disk × IsSuch cell
-  pub all : (disk cell : ℕ) → IsIn cells cell disk → IsSuch cell → IsFromOneOf cells starts disk
+  pub listed : (disk : ℕ) → Contains starts disk → (cell : ℕ) × IsCellOf cells cell disk × IsSuch cell
+  pub all : (disk cell : ℕ) → IsCellOf cells cell disk → IsSuch cell → IsFromOneOf cells starts disk
 
 -- such disks were added at the end
 abbrev pub StartsAdded : List (Option ℕ) → (ℕ → Type 0) → List ℕ → List ℕ → Type 0
@@ -40,7 +40,7 @@ StartsAdded cells IsSuch old new = (starts : List ℕ) × (new ≡ old ++ starts
 
 -- a greater disk is in the cell of this one
 abbrev pub HasLater : List (Option ℕ) → ℕ → Type 0
-HasLater cells disk = (cell : ℕ) × (later : ℕ) × IsIn cells cell disk × IsIn cells cell later × (disk < later)
+HasLater cells disk = (cell : ℕ) × (later : ℕ) × IsCellOf cells cell disk × IsCellOf cells cell later × (disk < later)
 
 -- the pointer says that its disk has a next one exactly where a greater disk is in its cell
 abbrev pub SaysLater : List (Option ℕ) → Pointer → Type 0
@@ -48,7 +48,7 @@ SaysLater cells pointer = SaysMore pointer ↔ IsSomeAnd (disk_of pointer) (HasL
 
 -- the pointer leads to the first disk of the cell from a number on, and says whether a greater one is in the cell
 abbrev pub LeadsIn : List (Option ℕ) → ℕ → ℕ → Pointer → Type 0
-LeadsIn cells cell from pointer = IsFirstOf (IsIn cells cell) from (disk_of pointer) × SaysLater cells pointer
+LeadsIn cells cell from pointer = IsFirstOf (IsCellOf cells cell) from (disk_of pointer) × SaysLater cells pointer
 
 -- these are the places, from the first on, of the disks that have a greater one in their cell
 abbrev pub ArePending : List (Option ℕ) → ℕ → List ℕ → Places → Type 0
@@ -62,4 +62,4 @@ pub record AreFollowed (cells : List (Option ℕ)) (first : ℕ) (old new : List
 -- the new disks are the old ones and those that are listed in the block
 abbrev pub AreGatheredIn : List (Option ℕ) → GridData → Block → List ℕ → List ℕ → Type 0
 AreGatheredIn cells grid block old new = (disk : ℕ) →
-    Contains new disk ↔ (Contains old disk ⊎ ((cell : ℕ) × IsIn cells cell disk × IsWithin grid block cell))
+    Contains new disk ↔ (Contains old disk ⊎ ((cell : ℕ) × IsCellOf cells cell disk × IsWithinBlock grid block cell))

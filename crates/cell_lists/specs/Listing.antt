@@ -30,8 +30,8 @@ abbrev pub AreInGrid : ListsData → Type 0
 AreInGrid lists = (disk cell : ℕ) → IsListed lists cell disk → IsCell lists.grid cell
 
 -- the disk isn't listed
-abbrev pub IsFree : ListsData → ℕ → Type 0
-IsFree lists disk = map.get lists.cells disk ≡ None
+abbrev pub IsUnlisted : ListsData → ℕ → Type 0
+IsUnlisted lists disk = map.get lists.cells disk ≡ None
 
 abbrev pub with_disk : ListsData → ℕ → ℕ → ListsData
 with_disk lists disk cell = lists_of lists.grid (map.insert lists.cells disk cell)

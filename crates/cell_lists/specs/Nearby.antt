@@ -12,13 +12,13 @@ pub record IsBlock (grid : GridData) (block : Block) : Type 0 where
   pub rows : block.low ≤ block.high
   pub most_rows : block.high ≤ grid.rows
 
-abbrev pub IsWithin : GridData → Block → ℕ → Type 0
-IsWithin grid block cell =
+abbrev pub IsWithinBlock : GridData → Block → ℕ → Type 0
+IsWithinBlock grid block cell =
     ((block.left ≤ column_of grid cell) × (column_of grid cell < block.right)) × ((block.low ≤ row_of grid cell) × (row_of grid cell < block.high))
 
 -- the disk is listed in a cell of the block
 abbrev pub IsListedWithin : ListsData → Block → ℕ → Type 0
-IsListedWithin lists block disk = (cell : ℕ) × IsListed lists cell disk × IsWithin lists.grid block cell
+IsListedWithin lists block disk = (cell : ℕ) × IsListed lists cell disk × IsWithinBlock lists.grid block cell
 
 -- the disk is listed in a cell adjacent to this one, as it is itself
 abbrev pub IsListedNear : ListsData → ℕ → ℕ → Type 0

@@ -63,7 +63,7 @@ ghost use Rattle.std.specs.Prelude.{◌≡◌, ◌↔◌, ◌+◌, ◌%◌, ◌<
 ghost use Rattle.cell_lists.specs.Firsts.{IsFirstOf};
 ghost use Rattle.cell_lists.specs.Nodes.{pointers_of, cells_of};
 ghost use Rattle.cell_lists.specs.Pointer.{no_pointer, disk_of, pointer_at, SaysMore};
-ghost use Rattle.cell_lists.specs.Chain.{chains_of, bucket_count, with_cell, at, IsIn, IsFirst, IsLast, pointer_from, IsPointed, IsMarkedAnew, IsLinked, IsUnlinked, HasRoom};
+ghost use Rattle.cell_lists.specs.Chain.{chains_of, bucket_count, with_cell, at, IsCellOf, IsFirst, IsLast, pointer_from, IsPointed, IsMarkedAnew, IsLinked, IsUnlinked, HasRoomFor};
 ghost use Rattle.cell_lists.specs.Gathering.{HaveOwnBuckets, LeadsIn};
 
 impl Chains {
@@ -115,7 +115,7 @@ impl Chains {
         requires some { 0 < room }
         requires most { room < 2 ^ 31 }
         requires more { length self.now.cells ≤ room }
-        ensures { IfOk result (λ chains. HasRoom self.now.cells room chains.cells) }
+        ensures { IfOk result (λ chains. HasRoomFor self.now.cells room chains.cells) }
     {
         let mut wider = Chains::new(alloc, self.cell_count, room)?;
         let mut disk = self.nodes.len();
@@ -166,7 +166,7 @@ impl Chains {
 
     // The least disk listed in a cell.
     pub fn first_in(&self, cell: u32) -> Option<u32>
-        ensures { IsFirstOf (IsIn self.now.cells cell) 0 result }
+        ensures { IsFirstOf (IsCellOf self.now.cells cell) 0 result }
     {
         self.skip(cell, 0, self.heads[self.bucket(cell)].get())
     }
@@ -174,7 +174,7 @@ impl Chains {
     // The next disk after one in its cell.
     pub fn next_in(&self, disk: u32, cell: u32) -> Option<u32>
         requires { at self.now.cells disk ≡ Some cell }
-        ensures { IsFirstOf (IsIn self.now.cells cell) (disk + 1) result }
+        ensures { IsFirstOf (IsCellOf self.now.cells cell) (disk + 1) result }
     {
         self.skip(cell, disk as u64 + 1, self.nodes[disk as usize].next.get())
     }
@@ -202,7 +202,7 @@ impl Chains {
     pub(crate) fn nodes(&self) -> &[Node]
         requires own { HaveOwnBuckets self.now }
         ensures count { length result.now ≡ length self.now.cells }
-        ensures after { (disk cell : ℕ) → IsIn self.now.cells cell disk →
+        ensures after { (disk cell : ℕ) → IsCellOf self.now.cells cell disk →
             LeadsIn self.now.cells cell (disk + 1) (pointer_at (pointers_of result.now) disk) }
     {
         &self.nodes
@@ -211,7 +211,7 @@ impl Chains {
     // The first disk of a cell, where `start` is the first of its bucket from a number on.
     fn skip(&self, cell: u32, from: u64, start: Option<u32>) -> Option<u32>
         requires { IsFirst self.now.cells self.now.buckets (cell % self.now.buckets) from start }
-        ensures { IsFirstOf (IsIn self.now.cells cell) from result }
+        ensures { IsFirstOf (IsCellOf self.now.cells cell) from result }
     {
         let mut next = start;
         while let Some(disk) = next {

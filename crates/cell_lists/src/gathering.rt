@@ -8,9 +8,9 @@
 ghost use Rattle.std.specs.Prelude.{◌*◌, ℕ, ◌<◌, ◌≤◌, take, drop, IfSome, IsTrue};
 ghost use Rattle.cell_lists.specs.declared.gathered.TheConstants.{MOST_GATHERED};
 ghost use Rattle.cell_lists.specs.Chain.{AreCells};
-ghost use Rattle.cell_lists.specs.Nearby.{IsBlock, IsWithin};
+ghost use Rattle.cell_lists.specs.Nearby.{IsBlock, IsWithinBlock};
 ghost use Rattle.cell_lists.specs.Places.{Holds};
-ghost use Rattle.cell_lists.specs.Gathering.{HaveOwnBuckets, AreListed, StartsAdded, ArePending, AreFollowed, AreGatheredIn};
+ghost use Rattle.cell_lists.specs.Gathering.{HaveOwnBuckets, AreAllListed, StartsAdded, ArePending, AreFollowed, AreGatheredIn};
 
 use crate::chains::Chains;
 use crate::gathered::{Gathered, MOST_GATHERED, SoFar};
@@ -62,7 +62,7 @@ impl Chains {
         requires none { (p : ℕ) → ¬ Holds first.pending p }
         ensures room { IfSome result (λ r. r.count ≤ MOST_GATHERED) }
         ensures more { IfSome result (λ r. first.count ≤ r.count) }
-        ensures added { IfSome result (λ r. StartsAdded self.now.cells (IsWithin grid.now block)
+        ensures added { IfSome result (λ r. StartsAdded self.now.cells (IsWithinBlock grid.now block)
             (take first.count disks.old) (take r.count disks.new)) }
         ensures pending { IfSome result (λ r. ArePending self.now.cells first.count (take r.count disks.new) r.pending) }
     {
@@ -120,7 +120,7 @@ impl Chains {
         requires own { HaveOwnBuckets self.now }
         requires first { first ≤ heads.count }
         requires room { heads.count ≤ MOST_GATHERED }
-        requires listed { AreListed self.now.cells (drop first (take heads.count disks.old)) }
+        requires listed { AreAllListed self.now.cells (drop first (take heads.count disks.old)) }
         requires pending { ArePending self.now.cells first (take heads.count disks.old) heads.pending }
         ensures room { IfSome result (λ n. n ≤ MOST_GATHERED) }
         ensures followed { IfSome result (λ n. AreFollowed self.now.cells first (take heads.count disks.old)

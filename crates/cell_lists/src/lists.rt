@@ -36,7 +36,7 @@ ghost use Rattle.std.specs.FinMap as map;
 ghost use Rattle.cell_grid.specs.Grid.{IsCell};
 ghost use Rattle.cell_lists.specs.Firsts.{IsFirstOf, AreAllFrom, lesser_of};
 ghost use Rattle.cell_lists.specs.Nearby.{IsBlock, IsListedWithin, IsListedNear, AreGathered, columns_to};
-ghost use Rattle.cell_lists.specs.Listing.{lists_of, IsListed, IsFree, IsFirstIn, AreInGrid, with_disk, without_disk};
+ghost use Rattle.cell_lists.specs.Listing.{lists_of, IsListed, IsUnlisted, IsFirstIn, AreInGrid, with_disk, without_disk};
 
 impl Lists {
     /// No disk listed in any cell of the grid.
@@ -58,7 +58,7 @@ impl Lists {
     /// Out of memory: the number is greater than all that were listed before, and there is no room for
     /// it, as there never is from 2^31 - 1 on. The lists stay as they are.
     pub fn put(&mut self, alloc: Global, disk: u32, cell: u32) -> Result<(), AllocError>
-        requires free { IsFree self.old disk }
+        requires free { IsUnlisted self.old disk }
         requires cell { IsCell self.old.grid cell }
         ensures listed { OnOk result (self.new ≡ with_disk self.old disk cell) }
         ensures unchanged { OnErr result (self.new ≡ self.old) }

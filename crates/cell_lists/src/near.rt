@@ -2,7 +2,7 @@
 
 ghost use Rattle.std.specs.Prelude.{◌↔◌, ℕ};
 ghost use Rattle.cell_grid.specs.Grid.{IsCell, IsAdjacent};
-ghost use Rattle.cell_lists.specs.Nearby.{IsBlock, IsWithin};
+ghost use Rattle.cell_lists.specs.Nearby.{IsBlock, IsWithinBlock};
 
 use cell_grid::Grid;
 
@@ -23,7 +23,7 @@ pub struct Block {
 pub fn block_around(grid: &Grid, cell: u32) -> Block
     requires { IsCell grid.now cell }
     ensures block { IsBlock grid.now result }
-    ensures around { (other : ℕ) → IsCell grid.now other → (IsAdjacent grid.now cell other ↔ IsWithin grid.now result other) }
+    ensures around { (other : ℕ) → IsCell grid.now other → (IsAdjacent grid.now cell other ↔ IsWithinBlock grid.now result other) }
 {
     let column = grid.column(cell);
     let row = cell / grid.columns();

@@ -11,13 +11,13 @@ pub struct Slot {
 
 impl Model for Slot {
     ghost use Rattle.std.specs.Prelude.{Option, ℕ};
-    ghost use Rattle.cell_lists.specs.Slot.{number_of, code_of, coded_again};
+    ghost use Rattle.cell_lists.specs.Slot.{number_of, code_of_number, coded_again};
 
     ghost Value = { Option ℕ };
 
     ghost view = { λ a. number_of a.code };
 
-    ghost inverse = { λ o. record { code = code_of o } };
+    ghost inverse = { λ o. record { code = code_of_number o } };
 
     ghost inverse_ok = { λ a h i. record { code = coded_again a.code i } };
 }

@@ -20,7 +20,7 @@ use Rattle.event_rules.proofs.Apart.{KeepsPlace, KeepPlaces, wall_keeps, pair_ke
 use Rattle.event_rules.proofs.Ran.{ran, ran_valid, effect_valid}
 use Rattle.event_rules.proofs.Rise.{candidate_kind, candidate_rises}
 use Rattle.cell_grid.specs.Grid.{GridData, IsGridOf, cell_at}
-use Rattle.cell_grid.specs.Crossing.{IsIn, IsCrossTick}
+use Rattle.cell_grid.specs.Crossing.{IsInCell, IsCrossTick}
 use Rattle.cell_grid.proofs.Leaving.{crosses_later}
 use Rattle.region_view.specs.declared.action.Placed.{Placed}
 use Rattle.region_view.specs.declared.action.Action.TheVariants.{Cross, Hit}
@@ -197,7 +197,7 @@ hit_keeps placed c begun keep =
 
 kept_in : (rules : Rules) (grid : GridData) (placed : List Placed) (tick i : ℕ) (q : Placed) →
     AllIn rules grid placed tick → KeepsRow placed tick i q →
-    IsIn rules grid q.disk q.cell (place_of q.disk tick)
+    IsInCell rules grid q.disk q.cell (place_of q.disk tick)
 kept_in rules grid placed tick i q here keep =
     let old = here i keep.old keep.at in (
       subst (λ (size : ℤ). FitsAt rules (half_of size) (place_of q.disk tick)) (sym keep.size)

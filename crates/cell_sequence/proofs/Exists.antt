@@ -25,7 +25,7 @@ use Rattle.event_rules.proofs.Decided.{pair_event}
 use Rattle.event_rules.proofs.Valid.{mark_within}
 use Rattle.event_rules.proofs.Ranges.{candidate_range, ticks, rounds}
 use Rattle.cell_grid.specs.Grid.{GridData, IsGridOf, grid_of, IsAdjacent}
-use Rattle.cell_grid.specs.Crossing.{IsIn, HasLeft, IsCrossTick, IsCrossEvent, cross_stamp}
+use Rattle.cell_grid.specs.Crossing.{IsInCell, HasLeft, IsCrossTick, IsCrossEvent, cross_stamp}
 use Rattle.cell_grid.proofs.Leaving.{leaves_after_last, crosses_later}
 use Rattle.region_view.specs.declared.action.Placed.{Placed}
 use Rattle.region_view.specs.declared.action.Action.{Action}
@@ -113,8 +113,8 @@ cell_steps_begin rules grid placed later (x ∷ xs) (y ∷ ys) e h r =
 -- a crossing of a disk that follows its places comes one tick after it was in its cell
 abbrev LeftNow : Rules → GridData → ℕ → Placed → Stamp → ℕ → Type 0
 LeftNow rules grid i p s t =
-    (p.disk.base ≤ t) × IsIn rules grid p.disk p.cell (place_of p.disk t)
-    × (¬ IsIn rules grid p.disk p.cell (place_of p.disk (t + 1)))
+    (p.disk.base ≤ t) × IsInCell rules grid p.disk p.cell (place_of p.disk t)
+    × (¬ IsInCell rules grid p.disk p.cell (place_of p.disk (t + 1)))
     × IsInside rules p.disk (place_of p.disk (t + 1))
     × (t + 1 < rules.end) × (s ≡ cross_stamp i p.disk (t + 1))
 
@@ -143,15 +143,15 @@ left_now rules grid i p s tick track h =
       ),
     )
   where
-    was_in : (IsIn rules grid p.disk p.cell (place_of p.disk tick) ⊎ WasIn rules grid p tick) →
-        (t : ℕ) × (p.disk.base ≤ t) × IsIn rules grid p.disk p.cell (place_of p.disk t)
+    was_in : (IsInCell rules grid p.disk p.cell (place_of p.disk tick) ⊎ WasIn rules grid p tick) →
+        (t : ℕ) × (p.disk.base ≤ t) × IsInCell rules grid p.disk p.cell (place_of p.disk t)
     was_in (inl here) = (tick, track.begun, here)
     was_in (inr was) = (was.0, was.2, was.3)
 
     from_next : (t : ℕ) → HasLeft rules grid p.disk p.cell (t + 1) →
-        ¬ IsIn rules grid p.disk p.cell (place_of p.disk t) → HasLeft rules grid p.disk p.cell t
+        ¬ IsInCell rules grid p.disk p.cell (place_of p.disk t) → HasLeft rules grid p.disk p.cell t
     from_next t left gone u le = elim (same_or_more t u le) [
-      | inl same ↦ subst (λ (n : ℕ). ¬ IsIn rules grid p.disk p.cell (place_of p.disk n))
+      | inl same ↦ subst (λ (n : ℕ). ¬ IsInCell rules grid p.disk p.cell (place_of p.disk n))
           (sym same) gone
       | inr more ↦ left u more
     ]

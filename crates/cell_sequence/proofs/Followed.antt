@@ -28,8 +28,8 @@ use Rattle.region_view.specs.Events.{IsEventBy}
 use Rattle.region_view.specs.Placing.{IsNearPair}
 use Rattle.region_view.proofs.Seen.{no_row}
 use Rattle.cell_sequence.specs.Run.{disks_of, acted, IsStateCandidate, CellSteps}
-use Rattle.cell_sequence.specs.State.{CellStateData, IsCellState, IsNotBefore, HasNoneBelow, last_stamp, start_of, followed, raised}
-use Rattle.cell_sequence.specs.State.{HasRows, HasNext, IsCandidateOf, IsNextOf, ComesTo, AreInBox}
+use Rattle.cell_sequence.specs.State.{CellStateData, IsCellState, IsNotBefore, HasNoneBelow, last_stamp, opening_state, followed, raised}
+use Rattle.cell_sequence.specs.State.{HasRows, HasNext, IsCandidateOf, IsNextOf, ComesToInState, AreInBox}
 use Rattle.cell_sequence.proofs.After.{no_crossing}
 use Rattle.cell_sequence.proofs.Next.{row_of_candidate, cell_candidate_before_end}
 use Rattle.cell_sequence.proofs.Hits.{turn}
@@ -39,7 +39,7 @@ use Rattle.cell_sequence.proofs.Orderly.{known, pair_of, cell_states_are_orderly
 
 -- ---- the start
 pub start_is : (scene : SceneData) (asked : ℕ) → IsValidScene scene → IsAsked asked →
-    IsCellState (start_of scene asked)
+    IsCellState (opening_state scene asked)
 start_is scene asked valid some = record {
   scene = record {
     rules = valid.rules;
@@ -68,7 +68,7 @@ last_of (y ∷ []) x = refl
 last_of (y ∷ z ∷ xs) x = last_of (z ∷ xs) x
 
 pub followed_is : (state : CellStateData) (x : Action) → IsCellState state →
-    IsNextOf state (stamp_of x) → ComesTo state (stamp_of x) (Ok x) →
+    IsNextOf state (stamp_of x) → ComesToInState state (stamp_of x) (Ok x) →
     IsCellState (followed state x)
 followed_is state x is next comes =
     let k = known state is in
@@ -97,7 +97,7 @@ followed_is state x is next comes =
 
 -- the rows that the next action changes are there
 pub has_rows : (state : CellStateData) (x : Action) → IsCellState state →
-    IsNextOf state (stamp_of x) → ComesTo state (stamp_of x) (Ok x) →
+    IsNextOf state (stamp_of x) → ComesToInState state (stamp_of x) (Ok x) →
     HasRows state.placed x
 has_rows state (Cross t cell) is next comes =
     let row = row_of_candidate state.rules state.grid state.placed t next.0 in
@@ -189,7 +189,7 @@ alone_by state s p next not at = elim next.0 [
 pub pair_comes : (state : CellStateData) (s : Stamp) (p q : Placed) (r : Result Action Limit) →
     s.kind ≡ Pair →
     slice_get state.placed s.first ≡ Some p → slice_get state.placed s.second ≡ Some q →
-    r ≡ action_of state.rules state.grid s p.disk (Some q.disk) s.kind → ComesTo state s r
+    r ≡ action_of state.rules state.grid s p.disk (Some q.disk) s.kind → ComesToInState state s r
 pair_comes state s p q r kind at_p at_q is =
     let partner : partner_in s.kind (slice_get state.placed) s.second ≡ Some q.disk =
     ap (λ (k : Kind). partner_in k (slice_get state.placed) s.second) kind ∙ ap disk_in at_q in (
@@ -202,7 +202,7 @@ pair_comes state s p q r kind at_p at_q is =
 pub alone_comes : (state : CellStateData) (s : Stamp) (p : Placed) (r : Result Action Limit) →
     ¬ (s.kind ≡ Pair) →
     slice_get state.placed s.first ≡ Some p →
-    r ≡ action_of state.rules state.grid s p.disk None s.kind → ComesTo state s r
+    r ≡ action_of state.rules state.grid s p.disk None s.kind → ComesToInState state s r
 alone_comes state s p r not at is = (
   p,
   at,
@@ -217,7 +217,7 @@ alone_comes state s p r not at is = (
 
 -- the action that the next event comes to has its stamp
 pub own_stamp : (state : CellStateData) (s : Stamp) (x : Action) → IsCellState state →
-    IsNextOf state s → ComesTo state s (Ok x) → s ≡ stamp_of x
+    IsNextOf state s → ComesToInState state s (Ok x) → s ≡ stamp_of x
 own_stamp state s x is next comes =
     let k = known state is in
     action_stamp state.rules state.grid state.placed k.from s x k.checked k.of k.settled next

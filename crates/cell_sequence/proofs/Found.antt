@@ -13,7 +13,7 @@ use Rattle.cell_grid.specs.Crossing.{IsCrossEvent}
 use Rattle.region_view.specs.declared.action.Placed.{Placed}
 use Rattle.region_view.specs.Events.{IsAlone, IsNear}
 use Rattle.cell_sequence.specs.Run.{IsStateCandidate}
-use Rattle.cell_sequence.specs.Search.{IsNearBelow, IsFirstOf}
+use Rattle.cell_sequence.specs.Search.{IsNearBelow, IsOfFirstDisk}
 use Rattle.cell_sequence.proofs.Next.{row_of_candidate}
 
 below_one_more : (k n : ℕ) → k < n + 1 → (k < n) ⊎ (k ≡ n)
@@ -65,10 +65,10 @@ pub own_events : (rules : Rules) (grid : GridData) (placed : List Placed) (i : �
     (alone near : Option Stamp) →
     slice_get placed i ≡ Some p → IsLeastOf (IsAlone rules grid i p) alone →
     IsLeastOf (IsNearBelow rules grid placed i p (length placed)) near →
-    IsLeastOf (IsFirstOf (IsStateCandidate rules grid placed) i) (earlier_of alone near)
+    IsLeastOf (IsOfFirstDisk (IsStateCandidate rules grid placed) i) (earlier_of alone near)
 own_events rules grid placed i p alone near at ha hn =
     least_of_either (IsAlone rules grid i p) (IsNearBelow rules grid placed i p (length placed))
-    (IsFirstOf (IsStateCandidate rules grid placed) i) alone near
+    (IsOfFirstDisk (IsStateCandidate rules grid placed) i) alone near
     (λ t a. (by_itself t a, alone_first rules grid i p t a))
     (λ t n. with_other t n)
     (λ t c. split t c.0 c.1)
@@ -96,7 +96,7 @@ own_events rules grid placed i p alone near at ha hn =
         ]
 
     with_other : (t : Stamp) → IsNearBelow rules grid placed i p (length placed) t →
-        IsFirstOf (IsStateCandidate rules grid placed) i t
+        IsOfFirstDisk (IsStateCandidate rules grid placed) i t
     with_other t n =
         let is = n.3.2.1.2 in
         let first : t.first ≡ i = ap (λ (v : Stamp). v.first) is in
@@ -167,11 +167,11 @@ none_before rules grid placed = λ s h. let lt = h.1 in omega arith
 pub one_more_disk : (rules : Rules) (grid : GridData) (placed : List Placed) (i : ℕ)
     (first own : Option Stamp) →
     IsLeastOf (IsBelow (IsStateCandidate rules grid placed) i) first →
-    IsLeastOf (IsFirstOf (IsStateCandidate rules grid placed) i) own →
+    IsLeastOf (IsOfFirstDisk (IsStateCandidate rules grid placed) i) own →
     IsLeastOf (IsBelow (IsStateCandidate rules grid placed) (i + 1)) (earlier_of first own)
 one_more_disk rules grid placed i first own h k =
     let candidate = IsStateCandidate rules grid placed in
-    least_of_either (IsBelow candidate i) (IsFirstOf candidate i)
+    least_of_either (IsBelow candidate i) (IsOfFirstDisk candidate i)
     (IsBelow candidate (i + 1)) first own
     (λ t p. (p.0, let lt = p.1 in omega arith))
     (λ t q. (q.0, let same = q.1 in omega arith))

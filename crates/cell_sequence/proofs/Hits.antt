@@ -20,7 +20,7 @@ use Rattle.event_rules.specs.Run.{Runs, Steps, IsNext, ComesTo, IsValidState}
 use Rattle.event_rules.proofs.OneTick.{place_at_base}
 use Rattle.event_rules.proofs.Rise.{candidate_after_first}
 use Rattle.cell_grid.specs.Grid.{GridData, grid_of, cell_at, IsGridOf}
-use Rattle.cell_grid.specs.Crossing.{IsIn}
+use Rattle.cell_grid.specs.Crossing.{IsInCell}
 use Rattle.cell_grid.proofs.Leaving.{crosses_later}
 use Rattle.region_view.specs.declared.action.Placed.{Placed}
 use Rattle.region_view.specs.declared.action.Action.{Action}
@@ -210,13 +210,13 @@ disks_opened grid (a ∷ disks) = ap (λ xs. a ∷ xs) (disks_opened grid disks)
 
 opened_in : (grid : GridData) (scene : SceneData) → IsValidScene scene → (i : ℕ) (p : Placed) →
     slice_get (opened grid scene.disks) i ≡ Some p →
-    (p.disk.base ≡ 0) × IsIn scene.rules grid p.disk p.cell (place_of p.disk 0)
+    (p.disk.base ≡ 0) × IsInCell scene.rules grid p.disk p.cell (place_of p.disk 0)
 opened_in grid scene valid i p at =
     let row = get_map (placed_at grid) scene.disks i p at in
     let start = valid.disks i row.0 row.1 in
     let place = place_at_base row.0 0 (omega arith) in
     subst (λ (q : Placed). (q.disk.base ≡ 0)
-    × IsIn scene.rules grid q.disk q.cell (place_of q.disk 0)) row.2 (
+    × IsInCell scene.rules grid q.disk q.cell (place_of q.disk 0)) row.2 (
       start.base,
       (
         subst (IsInside scene.rules row.0) (sym place) start.valid.centre,

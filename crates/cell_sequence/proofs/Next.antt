@@ -14,7 +14,7 @@ use Rattle.event_stamps.specs.Least.{HasNone}
 use Rattle.event_rules.specs.Run.{IsCandidate, IsNext, IsValidState}
 use Rattle.event_rules.proofs.Rise.{candidate_before_end}
 use Rattle.cell_grid.specs.Grid.{GridData, IsGridOf, cell_at, IsAdjacent}
-use Rattle.cell_grid.specs.Crossing.{IsIn, cross_stamp}
+use Rattle.cell_grid.specs.Crossing.{IsInCell, cross_stamp}
 use Rattle.cell_grid.proofs.Leaving.{crosses_later, moves_to_adjacent}
 use Rattle.region_view.specs.declared.action.Placed.{Placed}
 use Rattle.region_view.specs.Placing.{IsCrossCandidate}
@@ -113,7 +113,7 @@ all_in_at_collision rules grid placed s t checked of settled next collision i p 
     ]
   where
     mark : (i : ℕ) (p : Placed) → slice_get placed i ≡ Some p →
-        ¬ IsIn rules grid p.disk p.cell (place_of p.disk t.tick) → Tracks rules grid p t.tick →
+        ¬ IsInCell rules grid p.disk p.cell (place_of p.disk t.tick) → Tracks rules grid p t.tick →
         mark_at p.disk t.tick ≡ 0
     mark i p at gone track = elim track.near [
       | inl here ↦ absurd (gone here)

@@ -18,7 +18,7 @@ use Rattle.event_stamps.proofs.Decision.{Decision, both, same_number}
 use Rattle.event_rules.proofs.Decided.{inside}
 use Rattle.event_rules.proofs.Rise.{candidate_before_end}
 use Rattle.cell_grid.specs.Grid.{GridData, IsGridOf, cell_at, IsAdjacent}
-use Rattle.cell_grid.specs.Crossing.{IsIn, IsCrossTick, cross_stamp}
+use Rattle.cell_grid.specs.Crossing.{IsInCell, IsCrossTick, cross_stamp}
 use Rattle.cell_grid.proofs.Cells.{touch_in_adjacent}
 use Rattle.cell_grid.proofs.Leaving.{leaves_after_last}
 use Rattle.region_view.specs.declared.action.Placed.{Placed}
@@ -28,13 +28,13 @@ use Rattle.cell_sequence.proofs.Acts.{disk_at, placed_at_disk}
 -- the disk was in its recorded cell one tick before
 abbrev pub WasIn : Rules → GridData → Placed → ℕ → Type 0
 WasIn rules grid p tick = (t : ℕ) × (tick ≡ t + 1) × (p.disk.base ≤ t)
-    × IsIn rules grid p.disk p.cell (place_of p.disk t)
+    × IsInCell rules grid p.disk p.cell (place_of p.disk t)
 
 -- the disk is in its recorded cell, or has left it just now
 pub record Tracks (rules : Rules) (grid : GridData) (p : Placed) (tick : ℕ) : Type 0 where
   pub begun : p.disk.base ≤ tick
   pub inside : IsInside rules p.disk (place_of p.disk tick)
-  pub near : IsIn rules grid p.disk p.cell (place_of p.disk tick) ⊎ WasIn rules grid p tick
+  pub near : IsInCell rules grid p.disk p.cell (place_of p.disk tick) ⊎ WasIn rules grid p tick
 
 abbrev pub AllTrack : Rules → GridData → List Placed → ℕ → Type 0
 AllTrack rules grid placed tick = (i : ℕ) (p : Placed) → slice_get placed i ≡ Some p →
@@ -42,7 +42,7 @@ AllTrack rules grid placed tick = (i : ℕ) (p : Placed) → slice_get placed i 
 
 abbrev pub AllIn : Rules → GridData → List Placed → ℕ → Type 0
 AllIn rules grid placed tick = (i : ℕ) (p : Placed) → slice_get placed i ≡ Some p →
-    IsIn rules grid p.disk p.cell (place_of p.disk tick)
+    IsInCell rules grid p.disk p.cell (place_of p.disk tick)
 
 -- no event of the cell run comes before the tick
 abbrev pub NoneBelow : Rules → GridData → List Placed → ℕ → Type 0
@@ -58,7 +58,7 @@ pub record IsSettled (rules : Rules) (grid : GridData) (placed : List Placed)
   pub events_after : (t : Stamp) → IsCandidate rules (disks_of placed) t → Before s t
 
 pub in_decides : (rules : Rules) (grid : GridData) (a : Disk) (cell : ℕ) (p : Vector) →
-    Decision (IsIn rules grid a cell p)
+    Decision (IsInCell rules grid a cell p)
 in_decides rules grid a cell p = both (inside rules a p) (same_number (cell_at grid p) cell)
 
 -- a disk that has left its cell just now has a crossing
@@ -66,7 +66,7 @@ pub crosses_now : (rules : Rules) (grid : GridData) (placed : List Placed) (i : 
     (tick : ℕ) → IsChecked rules → IsGridOf rules grid → IsValidDisk rules p.disk →
     tick < rules.end →
     slice_get placed i ≡ Some p → Tracks rules grid p tick →
-    ¬ IsIn rules grid p.disk p.cell (place_of p.disk tick) →
+    ¬ IsInCell rules grid p.disk p.cell (place_of p.disk tick) →
     IsStateCandidate rules grid placed (cross_stamp i p.disk tick)
 crosses_now rules grid placed i p tick checked of valid before at track gone = elim track.near [
   | inl here ↦ absurd (gone here)
@@ -76,7 +76,7 @@ crosses_now rules grid placed i p tick checked of valid before at track gone = e
     (
       subst (λ (n : ℕ). IsCrossTick rules grid p.disk p.cell n) (sym was.1)
           (leaves_after_last rules grid p.disk p.cell was.0 checked of valid was.2 was.3
-          (subst (λ (n : ℕ). ¬ IsIn rules grid p.disk p.cell (place_of p.disk n)) was.1 gone)
+          (subst (λ (n : ℕ). ¬ IsInCell rules grid p.disk p.cell (place_of p.disk n)) was.1 gone)
           (subst (λ (n : ℕ). IsInside rules p.disk (place_of p.disk n)) was.1 track.inside)),
       before,
       refl,

@@ -20,7 +20,7 @@ use Rattle.region_view.specs.Messages.{message_of}
 use Rattle.region_view.specs.declared.rows.Message.{Message}
 use Rattle.cell_sequence.specs.Run.{opened, disks_of, acted, IsStateCandidate, IsCellNext}
 use Rattle.cell_sequence.specs.Run.{CellSteps, CellRuns, IsCellRun, hits}
-use Rattle.cell_sequence.specs.State.{CellStateData, IsCellState, IsCandidateOf, IsNextOf, ComesTo, followed}
+use Rattle.cell_sequence.specs.State.{CellStateData, IsCellState, IsCandidateOf, IsNextOf, ComesToInState, followed}
 
 -- a cell state has one run
 abbrev pub OneCellRun : Type 0
@@ -124,7 +124,7 @@ Sees state k view = IsViewOf state.grid k (slice_get state.placed) view
 
 -- the next event comes to this action
 abbrev pub IsNextAction : CellStateData → Action → Type 0
-IsNextAction state x = IsNextOf state (stamp_of x) × ComesTo state (stamp_of x) (Ok x)
+IsNextAction state x = IsNextOf state (stamp_of x) × ComesToInState state (stamp_of x) (Ok x)
 
 -- the region is the home of an event
 abbrev pub IsHomeOf : CellStateData → Stamp → ℕ → Type 0

@@ -13,5 +13,5 @@ IsNearBelow rules grid placed i p n s =
     × ((q : Placed) × (slice_get placed j ≡ Some q) × IsNear rules grid i p j q s)
 
 -- an event whose first disk is i
-abbrev pub IsFirstOf : (Stamp → Type 0) → ℕ → Stamp → Type 0
-IsFirstOf P i s = P s × (s.first ≡ i)
+abbrev pub IsOfFirstDisk : (Stamp → Type 0) → ℕ → Stamp → Type 0
+IsOfFirstDisk P i s = P s × (s.first ≡ i)

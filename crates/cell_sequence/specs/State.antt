@@ -52,8 +52,8 @@ pub record IsCellState (state : CellStateData) : Type 0 where
       ¬ Before s state.floor
 
 -- the cell state with which the run of a scene begins
-abbrev pub start_of : SceneData → ℕ → CellStateData
-start_of scene asked = record {
+abbrev pub opening_state : SceneData → ℕ → CellStateData
+opening_state scene asked = record {
   rules = scene.rules;
   grid = grid_of scene.rules asked;
   opening = scene.disks;
@@ -73,8 +73,8 @@ abbrev pub HasNext : CellStateData → Type 0
 HasNext state = (s : Stamp) × IsNextOf state s
 
 -- what the event comes to in a state
-abbrev pub ComesTo : CellStateData → Stamp → Result Action Limit → Type 0
-ComesTo state s r = ActsAs state.rules state.grid (slice_get state.placed) s r
+abbrev pub ComesToInState : CellStateData → Stamp → Result Action Limit → Type 0
+ComesToInState state s r = ActsAs state.rules state.grid (slice_get state.placed) s r
 
 -- the state after an action, whose stamp becomes the floor
 abbrev pub followed : CellStateData → Action → CellStateData
@@ -89,9 +89,9 @@ followed state x = record {
 
 -- the next event was run, or it failed, and the state is what it was
 abbrev pub RunsNext : CellStateData → Result Action Limit → CellStateData → Type 0
-RunsNext old (Ok x) new = IsNextOf old (stamp_of x) × ComesTo old (stamp_of x) (Ok x)
+RunsNext old (Ok x) new = IsNextOf old (stamp_of x) × ComesToInState old (stamp_of x) (Ok x)
     × (new ≡ followed old x)
-RunsNext old (Err limit) new = (s : Stamp) × IsNextOf old s × ComesTo old s (Err limit)
+RunsNext old (Err limit) new = (s : Stamp) × IsNextOf old s × ComesToInState old s (Err limit)
     × (new ≡ old)
 
 -- the state after some actions

@@ -7,7 +7,7 @@ ghost use Rattle.cell_grid.specs.Grid.{IsGridOf};
 ghost use Rattle.region_view.specs.declared.action.Placed.{Placed};
 ghost use Rattle.region_view.specs.Placing.{IsValidPlacing};
 ghost use Rattle.cell_sequence.specs.Run.{IsStateCandidate};
-ghost use Rattle.cell_sequence.specs.Search.{IsNearBelow, IsFirstOf};
+ghost use Rattle.cell_sequence.specs.Search.{IsNearBelow, IsOfFirstDisk};
 
 use cell_grid::Grid;
 use event_stamps::{Stamp, earlier};
@@ -36,7 +36,7 @@ fn first_of(rules: &Rules, grid: &Grid, placed: &[Placed], i: usize) -> Option<S
     requires valid { IsValidPlacing rules.now grid.now (slice_get placed.now) }
     requires count { length placed.now ≤ 65536 }
     requires within { i < length placed.now }
-    ensures { IsLeastOf (IsFirstOf (IsStateCandidate rules.now grid.now placed.now) i) result }
+    ensures { IsLeastOf (IsOfFirstDisk (IsStateCandidate rules.now grid.now placed.now) i) result }
 {
     let alone = first_alone(rules, grid, i as u32, &placed[i]);
     earlier(alone, first_near(rules, grid, placed, i))

@@ -51,7 +51,7 @@ ghost use Rattle.event_stamps.specs.Least.{IsLeastOf};
 ghost use Rattle.cell_grid.specs.Grid.{IsAsked};
 ghost use Rattle.region_view.specs.Acting.{stamp_of};
 ghost use Rattle.cell_sequence.specs.Run.{opened, acted};
-ghost use Rattle.cell_sequence.specs.State.{IsCellState, start_of, followed, HasRows, HasNext, IsNextOf, IsCandidateOf, ComesTo, RunsNext, AreInBox, HasNoneBelow, raised, later};
+ghost use Rattle.cell_sequence.specs.State.{IsCellState, opening_state, followed, HasRows, HasNext, IsNextOf, IsCandidateOf, ComesToInState, RunsNext, AreInBox, HasNoneBelow, raised, later};
 
 use crate::search;
 use event_rules::Limit;
@@ -68,7 +68,7 @@ impl CellState {
     /// Out of memory.
     pub fn open(alloc: Global, scene: &Scene, regions: u32) -> Result<CellState, AllocError>
         requires { IsAsked regions }
-        ensures { IfOk result (λ state. state ≡ start_of scene.now regions) }
+        ensures { IfOk result (λ state. state ≡ opening_state scene.now regions) }
     {
         let grid = Grid::new(&scene.rules, regions);
         let opening = Vec::from_slice(alloc, &scene.disks)?;
@@ -140,7 +140,7 @@ impl CellState {
     // What the next event comes to.
     fn upcoming(&self, stamp: &Stamp) -> Result<Action, Limit>
         requires { IsNextOf self.now stamp.now }
-        ensures { ComesTo self.now stamp.now result }
+        ensures { ComesToInState self.now stamp.now result }
     {
         let row = &self.placed[stamp.first as usize];
         match stamp.kind {
@@ -155,7 +155,7 @@ impl CellState {
     /// Goes on by an action, which the next event comes to. Its stamp becomes the floor.
     pub fn follow(&mut self, action: &Action)
         requires next { IsNextOf self.old (stamp_of action.now) }
-        requires comes { ComesTo self.old (stamp_of action.now) (Ok action.now) }
+        requires comes { ComesToInState self.old (stamp_of action.now) (Ok action.now) }
         ensures { self.new ≡ followed self.old action.now }
     {
         let stamp = action.stamp();

@@ -12,7 +12,7 @@ use Rattle.command_words.proofs.InRange.{together}
 use Rattle.command_words.proofs.Numbers.{HasName, HasNumber, at_passed, burst_passed, disks_passed, format_passed, mode_passed, number_passed, regions_passed, steps_passed, turns_passed, workers_passed}
 use Rattle.command_words.specs.Laws.{MatchesHaveSettings}
 use Rattle.command_words.specs.Options.{burst_names, command, format_names, mode_names, names_of}
-use Rattle.command_words.specs.Words.{burst_of, format_of, mode_of, number_up_to, settings_in, settings_of}
+use Rattle.command_words.specs.Words.{burst_of, format_named, mode_of, number_up_to, settings_in, settings_of}
 use Rattle.command_words.specs.declared.settings.Mode.{Mode}
 use Rattle.command_words.specs.declared.settings.Mode.TheVariants.{Run, Plain, Check, Load, Cut, Audit}
 use Rattle.command_words.specs.declared.settings.OutputFormat.TheVariants.{Lines, Summary}
@@ -57,7 +57,7 @@ pub matches_have_settings : MatchesHaveSettings
 unfolding settings_of
 matches_have_settings words none =
     let mode = choice_there mode_of mode_names (first_of (codes "mode") (matches_of command words)) ((Run, refl), ((Plain, refl), ((Check, refl), ((Load, refl), ((Cut, refl), ((Audit, refl), tt)))))) (mode_passed words none) in
-    let format = choice_there format_of format_names (first_of (codes "format") (matches_of command words)) ((Lines, refl), ((Summary, refl), tt)) (format_passed words none) in
+    let format = choice_there format_named format_names (first_of (codes "format") (matches_of command words)) ((Lines, refl), ((Summary, refl), tt)) (format_passed words none) in
     let regions = number_there 1 64 4294967295 (one_of (codes "regions") (matches_of command words)) (omega arith) (regions_passed words none) in
     let workers = number_there 1 64 4294967295 (one_of (codes "workers") (matches_of command words)) (omega arith) (workers_passed words none) in
     let turns = number_there 1 65536 4294967295 (one_of (codes "turns") (matches_of command words)) (omega arith) (turns_passed words none) in

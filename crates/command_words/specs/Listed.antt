@@ -1,7 +1,7 @@
 -- The options as the program lists them.
 use Rattle.std.specs.Prelude.{◌≡◌, List, Some, map}
 use Rattle.clap.specs.Walk.{Rule}
-use Rattle.command_words.specs.Options.{Names, burst_names, format_names, mode_names, named_option, options_of, texts_of}
+use Rattle.command_words.specs.Options.{NameList, burst_names, format_names, mode_names, named_option, options_of, texts_of}
 use Rattle.command_words.specs.declared.options.WordOption.{WordOption}
 
 -- the option that an entry of the list says
@@ -10,6 +10,6 @@ rule_said option = record (named_option option.name.now option.default.now) { pa
 
 -- the list says these options and names, wherever its references point
 abbrev pub AreOptions : List WordOption → Type 0
-AreOptions options = (modes : Names) × (formats : Names) × (bursts : Names)
+AreOptions options = (modes : NameList) × (formats : NameList) × (bursts : NameList)
     × (map rule_said options ≡ options_of modes formats bursts)
     × (texts_of modes ≡ mode_names) × (texts_of formats ≡ format_names) × (texts_of bursts ≡ burst_names)

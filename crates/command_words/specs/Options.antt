@@ -6,14 +6,14 @@ use Rattle.clap.specs.Walk.{Rule, Text}
 use Rattle.clap.specs.declared.builder.value_parser.ValueParser.TheVariants as value_parser
 
 -- names behind references
-abbrev pub Names : Type 0
-Names = Bor (List (Bor Text))
+abbrev pub NameList : Type 0
+NameList = Bor (List (Bor Text))
 
-abbrev pub texts_of : Names → List Text
+abbrev pub texts_of : NameList → List Text
 texts_of names = map (λ name. name.now) names.now
 
 -- the names of these texts, behind references that point nowhere
-abbrev pub names_of : List Text → Names
+abbrev pub names_of : List Text → NameList
 names_of texts = record {
   ref_ptr = (0, 0);
   now = map (λ text. record { ref_ptr = (0, 0); now = text }) texts;
@@ -24,7 +24,7 @@ abbrev pub named_option : Text → Text → Rule
 named_option name default = record (new_rule name) { long = Some name; defaults = default ∷ [] }
 
 -- where the value is one of some names
-abbrev pub choice_option : Text → Names → Text → Rule
+abbrev pub choice_option : Text → NameList → Text → Rule
 choice_option name names default =
     record (named_option name default) { parser = Some (value_parser.Names names) }
 
@@ -59,7 +59,7 @@ scene_options =
     ∷ number_option (codes "at") 0 1099511627776 (codes "0")
     ∷ []
 
-abbrev pub options_of : Names → Names → Names → List Rule
+abbrev pub options_of : NameList → NameList → NameList → List Rule
 options_of modes formats bursts =
     choice_option (codes "mode") modes (codes "run")
     ∷ choice_option (codes "format") formats (codes "lines")
@@ -77,7 +77,7 @@ bare_command = record {
 }
 
 -- the command has these options alone
-abbrev pub command_of : Names → Names → Names → App
+abbrev pub command_of : NameList → NameList → NameList → App
 command_of modes formats bursts = record {
   top = record bare_command.top { rules = options_of modes formats bursts };
   subs = [];
@@ -88,6 +88,6 @@ command = command_of (names_of mode_names) (names_of format_names) (names_of bur
 
 -- the command has these options and names, wherever its references point
 abbrev pub IsCommand : App → Type 0
-IsCommand made = (modes : Names) × (formats : Names) × (bursts : Names)
+IsCommand made = (modes : NameList) × (formats : NameList) × (bursts : NameList)
     × (made ≡ command_of modes formats bursts)
     × (texts_of modes ≡ mode_names) × (texts_of formats ≡ format_names) × (texts_of bursts ≡ burst_names)

@@ -29,8 +29,8 @@ mode_of text =
     else if bytes_eq text (codes "audit") then Some Audit
     else None
 
-abbrev pub format_of : Text → Option OutputFormat
-format_of text =
+abbrev pub format_named : Text → Option OutputFormat
+format_named text =
     if bytes_eq text (codes "lines") then Some Lines
     else if bytes_eq text (codes "summary") then Some Summary
     else None
@@ -57,7 +57,7 @@ long_number = number_up_to 18446744073709551615
 abbrev pub settings_in : List Row → Option Settings
 settings_in rows = do
   mode ← first_of (codes "mode") rows >>= mode_of
-  format ← first_of (codes "format") rows >>= format_of
+  format ← first_of (codes "format") rows >>= format_named
   regions ← one_of (codes "regions") rows >>= short_number
   workers ← one_of (codes "workers") rows >>= short_number
   turns ← one_of (codes "turns") rows >>= short_number

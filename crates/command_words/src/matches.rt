@@ -2,7 +2,7 @@
 
 ghost use Rattle.std.specs.Prelude.{◌≡◌, codes, option_and_then};
 ghost use Rattle.clap.specs.Words.{first_of, found_of, one_of, rows_of};
-ghost use Rattle.command_words.specs.Words.{burst_of, format_of, long_number, mode_of};
+ghost use Rattle.command_words.specs.Words.{burst_of, format_named, long_number, mode_of};
 ghost use Rattle.command_words.specs.Words.{settings_in, short_number};
 
 use crate::{BurstKind, Mode, OutputFormat, Settings};
@@ -23,7 +23,7 @@ fn mode_of(text: &str) -> Option<Mode>
 }
 
 fn format_of(text: &str) -> Option<OutputFormat>
-    ensures { result ≡ format_of text.now }
+    ensures { result ≡ format_named text.now }
 {
     match text {
         "lines" => Some(OutputFormat::Lines),
@@ -51,7 +51,7 @@ fn mode_in(matches: &ArgMatches<'_>) -> Option<Mode>
 
 fn format_in(matches: &ArgMatches<'_>) -> Option<OutputFormat>
     ensures { result
-        ≡ option_and_then format_of (first_of (codes "format") (rows_of (found_of matches.now))) }
+        ≡ option_and_then format_named (first_of (codes "format") (rows_of (found_of matches.now))) }
 {
     format_of(matches.get_str("format")?)
 }

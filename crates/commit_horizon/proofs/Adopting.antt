@@ -10,7 +10,7 @@ use Rattle.local_run.specs.Standing.{StandsOn}
 use Rattle.commit_horizon.specs.declared.committed.Adopted.{Adopted}
 use Rattle.commit_horizon.specs.declared.committed.Adopted.TheVariants.{Kept, Made}
 use Rattle.commit_horizon.specs.Horizon.{AllStand}
-use Rattle.commit_horizon.specs.Commits.{Adopts, IsAdopted, AllAdopted, region_in}
+use Rattle.commit_horizon.specs.Commits.{Adopts, IsAdopted, AllAdopted, adopted_region}
 use Rattle.commit_horizon.proofs.Standing.{at_number}
 
 -- ---- one more at the end
@@ -102,7 +102,7 @@ opened_stand {E} state n regions opened whole count same each = record {
 
 -- ---- adopted
 adopted_stands : (state : CellStateData) (k : ℕ) (given : RegionData) (adopted : Adopted) →
-    Adopts state k given adopted → StandsOn state k (region_in adopted)
+    Adopts state k given adopted → StandsOn state k (adopted_region adopted)
 adopted_stands state k given (Kept kept) is = subst (StandsOn state k) (sym is.1) is.0
 adopted_stands state k given (Made made differs) is = opened_stands state k made is.1
 

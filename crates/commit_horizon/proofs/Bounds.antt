@@ -3,10 +3,10 @@ use Rattle.event_stamps.specs.declared.Stamp.{Stamp}
 use Rattle.cell_sequence.specs.State.{CellStateData}
 use Rattle.local_run.proofs.Right.{heard_rise}
 use Rattle.local_run.specs.Opening.{home_of}
-use Rattle.commit_horizon.specs.Horizon.{Runs, AreStanding, IsBound}
+use Rattle.commit_horizon.specs.Horizon.{LocalRuns, AreStanding, IsBound}
 use Rattle.commit_horizon.proofs.GoesOn.{AllGoOn}
 
-pub all_go_on : (state : CellStateData) (runs : Runs) (h : Stamp) → AreStanding state runs →
+pub all_go_on : (state : CellStateData) (runs : LocalRuns) (h : Stamp) → AreStanding state runs →
     IsBound state runs h → AllGoOn state h runs
 all_go_on state runs h stand bound = record {
   each = λ k within. let right = (stand k within).right in record {

@@ -16,13 +16,13 @@ use Rattle.cell_sequence.specs.Run.{CellSteps}
 use Rattle.cell_sequence.specs.State.{CellStateData, IsCellState, followed, followed_by, HasNoneBelow}
 use Rattle.cell_sequence.specs.State.{raised as raised_state}
 use Rattle.local_run.specs.Opening.{RegionData, home_of}
-use Rattle.local_run.specs.Raising.{raised as raised_region}
+use Rattle.local_run.specs.Raising.{raised_region as raised_region}
 use Rattle.local_run.specs.Raising.{raised_run}
 use Rattle.local_run.specs.Standing.{StandsOn}
 use Rattle.local_run.proofs.InTurn.{waiting_in_turn}
 use Rattle.commit_horizon.specs.Horizon.{runs_of, IsBound, IsHorizon, AllStand, AllKept}
 use Rattle.commit_horizon.specs.Commits.{Commits}
-use Rattle.commit_horizon.specs.Laws.{IsNext}
+use Rattle.commit_horizon.specs.Laws.{IsNextMerged}
 use Rattle.commit_horizon.specs.declared.cutting.Final.{Final}
 use Rattle.commit_horizon.specs.Cutting.{FinalMade}
 use Rattle.commit_horizon.specs.Following.{MayFollow}
@@ -68,7 +68,7 @@ same_grid (x ∷ xs) state = same_grid xs (followed state x)
 
 -- ---- both
 stand_after : (old : CellStateData) (regions : List RegionData) (h : Stamp) (xs : List Action) →
-    AllStand old regions → IsNext old (runs_of regions) h xs →
+    AllStand old regions → IsNextMerged old (runs_of regions) h xs →
     AllStand (raised_state h (followed_by old xs)) (map (raised_region h) regions)
 stand_after old regions h xs stand next = record {
   count = length-map regions (raised_region h) ∙ stand.count

@@ -24,9 +24,9 @@ use Rattle.local_run.specs.Opening.{RegionData}
 use Rattle.local_run.specs.Keeping.{entries_of}
 use Rattle.local_run.proofs.Among.{same_or_other}
 use Rattle.local_run.proofs.Logs.{rises_log_tail, among_after, below_in, below_out}
-use Rattle.commit_horizon.specs.Horizon.{Runs, runs_of, AllStand, AllKept, ActionsRise, IsBound, IsDone, IsMerged}
+use Rattle.commit_horizon.specs.Horizon.{LocalRuns, runs_of, AllStand, AllKept, ActionStampsRise, IsBound, IsDone, IsMerged}
 use Rattle.commit_horizon.proofs.Merging.{actions_below}
-use Rattle.commit_horizon.specs.Untold.{actions_in, BeginsAfter, IsMergeOf, CanBeTold, AllListsRise, CanBeTellings}
+use Rattle.commit_horizon.specs.Untold.{actions_in, ActionsBeginAfter, IsMergeOf, CanBeTold, AllListsRise, CanBeTellings}
 use Rattle.commit_horizon.proofs.GoesOn.{AllGoOn, HeadNotBefore, IsLeastEntry, past}
 use Rattle.commit_horizon.proofs.Past.{head_is, past_first}
 use Rattle.commit_horizon.proofs.Steps.{central_step, heads_late}
@@ -68,11 +68,11 @@ below_are f h (Heard q m ∷ es) rises = elim (before_decides m.stamp h) [
 
 -- ---- what is left of the regions
 -- a list for each region, of what it did before the stamp
-pub record AreListsOf (state : CellStateData) (h : Stamp) (runs : Runs) (lists : List (List Action)) : Type 0 where
+pub record AreListsOf (state : CellStateData) (h : Stamp) (runs : LocalRuns) (lists : List (List Action)) : Type 0 where
   pub count : length lists ≡ state.grid.regions
   pub own : (k : ℕ) → IsRegion state.grid k → get_or lists k [] ≡ actions_below h (runs k).log
 
-module _ (state : CellStateData) (h : Stamp) (runs : Runs) (lists : List (List Action))
+module _ (state : CellStateData) (h : Stamp) (runs : LocalRuns) (lists : List (List Action))
     (of : AreListsOf state h runs lists) where
   -- what holds of no actions and of each region's holds of each list
   by_region : (P : List Action → Type 0) (k : ℕ) → P [] → (IsRegion state.grid k → P (actions_below h (runs k).log)) →
@@ -85,7 +85,7 @@ module _ (state : CellStateData) (h : Stamp) (runs : Runs) (lists : List (List A
   ]
 
   lists_rise : AllGoOn state h runs → AllListsRise lists
-  lists_rise all k = by_region ActionsRise k tt
+  lists_rise all k = by_region ActionStampsRise k tt
       (λ within. actions_rise (runs k).floor h (runs k).log (all.each k within).rises)
 
   none_left : IsMerged state runs h [] → IsMergeOf lists []
@@ -127,10 +127,10 @@ module _ (state : CellStateData) (h : Stamp) (runs : Runs) (lists : List (List A
     here : get_or lists done.home [] ≡ x ∷ rest
     here = of.own done.home done.within ∙ ap (actions_below h) first.1 ∙ below_in_order h x first.0 done.before
 
-    others : (q : ℕ) → q ≢ done.home → BeginsAfter x (get_or lists q [])
-    others q not = by_region (BeginsAfter x) q tt (λ within. by_actions within (actions_below h (runs q).log) refl)
+    others : (q : ℕ) → q ≢ done.home → ActionsBeginAfter x (get_or lists q [])
+    others q not = by_region (ActionsBeginAfter x) q tt (λ within. by_actions within (actions_below h (runs q).log) refl)
       where
-        by_actions : IsRegion state.grid q → (ys : List Action) → actions_below h (runs q).log ≡ ys → BeginsAfter x ys
+        by_actions : IsRegion state.grid q → (ys : List Action) → actions_below h (runs q).log ≡ ys → ActionsBeginAfter x ys
         by_actions within [] is = tt
         by_actions within (y ∷ ys) is =
             let found = actions_among h (runs q).log y (subst (IsAmong y) (sym is) (inl refl)) in
@@ -161,7 +161,7 @@ module _ (state : CellStateData) (h : Stamp) (runs : Runs) (lists : List (List A
       may = next_tellable state x is step.0;
     }
 
-merge_of : (xs : List Action) (state : CellStateData) (h : Stamp) (runs : Runs) (lists : List (List Action)) →
+merge_of : (xs : List Action) (state : CellStateData) (h : Stamp) (runs : LocalRuns) (lists : List (List Action)) →
     AreListsOf state h runs lists → IsCellState state → AllGoOn state h runs → IsMerged state runs h xs →
     CanBeTellings lists xs
 merge_of [] state h runs lists of is all merged = record {

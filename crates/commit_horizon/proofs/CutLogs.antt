@@ -5,7 +5,7 @@ use Rattle.std.specs.Prelude.{slice_get, IfSome}
 use Rattle.std.proofs.lemmas.List.{map_more, map-append, take_more_set}
 use Rattle.std.proofs.lemmas.Option.{none-some, same_Some}
 use Rattle.event_stamps.specs.declared.Stamp.{Stamp}
-use Rattle.event_stamps.specs.Ordered.{Rises}
+use Rattle.event_stamps.specs.Ordered.{KeysRise}
 use Rattle.event_stamps.proofs.Rising.{rises_if_from}
 use Rattle.event_stamps.proofs.Parts.{rises_below, below_among, below_before, among_below}
 use Rattle.region_view.specs.declared.action.Action.{Action}
@@ -18,7 +18,7 @@ use Rattle.local_run.specs.Entries.{entry_stamp, entries_below}
 use Rattle.local_run.specs.LocalRun.{Local, IsRight}
 use Rattle.local_run.specs.Opening.{RegionData}
 use Rattle.local_run.specs.Keeping.{entries_of}
-use Rattle.local_run.specs.Keeping.{entries_in as entries_in_run}
+use Rattle.local_run.specs.Keeping.{run_entries as entries_in_run}
 use Rattle.event_log.specs.Logged.{Logged, entries_in}
 use Rattle.commit_horizon.specs.Horizon.{runs_of, AllStand, AllKept, IsMerged}
 use Rattle.commit_horizon.specs.Cutting.{logs_below, AllRise, SomeHasStamp, IsLatest}
@@ -76,7 +76,7 @@ one_more_cut raise to regions items logs k d log lt count so_far cut here =
 
 -- ---- the stamps of each rise
 kept_rises : (to : Stamp) (home : Home) (run : Option Local) → IfSome run (IsRight home) →
-    Rises entry_stamp (entries_below to (entries_in_run run))
+    KeysRise entry_stamp (entries_below to (entries_in_run run))
 kept_rises to home None right = tt
 kept_rises to home (Some run) right =
     rises_below entry_stamp to run.log (rises_if_from entry_stamp run.floor run.log right.rises)
@@ -84,7 +84,7 @@ kept_rises to home (Some run) right =
 pub all_rise : (to : Stamp) (regions : List RegionData) → AllKept regions → AllRise (logs_below to regions)
 all_rise to regions kept log among =
     let from = at_mapped (cut_of to) regions log among in
-    subst (Rises entry_stamp) (sym from.3)
+    subst (KeysRise entry_stamp) (sym from.3)
     (kept_rises to from.1.home from.1.run (kept from.0 from.1 from.2).run)
 
 -- ---- the last stamp

@@ -7,9 +7,9 @@ use Rattle.region_view.specs.declared.action.Action.{Action}
 use Rattle.cell_sequence.specs.State.{CellStateData, followed_by}
 use Rattle.cell_sequence.specs.State.{raised as raised_state}
 use Rattle.local_run.specs.Opening.{RegionData}
-use Rattle.local_run.specs.Raising.{raised as raised_region}
+use Rattle.local_run.specs.Raising.{raised_region as raised_region}
 use Rattle.commit_horizon.specs.Horizon.{runs_of, AllKept, IsHorizon}
-use Rattle.commit_horizon.specs.Bounds.{HoldsUpTo, IsWithin}
+use Rattle.commit_horizon.specs.Bounds.{HoldsUpTo, IsUpToAll}
 use Rattle.commit_horizon.proofs.Merging.{Merges}
 use Rattle.commit_horizon.specs.Telling.{IsStateOf}
 use Rattle.commit_horizon.specs.Untold.{actions_in, CanBeTellings}
@@ -21,7 +21,7 @@ use Rattle.commit_horizon.proofs.Cut.{cut_batch}
 use Rattle.commit_horizon.proofs.CutLogs.{last_is}
 
 module _ (rules : Rules) (regions : List RegionData) (h : Stamp)
-    (bound : HoldsUpTo (IsWithin (end_stamp rules.end) regions) (Some h)) (kept : AllKept regions)
+    (bound : HoldsUpTo (IsUpToAll (end_stamp rules.end) regions) (Some h)) (kept : AllKept regions)
     (old : CellStateData) (of : IsStateOf rules regions old) where
   horizon : IsHorizon old (runs_of regions) h
   horizon = horizon_of rules regions h bound kept old of

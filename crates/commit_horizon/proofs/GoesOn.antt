@@ -12,18 +12,18 @@ use Rattle.region_view.specs.Views.{ViewData, rows_in}
 use Rattle.region_view.specs.Setting.{set_rows, after_action}
 use Rattle.region_view.specs.Messages.{message_of}
 use Rattle.region_messages.specs.Trails.{is_before, IsAmong, AgreeBelow}
-use Rattle.cell_sequence.specs.State.{CellStateData, IsCandidateOf, ComesTo, HasNoneBelow, followed}
+use Rattle.cell_sequence.specs.State.{CellStateData, IsCandidateOf, ComesToInState, HasNoneBelow, followed}
 use Rattle.cell_sequence.specs.Laws.{Sees, IsNextAction, IsHomeOf}
 use Rattle.local_run.specs.declared.entry.Entry.{Entry}
 use Rattle.local_run.specs.declared.entry.Entry.TheVariants.{Native}
 use Rattle.local_run.specs.Entries.{entry_stamp, RiseFrom}
 use Rattle.local_run.specs.LocalRun.{Local, trail_of, after_entry, after_log, start_of, now_of}
 use Rattle.local_run.specs.LocalRun.{Moves, IsOwn, IsOffered, sent_to}
-use Rattle.local_run.specs.LocalRun.{ComesTo as ComesToIn}
+use Rattle.local_run.specs.LocalRun.{ComesToInView as ComesToIn}
 use Rattle.local_run.specs.Opening.{home_of}
 use Rattle.local_run.proofs.Among.{AllRise}
 use Rattle.local_run.proofs.Logs.{AllBefore}
-use Rattle.commit_horizon.specs.Horizon.{Runs}
+use Rattle.commit_horizon.specs.Horizon.{LocalRuns}
 
 -- what a state of the cell run is to its regions
 pub record CellLaws (state : CellStateData) : Type 0 where
@@ -34,7 +34,7 @@ pub record CellLaws (state : CellStateData) : Type 0 where
       IsHomeOf state s k → IsOwn (home_of state k) view s
   pub comes : (k : ℕ) (view : ViewData) (s : Stamp) (r : Result Action Limit) → IsRegion state.grid k →
       Sees state k view → IsOwn (home_of state k) view s → ComesToIn (home_of state k) view s r →
-      ComesTo state s r
+      ComesToInState state s r
   -- an event has one home, the next one comes to one action, and none is before the floor
   pub homed : (s : Stamp) → IsCandidateOf state s → (k : ℕ) × IsHomeOf state s k
   pub one_home : (s : Stamp) (k q : ℕ) → IsCandidateOf state s → IsHomeOf state s k → IsHomeOf state s q →
@@ -65,11 +65,11 @@ pub record GoesOn (state : CellStateData) (h : Stamp) (k : ℕ) (run : Local) : 
       IsRegion state.grid q × AreLinked state.grid q k
 
 -- what one region sent and what another heard from it agree below h
-abbrev pub Agree : CellStateData → Stamp → Runs → Type 0
+abbrev pub Agree : CellStateData → Stamp → LocalRuns → Type 0
 Agree state h runs = (k q : ℕ) → IsRegion state.grid k → IsRegion state.grid q → AreLinked state.grid k q →
     AgreeBelow h (sent_to state.grid q (runs k).base (runs k).log) (trail_of (runs q).heard k)
 
-pub record AllGoOn (state : CellStateData) (h : Stamp) (runs : Runs) : Type 0 where
+pub record AllGoOn (state : CellStateData) (h : Stamp) (runs : LocalRuns) : Type 0 where
   pub each : (k : ℕ) → IsRegion state.grid k → GoesOn state h k (runs k)
   pub agree : Agree state h runs
 
@@ -105,12 +105,12 @@ HeadNotBefore t [] = ⊤
 HeadNotBefore t (e ∷ es) = ¬ Before (entry_stamp e) t
 
 -- no native entry of the regions is before the stamp
-abbrev pub NoneBefore : CellStateData → Runs → Stamp → Type 0
+abbrev pub NoneBefore : CellStateData → LocalRuns → Stamp → Type 0
 NoneBefore state runs t = (q : ℕ) (x : Action) → IsRegion state.grid q → IsAmong (Native x) (runs q).log →
     ¬ Before (stamp_of x) t
 
 -- a native entry before which no other comes
-pub record IsLeastEntry (state : CellStateData) (runs : Runs) (k : ℕ) (b : Action) : Type 0 where
+pub record IsLeastEntry (state : CellStateData) (runs : LocalRuns) (k : ℕ) (b : Action) : Type 0 where
   pub within : IsRegion state.grid k
   pub among : IsAmong (Native b) (runs k).log
   pub least : NoneBefore state runs (stamp_of b)
@@ -118,13 +118,13 @@ pub record IsLeastEntry (state : CellStateData) (runs : Runs) (k : ℕ) (b : Act
 -- the least native entry, where it is before h, is the next action of the cell run, and what is left of the
 -- regions after it goes on from the state after it
 abbrev pub CentralStep : Type 0
-CentralStep = (state : CellStateData) (h : Stamp) (runs : Runs) (k : ℕ) (b : Action) → CellLaws state →
+CentralStep = (state : CellStateData) (h : Stamp) (runs : LocalRuns) (k : ℕ) (b : Action) → CellLaws state →
     AllGoOn state h runs → IsLeastEntry state runs k b → Before (stamp_of b) h →
     IsNextAction state b × IsHomeOf state (stamp_of b) k
     × AllGoOn (followed state b) h (λ q. past (stamp_of b) (runs q))
 
 -- where no native entry is before h, no event of the state is, nor any entry
 abbrev pub CentralEnd : Type 0
-CentralEnd = (state : CellStateData) (h : Stamp) (runs : Runs) → CellLaws state → AllGoOn state h runs →
+CentralEnd = (state : CellStateData) (h : Stamp) (runs : LocalRuns) → CellLaws state → AllGoOn state h runs →
     NoneBefore state runs h → HasNoneBelow state h
     × ((q : ℕ) → IsRegion state.grid q → HeadNotBefore h (runs q).log)

@@ -23,8 +23,8 @@ use Rattle.local_run.specs.Opening.{RegionData}
 use Rattle.local_run.specs.Keeping.{entries_of}
 use Rattle.local_run.proofs.Among.{same_or_other}
 use Rattle.local_run.proofs.Logs.{rises_log_tail, among_after}
-use Rattle.commit_horizon.specs.Horizon.{ActionsRise}
-use Rattle.commit_horizon.specs.Merging.{Head, Heads, head_at, IsLeastHead}
+use Rattle.commit_horizon.specs.Horizon.{ActionStampsRise}
+use Rattle.commit_horizon.specs.Merging.{Head, Heads, head_at, IsLeadingHead}
 use Rattle.commit_horizon.proofs.Merging.{actions_below, IsLeft, IsHeadAfter, head_before, AreHeads, nearer_of}
 
 -- ---- the actions before a stamp
@@ -68,15 +68,15 @@ among_actions f h (Native y ∷ es) x rises (inr more) lt =
     subst (IsAmong x) (sym (actions_in h y es first))
     (inr (among_actions (stamp_of y) h es x (rises_log_tail (stamp_of y) es rises.1) more lt))
 
-pub actions_rise : (f h : Stamp) (log : List Entry) → RiseFrom f log → ActionsRise (actions_below h log)
+pub actions_rise : (f h : Stamp) (log : List Entry) → RiseFrom f log → ActionStampsRise (actions_below h log)
 actions_rise f h [] rises = tt
 actions_rise f h (Heard q m ∷ es) rises = actions_rise m.stamp h es (rises_log_tail m.stamp es rises.1)
 actions_rise f h (Native y ∷ es) rises = elim (before_decides (stamp_of y) h) [
-  | inl lt ↦ subst ActionsRise (sym (actions_in h y es lt)) (
+  | inl lt ↦ subst ActionStampsRise (sym (actions_in h y es lt)) (
     λ x among. among_after (stamp_of y) es (Native x) rises.1 (actions_among h es x among).0,
     actions_rise (stamp_of y) h es (rises_log_tail (stamp_of y) es rises.1),
   )
-  | inr not ↦ subst ActionsRise (sym (actions_out h y es not)) tt
+  | inr not ↦ subst ActionStampsRise (sym (actions_out h y es not)) tt
 ]
 
 -- ---- by places
@@ -214,7 +214,7 @@ nearer_is heads n (Some least) (Some head) lt at so_far =
     )
 
 pub least_of_all : (heads : Heads) (n : ℕ) (least : Option (ℕ × Head)) → length heads ≤ n →
-    IsLeastOfFirst heads n least → IsLeastHead heads least
+    IsLeastOfFirst heads n least → IsLeadingHead heads least
 least_of_all heads n None le so_far = λ k. elim (cases_lt k n) [
   | inl lt ↦ so_far k lt
   | inr past ↦ get_or_past heads k None (omega arith)

@@ -6,7 +6,7 @@ use Rattle.std.proofs.lemmas.List.{length-map}
 use Rattle.std.proofs.lemmas.Option.{none-some, same_Some, slice_get_past}
 use Rattle.event_stamps.specs.declared.Stamp.{Stamp}
 use Rattle.event_stamps.specs.Order.{Before}
-use Rattle.event_stamps.specs.Ordered.{Rises}
+use Rattle.event_stamps.specs.Ordered.{KeysRise}
 use Rattle.event_stamps.proofs.StampOrder.{before_trans, before_decides, not_before_itself, same_stamp}
 use Rattle.event_stamps.proofs.Rising.{rises_tail}
 use Rattle.region_view.specs.declared.action.Action.{Action}
@@ -21,8 +21,8 @@ use Rattle.local_run.specs.Entries.{entry_stamp, native_in}
 use Rattle.local_run.proofs.Among.{same_or_other}
 use Rattle.local_run.proofs.Logs.{among_after}
 use Rattle.event_log.specs.Logged.{Logged, entries_in, native_at}
-use Rattle.commit_horizon.specs.Horizon.{ActionsRise}
-use Rattle.commit_horizon.specs.Cutting.{HasStamp, SomeHasStamp, IsLatest, latest_of}
+use Rattle.commit_horizon.specs.Horizon.{ActionStampsRise}
+use Rattle.commit_horizon.specs.Cutting.{HasActionAt, SomeHasStamp, IsLatest, latest_of}
 
 -- ---- any stamps
 -- there is one latest
@@ -88,7 +88,7 @@ abbrev pub IsStampAmong : List Action → Stamp → Type 0
 IsStampAmong xs s = (x : Action) × IsAmong x xs × (stamp_of x ≡ s)
 
 -- the last one has the latest stamp
-pub last_is_latest : (xs : List Action) → ActionsRise xs → IsLatest (IsStampAmong xs) (last_stamp xs)
+pub last_is_latest : (xs : List Action) → ActionStampsRise xs → IsLatest (IsStampAmong xs) (last_stamp xs)
 last_is_latest [] rise = λ s (x, none, is). none
 last_is_latest (x ∷ []) rise = (
   (x, inl refl, refl),
@@ -118,14 +118,14 @@ none_latest s (log, none, has) = none
 
 -- one log more
 pub latest_more : (logs : List (List Entry)) (log : List Entry) (a b : Option Stamp) →
-    IsLatest (SomeHasStamp logs) a → IsLatest (HasStamp log) b →
+    IsLatest (SomeHasStamp logs) a → IsLatest (HasActionAt log) b →
     IsLatest (SomeHasStamp (logs ++ log ∷ [])) (latest_of a b)
 latest_more logs log a b so_far here =
-    latest_joined (SomeHasStamp logs) (HasStamp log) (SomeHasStamp (logs ++ log ∷ [])) a b
+    latest_joined (SomeHasStamp logs) (HasActionAt log) (SomeHasStamp (logs ++ log ∷ [])) a b
     (λ s (found, among, has). elim (among_either found logs (log ∷ []) among) [
       | inl sooner ↦ inl (found, sooner, has)
       | inr last ↦ elim last [
-        | inl same ↦ inr (subst (λ (v : List Entry). HasStamp v s) same has)
+        | inl same ↦ inr (subst (λ (v : List Entry). HasActionAt v s) same has)
         | inr none ↦ absurd none
       ]
     ])
@@ -141,11 +141,11 @@ no_action (e ∷ es) y none (inl same) =
     none-some y (sym (none 0) ∙ ap (λ (v : Entry). native_in (Some v)) (sym same))
 no_action (e ∷ es) y none (inr more) = no_action es y (λ k. none (suc k)) more
 
-pub none_found : (es : List Entry) → ((k : ℕ) → native_in (slice_get es k) ≡ None) → IsLatest (HasStamp es) None
+pub none_found : (es : List Entry) → ((k : ℕ) → native_in (slice_get es k) ≡ None) → IsLatest (HasActionAt es) None
 none_found es none = λ s (y, among, is). no_action es y none among
 
 first_found : (e : Entry) (es : List Entry) (s : Stamp) → option_map stamp_of (native_in (Some e)) ≡ Some s →
-    ((y : Action) → ¬ IsAmong (Native y) es) → IsLatest (HasStamp (e ∷ es)) (Some s)
+    ((y : Action) → ¬ IsAmong (Native y) es) → IsLatest (HasActionAt (e ∷ es)) (Some s)
 first_found (Heard q m) es s is none = absurd (none-some s is)
 first_found (Native x) es s is none = (
   (x, inl refl, same_Some (stamp_of x) s is),
@@ -159,9 +159,9 @@ first_found (Native x) es s is none = (
 )
 
 -- the last action has the latest stamp
-pub last_found : (es : List Entry) (k : ℕ) (s : Stamp) → Rises entry_stamp es →
+pub last_found : (es : List Entry) (k : ℕ) (s : Stamp) → KeysRise entry_stamp es →
     option_map stamp_of (native_in (slice_get es k)) ≡ Some s →
-    ((j : ℕ) → k < j → native_in (slice_get es j) ≡ None) → IsLatest (HasStamp es) (Some s)
+    ((j : ℕ) → k < j → native_in (slice_get es j) ≡ None) → IsLatest (HasActionAt es) (Some s)
 last_found [] k s rises is none = absurd (none-some s is)
 last_found (e ∷ es) zero s rises is none = first_found e es s is
     (λ y. no_action es y (λ k. none (suc k) (omega arith)))

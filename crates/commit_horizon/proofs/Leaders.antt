@@ -14,7 +14,7 @@ use Rattle.region_messages.proofs.Order.{is_before_true, is_before_false}
 use Rattle.local_run.proofs.Among.{same_or_other}
 use Rattle.commit_horizon.specs.declared.leading.PackedHead.{PackedHead}
 use Rattle.commit_horizon.specs.declared.leading.Leader.{Leader}
-use Rattle.commit_horizon.specs.Merging.{Head, Heads, head_of, head_in, heads_in, head_at, IsLeastHead}
+use Rattle.commit_horizon.specs.Merging.{Head, Heads, head_of, head_in, heads_in, head_at, IsLeadingHead}
 use Rattle.commit_horizon.proofs.Merging.{nearer_of}
 use Rattle.commit_horizon.specs.Leading.{NoOtherBefore, IsLeader, IsNearer, head_with}
 use Rattle.commit_horizon.proofs.Heads.{IsLeastOfFirst, nearer_is, least_of_all, below_or_last, head_within}
@@ -125,13 +125,13 @@ leader_of_all heads n first le so_far = record {
 -- ---- what a leader says
 -- its head, by its stamp
 pub leads_at : (heads : Heads) (first : Leader) (s : Stamp) → IsLeader heads first → Some s ≡ first.stamp →
-    IsLeastHead heads (Some (first.number, record { stamp = s; place = first.place }))
-leads_at heads first s leads is = subst (λ (key : Key). IsLeastHead heads
+    IsLeadingHead heads (Some (first.number, record { stamp = s; place = first.place }))
+leads_at heads first s leads is = subst (λ (key : Key). IsLeadingHead heads
     (option_map (λ head. (first.number, head)) (head_of key first.place))) (sym is) leads.least
 
 pub none_leads : (heads : Heads) (first : Leader) → IsLeader heads first → None ≡ first.stamp →
-    IsLeastHead heads None
-none_leads heads first leads is = subst (λ (key : Key). IsLeastHead heads
+    IsLeadingHead heads None
+none_leads heads first leads is = subst (λ (key : Key). IsLeadingHead heads
     (option_map (λ head. (first.number, head)) (head_of key first.place))) (sym is) leads.least
 
 -- ---- a region that runs on
@@ -149,7 +149,7 @@ leads_still heads k head second lt others at before = record {
     still s t (Some r) before not = λ less. not (before_trans t s r less before)
 
     by_key : (key : Key) → head_at heads k ≡ head_of key head.place → IsKeyBefore key second →
-        IsLeastHead heads (option_map (λ v. (k, v)) (head_of key head.place))
+        IsLeadingHead heads (option_map (λ v. (k, v)) (head_of key head.place))
     by_key None at before = absurd before
     by_key (Some s) at before = (
       lt,

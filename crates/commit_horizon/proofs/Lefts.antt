@@ -21,8 +21,8 @@ use Rattle.local_run.proofs.Among.{same_or_other}
 use Rattle.event_log.specs.Logged.{Logged, entries_in}
 use Rattle.event_log.specs.Collisions.{change_in}
 use Rattle.commit_horizon.specs.declared.leading.Leader.{Leader}
-use Rattle.commit_horizon.specs.Merging.{Head, Heads, head_at, IsLeastHead}
-use Rattle.commit_horizon.specs.Horizon.{ActionsRise}
+use Rattle.commit_horizon.specs.Merging.{Head, Heads, head_at, IsLeadingHead}
+use Rattle.commit_horizon.specs.Horizon.{ActionStampsRise}
 use Rattle.commit_horizon.specs.Leading.{IsLeader}
 use Rattle.commit_horizon.specs.Telling.{MayBeTold}
 use Rattle.commit_horizon.specs.Untold.{actions_in, left_from, StandsIn, IsNextHead, PassesCrossings, IsNextHit, BeginsInRange, AllBeginInRange, AreFirstHeads, lefts, merged_of, AllCanBeTold, CanBeTellings, AreUntold}
@@ -183,7 +183,7 @@ module _ (logs : List (List Entry)) (heads : Heads) (first : Leader) (untold : A
   pub none_untold : None ≡ first.stamp → merged_of lists ≡ []
   none_untold none = nothing_left lists (merged_of lists) untold.told.merged each
     where
-      heads_none : IsLeastHead heads None
+      heads_none : IsLeadingHead heads None
       heads_none = none_leads heads first untold.leads none
 
       each : (k : ℕ) → get_or lists k [] ≡ []
@@ -193,7 +193,7 @@ module _ (logs : List (List Entry)) (heads : Heads) (first : Leader) (untold : A
     abbrev head : Head
     head = record { stamp = s; place = first.place }
 
-    least : IsLeastHead heads (Some (first.number, head))
+    least : IsLeadingHead heads (Some (first.number, head))
     least = leads_at heads first s untold.leads leads
 
     of_head : (x : Action) × Begins log head x
@@ -255,7 +255,7 @@ module _ (logs : List (List Entry)) (heads : Heads) (first : Leader) (untold : A
         merged = goes.merged;
         can = (subst AllCanBeTold goes.first untold.told.can).1;
         rise = lists_still_rise lists first.number rest untold.told.rise within
-            (subst ActionsRise own (untold.told.rise first.number)).1;
+            (subst ActionStampsRise own (untold.told.rise first.number)).1;
       }
 
       -- so can the one after it

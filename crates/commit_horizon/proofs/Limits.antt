@@ -14,7 +14,7 @@ use Rattle.cell_sequence.proofs.Exists.{never_both}
 use Rattle.local_run.specs.declared.entry.Entry.{Entry}
 use Rattle.local_run.specs.declared.entry.Entry.TheVariants.{Native, Heard}
 use Rattle.local_run.specs.Entries.{entry_stamp}
-use Rattle.commit_horizon.specs.Horizon.{Runs}
+use Rattle.commit_horizon.specs.Horizon.{LocalRuns}
 use Rattle.commit_horizon.specs.Laws.{LimitsBound}
 use Rattle.commit_horizon.proofs.GoesOn.{CellLaws, AllGoOn, IsLeastEntry, NoneBefore}
 use Rattle.commit_horizon.proofs.Steps.{central_step, central_end}
@@ -87,11 +87,11 @@ least_in t (Native x ∷ es) = by_rest (least_in t es) (before_decides (stamp_of
     by_rest (inr none) (inr late) = inr (none_with t x es none late)
 
 -- ---- the logs of the regions, one after the other
-abbrev logs : Runs → ℕ → List Entry
+abbrev logs : LocalRuns → ℕ → List Entry
 logs runs zero = []
 logs runs (suc n) = logs runs n ++ (runs n).log
 
-into_logs : (runs : Runs) (n q : ℕ) (e : Entry) → q < n → IsAmong e (runs q).log → IsAmong e (logs runs n)
+into_logs : (runs : LocalRuns) (n q : ℕ) (e : Entry) → q < n → IsAmong e (runs q).log → IsAmong e (logs runs n)
 into_logs runs zero q e within among = absurd (omega arith)
 into_logs runs (suc n) q e within among = elim (below_or_same q n within) [
   | inl less ↦ among_left e (logs runs n) (runs n).log (into_logs runs n q e less among)
@@ -102,7 +102,7 @@ into_logs runs (suc n) q e within among = elim (below_or_same q n within) [
     below_or_same : (q n : ℕ) → q < suc n → (q < n) ⊎ (q ≡ n)
     below_or_same q n lt = grind arith
 
-from_logs : (runs : Runs) (n : ℕ) (e : Entry) → IsAmong e (logs runs n) →
+from_logs : (runs : LocalRuns) (n : ℕ) (e : Entry) → IsAmong e (logs runs n) →
     (q : ℕ) × (q < n) × IsAmong e (runs q).log
 from_logs runs zero e among = absurd among
 from_logs runs (suc n) e among = elim (among_either e (logs runs n) (runs n).log among) [
@@ -112,7 +112,7 @@ from_logs runs (suc n) e among = elim (among_either e (logs runs n) (runs n).log
   | inr here ↦ (n, omega arith, here)
 ]
 
-pub least_or_none : (state : CellStateData) (runs : Runs) (h : Stamp) →
+pub least_or_none : (state : CellStateData) (runs : LocalRuns) (h : Stamp) →
     ((k : ℕ) × (x : Action) × IsLeastEntry state runs k x × Before (stamp_of x) h) ⊎ NoneBefore state runs h
 least_or_none state runs h = elim (least_in h (logs runs state.grid.regions)) [
   | inl found ↦

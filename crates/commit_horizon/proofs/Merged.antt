@@ -13,8 +13,8 @@ use Rattle.cell_sequence.proofs.Followed.{followed_is, raised_is}
 use Rattle.local_run.specs.declared.entry.Entry.TheVariants.{Native}
 use Rattle.local_run.specs.Entries.{entries_below}
 use Rattle.local_run.specs.LocalRun.{At, Local, start_of, after_log}
-use Rattle.commit_horizon.specs.Horizon.{Runs, IsDone, IsMerged}
-use Rattle.commit_horizon.specs.Laws.{IsNext, MergedIsNext}
+use Rattle.commit_horizon.specs.Horizon.{LocalRuns, IsDone, IsMerged}
+use Rattle.commit_horizon.specs.Laws.{IsNextMerged, MergedIsNext}
 use Rattle.commit_horizon.proofs.GoesOn.{AllGoOn, HeadNotBefore, IsLeastEntry, IsRestOf, past}
 use Rattle.commit_horizon.proofs.Past.{past_after, past_keeps, rest_whole, rest_past, done_is_below}
 use Rattle.commit_horizon.proofs.Steps.{central_step, central_end, heads_late}
@@ -22,7 +22,7 @@ use Rattle.commit_horizon.proofs.Offered.{cell_laws}
 use Rattle.commit_horizon.proofs.Bounds.{all_go_on}
 
 -- the first of the merged entries is the least of all
-pub least_of : (state : CellStateData) (runs : Runs) (h : Stamp) (x : Action) (xs : List Action)
+pub least_of : (state : CellStateData) (runs : LocalRuns) (h : Stamp) (x : Action) (xs : List Action)
     (merged : IsMerged state runs h (x ∷ xs)) →
     IsLeastEntry state runs (merged.are x (inl refl)).home x
 least_of state runs h x xs merged =
@@ -45,7 +45,7 @@ least_of state runs h x xs merged =
         (before_trans (stamp_of x) (stamp_of y) (stamp_of x) (merged.rise.0 y more) less)
 
 -- the others are those of what is left
-pub rest_merged : (state : CellStateData) (runs : Runs) (h : Stamp) (x : Action) (xs : List Action) →
+pub rest_merged : (state : CellStateData) (runs : LocalRuns) (h : Stamp) (x : Action) (xs : List Action) →
     AllGoOn state h runs → IsMerged state runs h (x ∷ xs) →
     ((q : ℕ) → IsRegion state.grid q → HeadNotBefore (stamp_of x) (runs q).log) →
     IsMerged (followed state x) (λ q. past (stamp_of x) (runs q)) h xs
@@ -87,10 +87,10 @@ done_view h whole run rest late =
     ap (λ (a : At). a.view) (rest.at ∙ ap (after_log (start_of whole)) (sym below))
 
 -- the induction, of runs and of what is left of them
-from_rest : (xs : List Action) (state : CellStateData) (runs left : Runs) (h : Stamp) → IsCellState state →
+from_rest : (xs : List Action) (state : CellStateData) (runs left : LocalRuns) (h : Stamp) → IsCellState state →
     ¬ Before (end_stamp state.rules.end) h → ¬ Before h state.floor → AllGoOn state h left →
     ((k : ℕ) → IsRegion state.grid k → IsRestOf h (runs k) (left k)) → IsMerged state left h xs →
-    IsNext state runs h xs
+    IsNextMerged state runs h xs
 from_rest [] state runs left h is in_time floor all rests merged =
     let end = central_end state h left (cell_laws state is) all (λ q x within among before. merged.all x
     (record { home = q; within = within; among = among; before = before })) in

@@ -8,24 +8,24 @@ use Rattle.region_view.specs.declared.action.Action.{Action}
 use Rattle.region_view.specs.Acting.{stamp_of}
 use Rattle.region_messages.proofs.Order.{is_before_true, is_before_false}
 use Rattle.local_run.proofs.Among.{same_or_other}
-use Rattle.commit_horizon.specs.Untold.{BeginsAfter, IsMergeOf, merged_with, merged_of, CanBeTold, AllCanBeTold, CanBeTellings}
+use Rattle.commit_horizon.specs.Untold.{ActionsBeginAfter, IsMergeOf, merged_with, merged_of, CanBeTold, AllCanBeTold, CanBeTellings}
 
 -- ---- two lists
 not_after : (x y : Action) → Before (stamp_of x) (stamp_of y) → ¬ Before (stamp_of y) (stamp_of x)
 not_after x y before less = not_before_itself (stamp_of x) (before_trans (stamp_of x) (stamp_of y) (stamp_of x) before less)
 
 -- the first of either list goes first, where it comes before the other list
-left_first : (x : Action) (xs ys : List Action) → BeginsAfter x ys →
+left_first : (x : Action) (xs ys : List Action) → ActionsBeginAfter x ys →
     merged_with (x ∷ xs) ys ≡ x ∷ merged_with xs ys
 left_first x xs [] after = refl
 left_first x xs (y ∷ ys) after = rw (is_before_false (stamp_of y) (stamp_of x) (not_after x y after)) refl
 
-right_first : (x : Action) (xs ys : List Action) → BeginsAfter x xs →
+right_first : (x : Action) (xs ys : List Action) → ActionsBeginAfter x xs →
     merged_with xs (x ∷ ys) ≡ x ∷ merged_with xs ys
 right_first x [] ys after = refl
 right_first x (y ∷ xs) ys after = rw (is_before_true (stamp_of x) (stamp_of y) after) refl
 
-both_after : (x : Action) (xs ys : List Action) → BeginsAfter x xs → BeginsAfter x ys → BeginsAfter x (merged_with xs ys)
+both_after : (x : Action) (xs ys : List Action) → ActionsBeginAfter x xs → ActionsBeginAfter x ys → ActionsBeginAfter x (merged_with xs ys)
 both_after x [] ys here there = there
 both_after x (a ∷ xs) [] here there = here
 both_after x (a ∷ xs) (b ∷ ys) here there = elim (before_decides (stamp_of b) (stamp_of a)) [
@@ -34,8 +34,8 @@ both_after x (a ∷ xs) (b ∷ ys) here there = elim (before_decides (stamp_of b
 ]
 
 -- ---- all lists
-all_after : (lists : List (List Action)) (x : Action) → ((k : ℕ) → BeginsAfter x (get_or lists k [])) →
-    BeginsAfter x (merged_of lists)
+all_after : (lists : List (List Action)) (x : Action) → ((k : ℕ) → ActionsBeginAfter x (get_or lists k [])) →
+    ActionsBeginAfter x (merged_of lists)
 unfolding merged_of
 all_after [] x each = tt
 all_after (xs ∷ lists) x each =
@@ -49,7 +49,7 @@ none_merged (xs ∷ lists) none =
 
 -- the first of one list goes first, where it comes before all others
 goes_first : (lists : List (List Action)) (k : ℕ) (x : Action) (rest : List Action) → get_or lists k [] ≡ x ∷ rest →
-    ((q : ℕ) → q ≢ k → BeginsAfter x (get_or lists q [])) → merged_of lists ≡ x ∷ merged_of (set lists k rest)
+    ((q : ℕ) → q ≢ k → ActionsBeginAfter x (get_or lists q [])) → merged_of lists ≡ x ∷ merged_of (set lists k rest)
 unfolding merged_of
 goes_first [] k x rest at others = cc
 goes_first (xs ∷ lists) zero x rest at others =
@@ -98,7 +98,7 @@ least_goes lists k x rest (y ∷ ys) (j, tail, there, others, more) at least = e
         merged = subst (λ (n : ℕ). IsMergeOf (set lists n rest) ys) (sym same)
             (subst (λ (v : List Action). IsMergeOf (set lists j v) ys) left more);
       }
-  | inr other ↦ absurd (least j y tail there (subst (BeginsAfter y) at (others k other)))
+  | inr other ↦ absurd (least j y tail there (subst (ActionsBeginAfter y) at (others k other)))
 ]
 
 -- where all lists are empty, nothing is merged

@@ -26,8 +26,8 @@ use Rattle.local_run.proofs.Among.{same_or_other}
 use Rattle.local_run.specs.declared.entry.TheConstants.{MAX_ENTRIES}
 use Rattle.local_run.specs.Opening.{RegionData}
 use Rattle.local_run.specs.Keeping.{entries_of}
-use Rattle.commit_horizon.specs.Horizon.{Runs, runs_of, AllStand, AllKept, IsBound, ActionsRise, IsDone, IsMerged}
-use Rattle.commit_horizon.specs.Merging.{Head, Heads, head_at, IsLeastHead}
+use Rattle.commit_horizon.specs.Horizon.{LocalRuns, runs_of, AllStand, AllKept, IsBound, ActionStampsRise, IsDone, IsMerged}
+use Rattle.commit_horizon.specs.Merging.{Head, Heads, head_at, IsLeadingHead}
 use Rattle.commit_horizon.proofs.Merging.{actions_below, BeginsAt, IsLeft, IsHeadAfter, AreHeads, Merges}
 use Rattle.commit_horizon.proofs.GoesOn.{CellLaws, AllGoOn, past, IsLeastEntry, NoneBefore, HeadNotBefore}
 use Rattle.commit_horizon.proofs.Past.{head_is, past_cases, past_first, past_after, past_keeps}
@@ -40,8 +40,8 @@ use Rattle.commit_horizon.proofs.Heads.{actions_in, actions_among, among_actions
 use Rattle.commit_horizon.proofs.Heads.{FitLogs, fits_log, fit_more, cost_of, costs_fall}
 
 -- ---- actions that rise
-rise_joined : (xs : List Action) (x : Action) → ActionsRise xs →
-    ((y : Action) → IsAmong y xs → Before (stamp_of y) (stamp_of x)) → ActionsRise (xs ++ x ∷ [])
+rise_joined : (xs : List Action) (x : Action) → ActionStampsRise xs →
+    ((y : Action) → IsAmong y xs → Before (stamp_of y) (stamp_of x)) → ActionStampsRise (xs ++ x ∷ [])
 rise_joined [] x rise before = (λ y none. absurd none, tt)
 rise_joined (z ∷ xs) x rise before = (
   λ y among. elim (among_either y xs (x ∷ []) among) [
@@ -54,7 +54,7 @@ rise_joined (z ∷ xs) x rise before = (
 
 -- ---- the least entry
 -- of its stamp there is only this action, and only in this region
-pub only_least : (state : CellStateData) (h : Stamp) (runs : Runs) (k : ℕ) (b : Action) → CellLaws state →
+pub only_least : (state : CellStateData) (h : Stamp) (runs : LocalRuns) (k : ℕ) (b : Action) → CellLaws state →
     AllGoOn state h runs → IsLeastEntry state runs k b → Before (stamp_of b) h →
     (q : ℕ) (x : Action) → IsRegion state.grid q → IsAmong (Native x) (runs q).log → stamp_of x ≡ stamp_of b →
     (x ≡ b) × (q ≡ k)
@@ -85,9 +85,9 @@ same_actions h t run late none = elim (past_cases t run run.log refl late) [
 
 -- ---- what is left
 -- the state has followed what was merged; the regions that are left go on from it, and the heads are theirs
-pub record IsMerging (old : CellStateData) (whole : Runs) (h : Stamp) (heads : Heads) (done : List Action)
+pub record IsMerging (old : CellStateData) (whole : LocalRuns) (h : Stamp) (heads : Heads) (done : List Action)
     (now : CellStateData) : Type 0 where
-  pub left : Runs
+  pub left : LocalRuns
   pub is : IsCellState now
   pub grid : now.grid ≡ old.grid
   pub follows : now ≡ followed_by old done
@@ -100,12 +100,12 @@ pub record IsMerging (old : CellStateData) (whole : Runs) (h : Stamp) (heads : H
   pub after : (k : ℕ) (x y : Action) → IsRegion now.grid k → IsAmong x done →
       IsAmong (Native y) (left k).log → Before (stamp_of x) (stamp_of y)
   -- what was merged rises and was run before the stamp; all such was merged or is left
-  pub rise : ActionsRise done
+  pub rise : ActionStampsRise done
   pub are : (x : Action) → IsAmong x done → IsDone old whole h x
   pub all : (k : ℕ) (x : Action) → IsRegion now.grid k → IsAmong (Native x) (whole k).log →
       Before (stamp_of x) h → IsAmong x done ⊎ IsAmong (Native x) (left k).log
 
-pub merging_begins : (old : CellStateData) (whole : Runs) (h : Stamp) (heads : Heads) → IsCellState old →
+pub merging_begins : (old : CellStateData) (whole : LocalRuns) (h : Stamp) (heads : Heads) → IsCellState old →
     AllGoOn old h whole →
     ((k : ℕ) → IsRegion old.grid k → IsHeadAfter h (whole k).log 0 (head_at heads k)) →
     IsMerging old whole h heads [] old
@@ -124,8 +124,8 @@ merging_begins old whole h heads is on first = record {
 }
 
 -- without heads all is merged
-pub merging_ends : (old : CellStateData) (whole : Runs) (h : Stamp) (heads : Heads) (done : List Action)
-    (now : CellStateData) → IsMerging old whole h heads done now → IsLeastHead heads None →
+pub merging_ends : (old : CellStateData) (whole : LocalRuns) (h : Stamp) (heads : Heads) (done : List Action)
+    (now : CellStateData) → IsMerging old whole h heads done now → IsLeadingHead heads None →
     IsMerged old whole h done
 merging_ends old whole h heads done now merging none = record {
   rise = merging.rise;
@@ -147,11 +147,11 @@ merging_ends old whole h heads done now merging none = record {
         absurd (subst (IsAmong x) nothing later)
 
 -- ---- one more action
-module _ (old : CellStateData) (whole : Runs) (h : Stamp) (heads : Heads) (done : List Action)
+module _ (old : CellStateData) (whole : LocalRuns) (h : Stamp) (heads : Heads) (done : List Action)
     (now : CellStateData) (merging : IsMerging old whole h heads done now) (laws : CellLaws now)
-    (k : ℕ) (head : Head) (within : IsRegion now.grid k) (least : IsLeastHead heads (Some (k, head)))
+    (k : ℕ) (head : Head) (within : IsRegion now.grid k) (least : IsLeadingHead heads (Some (k, head)))
     (b : Action) (read : native_in (slice_get (whole k).log head.place) ≡ Some b) where
-  abbrev left : Runs
+  abbrev left : LocalRuns
   left = merging.left
 
   begins : BeginsAt h (whole k).log (actions_below h (left k).log) head
@@ -183,11 +183,11 @@ module _ (old : CellStateData) (whole : Runs) (h : Stamp) (heads : Heads) (done 
       member = among_actions (left q).floor h (left q).log x (merging.on.each q within_q).rises among
           (before_trans (stamp_of x) (stamp_of b) h less own_among.1)
 
-      rises : ActionsRise (actions_below h (left q).log)
+      rises : ActionStampsRise (actions_below h (left q).log)
       rises = actions_rise (left q).floor h (left q).log (merging.on.each q within_q).rises
 
       by_place : (other : Head) (y : Action) (ys : List Action) → head_at heads q ≡ Some other →
-          stamp_of y ≡ other.stamp → ActionsRise (y ∷ ys) → IsAmong x (y ∷ ys) → ⊥
+          stamp_of y ≡ other.stamp → ActionStampsRise (y ∷ ys) → IsAmong x (y ∷ ys) → ⊥
       by_place other y ys is same rise (inl here) = head_not_before q other y is same
           (subst (λ (v : Action). Before (stamp_of v) (stamp_of b)) here less)
       by_place other y ys is same rise (inr more) = head_not_before q other y is same
@@ -198,7 +198,7 @@ module _ (old : CellStateData) (whole : Runs) (h : Stamp) (heads : Heads) (done 
       by_head None is none = subst (IsAmong x) none member
       by_head (Some other) is begins = by_place other begins.action
           (actions_below h (drop (other.place + 1) (whole q).log)) is begins.stamp
-          (subst ActionsRise begins.rest rises) (subst (IsAmong x) begins.rest member)
+          (subst ActionStampsRise begins.rest rises) (subst (IsAmong x) begins.rest member)
 
   entry : IsLeastEntry now left k b
   entry = record { within = within; among = own_among.0; least = none_before }
@@ -348,7 +348,7 @@ keeps_begin old regions h heads is stand kept bound first = record {
 
 module _ (old : CellStateData) (regions : List RegionData) (h : Stamp) (heads : Heads) (done : List Action)
     (now : CellStateData) (keeps : KeepsMerging old regions h heads done now) (stand : AllStand old regions)
-    (kept : AllKept regions) (k : ℕ) (head : Head) (least : IsLeastHead heads (Some (k, head)))
+    (kept : AllKept regions) (k : ℕ) (head : Head) (least : IsLeadingHead heads (Some (k, head)))
     (region : RegionData) (at : slice_get regions k ≡ Some region) where
   within_old : IsRegion old.grid k
   within_old = subst (λ n. k < n) (keeps.count ∙ stand.count) least.0
@@ -394,7 +394,7 @@ module _ (old : CellStateData) (regions : List RegionData) (h : Stamp) (heads : 
 
 pub keeps_end : (old : CellStateData) (regions : List RegionData) (h : Stamp) (heads : Heads)
     (done : List Action) (now : CellStateData) → KeepsMerging old regions h heads done now → IsCellState old →
-    AllStand old regions → AllKept regions → IsBound old (runs_of regions) h → IsLeastHead heads None →
+    AllStand old regions → AllKept regions → IsBound old (runs_of regions) h → IsLeadingHead heads None →
     Merges old regions h done now
 keeps_end old regions h heads done now keeps is stand kept bound none =
     let merged = merging_ends old (runs_of regions) h heads done now keeps.merging none in record {

@@ -11,7 +11,7 @@ use Rattle.local_run.specs.Opening.{RegionData}
 use Rattle.local_run.specs.Entries.{native_in}
 use Rattle.local_run.specs.Keeping.{entries_of}
 use Rattle.commit_horizon.specs.Horizon.{runs_of, IsMerged}
-use Rattle.commit_horizon.specs.Laws.{IsNext}
+use Rattle.commit_horizon.specs.Laws.{IsNextMerged}
 use Rattle.commit_horizon.specs.Merging.{Head, Heads, head_at}
 
 -- ---- one log
@@ -60,5 +60,5 @@ nearer_of (Some least) k (Some head) =
 pub record Merges (old : CellStateData) (regions : List RegionData) (h : Stamp) (actions : List Action)
     (new : CellStateData) : Type 0 where
   pub merged : IsMerged old (runs_of regions) h actions
-  pub next : IsNext old (runs_of regions) h actions
+  pub next : IsNextMerged old (runs_of regions) h actions
   pub follows : new ≡ followed_by old actions

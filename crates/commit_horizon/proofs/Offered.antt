@@ -9,13 +9,13 @@ use Rattle.region_view.specs.declared.action.Action.{Action}
 use Rattle.region_view.specs.Views.{ViewData}
 use Rattle.region_view.specs.Laws.{HasCells}
 use Rattle.region_view.proofs.Homes.{each_event_has_one_home, natives_are_home, natives_act_alike}
-use Rattle.cell_sequence.specs.State.{CellStateData, IsCellState, IsCandidateOf, ComesTo}
+use Rattle.cell_sequence.specs.State.{CellStateData, IsCellState, IsCandidateOf, ComesToInState}
 use Rattle.cell_sequence.specs.Laws.{Sees, IsHomeOf}
 use Rattle.cell_sequence.proofs.Exists.{one_action}
 use Rattle.cell_sequence.proofs.Orderly.{cell_states_are_orderly}
 use Rattle.cell_sequence.proofs.Seen.{next_actions_are_seen}
 use Rattle.local_run.specs.LocalRun.{IsOwn}
-use Rattle.local_run.specs.LocalRun.{ComesTo as ComesToIn}
+use Rattle.local_run.specs.LocalRun.{ComesToInView as ComesToIn}
 use Rattle.local_run.specs.Opening.{home_of}
 use Rattle.commit_horizon.proofs.GoesOn.{CellLaws}
 
@@ -45,7 +45,7 @@ module _ (state : CellStateData) (is : IsCellState state) where
 
   acts_alike : (k : ℕ) (view : ViewData) (s : Stamp) (r : Result Action Limit) → IsRegion state.grid k →
       Sees state k view → IsOwn (home_of state k) view s → ComesToIn (home_of state k) view s r →
-      ComesTo state s r
+      ComesToInState state s r
   acts_alike k view s r within sees own comes =
       let known = own_is_home k view s within sees own in
       (natives_act_alike state.rules state.grid k (slice_get state.placed) view s r sizes within cells sees

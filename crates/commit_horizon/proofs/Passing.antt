@@ -13,8 +13,8 @@ use Rattle.region_view.specs.Acting.{stamp_of}
 use Rattle.cell_sequence.specs.Run.{hits}
 use Rattle.cell_sequence.proofs.Joins.{hits_join}
 use Rattle.local_run.proofs.Among.{same_or_other}
-use Rattle.commit_horizon.specs.Horizon.{ActionsRise}
-use Rattle.commit_horizon.specs.Untold.{PassesCrossings, BeginsAfter, IsMergeOf, CanBeTold, AllCanBeTold, AllListsRise, CanBeTellings}
+use Rattle.commit_horizon.specs.Horizon.{ActionStampsRise}
+use Rattle.commit_horizon.specs.Untold.{PassesCrossings, ActionsBeginAfter, IsMergeOf, CanBeTold, AllCanBeTold, AllListsRise, CanBeTellings}
 use Rattle.commit_horizon.proofs.MergedLists.{within_lists}
 
 -- ---- one list
@@ -32,8 +32,8 @@ passes_one x old mid new (gone, is, none) more nothing =
     joined gone a b = grind (arith, common_steps)
 
 -- what comes before a crossing comes before what is after it
-after_passed : (y x : Action) (rest : List Action) → Before (stamp_of y) (stamp_of x) → ActionsRise (x ∷ rest) →
-    BeginsAfter y rest
+after_passed : (y x : Action) (rest : List Action) → Before (stamp_of y) (stamp_of x) → ActionStampsRise (x ∷ rest) →
+    ActionsBeginAfter y rest
 after_passed y x [] before rise = tt
 after_passed y x (z ∷ zs) before rise =
     before_trans (stamp_of y) (stamp_of x) (stamp_of z) before (rise.0 z (inl refl))
@@ -44,11 +44,11 @@ same_hits (Hit change) xs ys same = ap (λ (v : List Change). change ∷ v) same
 
 -- ---- all lists
 pub lists_still_rise : (lists : List (List Action)) (k : ℕ) (rest : List Action) → AllListsRise lists → k < length lists →
-    ActionsRise rest → AllListsRise (set lists k rest)
+    ActionStampsRise rest → AllListsRise (set lists k rest)
 lists_still_rise lists k rest rise within here q = elim (same_or_other q k) [
-  | inl same ↦ subst ActionsRise
+  | inl same ↦ subst ActionStampsRise
       (sym (ap (λ (n : ℕ). get_or (set lists k rest) n []) same ∙ get_or-set_same lists k rest [] within)) here
-  | inr other ↦ subst ActionsRise (sym (get_or-set_other lists k q rest [] other)) (rise q)
+  | inr other ↦ subst ActionStampsRise (sym (get_or-set_other lists k q rest [] other)) (rise q)
 ]
 
 -- what is merged where a list begins later
@@ -60,7 +60,7 @@ record Merged (lists : List (List Action)) (k : ℕ) (rest xs : List Action) : T
   pub fewer : length others ≤ length xs
 
 crossing_passed : (lists : List (List Action)) (k : ℕ) (s : Stamp) (cell : ℕ) (rest xs : List Action) →
-    IsMergeOf lists xs → AllCanBeTold xs → get_or lists k [] ≡ Cross s cell ∷ rest → ActionsRise (Cross s cell ∷ rest) →
+    IsMergeOf lists xs → AllCanBeTold xs → get_or lists k [] ≡ Cross s cell ∷ rest → ActionStampsRise (Cross s cell ∷ rest) →
     Merged lists k rest xs
 crossing_passed lists k s cell rest [] none can at rise =
     let same : [] ≡ Cross s cell ∷ rest = sym (none k) ∙ at in absurd cc
@@ -94,13 +94,13 @@ crossing_passed lists k s cell rest (y ∷ ys) (j, tail, there, others, more) ca
       }
 ]
   where
-    begins_after : (y : Action) (j : ℕ) → ((q : ℕ) → q ≢ j → BeginsAfter y (get_or lists q [])) → k ≢ j → (q : ℕ) → q ≢ j →
-        BeginsAfter y (get_or (set lists k rest) q [])
+    begins_after : (y : Action) (j : ℕ) → ((q : ℕ) → q ≢ j → ActionsBeginAfter y (get_or lists q [])) → k ≢ j → (q : ℕ) → q ≢ j →
+        ActionsBeginAfter y (get_or (set lists k rest) q [])
     begins_after y j others other q not = elim (same_or_other q k) [
-      | inl same ↦ subst (BeginsAfter y) (sym (ap (λ (n : ℕ). get_or (set lists k rest) n []) same
+      | inl same ↦ subst (ActionsBeginAfter y) (sym (ap (λ (n : ℕ). get_or (set lists k rest) n []) same
           ∙ get_or-set_same lists k rest [] (within_lists lists k (Cross s cell) rest at)))
-          (after_passed y (Cross s cell) rest (subst (BeginsAfter y) at (others k other)) rise)
-      | inr apart ↦ subst (BeginsAfter y) (sym (get_or-set_other lists k q rest [] apart)) (others q not)
+          (after_passed y (Cross s cell) rest (subst (ActionsBeginAfter y) at (others k other)) rise)
+      | inr apart ↦ subst (ActionsBeginAfter y) (sym (get_or-set_other lists k q rest [] apart)) (others q not)
     ]
 
 -- what can be told where a list begins later, by crossings alone
@@ -122,7 +122,7 @@ crossings_passed [] lists k rest xs none can at = record {
 crossings_passed (Hit change ∷ gone) lists k rest xs none can at =
     let same : change ∷ hits gone ≡ [] = none in absurd cc
 crossings_passed (Cross s cell ∷ gone) lists k rest xs none can at =
-    let rise = subst ActionsRise at (can.rise k) in
+    let rise = subst ActionStampsRise at (can.rise k) in
     let within = within_lists lists k (Cross s cell) (gone ++ rest) at in
     let first = crossing_passed lists k s cell (gone ++ rest) xs can.merged can.can at rise in
     let more = crossings_passed gone (set lists k (gone ++ rest)) k rest first.others none (record {

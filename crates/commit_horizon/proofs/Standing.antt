@@ -17,7 +17,7 @@ use Rattle.local_run.specs.Standing.{StandsOn}
 use Rattle.local_run.proofs.Among.{below_nil}
 use Rattle.local_run.proofs.Sent.{sent_from}
 use Rattle.commit_horizon.specs.Horizon.{run_of, runs_of, AllStand, AllKept, AreStanding, IsBound, IsHorizon}
-use Rattle.commit_horizon.specs.Bounds.{HoldsUpTo, OfAll, IsUpToDue, AgreeOn, AllAgree, IsWithin}
+use Rattle.commit_horizon.specs.Bounds.{HoldsUpTo, OfAll, IsUpToDue, AgreeOn, AllAgree, IsUpToAll}
 
 -- what a region is seen as that stands on a state with this run
 abbrev pub region_on : CellStateData → ℕ → Local → RegionData
@@ -76,7 +76,7 @@ are_standing state regions stand kept k is =
 -- ---- bounds
 -- what a bound asks for of the runs is what it asks for of the regions
 pub within_is_bound : (state : CellStateData) (regions : List RegionData) (t : Stamp) →
-    AllStand state regions → IsWithin (end_stamp state.rules.end) regions t → ¬ Before t state.floor →
+    AllStand state regions → IsUpToAll (end_stamp state.rules.end) regions t → ¬ Before t state.floor →
     IsBound state (runs_of regions) t
 within_is_bound state regions t stand within floor = record {
   end = within.0;
@@ -93,7 +93,7 @@ within_is_bound state regions t stand within floor = record {
 
 pub bound_is_within : (state : CellStateData) (regions : List RegionData) (t : Stamp) →
     AllStand state regions → IsBound state (runs_of regions) t →
-    IsWithin (end_stamp state.rules.end) regions t
+    IsUpToAll (end_stamp state.rules.end) regions t
 bound_is_within state regions t stand bound = (bound.end, due, agree)
   where
     due : OfAll IsUpToDue regions t
@@ -147,7 +147,7 @@ floor_is_within state regions is stand kept = record {
 -- the greatest stamp within what bounds the regions is the horizon
 pub horizon_is : (state : CellStateData) (regions : List RegionData) (h : Stamp) → IsCellState state →
     AllStand state regions → AllKept regions →
-    HoldsUpTo (IsWithin (end_stamp state.rules.end) regions) (Some h) →
+    HoldsUpTo (IsUpToAll (end_stamp state.rules.end) regions) (Some h) →
     IsHorizon state (runs_of regions) h
 horizon_is state regions h is stand kept holds = record {
   bound = within_is_bound state regions h stand ((holds.exactly h).1 (not_before_itself h))

@@ -21,14 +21,14 @@ use Rattle.local_run.specs.declared.home.Home.{Home}
 use Rattle.local_run.specs.declared.entry.Entry.{Entry}
 use Rattle.local_run.specs.declared.entry.Entry.TheVariants.{Native, Heard}
 use Rattle.local_run.specs.Entries.{entry_stamp, RiseFrom}
-use Rattle.local_run.specs.LocalRun.{At, Local, Trails, trail_of, rest_of, without_first}
+use Rattle.local_run.specs.LocalRun.{At, Local, Trails, trail_of, messages_after_first, without_first}
 use Rattle.local_run.specs.LocalRun.{after_entry, after_log, start_of, Moves, IsMove, IsDue, IsOwn}
-use Rattle.local_run.specs.LocalRun.{IsOffered, IsWaiting, sent_to, told}
+use Rattle.local_run.specs.LocalRun.{IsOffered, IsWaiting, sent_to, prepended}
 use Rattle.local_run.specs.Opening.{home_of}
 use Rattle.local_run.proofs.Among.{AllRise, rise_without, same_trail, other_trail, same_or_other}
 use Rattle.local_run.proofs.Among.{among_rest, waits_first}
 use Rattle.local_run.proofs.Sent.{message_stamp, sent_by, sent_after}
-use Rattle.commit_horizon.specs.Horizon.{Runs}
+use Rattle.commit_horizon.specs.Horizon.{LocalRuns}
 use Rattle.commit_horizon.proofs.GoesOn.{CellLaws, GoesOn, Agree, AllGoOn, NoneBefore, IsLeastEntry}
 use Rattle.commit_horizon.proofs.GoesOn.{HeadNotBefore, after_first, past, CentralStep, CentralEnd}
 use Rattle.commit_horizon.proofs.Past.{HeadAfter, head_is, rises_rest, past_cases, past_first}
@@ -40,10 +40,10 @@ move_due h a (Heard q m) move = move.due
 -- ---- the trails after an entry
 -- the trail of k without the first message of p
 rest_or_same : (waiting : Trails) (p k : ℕ) →
-    (trail_of (without_first waiting p) k ≡ rest_of (trail_of waiting k))
+    (trail_of (without_first waiting p) k ≡ messages_after_first (trail_of waiting k))
     ⊎ (trail_of (without_first waiting p) k ≡ trail_of waiting k)
 rest_or_same waiting p k = elim (same_or_other k p) [
-  | inl same ↦ inl (subst (λ (v : ℕ). trail_of (without_first waiting p) v ≡ rest_of (trail_of waiting v))
+  | inl same ↦ inl (subst (λ (v : ℕ). trail_of (without_first waiting p) v ≡ messages_after_first (trail_of waiting v))
       (sym same) (same_trail waiting p))
   | inr other ↦ inr (other_trail waiting p k other)
 ]
@@ -60,15 +60,15 @@ among_before a (Heard p n) k m among = elim (rest_or_same a.waiting p k) [
   | inr same ↦ subst (IsAmong m) same among
 ]
 
-module _ (state : CellStateData) (h : Stamp) (runs : Runs) (laws : CellLaws state)
+module _ (state : CellStateData) (h : Stamp) (runs : LocalRuns) (laws : CellLaws state)
     (all : AllGoOn state h runs) where
   -- what the first entry of x sends to y
   sent_first : (x y : ℕ) (a : Action) (es : List Entry) → (runs x).log ≡ Native a ∷ es →
       (o : Option Message) → message_of state.grid y (rows_in (runs x).base) a ≡ o →
       sent_to state.grid y (runs x).base (runs x).log
-      ≡ told o (sent_to state.grid y (after_action (runs x).base a) es)
+      ≡ prepended o (sent_to state.grid y (after_action (runs x).base a) es)
   sent_first x y a es is o message = ap (sent_to state.grid y (runs x).base) is
-      ∙ ap (λ (v : Option Message). told v (sent_to state.grid y (after_action (runs x).base a) es)) message
+      ∙ ap (λ (v : Option Message). prepended v (sent_to state.grid y (after_action (runs x).base a) es)) message
 
   -- what r heard from q before h, q sent
   was_sent : (r q : ℕ) → IsRegion state.grid r → (m : Message) → IsAmong m (trail_of (runs r).heard q) →
@@ -257,12 +257,12 @@ module _ (state : CellStateData) (h : Stamp) (runs : Runs) (laws : CellLaws stat
         sees_after a q (after_action (runs q).base a) next.0
         (laws.view_home q (runs q).base a next.0 next.1 (all.each q within).base)
     first_view q within (Heard p m) es is now =
-        let told = heard_now q within p m es is now in
-        let a = told.2.0 in
-        let next = told.2.1 in
+        let prepended = heard_now q within p m es is now in
+        let a = prepended.2.0 in
+        let next = prepended.2.1 in
         sees_after a q (set_rows (runs q).base m.rows) next.0
-        (laws.view_told p q (runs p).base (runs q).base a m next.0 next.1 (all.each p told.0).base
-        (all.each q within).base told.2.2)
+        (laws.view_told p q (runs p).base (runs q).base a m next.0 next.1 (all.each p prepended.0).base
+        (all.each q within).base prepended.2.2)
 
     -- what isn't before h, or h isn't after the floor, isn't before it: the floor of the next state is
     due_after : (s : Stamp) → (¬ Before s h) ⊎ (¬ Before state.floor h) → (¬ Before s h) ⊎ (¬ Before Now h)
@@ -430,7 +430,7 @@ module _ (state : CellStateData) (h : Stamp) (runs : Runs) (laws : CellLaws stat
         let first = waits_then_first y within_y x n waits.0 waits.1 stamp in
         let heard : trail_of (past Now (runs y)).heard x ≡ waits.0
         = ap (λ (v : Local). trail_of v.heard x) (past_first Now (runs y) (Heard x n) first.0 first.1 stamp)
-        ∙ same_trail (runs y).heard x ∙ ap rest_of waits.1 in
+        ∙ same_trail (runs y).heard x ∙ ap messages_after_first waits.1 in
         let sent : sent_to state.grid y (past Now (runs x)).base (past Now (runs x)).log
         ≡ sent_to state.grid y (after_action (runs x).base a) es
         = ap (λ (v : Local). sent_to state.grid y v.base v.log)
@@ -447,12 +447,12 @@ module _ (state : CellStateData) (h : Stamp) (runs : Runs) (laws : CellLaws stat
         by_sent (inl sent) (inl heard) =
             ap (below h) sent ∙ all.agree x y within_x within_y linked ∙ sym (ap (below h) heard)
         by_sent (inl sent) (inr heard) =
-            let told = heard_now y within_y x heard.0 heard.1 heard.2 heard.3 in
-            let a = told.2.0 in
-            let next = told.2.1 in
+            let prepended = heard_now y within_y x heard.0 heard.1 heard.2 heard.3 in
+            let a = prepended.2.0 in
+            let next = prepended.2.1 in
             let now : stamp_of a ≡ Now
-            = sym (message_stamp state.grid y (rows_in (runs x).base) a heard.0 told.2.2) ∙ heard.3 in
-            agree_rest x y within_x within_y linked a next.2.0 next.2.1 now heard.0 told.2.2
+            = sym (message_stamp state.grid y (rows_in (runs x).base) a heard.0 prepended.2.2) ∙ heard.3 in
+            agree_rest x y within_x within_y linked a next.2.0 next.2.1 now heard.0 prepended.2.2
 
     step : IsNextAction state b × IsHomeOf state (stamp_of b) k
         × AllGoOn (followed state b) h (λ q. past Now (runs q))
@@ -468,7 +468,7 @@ central_end state h runs laws all none = (
 )
 
 -- no region has an entry before the least native one
-pub heads_late : (state : CellStateData) (h : Stamp) (runs : Runs) (k : ℕ) (b : Action) → CellLaws state →
+pub heads_late : (state : CellStateData) (h : Stamp) (runs : LocalRuns) (k : ℕ) (b : Action) → CellLaws state →
     AllGoOn state h runs → IsLeastEntry state runs k b → Before (stamp_of b) h → (q : ℕ) →
     IsRegion state.grid q → HeadNotBefore (stamp_of b) (runs q).log
 heads_late state h runs k b laws all entry before q within =

@@ -20,7 +20,7 @@ use Rattle.cell_sequence.proofs.Orderly.{known}
 use Rattle.local_run.specs.Opening.{RegionData}
 use Rattle.event_log.specs.Collisions.{change_in}
 use Rattle.commit_horizon.specs.Horizon.{runs_of, AllKept, IsHorizon}
-use Rattle.commit_horizon.specs.Bounds.{HoldsUpTo, IsWithin}
+use Rattle.commit_horizon.specs.Bounds.{HoldsUpTo, IsUpToAll}
 use Rattle.commit_horizon.specs.Raising.{AllMayRise}
 use Rattle.commit_horizon.specs.Telling.{IsStateOf, MayBeTold}
 use Rattle.commit_horizon.proofs.Commit.{may_rise}
@@ -66,13 +66,13 @@ nothing_told after m (Some (Hit change)) is = absurd (none-some change is)
 -- ---- a commit
 -- the horizon of what the regions have due and agree on
 pub horizon_of : (rules : Rules) (regions : List RegionData) (h : Stamp) →
-    HoldsUpTo (IsWithin (end_stamp rules.end) regions) (Some h) → AllKept regions → (state : CellStateData) →
+    HoldsUpTo (IsUpToAll (end_stamp rules.end) regions) (Some h) → AllKept regions → (state : CellStateData) →
     IsStateOf rules regions state → IsHorizon state (runs_of regions) h
 horizon_of rules regions h bound kept state of = horizon_is state regions h of.is of.stand kept
-    (subst (λ (r : Rules). HoldsUpTo (IsWithin (end_stamp r.end) regions) (Some h)) (sym of.rules_are) bound)
+    (subst (λ (r : Rules). HoldsUpTo (IsUpToAll (end_stamp r.end) regions) (Some h)) (sym of.rules_are) bound)
 
 module _ (rules : Rules) (regions : List RegionData) (h : Stamp)
-    (bound : HoldsUpTo (IsWithin (end_stamp rules.end) regions) (Some h)) (kept : AllKept regions)
+    (bound : HoldsUpTo (IsUpToAll (end_stamp rules.end) regions) (Some h)) (kept : AllKept regions)
     (old : CellStateData) (of : IsStateOf rules regions old) where
   horizon : IsHorizon old (runs_of regions) h
   horizon = horizon_of rules regions h bound kept old of

@@ -5,7 +5,7 @@ use Rattle.event_stamps.proofs.StampOrder.{before_trans, not_before_itself, same
 use Rattle.region_view.specs.declared.action.Action.{Action}
 use Rattle.region_view.specs.Acting.{stamp_of}
 use Rattle.region_messages.specs.Trails.{IsAmong}
-use Rattle.commit_horizon.specs.Horizon.{ActionsRise}
+use Rattle.commit_horizon.specs.Horizon.{ActionStampsRise}
 use Rattle.commit_horizon.specs.Laws.{OneHorizon, OneMerged}
 
 pub one_horizon : OneHorizon
@@ -17,7 +17,7 @@ abbrev AreWithin : List Action → List Action → Type 0
 AreWithin xs ys = (x : Action) → IsAmong x xs → IsAmong x ys
 
 -- of two lists with the same actions the first are the same
-same_first : (x y : Action) (xs ys : List Action) → ActionsRise (x ∷ xs) → ActionsRise (y ∷ ys) →
+same_first : (x y : Action) (xs ys : List Action) → ActionStampsRise (x ∷ xs) → ActionStampsRise (y ∷ ys) →
     IsAmong x (y ∷ ys) → IsAmong y (x ∷ xs) → x ≡ y
 same_first x y xs ys rise rises (inl same) there = same
 same_first x y xs ys rise rises (inr later) (inl same) = sym same
@@ -25,7 +25,7 @@ same_first x y xs ys rise rises (inr later) (inr after) = absurd (not_before_its
     (before_trans (stamp_of x) (stamp_of y) (stamp_of x) (rise.0 y after) (rises.0 x later)))
 
 -- and the others of the one are others of the other
-rest_within : (x y : Action) (xs ys : List Action) → ActionsRise (x ∷ xs) → x ≡ y →
+rest_within : (x y : Action) (xs ys : List Action) → ActionStampsRise (x ∷ xs) → x ≡ y →
     AreWithin (x ∷ xs) (y ∷ ys) → AreWithin xs ys
 rest_within x y xs ys rise same within z among = by_place (within z (inr among))
   where
@@ -34,7 +34,7 @@ rest_within x y xs ys rise same within z among = by_place (within z (inr among))
         (subst (λ (v : Action). Before (stamp_of x) (stamp_of v)) (is ∙ sym same) (rise.0 z among)))
     by_place (inr more) = more
 
-same_list : (xs ys : List Action) → ActionsRise xs → ActionsRise ys → AreWithin xs ys → AreWithin ys xs →
+same_list : (xs ys : List Action) → ActionStampsRise xs → ActionStampsRise ys → AreWithin xs ys → AreWithin ys xs →
     xs ≡ ys
 same_list [] [] rise rises to from = refl
 same_list [] (y ∷ ys) rise rises to from = absurd (from y (inl refl))

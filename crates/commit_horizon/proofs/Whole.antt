@@ -15,7 +15,7 @@ use Rattle.local_run.specs.Opening.{RegionData}
 use Rattle.local_run.specs.Entries.{native_in}
 use Rattle.local_run.specs.Keeping.{entries_of}
 use Rattle.commit_horizon.specs.Horizon.{runs_of, AllStand, AllKept, IsBound}
-use Rattle.commit_horizon.specs.Merging.{Head, Heads, head_at, IsLeastHead}
+use Rattle.commit_horizon.specs.Merging.{Head, Heads, head_at, IsLeadingHead}
 use Rattle.commit_horizon.proofs.Merging.{actions_below, IsHeadAfter, head_before, AreHeads, nearer_of, Merges}
 use Rattle.commit_horizon.proofs.Heads.{IsLeastOfFirst, nearer_is, least_of_all, head_found, head_passed, head_past, one_more_head, cost_of}
 use Rattle.commit_horizon.proofs.Merges.{KeepsMerging, keeps_begin, has_action, keeps_on, costs_less, keeps_end}
@@ -54,7 +54,7 @@ least_upto heads (suc n) le =
     )
 
 -- some heads have a least one, or there is none
-least_head : (heads : Heads) → (least : Option (ℕ × Head)) × IsLeastHead heads least
+least_head : (heads : Heads) → (least : Option (ℕ × Head)) × IsLeadingHead heads least
 least_head heads =
     let found = least_upto heads (length heads) (omega arith) in
     (found.0, least_of_all heads (length heads) found.0 (omega arith) found.1)
@@ -92,7 +92,7 @@ module _ (old : CellStateData) (regions : List RegionData) (h : Stamp) (is : IsC
   merge_from (suc fuel) heads done now keeps less =
       let least = least_head heads in by_least least.0 least.1 (merge_from fuel)
     where
-      by_least : (least : Option (ℕ × Head)) → IsLeastHead heads least →
+      by_least : (least : Option (ℕ × Head)) → IsLeadingHead heads least →
           ((heads : Heads) (done : List Action) (now : CellStateData) →
           KeepsMerging old regions h heads done now → sum_by cost_of heads < fuel → Left done) → Left done
       by_least None none more = (

@@ -16,17 +16,17 @@ use Rattle.local_run.specs.Opening.{RegionData}
 use Rattle.local_run.specs.Keeping.{IsKept, IsDueAt, IsDueIn, IsSent, IsHeard, SendsTo, HearsOf}
 use Rattle.local_run.proofs.Right.{waiting_was_heard}
 use Rattle.local_run.proofs.Valid.{own_before_end}
-use Rattle.commit_horizon.specs.Bounds.{IsUpTo, HoldsUpTo, OfFirst, OfAll, IsUpToDueOf, IsUpToDue, AgreeOn}
-use Rattle.commit_horizon.specs.Bounds.{AllAgree, IsWithin, later_of}
+use Rattle.commit_horizon.specs.Bounds.{IsUpToStamp, HoldsUpTo, OfFirst, OfAll, IsUpToDueOf, IsUpToDue, AgreeOn}
+use Rattle.commit_horizon.specs.Bounds.{AllAgree, IsUpToAll, later_of}
 
 -- ---- two stamps
-pub up_to_earlier : (a b : Option Stamp) (t : Stamp) → IsUpTo (earlier_of a b) t ↔ (IsUpTo a t × IsUpTo b t)
+pub up_to_earlier : (a b : Option Stamp) (t : Stamp) → IsUpToStamp (earlier_of a b) t ↔ (IsUpToStamp a t × IsUpToStamp b t)
 up_to_earlier None b t = (λ h. (tt, h), λ h. h.1)
 up_to_earlier (Some s) None t = (λ h. (h, tt), λ h. h.0)
 up_to_earlier (Some s) (Some u) t = by_test (is_before u s) refl
   where
     by_test : (b : Bool) → is_before u s ≡ b →
-        IsUpTo (if b then Some u else Some s) t ↔ ((¬ Before s t) × (¬ Before u t))
+        IsUpToStamp (if b then Some u else Some s) t ↔ ((¬ Before s t) × (¬ Before u t))
     by_test true e = (λ h. (λ less. h (before_trans u s t (before_from_true u s e) less), h), λ h. h.1)
     by_test false e =
         (λ h. (h, λ less. h (not_after_before s u t (not_before_from_false u s e) less)), λ h. h.0)
@@ -114,14 +114,14 @@ kept_more regions n region there before kept k r lt at = elim (below_or_last k n
 -- the least of all bounds
 pub least_holds : (end : Stamp) (regions : List RegionData) (due apart : Option Stamp) →
     HoldsUpTo (OfAll IsUpToDue regions) due → HoldsUpTo (AllAgree regions) apart →
-    HoldsUpTo (IsWithin end regions) (Some (unwrap_or (earlier_of (Some end) (earlier_of due apart)) end))
+    HoldsUpTo (IsUpToAll end regions) (Some (unwrap_or (earlier_of (Some end) (earlier_of due apart)) end))
 least_holds end regions due apart is_due is_apart =
     let others = holds_earlier (OfAll IsUpToDue regions) (AllAgree regions)
     (λ t. OfAll IsUpToDue regions t × AllAgree regions t) due apart is_due is_apart
     (λ t. (λ h. h, λ h. h)) in
-    subst (HoldsUpTo (IsWithin end regions)) (earlier_is_some end (earlier_of due apart))
+    subst (HoldsUpTo (IsUpToAll end regions)) (earlier_is_some end (earlier_of due apart))
     (holds_earlier (λ t. ¬ Before end t) (λ t. OfAll IsUpToDue regions t × AllAgree regions t)
-    (IsWithin end regions) (Some end) (earlier_of due apart)
+    (IsUpToAll end regions) (Some end) (earlier_of due apart)
     (record { exactly = λ t. (λ h. h, λ h. h) }) others
     (λ t. (λ h. (h.0, (h.1, h.2)), λ h. (h.0, h.1.0, h.1.1))))
 

@@ -10,13 +10,13 @@ use Rattle.local_run.specs.Opening.{RegionData}
 use Rattle.local_run.specs.Keeping.{IsSent, IsHeard}
 
 -- not after a stamp, where there is one
-abbrev pub IsUpTo : Option Stamp → Stamp → Type 0
-IsUpTo None t = ⊤
-IsUpTo (Some s) t = ¬ Before s t
+abbrev pub IsUpToStamp : Option Stamp → Stamp → Type 0
+IsUpToStamp None t = ⊤
+IsUpToStamp (Some s) t = ¬ Before s t
 
 -- of exactly the stamps up to this one it holds; of all, where there is none
 pub record HoldsUpTo (P : Stamp → Type 0) (bound : Option Stamp) : Type 0 where
-  pub exactly : (t : Stamp) → (P t ↔ IsUpTo bound t)
+  pub exactly : (t : Stamp) → (P t ↔ IsUpToStamp bound t)
 
 -- it holds of the first regions, so many
 abbrev pub OfFirst : (RegionData → Stamp → Type 0) → List RegionData → ℕ → Stamp → Type 0
@@ -49,8 +49,8 @@ abbrev pub AllAgree : List RegionData → Stamp → Type 0
 AllAgree regions t = OfAll (AllAgreeWith regions) regions t
 
 -- not after the end, nor after what the regions have due, nor after a disagreement
-abbrev pub IsWithin : Stamp → List RegionData → Stamp → Type 0
-IsWithin end regions t = (¬ Before end t) × OfAll IsUpToDue regions t × AllAgree regions t
+abbrev pub IsUpToAll : Stamp → List RegionData → Stamp → Type 0
+IsUpToAll end regions t = (¬ Before end t) × OfAll IsUpToDue regions t × AllAgree regions t
 
 -- the later of two stamps
 abbrev pub later_of : Stamp → Stamp → Stamp

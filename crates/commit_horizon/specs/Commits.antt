@@ -7,7 +7,7 @@ use Rattle.cell_sequence.specs.State.{CellStateData, followed_by, HasNoneBelow}
 use Rattle.cell_sequence.specs.State.{raised as raised_state}
 use Rattle.local_run.specs.Opening.{RegionData, IsOpened}
 use Rattle.local_run.specs.Standing.{StandsOn, DiffersBy}
-use Rattle.local_run.specs.Raising.{raised as raised_region}
+use Rattle.local_run.specs.Raising.{raised_region as raised_region}
 use Rattle.commit_horizon.specs.declared.committed.Adopted.{Adopted}
 use Rattle.commit_horizon.specs.declared.committed.Adopted.TheVariants.{Kept, Made}
 use Rattle.commit_horizon.specs.Horizon.{runs_of, IsHorizon, IsMerged, AllStand}
@@ -18,14 +18,14 @@ Adopts state k region (Kept kept) = StandsOn state k region × (kept ≡ region)
 Adopts state k region (Made made differs) = DiffersBy state k region differs × IsOpened state k made
 
 -- the region that comes of it
-abbrev pub region_in : Adopted → RegionData
-region_in (Kept kept) = kept
-region_in (Made made differs) = made
+abbrev pub adopted_region : Adopted → RegionData
+adopted_region (Kept kept) = kept
+adopted_region (Made made differs) = made
 
 -- a region for a number, given or opened anew
 abbrev pub IsAdopted : CellStateData → ℕ → RegionData → RegionData → Type 0
 IsAdopted state k given region =
-    (adopted : Adopted) × Adopts state k given adopted × (region ≡ region_in adopted)
+    (adopted : Adopted) × Adopts state k given adopted × (region ≡ adopted_region adopted)
 
 -- the same at each place
 pub record AllAdopted (state : CellStateData) (given regions : List RegionData) : Type 0 where

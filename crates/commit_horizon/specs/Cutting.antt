@@ -2,7 +2,7 @@
 use Rattle.std.specs.Prelude.{◌≡◌, List, Option, Some, None, map}
 use Rattle.event_stamps.specs.declared.Stamp.{Stamp}
 use Rattle.event_stamps.specs.Order.{Before}
-use Rattle.event_stamps.specs.Ordered.{Rises}
+use Rattle.event_stamps.specs.Ordered.{KeysRise}
 use Rattle.region_view.specs.declared.action.Action.{Action}
 use Rattle.region_view.specs.Acting.{stamp_of}
 use Rattle.region_messages.specs.Trails.{IsAmong}
@@ -23,16 +23,16 @@ logs_below to regions = map (λ region. entries_below to (entries_of region)) re
 
 -- the stamps of each log rise
 abbrev pub AllRise : List (List Entry) → Type 0
-AllRise logs = (log : List Entry) → IsAmong log logs → Rises entry_stamp log
+AllRise logs = (log : List Entry) → IsAmong log logs → KeysRise entry_stamp log
 
 -- ---- the last stamp
 -- an action of a log has it
-abbrev pub HasStamp : List Entry → Stamp → Type 0
-HasStamp log s = (x : Action) × IsAmong (Native x) log × (stamp_of x ≡ s)
+abbrev pub HasActionAt : List Entry → Stamp → Type 0
+HasActionAt log s = (x : Action) × IsAmong (Native x) log × (stamp_of x ≡ s)
 
 -- an action of one of some logs has it
 abbrev pub SomeHasStamp : List (List Entry) → Stamp → Type 0
-SomeHasStamp logs s = (log : List Entry) × IsAmong log logs × HasStamp log s
+SomeHasStamp logs s = (log : List Entry) × IsAmong log logs × HasActionAt log s
 
 -- P holds of the stamp, and of none after it; of none at all, where there is no stamp
 abbrev pub IsLatest : (Stamp → Type 0) → Option Stamp → Type 0

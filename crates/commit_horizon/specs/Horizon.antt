@@ -17,8 +17,8 @@ use Rattle.local_run.specs.Standing.{StandsOn}
 
 -- ---- the regions of a state
 -- the local run of each region, by its number
-abbrev pub Runs : Type 0
-Runs = ℕ → Local
+abbrev pub LocalRuns : Type 0
+LocalRuns = ℕ → Local
 
 -- a right local run from the state's floor on, which begins in the region's view of the state
 pub record IsStanding (state : CellStateData) (k : ℕ) (run : Local) : Type 0 where
@@ -26,13 +26,13 @@ pub record IsStanding (state : CellStateData) (k : ℕ) (run : Local) : Type 0 w
   pub base : Sees state k run.base
   pub right : IsRight (home_of state k) run
 
-abbrev pub AreStanding : CellStateData → Runs → Type 0
+abbrev pub AreStanding : CellStateData → LocalRuns → Type 0
 AreStanding state runs = (k : ℕ) → IsRegion state.grid k → IsStanding state k (runs k)
 
 -- ---- the horizon
 -- a stamp that isn't before the floor nor after the end, nor after what a region has due, unless that is before
 -- the floor, nor after the first disagreement of what one region sent and another heard from it
-pub record IsBound (state : CellStateData) (runs : Runs) (h : Stamp) : Type 0 where
+pub record IsBound (state : CellStateData) (runs : LocalRuns) (h : Stamp) : Type 0 where
   pub end : ¬ Before (end_stamp state.rules.end) h
   pub floor : ¬ Before h state.floor
   pub due : (k : ℕ) (s : Stamp) → IsRegion state.grid k →
@@ -42,27 +42,27 @@ pub record IsBound (state : CellStateData) (runs : Runs) (h : Stamp) : Type 0 wh
       AgreeBelow h (sent_to state.grid q (runs k).base (runs k).log) (trail_of (runs q).heard k)
 
 -- the horizon: no bound is after it
-pub record IsHorizon (state : CellStateData) (runs : Runs) (h : Stamp) : Type 0 where
+pub record IsHorizon (state : CellStateData) (runs : LocalRuns) (h : Stamp) : Type 0 where
   pub bound : IsBound state runs h
   pub greatest : (t : Stamp) → IsBound state runs t → ¬ Before h t
 
 -- ---- merged logs
 -- stamps rise strictly
-abbrev pub ActionsRise : List Action → Type 0
-ActionsRise [] = ⊤
-ActionsRise (x ∷ xs) =
-    ((y : Action) → IsAmong y xs → Before (stamp_of x) (stamp_of y)) × ActionsRise xs
+abbrev pub ActionStampsRise : List Action → Type 0
+ActionStampsRise [] = ⊤
+ActionStampsRise (x ∷ xs) =
+    ((y : Action) → IsAmong y xs → Before (stamp_of x) (stamp_of y)) × ActionStampsRise xs
 
 -- a region ran it, before a stamp
-pub record IsDone (state : CellStateData) (runs : Runs) (h : Stamp) (x : Action) : Type 0 where
+pub record IsDone (state : CellStateData) (runs : LocalRuns) (h : Stamp) (x : Action) : Type 0 where
   pub home : ℕ
   pub within : IsRegion state.grid home
   pub among : IsAmong (Native x) (runs home).log
   pub before : Before (stamp_of x) h
 
 -- what the regions ran before a stamp, in the order of stamps
-pub record IsMerged (state : CellStateData) (runs : Runs) (h : Stamp) (xs : List Action) : Type 0 where
-  pub rise : ActionsRise xs
+pub record IsMerged (state : CellStateData) (runs : LocalRuns) (h : Stamp) (xs : List Action) : Type 0 where
+  pub rise : ActionStampsRise xs
   pub are : (x : Action) → IsAmong x xs → IsDone state runs h x
   pub all : (x : Action) → IsDone state runs h x → IsAmong x xs
 
@@ -71,16 +71,16 @@ pub record IsMerged (state : CellStateData) (runs : Runs) (h : Stamp) (xs : List
 abbrev pub no_run : Local
 no_run = record { floor = first_stamp; base = map.empty; heard = []; log = [] }
 
-abbrev pub run_in : Option Local → Local
-run_in None = no_run
-run_in (Some run) = run
+abbrev pub local_run_in : Option Local → Local
+local_run_in None = no_run
+local_run_in (Some run) = run
 
 abbrev pub run_of : Option RegionData → Local
 run_of None = no_run
-run_of (Some region) = run_in region.run
+run_of (Some region) = local_run_in region.run
 
 -- the local runs of some regions, by their places
-unfoldable pub runs_of : List RegionData → Runs
+unfoldable pub runs_of : List RegionData → LocalRuns
 runs_of regions k = run_of (slice_get regions k)
 
 -- as many regions as the grid has, and each stands on the state with its place as its number

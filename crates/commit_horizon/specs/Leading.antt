@@ -4,7 +4,7 @@ use Rattle.event_stamps.specs.Least.{earlier_of}
 use Rattle.event_tree.specs.Keys.{Key, IsNotAfter, IsKeyBefore}
 use Rattle.commit_horizon.specs.declared.leading.PackedHead.{PackedHead}
 use Rattle.commit_horizon.specs.declared.leading.Leader.{Leader}
-use Rattle.commit_horizon.specs.Merging.{Head, Heads, head_of, head_at, IsLeastHead}
+use Rattle.commit_horizon.specs.Merging.{Head, Heads, head_of, head_at, IsLeadingHead}
 
 -- the stamp isn't after any head of another region; no stamp, where there is no other head
 abbrev pub NoOtherBefore : Heads → ℕ → Key → Type 0
@@ -17,7 +17,7 @@ head_with leader = option_map (λ head. (leader.number, head)) (head_of leader.s
 
 -- a head before which no other comes, or none where there is none; and a stamp that no other is before
 pub record IsLeader (heads : Heads) (leader : Leader) : Type 0 where
-  pub least : IsLeastHead heads (head_with leader)
+  pub least : IsLeadingHead heads (head_with leader)
   pub others : NoOtherBefore heads leader.number leader.second
 
 -- of two heads the lesser leads, the first one where they share a stamp; the other is the second, or what was the

@@ -28,8 +28,8 @@ abbrev pub head_at : Heads → ℕ → Option Head
 head_at heads k = get_or heads k None
 
 -- a head before which no other comes, with the number of its region; or that there is none
-abbrev pub IsLeastHead : Heads → Option (ℕ × Head) → Type 0
-IsLeastHead heads None = (k : ℕ) → head_at heads k ≡ None
-IsLeastHead heads (Some least) = (least.0 < length heads) × (head_at heads least.0 ≡ Some least.1)
+abbrev pub IsLeadingHead : Heads → Option (ℕ × Head) → Type 0
+IsLeadingHead heads None = (k : ℕ) → head_at heads k ≡ None
+IsLeadingHead heads (Some least) = (least.0 < length heads) × (head_at heads least.0 ≡ Some least.1)
     × ((k : ℕ) (head : Head) → head_at heads k ≡ Some head →
     ¬ Before head.stamp least.1.stamp)

@@ -9,7 +9,7 @@ use Rattle.local_run.specs.declared.entry.Entry.TheVariants.{Native, Heard}
 use Rattle.local_run.specs.Entries.{native_in}
 use Rattle.cell_sequence.specs.Run.{hits}
 use Rattle.commit_horizon.specs.declared.leading.Leader.{Leader}
-use Rattle.commit_horizon.specs.Horizon.{ActionsRise}
+use Rattle.commit_horizon.specs.Horizon.{ActionStampsRise}
 use Rattle.commit_horizon.specs.Merging.{Head, Heads, head_at}
 use Rattle.commit_horizon.specs.Leading.{IsLeader}
 use Rattle.commit_horizon.specs.Telling.{MayBeTold}
@@ -66,15 +66,15 @@ lefts (log ∷ logs) (head ∷ heads) = left_from log head ∷ lefts logs heads
 
 -- ---- merging by stamps
 -- the first of some actions, where there is any, comes after one
-abbrev pub BeginsAfter : Action → List Action → Type 0
-BeginsAfter x [] = ⊤
-BeginsAfter x (y ∷ ys) = Before (stamp_of x) (stamp_of y)
+abbrev pub ActionsBeginAfter : Action → List Action → Type 0
+ActionsBeginAfter x [] = ⊤
+ActionsBeginAfter x (y ∷ ys) = Before (stamp_of x) (stamp_of y)
 
 -- the first of the merged actions is the first of one list, before those of all others, and so on with what is left
 abbrev pub IsMergeOf : List (List Action) → List Action → Type 0
 IsMergeOf lists [] = (k : ℕ) → get_or lists k [] ≡ []
 IsMergeOf lists (x ∷ xs) = (k : ℕ) × (rest : List Action) × (get_or lists k [] ≡ x ∷ rest)
-    × ((q : ℕ) → q ≢ k → BeginsAfter x (get_or lists q [])) × IsMergeOf (set lists k rest) xs
+    × ((q : ℕ) → q ≢ k → ActionsBeginAfter x (get_or lists q [])) × IsMergeOf (set lists k rest) xs
 
 -- an action and others, where it is said how the others are merged
 abbrev pub merged_on : Action → (List Action → List Action) → List Action → List Action
@@ -103,7 +103,7 @@ AllCanBeTold (x ∷ xs) = CanBeTold x × AllCanBeTold xs
 
 -- each list is in the order of the stamps
 abbrev pub AllListsRise : List (List Action) → Type 0
-AllListsRise lists = (k : ℕ) → ActionsRise (get_or lists k [])
+AllListsRise lists = (k : ℕ) → ActionStampsRise (get_or lists k [])
 
 -- actions that can be merged of some lists that rise, and told
 pub record CanBeTellings (lists : List (List Action)) (xs : List Action) : Type 0 where

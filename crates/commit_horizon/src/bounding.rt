@@ -1,7 +1,7 @@
 //! What bounds the commit horizon.
 
 ghost use Rattle.commit_horizon.specs.Horizon.{AllKept};
-ghost use Rattle.commit_horizon.specs.Bounds.{HoldsUpTo, OfAll, IsUpToDue, AgreeOn, AllAgreeWith, AllAgree, IsWithin};
+ghost use Rattle.commit_horizon.specs.Bounds.{HoldsUpTo, OfAll, IsUpToDue, AgreeOn, AllAgreeWith, AllAgree, IsUpToAll};
 ghost use Rattle.local_run.specs.Keeping.{IsKept};
 
 use event_stamps::{Stamp, earlier};
@@ -11,7 +11,7 @@ use region_messages::first_disagreement;
 /// The least of the end, of what each region has due (of its floor, where that is before it), and of the first
 /// disagreement of what each sent and each linked one heard of it.
 pub(crate) fn least_bound(end: Stamp, regions: &[Region]) -> Stamp
-    ensures bound { HoldsUpTo (IsWithin end regions.now) (Some result) }
+    ensures bound { HoldsUpTo (IsUpToAll end regions.now) (Some result) }
     ensures kept { AllKept regions.now }
 {
     let bound = earlier(least_due(regions), first_apart_of_all(regions));

@@ -29,7 +29,7 @@ pub enum Adopted {
 
 ghost use Rattle.std.specs.Prelude.{◌≡◌, IfOk, OnOk};
 ghost use Rattle.cell_grid.specs.Grid.{IsRegion, IsAsked};
-ghost use Rattle.cell_sequence.specs.State.{IsCellState, start_of, later, followed_by, raised};
+ghost use Rattle.cell_sequence.specs.State.{IsCellState, opening_state, later, followed_by, raised};
 ghost use Rattle.commit_horizon.specs.Horizon.{runs_of, IsHorizon, AllStand, AllKept};
 ghost use Rattle.commit_horizon.specs.Commits.{Adopts, Commits};
 ghost use Rattle.commit_horizon.specs.Following.{MayFollow};
@@ -52,7 +52,7 @@ impl Committed {
     /// Out of memory.
     pub fn open(alloc: Global, scene: &Scene, regions: u32) -> Result<Committed, AllocError>
         requires { IsAsked regions }
-        ensures { IfOk result (λ committed. committed ≡ start_of scene.now regions) }
+        ensures { IfOk result (λ committed. committed ≡ opening_state scene.now regions) }
     {
         Ok(Committed {
             state: CellState::open(alloc, scene, regions)?,

@@ -1,14 +1,14 @@
 //! Commits that leave what is final to be told.
 
 ghost use Rattle.std.specs.Prelude.{◌≡◌, [], length, map, OnOk, IfOk};
-ghost use Rattle.event_stamps.specs.Ordered.{Rises};
+ghost use Rattle.event_stamps.specs.Ordered.{KeysRise};
 ghost use Rattle.cell_sequence.specs.State.{CellStateData};
 ghost use Rattle.local_run.specs.Entries.{entry_stamp};
-ghost use Rattle.local_run.specs.Raising.{raised};
+ghost use Rattle.local_run.specs.Raising.{raised_region};
 ghost use Rattle.event_log.specs.Logged.{entries_in};
 ghost use Rattle.commit_horizon.specs.Raising.{AllMayRise};
 ghost use Rattle.commit_horizon.specs.Telling.{IsStateOf};
-ghost use Rattle.commit_horizon.specs.Cutting.{logs_below, AllRise, HasStamp, SomeHasStamp, IsLatest, latest_of, FinalMade};
+ghost use Rattle.commit_horizon.specs.Cutting.{logs_below, AllRise, HasActionAt, SomeHasStamp, IsLatest, latest_of, FinalMade};
 
 use crate::bounding::least_bound;
 use crate::untold::Untold;
@@ -68,7 +68,7 @@ fn fit(alloc: Global, logs: &mut Vec<EventLog>, count: usize) -> Result<(), Allo
 fn cut_floors(regions: &mut [Region], to: Stamp, logs: &mut [EventLog]) -> Result<(), AllocError>
     requires may { AllMayRise to regions.old }
     requires count { length logs.old ≡ length regions.old }
-    ensures raised { OnOk result (regions.new ≡ map (raised to) regions.old) }
+    ensures raised { OnOk result (regions.new ≡ map (raised_region to) regions.old) }
     ensures cut { OnOk result (map entries_in logs.new ≡ logs_below to regions.old) }
 {
     for k in 0..regions.len() {
@@ -91,8 +91,8 @@ fn last_of_all(logs: &[EventLog]) -> Option<Stamp>
 
 // The stamp of the last action of a log; none where it has no action.
 fn last_of(log: &EventLog) -> Option<Stamp>
-    requires { Rises entry_stamp (entries_in log.now) }
-    ensures { IsLatest (HasStamp (entries_in log.now)) result }
+    requires { KeysRise entry_stamp (entries_in log.now) }
+    ensures { IsLatest (HasActionAt (entries_in log.now)) result }
 {
     let mut place = log.len();
     'entries: while place > 0 {

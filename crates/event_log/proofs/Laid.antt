@@ -9,7 +9,7 @@ use Rattle.event_log.specs.declared.heads.Head.{Head}
 use Rattle.event_log.specs.declared.heads.Form.{Form}
 use Rattle.event_log.specs.declared.heads.Form.TheVariants.{Crossing, Single, Double, Whole}
 use Rattle.event_log.specs.Logged.{Logged, logged_stamp}
-use Rattle.event_log.specs.Heads.{NarrowList, AreCut, edge_of, row_count, whole_count, row_place, whole_place, row_size, whole_size, row_at, whole_at, no_whole, entry_as, back_as, logged, log_of, raised, lowered, IsOrdered, AreOrdered, AreLaid}
+use Rattle.event_log.specs.Heads.{NarrowList, AreCut, edge_of, row_count, whole_count, row_place, whole_place, row_size, whole_size, row_at, whole_at, no_whole, entry_as, back_as, logged, log_of, raised_head, lowered, IsOrdered, AreHeadsOrdered, AreLaid}
 use Rattle.event_log.proofs.Cuts.{cut_append, cut_take, cut_drop, cut_mapped, cut_moved, cut_lowered, edge_within}
 use Rattle.event_log.proofs.Alike.{placed_at, alike, log_alike, log_same}
 
@@ -17,30 +17,30 @@ abbrev pub head_stamp : Head → Stamp
 head_stamp h = h.stamp
 
 -- ---- order
-ordered_append : (xs ys : List Head) → AreOrdered xs → AreOrdered ys → AreOrdered (xs ++ ys)
+ordered_append : (xs ys : List Head) → AreHeadsOrdered xs → AreHeadsOrdered ys → AreHeadsOrdered (xs ++ ys)
 ordered_append [] ys h k = k
 ordered_append (x ∷ xs) ys h k = (h.0, ordered_append xs ys h.1 k)
 
-ordered_take : (n : ℕ) (xs : List Head) → AreOrdered xs → AreOrdered (take n xs)
+ordered_take : (n : ℕ) (xs : List Head) → AreHeadsOrdered xs → AreHeadsOrdered (take n xs)
 ordered_take zero xs h = tt
 ordered_take (suc n) [] h = tt
 ordered_take (suc n) (x ∷ xs) h = (h.0, ordered_take n xs h.1)
 
-ordered_drop : (n : ℕ) (xs : List Head) → AreOrdered xs → AreOrdered (drop n xs)
+ordered_drop : (n : ℕ) (xs : List Head) → AreHeadsOrdered xs → AreHeadsOrdered (drop n xs)
 ordered_drop zero xs h = h
 ordered_drop (suc n) [] h = tt
 ordered_drop (suc n) (x ∷ xs) h = ordered_drop n xs h.1
 
-ordered_raised : (xs : List Head) → AreOrdered xs → AreOrdered (map raised xs)
+ordered_raised : (xs : List Head) → AreHeadsOrdered xs → AreHeadsOrdered (map raised_head xs)
 ordered_raised [] h = tt
 ordered_raised (x ∷ xs) h = (h.0, ordered_raised xs h.1)
 
-ordered_lowered : (rows wholes : ℕ) (xs : List Head) → AreOrdered xs →
-    AreOrdered (map (lowered rows wholes) xs)
+ordered_lowered : (rows wholes : ℕ) (xs : List Head) → AreHeadsOrdered xs →
+    AreHeadsOrdered (map (lowered rows wholes) xs)
 ordered_lowered rows wholes [] h = tt
 ordered_lowered rows wholes (x ∷ xs) h = (h.0, ordered_lowered rows wholes xs h.1)
 
-pub ordered_at : (xs : List Head) (i : ℕ) (d : Head) → AreOrdered xs → i < length xs →
+pub ordered_at : (xs : List Head) (i : ℕ) (d : Head) → AreHeadsOrdered xs → i < length xs →
     IsOrdered (get_or xs i d).stamp (get_or xs i d).form
 ordered_at [] i d h lt = absurd (omega arith)
 ordered_at (x ∷ xs) zero d h lt = h.0
@@ -122,14 +122,14 @@ map_insert f xs n x =
     map-append f (take n xs) (x ∷ drop n xs)
     ∙ (λ i. sym (take-map f n xs) i ++ f x ∷ sym (drop-map f n xs) i)
 
-stamps_raised : (hs : List Head) → map head_stamp (map raised hs) ≡ map head_stamp hs
+stamps_raised : (hs : List Head) → map head_stamp (map raised_head hs) ≡ map head_stamp hs
 stamps_raised [] = refl
 stamps_raised (h ∷ hs) = ap (λ (l : List Stamp). h.stamp ∷ l) (stamps_raised hs)
 
-pub length_raised : (n : ℕ) (hs : List Head) → length (take n hs ++ map raised (drop n hs)) ≡ length hs
+pub length_raised : (n : ℕ) (hs : List Head) → length (take n hs ++ map raised_head (drop n hs)) ≡ length hs
 length_raised n hs =
-    length-append (take n hs) (map raised (drop n hs))
-    ∙ ap (λ (m : ℕ). length (take n hs) + m) (length-map (drop n hs) raised)
+    length-append (take n hs) (map raised_head (drop n hs))
+    ∙ ap (λ (m : ℕ). length (take n hs) + m) (length-map (drop n hs) raised_head)
     ∙ sym (length-append (take n hs) (drop n hs)) ∙ ap length (take-append-drop n hs)
 
 -- the head of an entry that is kept whole
@@ -145,7 +145,7 @@ whole_head stamp row whole = record {
 -- the heads with one more before those from a place on
 abbrev pub with_whole : NarrowList → List Logged → List Head → ℕ → Stamp → List Head
 with_whole rows wholes heads n stamp =
-    insert (take n heads ++ map raised (drop n heads)) n
+    insert (take n heads ++ map raised_head (drop n heads)) n
     (whole_head stamp (edge_of row_place (length rows) heads n) (edge_of whole_place (length wholes) heads n))
 
 -- the same, in order
@@ -175,15 +175,15 @@ inserted_log rows wholes heads n x stamp laid le =
     (λ k lt. get_or-insert_below wholes whole x no_whole (g.whole + k)
     (short g.whole k (whole_count g.form) whole lt b.to_whole) within)) in
     let here : whole_at now whole ≡ x = get_or-insert_at wholes whole x no_whole within in
-    let after : log_of rows now (map raised (drop n heads)) ≡ log_of rows wholes (drop n heads) =
-    log_alike rows rows wholes now raised row (length rows) whole (length wholes) (drop n heads)
+    let after : log_of rows now (map raised_head (drop n heads)) ≡ log_of rows wholes (drop n heads) =
+    log_alike rows rows wholes now raised_head row (length rows) whole (length wholes) (drop n heads)
     (cut_drop row_place row_size 0 (length rows) n heads laid.row_cut)
     (cut_drop whole_place whole_size 0 (length wholes) n heads laid.whole_cut)
     (λ g b. alike rows rows wholes now g g.row (g.whole + 1) (λ k lt. refl)
     (λ k lt. ap (whole_at now) (one_more g.whole k)
     ∙ get_or-insert_above wholes whole x no_whole (g.whole + k) (above whole g.whole k b.from_whole) within)) in
-    ap (log_of rows now) (split_heads heads (map raised (drop n heads)) n head le)
-    ∙ map-append (logged rows now) (take n heads) (head ∷ map raised (drop n heads))
+    ap (log_of rows now) (split_heads heads (map raised_head (drop n heads)) n head le)
+    ∙ map-append (logged rows now) (take n heads) (head ∷ map raised_head (drop n heads))
     ∙ (λ i. before i ++ ((here i).0, (here i).1) ∷ after i)
     ∙ (λ i. sym (take-map (logged rows wholes) n heads) i ++ x ∷ sym (drop-map (logged rows wholes) n heads) i)
   where
@@ -208,7 +208,7 @@ inserted_laid rows wholes heads n x stamp laid le is room =
     edge_within whole_place whole_size 0 (length wholes) n heads laid.whole_cut in
     let now = insert wholes whole x in
     let head = whole_head stamp row whole in
-    let rest = map raised (drop n heads) in
+    let rest = map raised_head (drop n heads) in
     let split = split_heads heads rest n head le in
     record {
       row_cut = subst (λ (hs : List Head). AreCut row_place row_size 0 hs (length rows)) (sym split)
@@ -216,7 +216,7 @@ inserted_laid rows wholes heads n x stamp laid le is room =
           (cut_take row_place row_size 0 (length rows) n heads laid.row_cut) (
             refl,
             subst (λ (m : ℕ). AreCut row_place row_size m rest (length rows)) (from_none row)
-                (cut_mapped row_place row_size raised row (length rows) (drop n heads) (λ h. refl) (λ h. refl)
+                (cut_mapped row_place row_size raised_head row (length rows) (drop n heads) (λ h. refl) (λ h. refl)
                 (cut_drop row_place row_size 0 (length rows) n heads laid.row_cut)),
           ));
       whole_cut = subst (λ (hs : List Head). AreCut whole_place whole_size 0 hs (length now)) (sym split)
@@ -225,7 +225,7 @@ inserted_laid rows wholes heads n x stamp laid le is room =
             refl,
             subst (λ (m : ℕ). AreCut whole_place whole_size (whole + 1) rest m)
                 (sym (length-insert wholes whole x within))
-                (cut_moved whole_place whole_size raised 1 whole (length wholes) (drop n heads) (λ h. refl)
+                (cut_moved whole_place whole_size raised_head 1 whole (length wholes) (drop n heads) (λ h. refl)
                 (λ h. refl) (cut_drop whole_place whole_size 0 (length wholes) n heads laid.whole_cut)),
           ));
       stamps =
@@ -236,7 +236,7 @@ inserted_laid rows wholes heads n x stamp laid le is room =
           ∙ ap (λ (l : List Stamp). insert l n (logged_stamp x)) laid.stamps
           ∙ sym (map_insert logged_stamp (log_of rows wholes heads) n x)
           ∙ ap (map logged_stamp) (sym (inserted_log rows wholes heads n x stamp laid le));
-      order = subst AreOrdered (sym split)
+      order = subst AreHeadsOrdered (sym split)
           (ordered_append (take n heads) (head ∷ rest) (ordered_take n heads laid.order) (
             tt,
             ordered_raised (drop n heads) (ordered_drop n heads laid.order),

@@ -8,7 +8,7 @@ use Rattle.region_view.proofs.Puts.{swap_is_undone}
 use Rattle.local_run.specs.declared.entry.Entry.{Entry}
 use Rattle.local_run.specs.declared.entry.Entry.TheVariants.{Heard}
 use Rattle.event_log.specs.Logged.{Logged, backs_in}
-use Rattle.event_log.specs.Undoing.{rows_by, view_with, view_after, undone, AreAside}
+use Rattle.event_log.specs.Undoing.{rows_by, view_with, view_after, undone, LoggedAreAside}
 use Rattle.event_log.specs.Traced.{IsTraced}
 use Rattle.event_log.proofs.Undone.{base_is_undone}
 use Rattle.event_log.proofs.Woven.{after_join, back_split, changes_lead_back, woven_leads_back}
@@ -55,7 +55,7 @@ traced_dropped base newest log n is = record {
 
 -- a late message put in
 pub traced_woven : (base newest : ViewData) (before after : List Logged) (q : ℕ) (m : Message) →
-    IsTraced base newest (before ++ after) → AreAside m.rows (view_after base before) after →
+    IsTraced base newest (before ++ after) → LoggedAreAside m.rows (view_after base before) after →
     IsTraced base (set_rows newest m.rows)
     (before ++ (Heard q m, rows_at (rows_in newest) m.rows) ∷ after)
 traced_woven base newest before after q m is aside =

@@ -13,7 +13,7 @@ use Rattle.region_view.specs.Setting.{RowList, set_rows, rows_at, get_over}
 use Rattle.region_view.proofs.Puts.{same_view, set_rows_are_put_over}
 use Rattle.local_run.specs.declared.entry.Entry.TheVariants.{Native, Heard}
 use Rattle.event_log.specs.Logged.{Logged, sets}
-use Rattle.event_log.specs.Undoing.{rows_by, view_with, view_after, LeadBack, IsAside, AreAside, ChangesLeadBack, SparingIsAside, WovenLeadsBack}
+use Rattle.event_log.specs.Undoing.{rows_by, view_with, view_after, LeadBack, IsAside, LoggedAreAside, ChangesLeadBack, SparingIsAside, WovenLeadsBack}
 use Rattle.event_log.proofs.Undone.{sets_over, others_over}
 
 -- rows that a disk is not among leave it
@@ -149,7 +149,7 @@ sparing_is_aside rows view (Native (Hit change)) spare = record {
 sparing_is_aside rows view (Heard q m) spare = record { same = refl; apart = spare }
 
 -- such entries leave the disks of the rows
-left : (rows : RowList) (view : ViewData) (log : List Logged) (disk : ℕ) → AreAside rows view log →
+left : (rows : RowList) (view : ViewData) (log : List Logged) (disk : ℕ) → LoggedAreAside rows view log →
     sets disk rows ≡ true → finmap.get (view_after view log) disk ≡ finmap.get view disk
 left rows view [] disk aside e = refl
 left rows view (l ∷ log) disk aside e =
@@ -173,7 +173,7 @@ still_leads rows view l aside is =
     ∙ ap (rows_at (rows_in (set_rows view rows))) (sym aside.same)
 
 -- all of them
-still_back : (rows : RowList) (view : ViewData) (log : List Logged) → AreAside rows view log →
+still_back : (rows : RowList) (view : ViewData) (log : List Logged) → LoggedAreAside rows view log →
     LeadBack view log → LeadBack (set_rows view rows) log
 still_back rows view [] aside h = tt
 still_back rows view (l ∷ log) aside h = (
@@ -182,7 +182,7 @@ still_back rows view (l ∷ log) aside h = (
       (still_back rows (view_with view l) log aside.1 h.1),
 )
 
-still_after : (rows : RowList) (view : ViewData) (log : List Logged) → AreAside rows view log →
+still_after : (rows : RowList) (view : ViewData) (log : List Logged) → LoggedAreAside rows view log →
     view_after (set_rows view rows) log ≡ set_rows (view_after view log) rows
 still_after rows view [] aside = refl
 still_after rows view (l ∷ log) aside =

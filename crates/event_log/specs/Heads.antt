@@ -52,8 +52,8 @@ edge_of place end [] n = end
 edge_of place end (h ∷ hs) zero = place h
 edge_of place end (h ∷ hs) (suc n) = edge_of place end hs n
 
-abbrev pub raised : Head → Head
-raised h = record {
+abbrev pub raised_head : Head → Head
+raised_head h = record {
   stamp = h.stamp;
   cell = h.cell;
   row = h.row;
@@ -136,9 +136,9 @@ IsOrdered s Single = ⊤
 IsOrdered s Double = s.first < s.second
 IsOrdered s Whole = ⊤
 
-abbrev pub AreOrdered : List Head → Type 0
-AreOrdered [] = ⊤
-AreOrdered (h ∷ hs) = IsOrdered h.stamp h.form × AreOrdered hs
+abbrev pub AreHeadsOrdered : List Head → Type 0
+AreHeadsOrdered [] = ⊤
+AreHeadsOrdered (h ∷ hs) = IsOrdered h.stamp h.form × AreHeadsOrdered hs
 
 -- heads with their rows and what is kept whole
 pub record AreLaid (rows : NarrowList) (wholes : List Logged) (heads : List Head) : Type 0 where
@@ -147,5 +147,5 @@ pub record AreLaid (rows : NarrowList) (wholes : List Logged) (heads : List Head
   pub whole_cut : AreCut whole_place whole_size 0 heads (length wholes)
   -- each stamp is that of the entry
   pub stamps : map (λ h. h.stamp) heads ≡ map logged_stamp (log_of rows wholes heads)
-  pub order : AreOrdered heads
+  pub order : AreHeadsOrdered heads
   pub few : length heads ≤ MAX_ENTRIES

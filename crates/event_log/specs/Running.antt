@@ -13,8 +13,8 @@ use Rattle.event_log.specs.Logged.{Logged}
 use Rattle.event_log.specs.Heads.{disk_or}
 
 -- an action with what stood at the numbers of the rows that it sets
-abbrev pub acted : ViewData → Action → Logged
-acted view action = (Native action, rows_at (rows_in view) (rows_set (rows_in view) action))
+abbrev pub logged_action : ViewData → Action → Logged
+logged_action view action = (Native action, rows_at (rows_in view) (rows_set (rows_in view) action))
 
 -- another record in the same cell
 abbrev pub redisked_row : Disk → Option Placed → Option Placed
@@ -22,7 +22,7 @@ redisked_row disk None = None
 redisked_row disk (Some p) = Some (record { disk = disk; cell = p.cell })
 
 -- a row that is there, and the one with another record
-pub record IsMoved (there : Option Placed) (disk : Disk) (rows : HitRows) : Type 0 where
+pub record IsMovedRow (there : Option Placed) (disk : Disk) (rows : HitRows) : Type 0 where
   pub before : rows.before ≡ there
   pub after : rows.after ≡ redisked_row disk there
   pub is_there : IsTrue (is_some there)

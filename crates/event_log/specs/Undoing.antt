@@ -50,9 +50,9 @@ pub record IsAside (rows : RowList) (view : ViewData) (e : Entry) : Type 0 where
   pub same : rows_by (set_rows view rows) e ≡ rows_by view e
   pub apart : (disk : ℕ) → sets disk rows ≡ true → sets disk (rows_by view e) ≡ false
 
-abbrev pub AreAside : RowList → ViewData → List Logged → Type 0
-AreAside rows view [] = ⊤
-AreAside rows view (l ∷ log) = IsAside rows view l.0 × AreAside rows (view_with view l) log
+abbrev pub LoggedAreAside : RowList → ViewData → List Logged → Type 0
+LoggedAreAside rows view [] = ⊤
+LoggedAreAside rows view (l ∷ log) = IsAside rows view l.0 × LoggedAreAside rows (view_with view l) log
 
 -- no disk that an entry names, and none whose row it sets, is one of some rows
 abbrev pub Spares : RowList → Entry → Type 0
@@ -86,7 +86,7 @@ SparingIsAside = (rows : RowList) (view : ViewData) (e : Entry) → Spares rows 
 
 abbrev pub WovenLeadsBack : Type 0
 WovenLeadsBack = (base : ViewData) (before after : List Logged) (q : ℕ) (m : Message) →
-    LeadBack base (before ++ after) → AreAside m.rows (view_after base before) after →
+    LeadBack base (before ++ after) → LoggedAreAside m.rows (view_after base before) after →
     IsWovenIn base before after q m
 
 -- the base view is the newest one with all entries undone

@@ -4,7 +4,7 @@ ghost use Rattle.std.specs.Prelude.{◌≡◌, ◌+◌, ◌<◌, ◌≤◌, ◌^
 ghost use Rattle.std.specs.List.Sorted.{IsPartitionedBy, IsPartitionPoint};
 ghost use Rattle.region_messages.specs.Trails.{is_before};
 ghost use Rattle.event_log.specs.declared.heads.Head.{Head};
-ghost use Rattle.event_log.specs.Heads.{edge_of, row_place, whole_place, raised, lowered};
+ghost use Rattle.event_log.specs.Heads.{edge_of, row_place, whole_place, raised_head, lowered};
 
 use event_stamps::Stamp;
 
@@ -85,7 +85,7 @@ fn is_before(stamp: &Stamp, at: &Stamp) -> bool
 pub fn raise_from(heads: &mut [Head], at: usize)
     requires place { at ≤ length heads.old }
     requires room { All (λ h. h.whole + 1 < 2 ^ 32) heads.old }
-    ensures { heads.new ≡ take at heads.old ++ map raised (drop at heads.old) }
+    ensures { heads.new ≡ take at heads.old ++ map raised_head (drop at heads.old) }
 {
     raise(&mut heads[at..]);
 }
@@ -93,7 +93,7 @@ pub fn raise_from(heads: &mut [Head], at: usize)
 // One entry more is kept whole before these.
 fn raise(heads: &mut [Head])
     requires room { All (λ h. h.whole + 1 < 2 ^ 32) heads.old }
-    ensures { heads.new ≡ map raised heads.old }
+    ensures { heads.new ≡ map raised_head heads.old }
 {
     for head in heads.iter_mut() {
         head.whole += 1;

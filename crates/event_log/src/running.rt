@@ -6,7 +6,7 @@ ghost use Rattle.region_view.specs.declared.action.Action.TheVariants.{Cross, Hi
 ghost use Rattle.region_view.specs.Compact.{IsRowThere};
 ghost use Rattle.region_view.specs.Setting.{after_action, IsInOrder};
 ghost use Rattle.event_log.specs.Heads.{disk_or};
-ghost use Rattle.event_log.specs.Running.{acted, collision, IsMoved};
+ghost use Rattle.event_log.specs.Running.{logged_action, collision, IsMovedRow};
 
 use crate::EventLog;
 use crate::heads::Form;
@@ -36,7 +36,7 @@ impl EventLog {
     pub fn act(&mut self, view: &mut View, action: &Action) -> Result<(), AllocError>
         requires room { length self.old < MAX_ENTRIES }
         requires order { IsInOrder action.now }
-        ensures log { OnOk result (self.new ≡ self.old ++ acted view.old action.now ∷ []) }
+        ensures log { OnOk result (self.new ≡ self.old ++ logged_action view.old action.now ∷ []) }
         ensures view { OnOk result (view.new ≡ after_action view.old action.now) }
         ensures log_unchanged { OnErr result (self.new ≡ self.old) }
         ensures view_unchanged { OnErr result (view.new ≡ view.old) }
@@ -65,7 +65,7 @@ impl EventLog {
     ) -> Result<(), AllocError>
         requires room { length self.old < MAX_ENTRIES }
         requires before { IsRowThere (map.get view.old stamp.now.first) before.now }
-        ensures log { OnOk result (self.new ≡ self.old ++ acted view.old (Cross stamp.now cell) ∷ []) }
+        ensures log { OnOk result (self.new ≡ self.old ++ logged_action view.old (Cross stamp.now cell) ∷ []) }
         ensures view { OnOk result (view.new ≡ after_action view.old (Cross stamp.now cell)) }
         ensures log_unchanged { OnErr result (self.new ≡ self.old) }
         ensures view_unchanged { OnErr result (view.new ≡ view.old) }
@@ -90,10 +90,10 @@ impl EventLog {
     ) -> Result<(), AllocError>
         requires room { length self.old < MAX_ENTRIES }
         requires order { stamp.now.first < stamp.now.second }
-        requires first { IsMoved (map.get view.old stamp.now.first) (disk_or first.now.after) first.now }
-        requires second { IsMoved (map.get view.old stamp.now.second) (disk_or second.now.after) second.now }
+        requires first { IsMovedRow (map.get view.old stamp.now.first) (disk_or first.now.after) first.now }
+        requires second { IsMovedRow (map.get view.old stamp.now.second) (disk_or second.now.after) second.now }
         ensures log { OnOk result (self.new ≡
-            self.old ++ acted view.old (Hit (collision stamp.now first.now second.now)) ∷ []) }
+            self.old ++ logged_action view.old (Hit (collision stamp.now first.now second.now)) ∷ []) }
         ensures view { OnOk result (view.new ≡
             after_action view.old (Hit (collision stamp.now first.now second.now))) }
         ensures log_unchanged { OnErr result (self.new ≡ self.old) }
@@ -109,7 +109,7 @@ impl EventLog {
     #[inline(always)]
     fn cross_or_act(&mut self, view: &mut View, stamp: Stamp, cell: u32) -> Result<(), AllocError>
         requires room { length self.old < MAX_ENTRIES }
-        ensures log { OnOk result (self.new ≡ self.old ++ acted view.old (Cross stamp cell) ∷ []) }
+        ensures log { OnOk result (self.new ≡ self.old ++ logged_action view.old (Cross stamp cell) ∷ []) }
         ensures view { OnOk result (view.new ≡ after_action view.old (Cross stamp cell)) }
         ensures log_unchanged { OnErr result (self.new ≡ self.old) }
         ensures view_unchanged { OnErr result (view.new ≡ view.old) }
@@ -124,7 +124,7 @@ impl EventLog {
     fn hit_side(&mut self, view: &mut View, change: &Change) -> Result<(), AllocError>
         requires room { length self.old < MAX_ENTRIES }
         requires alone { change.now.second ≡ None }
-        ensures log { OnOk result (self.new ≡ self.old ++ acted view.old (Hit change.now) ∷ []) }
+        ensures log { OnOk result (self.new ≡ self.old ++ logged_action view.old (Hit change.now) ∷ []) }
         ensures view { OnOk result (view.new ≡ after_action view.old (Hit change.now)) }
         ensures log_unchanged { OnErr result (self.new ≡ self.old) }
         ensures view_unchanged { OnErr result (view.new ≡ view.old) }
@@ -149,7 +149,7 @@ impl EventLog {
         requires room { length self.old < MAX_ENTRIES }
         requires both { change.now.second ≡ Some second.now }
         requires order { change.now.stamp.first < change.now.stamp.second }
-        ensures log { OnOk result (self.new ≡ self.old ++ acted view.old (Hit change.now) ∷ []) }
+        ensures log { OnOk result (self.new ≡ self.old ++ logged_action view.old (Hit change.now) ∷ []) }
         ensures view { OnOk result (view.new ≡ after_action view.old (Hit change.now)) }
         ensures log_unchanged { OnErr result (self.new ≡ self.old) }
         ensures view_unchanged { OnErr result (view.new ≡ view.old) }
@@ -170,7 +170,7 @@ impl EventLog {
     fn act_wide(&mut self, view: &mut View, action: &Action) -> Result<(), AllocError>
         requires room { length self.old < MAX_ENTRIES }
         requires order { IsInOrder action.now }
-        ensures log { OnOk result (self.new ≡ self.old ++ acted view.old action.now ∷ []) }
+        ensures log { OnOk result (self.new ≡ self.old ++ logged_action view.old action.now ∷ []) }
         ensures view { OnOk result (view.new ≡ after_action view.old action.now) }
         ensures log_unchanged { OnErr result (self.new ≡ self.old) }
         ensures view_unchanged { OnErr result (view.new ≡ view.old) }
@@ -183,7 +183,7 @@ impl EventLog {
 // The row of a disk, and the one with another record; none where one of them has no narrow form, or there is no row.
 #[inline(always)]
 fn moved(view: &View, number: u32, disk: &Disk) -> Option<HitRows>
-    ensures { IfSome result (IsMoved (map.get view.now number) disk.now) }
+    ensures { IfSome result (IsMovedRow (map.get view.now number) disk.now) }
 {
     let before = view.narrow(number)?;
     let placed = before.get()?;

@@ -15,7 +15,7 @@ use Rattle.event_rules.specs.declared.outcome.Outcome.{Outcome}
 use Rattle.event_rules.specs.Effect.{change_of, bounced}
 use Rattle.event_rules.specs.Run.{Runs, IsNext, ComesTo, IsValidState, effect}
 use Rattle.event_rules.specs.Conservation.{pairs}
-use Rattle.event_rules.specs.Counts.{takes_part, events_of, FewEventsOfADisk, FewEventsOfAScene}
+use Rattle.event_rules.specs.Counts.{takes_part_in, events_of, FewEventsOfADisk, FewEventsOfAScene}
 use Rattle.event_rules.proofs.Valid.{mark_within}
 use Rattle.event_rules.proofs.States.{IsTouched, after_effect}
 use Rattle.event_rules.proofs.Ran.{RanWall, RanPair, ran, event_valid, length-effect}
@@ -241,7 +241,7 @@ same_or_other i j = grind arith
 
 -- what an event of a tick adds to the count of disk i
 abbrev counted : ℕ → ℕ → Change → ℕ
-counted i tick c = cond ((c.stamp.tick == tick) && takes_part i c) 1 0
+counted i tick c = cond ((c.stamp.tick == tick) && takes_part_in i c) 1 0
 
 no_count : (p q : Bool) → q ≡ false → ◌≡◌ {A = ℕ} (cond (p && q) 1 0) 0
 no_count true true e = cc
@@ -278,10 +278,10 @@ wall_reaches rules disks c i tick valid w =
     (elim (same_or_other i c.stamp.first) [
       | inl e ↦ at_touched limit tick (counted i tick own) (slice_get disks i) (slice_get later i) w.disk own.first
           (ap (slice_get disks) e ∙ w.at) (ap (slice_get later) e ∙ get_same disks c.stamp.first own.first w.disk w.at)
-          (place_raised limit tick c.stamp w.disk own.first (takes_part i own) (wall_raises rules disks c valid w))
+          (place_raised limit tick c.stamp w.disk own.first (takes_part_in i own) (wall_raises rules disks c valid w))
       | inr other ↦ at_other limit tick (counted i tick own) (slice_get disks i) (slice_get later i)
           (get_other disks c.stamp.first i own.first other)
-          (no_count (c.stamp.tick == tick) (takes_part i own) (no_part c.stamp.first c.stamp.second i false other (inl refl)))
+          (no_count (c.stamp.tick == tick) (takes_part_in i own) (no_part c.stamp.first c.stamp.second i false other (inl refl)))
     ])
 
 pair_reaches : (rules : Rules) (disks : List Disk) (c : Change) (i tick : ℕ) → IsValidState rules disks → RanPair rules disks c →
@@ -300,15 +300,15 @@ pair_reaches rules disks c i tick valid p = by_records _ _ p.change (pair_raises
         (elim (same_or_other i c.stamp.second) [
           | inl e ↦ at_touched limit tick (counted i tick own) (slice_get disks i) (slice_get later i) p.second y
               (ap (slice_get disks) e ∙ p.second_at) (ap (slice_get later) e ∙ get_same between c.stamp.second y p.second second_at)
-              (place_raised limit tick c.stamp p.second y (takes_part i own) rise.second)
+              (place_raised limit tick c.stamp p.second y (takes_part_in i own) rise.second)
           | inr not_second ↦ elim (same_or_other i c.stamp.first) [
             | inl e ↦ at_touched limit tick (counted i tick own) (slice_get disks i) (slice_get later i) p.first x
                 (ap (slice_get disks) e ∙ p.first_at)
                 (get_other between c.stamp.second i y not_second ∙ ap (slice_get between) e ∙ get_same disks c.stamp.first x p.first p.first_at)
-                (place_raised limit tick c.stamp p.first x (takes_part i own) rise.first)
+                (place_raised limit tick c.stamp p.first x (takes_part_in i own) rise.first)
             | inr not_first ↦ at_other limit tick (counted i tick own) (slice_get disks i) (slice_get later i)
                 (get_other between c.stamp.second i y not_second ∙ get_other disks c.stamp.first i x not_first)
-                (no_count (c.stamp.tick == tick) (takes_part i own) (no_part c.stamp.first c.stamp.second i true not_first (inr not_second)))
+                (no_count (c.stamp.tick == tick) (takes_part_in i own) (no_part c.stamp.first c.stamp.second i true not_first (inr not_second)))
           ]
         ])
 

@@ -6,7 +6,7 @@ use Rattle.event_rules.specs.declared.outcome.Outcome.{Outcome}
 use Rattle.event_rules.specs.declared.outcome.RunFault.{RunFault}
 use Rattle.event_rules.specs.declared.outcome.RunFault.TheVariants.{Listener, NoMemory}
 use Rattle.event_rules.specs.Told.{Told, PrefixTold}
-use Rattle.event_rules.specs.Tellings.{RunTold, RunCutShort, RunDone, StepsCutShort, scene_of}
+use Rattle.event_rules.specs.Tellings.{RunTold, RunCutShort, RunDone, StepsCutShort, bare_scene}
 use Rattle.event_rules.proofs.Telling.{whole_longer, prefix_longer}
 use Rattle.event_rules.proofs.OneRun.{steps_begin}
 use Rattle.event_rules.proofs.Exists.{each_scene_runs}
@@ -16,7 +16,7 @@ use Rattle.event_rules.proofs.Between.{never_overlaps_between}
 -- what was told on the way from a scene is a prefix of its run
 pub cut_short : {M : Type 0} (after : M → Change → M) (torn : M → Change → M → Type 0)
     (scene : SceneData) (fault : RunFault) (old new : Option M) → IsValidScene scene →
-    StepsCutShort after torn (scene_of scene.rules scene.disks) fault old new →
+    StepsCutShort after torn (bare_scene scene.rules scene.disks) fault old new →
     RunCutShort after torn scene fault old new
 cut_short {M} after torn scene Listener old new valid h =
     let run = each_scene_runs scene valid in
@@ -40,7 +40,7 @@ cut_short {M} after torn scene NoMemory old new valid h =
 -- a run to the end was told as a run
 pub run_told : {M : Type 0} (after : M → Change → M) (scene : SceneData) (outcome : Outcome)
     (old new : Option M) → IsValidScene scene →
-    RunDone after (scene_of scene.rules scene.disks) outcome old new →
+    RunDone after (bare_scene scene.rules scene.disks) outcome old new →
     RunTold after scene outcome old new
 run_told after scene outcome old new valid h = (
   h.0,

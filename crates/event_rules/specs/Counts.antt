@@ -7,12 +7,12 @@ use Rattle.event_rules.specs.Run.{IsRun}
 use Rattle.event_rules.specs.Conservation.{pairs}
 
 -- disk i takes part in the event of the change
-abbrev pub takes_part : ℕ → Change → Bool
-takes_part i c = (c.stamp.first == i) || (is_some c.second && (c.stamp.second == i))
+abbrev pub takes_part_in : ℕ → Change → Bool
+takes_part_in i c = (c.stamp.first == i) || (is_some c.second && (c.stamp.second == i))
 
 -- in how many events of a tick it does
 abbrev pub events_of : ℕ → ℕ → List Change → ℕ
-events_of i tick changes = count_by (λ c. (c.stamp.tick == tick) && takes_part i c) changes
+events_of i tick changes = count_by (λ c. (c.stamp.tick == tick) && takes_part_in i c) changes
 
 -- a disk takes part in no more events of a tick than the round limit
 abbrev pub FewEventsOfADisk : Type 0

@@ -49,8 +49,8 @@ CountsRun before after (Err NoMemory) = after ≡ before
 
 -- ---- how an engine says it of the rules and disks alone
 -- the scene of these rules and disks, without state blocks
-abbrev pub scene_of : Rules → List Disk → SceneData
-scene_of rules disks = record { rules = rules; disks = disks; every = None }
+abbrev pub bare_scene : Rules → List Disk → SceneData
+bare_scene rules disks = record { rules = rules; disks = disks; every = None }
 
 -- the changes of the scene's run were told, in order, and this is how it ends
 abbrev pub RunDone : {M : Type 0} → (M → Change → M) → SceneData → Outcome → Option M → Option M → Type 0

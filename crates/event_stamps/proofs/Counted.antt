@@ -3,13 +3,13 @@ use Rattle.std.proofs.Common.{◌≡◌, ℕ, zero, suc, true, false, List, [], 
 use Rattle.std.proofs.lemmas.List.{append_cancel_left, take-append-drop}
 use Rattle.std.specs.List.Sorted.{IsPartitionedBy, IsPartitionPoint}
 use Rattle.event_stamps.specs.declared.Stamp.{Stamp}
-use Rattle.event_stamps.specs.Ordered.{is_before, Rises, below, from}
+use Rattle.event_stamps.specs.Ordered.{is_before, KeysRise, keyed_below, keyed_from}
 use Rattle.event_stamps.proofs.StampOrder.{before_trans}
 use Rattle.event_stamps.proofs.IsBefore.{is_before_true, before_from_true}
 use Rattle.event_stamps.proofs.Rising.{get_or_among, rises_tail, among_after}
 use Rattle.event_stamps.proofs.Parts.{split}
 
-pub partitioned : {A : Type 0} (key : A → Stamp) (t : Stamp) (xs : List A) → Rises key xs →
+pub partitioned : {A : Type 0} (key : A → Stamp) (t : Stamp) (xs : List A) → KeysRise key xs →
     IsPartitionedBy (λ x. is_before (key x) t) xs
 partitioned key t [] r i j d le lt e = absurd (omega arith)
 partitioned key t (x ∷ xs) r zero zero d le lt e = e
@@ -36,7 +36,7 @@ next_place key t x xs n h = (
 )
 
 pub counted_below : {A : Type 0} (key : A → Stamp) (t : Stamp) (xs : List A) (n : ℕ) → IsPlace key t xs n →
-    take n xs ≡ below key t xs
+    take n xs ≡ keyed_below key t xs
 counted_below key t [] zero h = refl
 counted_below key t [] (suc n) h = refl
 counted_below key t (x ∷ xs) zero h =
@@ -47,7 +47,7 @@ counted_below key t (x ∷ xs) (suc n) h =
     rw first (ap (λ v. x ∷ v) (counted_below key t xs n (next_place key t x xs n h)))
 
 pub counted_from : {A : Type 0} (key : A → Stamp) (t : Stamp) (xs : List A) (n : ℕ) → IsPlace key t xs n →
-    drop n xs ≡ from key t xs
-counted_from key t xs n h = append_cancel_left (take n xs) (drop n xs) (from key t xs)
+    drop n xs ≡ keyed_from key t xs
+counted_from key t xs n h = append_cancel_left (take n xs) (drop n xs) (keyed_from key t xs)
     (take-append-drop n xs ∙ sym (split key xs t)
-    ∙ ap (λ v. v ++ from key t xs) (sym (counted_below key t xs n h)))
+    ∙ ap (λ v. v ++ keyed_from key t xs) (sym (counted_below key t xs n h)))

@@ -3,7 +3,7 @@ use Rattle.std.proofs.Common.{◌≡◌, ◌⊎◌, inl, inr, ℕ, zero, suc, �
 use Rattle.std.proofs.lemmas.List.{take-append-drop}
 use Rattle.event_stamps.specs.declared.Stamp.{Stamp}
 use Rattle.event_stamps.specs.Order.{Before}
-use Rattle.event_stamps.specs.Ordered.{IsAmong, RisesAfter, Rises, RisesFrom, AllBefore, last_key}
+use Rattle.event_stamps.specs.Ordered.{IsAmong, KeysRiseAfter, KeysRise, RisesFrom, AllBefore, last_key}
 use Rattle.event_stamps.proofs.StampOrder.{before_trans, not_before_itself}
 use Rattle.event_stamps.proofs.IsBefore.{before_not_before}
 
@@ -33,32 +33,32 @@ get_or_among (x ∷ xs) zero d lt = inl refl
 get_or_among (x ∷ xs) (suc i) d lt = inr (get_or_among xs i d (omega arith))
 
 -- ---- what rises after a stamp, or from one on
-pub rises_tail : {A : Type 0} (key : A → Stamp) (s : Stamp) (xs : List A) → RisesAfter key s xs → Rises key xs
+pub rises_tail : {A : Type 0} (key : A → Stamp) (s : Stamp) (xs : List A) → KeysRiseAfter key s xs → KeysRise key xs
 rises_tail key s [] r = tt
 rises_tail key s (x ∷ xs) r = r.1
 
 pub rises_if_from : {A : Type 0} (key : A → Stamp) (s : Stamp) (xs : List A) → RisesFrom key s xs →
-    Rises key xs
+    KeysRise key xs
 rises_if_from key s [] r = tt
 rises_if_from key s (x ∷ xs) r = r.1
 
-pub from_if_after : {A : Type 0} (key : A → Stamp) (s : Stamp) (xs : List A) → RisesAfter key s xs →
+pub from_if_after : {A : Type 0} (key : A → Stamp) (s : Stamp) (xs : List A) → KeysRiseAfter key s xs →
     RisesFrom key s xs
 from_if_after key s [] r = tt
 from_if_after key s (x ∷ xs) r = (λ less. not_before_itself s (before_trans s (key x) s r.0 less), r.1)
 
 -- what rises from a later stamp on rises after an earlier
 pub after_if_from : {A : Type 0} (key : A → Stamp) (s t : Stamp) (xs : List A) → Before s t →
-    RisesFrom key t xs → RisesAfter key s xs
+    RisesFrom key t xs → KeysRiseAfter key s xs
 after_if_from key s t [] lt r = tt
 after_if_from key s t (x ∷ xs) lt r = (before_not_before s (key x) t lt r.0, r.1)
 
-pub after_each : {A : Type 0} (key : A → Stamp) (s : Stamp) (xs : List A) → Rises key xs →
-    ((x : A) → IsAmong x xs → Before s (key x)) → RisesAfter key s xs
+pub after_each : {A : Type 0} (key : A → Stamp) (s : Stamp) (xs : List A) → KeysRise key xs →
+    ((x : A) → IsAmong x xs → Before s (key x)) → KeysRiseAfter key s xs
 after_each key s [] r each = tt
 after_each key s (x ∷ xs) r each = (each x (inl refl), r)
 
-pub among_after : {A : Type 0} (key : A → Stamp) (s : Stamp) (xs : List A) (x : A) → RisesAfter key s xs →
+pub among_after : {A : Type 0} (key : A → Stamp) (s : Stamp) (xs : List A) (x : A) → KeysRiseAfter key s xs →
     IsAmong x xs → Before s (key x)
 among_after key s [] x r h = absurd h
 among_after key s (y ∷ ys) x r (inl e) = subst (λ v. Before s (key v)) (sym e) r.0
@@ -85,7 +85,7 @@ among_before key s (y ∷ ys) x all (inl e) = subst (λ v. Before (key v) s) (sy
 among_before key s (y ∷ ys) x all (inr h) = among_before key s ys x all.1 h
 
 -- a stamp that the last is before comes after all
-before_last : {A : Type 0} (key : A → Stamp) (t s : Stamp) (xs : List A) → RisesAfter key t xs →
+before_last : {A : Type 0} (key : A → Stamp) (t s : Stamp) (xs : List A) → KeysRiseAfter key t xs →
     Before (last_key key t xs) s → Before t s × AllBefore key s xs
 before_last key t s [] r lt = (lt, tt)
 before_last key t s (x ∷ xs) r lt =
@@ -112,14 +112,14 @@ pub last_joined : {A : Type 0} (key : A → Stamp) (s : Stamp) (xs : List A) (y 
 last_joined key s [] y ys = refl
 last_joined key s (x ∷ xs) y ys = last_joined key (key x) xs y ys
 
-after_joined : {A : Type 0} (key : A → Stamp) (s t : Stamp) (xs ys : List A) → RisesAfter key s xs →
-    Before s t → AllBefore key t xs → RisesFrom key t ys → RisesAfter key s (xs ++ ys)
+after_joined : {A : Type 0} (key : A → Stamp) (s t : Stamp) (xs ys : List A) → KeysRiseAfter key s xs →
+    Before s t → AllBefore key t xs → RisesFrom key t ys → KeysRiseAfter key s (xs ++ ys)
 after_joined key s t [] ys r lt all more = after_if_from key s t ys lt more
 after_joined key s t (x ∷ xs) ys r lt all more = (r.0, after_joined key (key x) t xs ys r.1 all.0 all.1 more)
 
 -- where the first are before a stamp and the second rise from it on, both together rise
-pub rises_joined : {A : Type 0} (key : A → Stamp) (t : Stamp) (xs ys : List A) → Rises key xs →
-    AllBefore key t xs → RisesFrom key t ys → Rises key (xs ++ ys)
+pub rises_joined : {A : Type 0} (key : A → Stamp) (t : Stamp) (xs ys : List A) → KeysRise key xs →
+    AllBefore key t xs → RisesFrom key t ys → KeysRise key (xs ++ ys)
 rises_joined key t [] ys r all more = rises_if_from key t ys more
 rises_joined key t (x ∷ xs) ys r all more = after_joined key (key x) t xs ys r all.0 all.1 more
 
@@ -128,12 +128,12 @@ pub from_joined : {A : Type 0} (key : A → Stamp) (f t : Stamp) (xs ys : List A
 from_joined key f t [] ys r all more late = late
 from_joined key f t (x ∷ xs) ys r all more late = (r.0, rises_joined key t (x ∷ xs) ys r.1 all more)
 
-after_first : {A : Type 0} (key : A → Stamp) (s : Stamp) (xs ys : List A) → RisesAfter key s (xs ++ ys) →
-    RisesAfter key s xs
+after_first : {A : Type 0} (key : A → Stamp) (s : Stamp) (xs ys : List A) → KeysRiseAfter key s (xs ++ ys) →
+    KeysRiseAfter key s xs
 after_first key s [] ys r = tt
 after_first key s (x ∷ xs) ys r = (r.0, after_first key (key x) xs ys r.1)
 
-pub rises_first : {A : Type 0} (key : A → Stamp) (xs ys : List A) → Rises key (xs ++ ys) → Rises key xs
+pub rises_first : {A : Type 0} (key : A → Stamp) (xs ys : List A) → KeysRise key (xs ++ ys) → KeysRise key xs
 rises_first key [] ys r = tt
 rises_first key (x ∷ xs) ys r = after_first key (key x) xs ys r
 
@@ -142,11 +142,11 @@ pub from_first : {A : Type 0} (key : A → Stamp) (f : Stamp) (xs ys : List A) �
 from_first key f [] ys r = tt
 from_first key f (x ∷ xs) ys r = (r.0, after_first key (key x) xs ys r.1)
 
-pub rises_take : {A : Type 0} (key : A → Stamp) (n : ℕ) (xs : List A) → Rises key xs → Rises key (take n xs)
+pub rises_take : {A : Type 0} (key : A → Stamp) (n : ℕ) (xs : List A) → KeysRise key xs → KeysRise key (take n xs)
 rises_take key n xs r =
-    rises_first key (take n xs) (drop n xs) (subst (Rises key) (sym (take-append-drop n xs)) r)
+    rises_first key (take n xs) (drop n xs) (subst (KeysRise key) (sym (take-append-drop n xs)) r)
 
-pub rises_drop : {A : Type 0} (key : A → Stamp) (n : ℕ) (xs : List A) → Rises key xs → Rises key (drop n xs)
+pub rises_drop : {A : Type 0} (key : A → Stamp) (n : ℕ) (xs : List A) → KeysRise key xs → KeysRise key (drop n xs)
 rises_drop key zero xs r = r
 rises_drop key (suc n) [] r = tt
 rises_drop key (suc n) (x ∷ xs) r = rises_drop key n xs (rises_tail key (key x) xs r)

@@ -13,19 +13,19 @@ IsAmong x (y ∷ ys) = (x ≡ y) ⊎ IsAmong x ys
 
 -- ---- stamps that rise, where `key` says which stamp each has
 -- they rise strictly, all after one
-abbrev pub RisesAfter : {A : Type 0} → (A → Stamp) → Stamp → List A → Type 0
-RisesAfter key s [] = ⊤
-RisesAfter key s (x ∷ xs) = Before s (key x) × RisesAfter key (key x) xs
+abbrev pub KeysRiseAfter : {A : Type 0} → (A → Stamp) → Stamp → List A → Type 0
+KeysRiseAfter key s [] = ⊤
+KeysRiseAfter key s (x ∷ xs) = Before s (key x) × KeysRiseAfter key (key x) xs
 
 -- they rise strictly
-abbrev pub Rises : {A : Type 0} → (A → Stamp) → List A → Type 0
-Rises key [] = ⊤
-Rises key (x ∷ xs) = RisesAfter key (key x) xs
+abbrev pub KeysRise : {A : Type 0} → (A → Stamp) → List A → Type 0
+KeysRise key [] = ⊤
+KeysRise key (x ∷ xs) = KeysRiseAfter key (key x) xs
 
 -- they rise strictly, none before one
 abbrev pub RisesFrom : {A : Type 0} → (A → Stamp) → Stamp → List A → Type 0
 RisesFrom key s [] = ⊤
-RisesFrom key s (x ∷ xs) = (¬ Before (key x) s) × RisesAfter key (key x) xs
+RisesFrom key s (x ∷ xs) = (¬ Before (key x) s) × KeysRiseAfter key (key x) xs
 
 -- the last one, or another where the list has none
 abbrev pub last_key : {A : Type 0} → (A → Stamp) → Stamp → List A → Stamp
@@ -39,10 +39,10 @@ AllBefore key s [] = ⊤
 AllBefore key s (x ∷ xs) = Before (key x) s × AllBefore key s xs
 
 -- the first part, before a stamp, and the rest
-abbrev pub below : {A : Type 0} → (A → Stamp) → Stamp → List A → List A
-below key s [] = []
-below key s (x ∷ xs) = if is_before (key x) s then x ∷ below key s xs else []
+abbrev pub keyed_below : {A : Type 0} → (A → Stamp) → Stamp → List A → List A
+keyed_below key s [] = []
+keyed_below key s (x ∷ xs) = if is_before (key x) s then x ∷ keyed_below key s xs else []
 
-abbrev pub from : {A : Type 0} → (A → Stamp) → Stamp → List A → List A
-from key s [] = []
-from key s (x ∷ xs) = if is_before (key x) s then from key s xs else x ∷ xs
+abbrev pub keyed_from : {A : Type 0} → (A → Stamp) → Stamp → List A → List A
+keyed_from key s [] = []
+keyed_from key s (x ∷ xs) = if is_before (key x) s then keyed_from key s xs else x ∷ xs

@@ -8,14 +8,14 @@ use Rattle.event_stamps.specs.Order.{IsInRange}
 use Rattle.event_stamps.specs.Least.{earlier_of}
 use Rattle.event_stamps.proofs.Ranks.{kind_below}
 use Rattle.event_tree.specs.Keys.{Key}
-use Rattle.event_tree.specs.Packing.{number_of, pack, unpack, HasRoom, IsPacked}
+use Rattle.event_tree.specs.Packing.{number_of_stamp, pack, unpack, HasRoom, IsPacked}
 use Rattle.event_tree.specs.Codes.{HasCode, narrowed, widened, key_of, IsCode}
 use Rattle.event_tree.proofs.Packing.{packed, takes_lower, keeps_lower}
 
 -- ---- a code is narrowed from its number
 -- there is no fourth kind
-no_fourth : (s : Stamp) → IsInRange s → number_of s % 2 ^ 37 < 2 ^ 37 - 1
-unfolding number_of
+no_fourth : (s : Stamp) → IsInRange s → number_of_stamp s % 2 ^ 37 < 2 ^ 37 - 1
+unfolding number_of_stamp
 no_fourth s range = omega (arith, range.0, range.1, range.2, kind_below s.kind)
 
 none_or_less : (n : ℕ) (key : Key) → IfSome key HasRoom → pack key ≡ n → (n ≡ 2 ^ 128 - 1) ⊎ (n % 2 ^ 37 < 2 ^ 37 - 1)

@@ -12,7 +12,7 @@ use Rattle.event_stamps.specs.Order.{stamp_cmp, kind_number, IsInRange, Before}
 use Rattle.event_stamps.specs.Least.{earlier_of}
 use Rattle.event_stamps.proofs.Ranks.{rank_cmp, kind_below}
 use Rattle.event_tree.specs.Keys.{Key, IsKeyBefore}
-use Rattle.event_tree.specs.Packing.{number_of, stamp_of, kind_of, pack, unpack, HasRoom, IsPacked}
+use Rattle.event_tree.specs.Packing.{number_of_stamp, stamp_of_number, kind_of, pack, unpack, HasRoom, IsPacked}
 
 -- ---- a key is its number's
 kind_again : (k : Kind) → kind_of (kind_number k) ≡ k
@@ -20,8 +20,8 @@ kind_again Cross = refl
 kind_again Wall = refl
 kind_again Pair = refl
 
-stamp_again : (s : Stamp) → IsInRange s → stamp_of (number_of s) ≡ s
-unfolding stamp_of number_of
+stamp_again : (s : Stamp) → IsInRange s → stamp_of_number (number_of_stamp s) ≡ s
+unfolding stamp_of_number number_of_stamp
 stamp_again s range =
     let time = s.tick * 2 ^ 17 + s.round in
     let event = time * 2 ^ 2 + kind_number s.kind in
@@ -38,18 +38,18 @@ stamp_again s range =
     let second = mod-mul-add (event * 2 ^ 16 + s.first) (2 ^ 16) s.second range.2 in
     λ i. record { tick = tick i; round = round i; kind = kind i; first = first i; second = second i }
 
-number_below : (s : Stamp) → HasRoom s → number_of s < 2 ^ 115
-unfolding number_of
+number_below : (s : Stamp) → HasRoom s → number_of_stamp s < 2 ^ 115
+unfolding number_of_stamp
 number_below s room =
     let range = room.in_range in
     omega (arith, room.tick, range.0, range.1, range.2, kind_below s.kind)
 
-not_none : (n : ℕ) (s : Stamp) → n < 2 ^ 115 → stamp_of n ≡ s → unpack n ≡ Some s
+not_none : (n : ℕ) (s : Stamp) → n < 2 ^ 115 → stamp_of_number n ≡ s → unpack n ≡ Some s
 not_none n s lt e = grind (arith, nat_tests)
 
 pub key_again : (key : Key) → IfSome key HasRoom → unpack (pack key) ≡ key
 key_again None h = refl
-key_again (Some s) h = not_none (number_of s) s (number_below s h) (stamp_again s h.in_range)
+key_again (Some s) h = not_none (number_of_stamp s) s (number_below s h) (stamp_again s h.in_range)
 
 pub packed : (key : Key) → IfSome key HasRoom → IsPacked (pack key)
 packed key h =
@@ -86,8 +86,8 @@ recoded a b c d m n x y e hx hy le = elim (three_ways a b c d e) [
 ]
 
 number_cmp : (a b : Stamp) → IsInRange a → IsInRange b →
-    stamp_cmp a b ≡ nat_cmp (number_of a) (number_of b)
-unfolding number_of
+    stamp_cmp a b ≡ nat_cmp (number_of_stamp a) (number_of_stamp b)
+unfolding number_of_stamp
 number_cmp a b ha hb =
     let more : 65537 ≤ 2 ^ 17 = omega arith in
     let some : 3 ≤ 2 ^ 2 = omega arith in
@@ -134,14 +134,14 @@ number_less m n e = grind arith
 not_less_number : (m n : ℕ) → n ≤ m → ¬ (nat_cmp m n ≡ Less)
 not_less_number m n le e = grind arith
 
-later : (s : Stamp) (key : Key) → HasRoom s → IfSome key HasRoom → number_of s < pack key → IfSome key (Before s)
+later : (s : Stamp) (key : Key) → HasRoom s → IfSome key HasRoom → number_of_stamp s < pack key → IfSome key (Before s)
 later s None hs hk lt = tt
 later s (Some t) hs hk lt = number_cmp s t hs.in_range hk.in_range ∙ less_number _ _ lt
 
-not_later : (s : Stamp) (key : Key) → HasRoom s → IfSome key HasRoom → pack key ≤ number_of s → IfSome key (Before s) → None ≡ key
+not_later : (s : Stamp) (key : Key) → HasRoom s → IfSome key HasRoom → pack key ≤ number_of_stamp s → IfSome key (Before s) → None ≡ key
 not_later s None hs hk le before = refl
 not_later s (Some t) hs hk le before =
-    absurd (not_less_number (number_of s) (number_of t) le (sym (number_cmp s t hs.in_range hk.in_range) ∙ before))
+    absurd (not_less_number (number_of_stamp s) (number_of_stamp t) le (sym (number_cmp s t hs.in_range hk.in_range) ∙ before))
 
 below_is_before : (a b : Key) → IfSome a HasRoom → IfSome b HasRoom → pack a < pack b → IsKeyBefore a b
 below_is_before None None ha hb lt = absurd (omega (arith, lt))
@@ -153,7 +153,7 @@ before_is_below : (a b : Key) → IfSome a HasRoom → IfSome b HasRoom → IsKe
 before_is_below None b ha hb before = absurd before
 before_is_below (Some s) None ha hb before = omega (arith, number_below s ha)
 before_is_below (Some s) (Some t) ha hb before =
-    number_less (number_of s) (number_of t) (sym (number_cmp s t ha.in_range hb.in_range) ∙ before)
+    number_less (number_of_stamp s) (number_of_stamp t) (sym (number_cmp s t ha.in_range hb.in_range) ∙ before)
 
 pub is_before_if_below : (m n : ℕ) → IsPacked m → IsPacked n → m < n → IsKeyBefore (unpack m) (unpack n)
 is_before_if_below m n hm hn lt =
@@ -166,7 +166,7 @@ is_below_if_before m n hm hn before =
 some_room : (key : Key) (s : Stamp) → IfSome key HasRoom → key ≡ Some s → HasRoom s
 some_room key s room at = subst (λ (k : Key). IfSome k HasRoom) at room
 
-number_is : (m : ℕ) (s : Stamp) → IsPacked m → unpack m ≡ Some s → number_of s ≡ m
+number_is : (m : ℕ) (s : Stamp) → IsPacked m → unpack m ≡ Some s → number_of_stamp s ≡ m
 number_is m s hm at = ap (λ (k : Key). pack k) (sym at) ∙ hm.exact
 
 pub comes_after : (m n : ℕ) (s : Stamp) → IsPacked m → IsPacked n → unpack m ≡ Some s → m < n → IfSome (unpack n) (Before s)

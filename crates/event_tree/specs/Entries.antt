@@ -7,12 +7,12 @@ pub record EntriesData : Type 0 where
   pub keys : List Key
   pub bounds : List Key
 
-abbrev pub entries_of : List Key → List Key → EntriesData
-entries_of keys bounds = record { keys = keys; bounds = bounds }
+abbrev pub entries_with : List Key → List Key → EntriesData
+entries_with keys bounds = record { keys = keys; bounds = bounds }
 
 -- no disk has either
 abbrev pub is_empty : EntriesData
-is_empty = entries_of [] []
+is_empty = entries_with [] []
 
 -- a disk's key, and its bound
 abbrev pub entry_at : EntriesData → ℕ → Key × Key

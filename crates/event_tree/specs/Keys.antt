@@ -35,7 +35,7 @@ pub record IsSetAt (disk : ℕ) (key : Key) (old new : List Key) : Type 0 where
 
 -- ---- how the keys are kept
 -- room for so many keys, and the same for each disk
-pub record IsWider (old : List Key) (room : ℕ) (new : List Key) : Type 0 where
+pub record HasWiderRoom (old : List Key) (room : ℕ) (new : List Key) : Type 0 where
   pub enough : room ≤ length new
   pub same : (disk : ℕ) → key_at new disk ≡ key_at old disk
 

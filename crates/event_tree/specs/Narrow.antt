@@ -1,23 +1,23 @@
 -- Entries of 16 bytes, four of them in a line.
 use Rattle.std.specs.Prelude.{◌≡◌, ℕ, ◌+◌, ◌*◌, ◌%◌, ◌<◌, ◌≤◌, ◌^◌, List, length, map, drop}
 use Rattle.event_tree.specs.Keys.{Key, IsLeastFrom, key_at}
-use Rattle.event_tree.specs.Entries.{EntriesData, entries_of}
-use Rattle.event_tree.specs.declared.narrow.Entry.{Entry}
+use Rattle.event_tree.specs.Entries.{EntriesData, entries_with}
+use Rattle.event_tree.specs.declared.narrow.NarrowEntry.{NarrowEntry}
 
 -- the keys of some entries
-abbrev pub keys_in : List Entry → List Key
+abbrev pub keys_in : List NarrowEntry → List Key
 keys_in entries = map (λ e. e.key) entries
 
 -- their bounds
-abbrev pub bounds_in : List Entry → List Key
+abbrev pub bounds_in : List NarrowEntry → List Key
 bounds_in entries = map (λ e. e.bound) entries
 
 -- of each disk its entry; the first three are of no disk
-abbrev pub entries_in : List Entry → EntriesData
-entries_in entries = entries_of (drop 3 (keys_in entries)) (drop 3 (bounds_in entries))
+abbrev pub disk_entries : List NarrowEntry → EntriesData
+disk_entries entries = entries_with (drop 3 (keys_in entries)) (drop 3 (bounds_in entries))
 
 -- behind the first three the entries are in fours, of each four the least key leads, and no disk is past 2^32
-pub record AreLed (entries : List Entry) (leads : List Key) : Type 0 where
+pub record AreLed (entries : List NarrowEntry) (leads : List Key) : Type 0 where
   pub fours : 0 < length entries → length entries % 4 ≡ 3
   pub room : length entries ≤ 4 * length leads + 3
   pub most : length entries ≤ 2 ^ 32 + 3

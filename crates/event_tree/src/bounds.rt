@@ -10,11 +10,11 @@ use std::marker::Model;
 // One key for each disk: a stamp, or none. Memory is taken for as many disks as the greatest number that ever
 // had a key, or for up to twice as many.
 #[derive(Drop)]
-pub(crate) struct Bounds {
+pub(crate) struct DiskBounds {
     keys: Vec<Packed>,
 }
 
-impl Model for Bounds {
+impl Model for DiskBounds {
     ghost use Rattle.std.specs.Prelude.{List};
     ghost use Rattle.event_tree.specs.Keys.{Key};
 
@@ -23,12 +23,12 @@ impl Model for Bounds {
     ghost view = { λ a. a.keys.items };
 }
 
-impl Bounds {
+impl DiskBounds {
     // No key of any disk. No memory is taken.
-    pub fn new(alloc: Global) -> Bounds
+    pub fn new(alloc: Global) -> DiskBounds
         ensures { result ≡ [] }
     {
-        Bounds {
+        DiskBounds {
             keys: Vec::new(alloc),
         }
     }

@@ -6,7 +6,7 @@ ghost use Rattle.event_tree.specs.Packing.{HasRoom};
 ghost use Rattle.event_tree.specs.Entries.{EntriesData, IsEntered, is_empty};
 
 use crate::code::Code;
-use crate::narrow::{Entry, Narrow};
+use crate::narrow::{Narrow, NarrowEntry};
 use crate::packed::Packed;
 use crate::wide::Wide;
 use event_stamps::Stamp;
@@ -102,7 +102,7 @@ impl Entries {
             && let Some(key) = Code::of(key)
             && let Some(bound) = Code::of(bound)
         {
-            return self.narrow.set(alloc, disk, Entry { key, bound });
+            return self.narrow.set(alloc, disk, NarrowEntry { key, bound });
         }
         self.set_wide(alloc, disk, key, bound)
     }

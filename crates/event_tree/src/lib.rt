@@ -48,7 +48,7 @@ impl Model for EventTree {
 
 ghost use Rattle.std.specs.Prelude.{◌≡◌, ◌+◌, ◌*◌, ◌<◌, ◌≤◌, ◌^◌, [], length};
 ghost use Rattle.std.specs.Prelude.{slice_set, drop, IfSome, IfOk, OnOk, OnErr};
-ghost use Rattle.event_tree.specs.Keys.{IsLeastKey, IsLeastFrom, IsTree, IsTreeBut, IsWider, IsSetAt};
+ghost use Rattle.event_tree.specs.Keys.{IsLeastKey, IsLeastFrom, IsTree, IsTreeBut, HasWiderRoom, IsSetAt};
 ghost use Rattle.event_tree.specs.Keys.{key_at};
 ghost use Rattle.event_tree.specs.Packing.{HasRoom};
 
@@ -134,7 +134,7 @@ impl EventTree {
     fn with_room(&self, alloc: Global, room: usize) -> Result<EventTree, AllocError>
         requires more { length self.now < room }
         requires most { room ≤ 2 ^ 33 }
-        ensures { IfOk result (λ wider. IsWider self.now room wider) }
+        ensures { IfOk result (λ wider. HasWiderRoom self.now room wider) }
     {
         let first = (room - 1) / 3;
         let mut wider = EventTree {

@@ -16,7 +16,7 @@ const MOST: usize = 1 << 32;
 
 // What is kept of a disk.
 #[derive(Clone, Copy)]
-pub(crate) struct Entry {
+pub(crate) struct NarrowEntry {
     pub key: Code,
     pub bound: Code,
 }
@@ -27,18 +27,18 @@ pub(crate) struct Entry {
 pub(crate) struct Narrow {
     // From the fourth one on those of the disks: a big block of memory mostly begins 16 bytes after a multiple of
     // 64, so that four side by side are in one line of the cache.
-    entries: Vec<Entry>,
+    entries: Vec<NarrowEntry>,
     // The least key of each such four.
     leads: CodeTree,
 }
 
 impl Model for Narrow {
     ghost use Rattle.event_tree.specs.Entries.{EntriesData};
-    ghost use Rattle.event_tree.specs.Narrow.{entries_in, AreLed};
+    ghost use Rattle.event_tree.specs.Narrow.{disk_entries, AreLed};
 
     ghost Value = { EntriesData };
 
-    ghost view = { λ a. entries_in a.entries.items };
+    ghost view = { λ a. disk_entries a.entries.items };
 
     ghost invariant = { λ a. AreLed a.entries.items a.leads };
 }
@@ -90,7 +90,7 @@ impl Narrow {
 
     // Sets the key and the bound of a disk.
     #[inline(always)]
-    pub fn set(&mut self, alloc: Global, disk: u32, entry: Entry) -> Result<(), AllocError>
+    pub fn set(&mut self, alloc: Global, disk: u32, entry: NarrowEntry) -> Result<(), AllocError>
         ensures { OnOk result (IsEntered disk (entry.key, entry.bound) self.old self.new) }
     {
         if disk as usize >= self.room() {
@@ -103,7 +103,7 @@ impl Narrow {
     // The same of a disk for which there is no room yet. Seldom asked, so it is kept apart: then `set` needs no
     // registers but those that it may change.
     #[inline(never)]
-    fn set_beyond(&mut self, alloc: Global, disk: u32, entry: Entry) -> Result<(), AllocError>
+    fn set_beyond(&mut self, alloc: Global, disk: u32, entry: NarrowEntry) -> Result<(), AllocError>
         requires { length self.old.keys ≤ disk }
         ensures { OnOk result (IsEntered disk (entry.key, entry.bound) self.old self.new) }
     {
@@ -142,7 +142,7 @@ impl Narrow {
         ensures { IfOk result (IsRoomier self.now room) }
     {
         let groups = (room + 3) / 4;
-        let none = Entry {
+        let none = NarrowEntry {
             key: Code::none(),
             bound: Code::none(),
         };
@@ -158,7 +158,7 @@ impl Narrow {
 
     // Sets those of a disk for which there is room.
     #[inline(always)]
-    fn put(&mut self, disk: usize, entry: Entry)
+    fn put(&mut self, disk: usize, entry: NarrowEntry)
         requires { disk < length self.old.keys }
         ensures entered { IsEntered disk (entry.key, entry.bound) self.old self.new }
         ensures room { length self.new.keys ≡ length self.old.keys }
@@ -172,7 +172,7 @@ impl Narrow {
 
 // The least key of four disks side by side.
 #[inline(always)]
-fn least_of_group(entries: &[Entry], start: usize) -> Code
+fn least_of_group(entries: &[NarrowEntry], start: usize) -> Code
     requires { start + 4 ≤ length entries.now }
     ensures { IsLeastFrom (keys_in entries.now) start 4 result }
 {

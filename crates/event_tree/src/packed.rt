@@ -43,7 +43,7 @@ ghost use Rattle.event_stamps.specs.declared.Stamp.{Stamp};
 ghost use Rattle.event_stamps.specs.Order.{Before, kind_number, IsInRange};
 ghost use Rattle.event_stamps.specs.Least.{earlier_of};
 ghost use Rattle.event_tree.specs.Keys.{IsKeyBefore};
-ghost use Rattle.event_tree.specs.Packing.{pack, unpack, number_of, stamp_of, kind_of};
+ghost use Rattle.event_tree.specs.Packing.{pack, unpack, number_of_stamp, stamp_of_number, kind_of};
 ghost use Rattle.event_tree.specs.Packing.{HasRoom, IsPacked};
 
 impl Packed {
@@ -154,7 +154,7 @@ fn unpack(number: u128) -> Option<Stamp>
 // The number of a stamp.
 fn number_of(stamp: Stamp) -> u128
     requires { IsInRange stamp }
-    ensures value { result ≡ number_of stamp }
+    ensures value { result ≡ number_of_stamp stamp }
     ensures room { HasRoom stamp }
 {
     let time = u128::from(stamp.tick) * ROUNDS + u128::from(stamp.round);
@@ -164,8 +164,8 @@ fn number_of(stamp: Stamp) -> u128
 
 // The stamp that has a number.
 fn stamp_of(number: u128) -> Stamp
-    requires { HasRoom (stamp_of number) }
-    ensures { result ≡ stamp_of number }
+    requires { HasRoom (stamp_of_number number) }
+    ensures { result ≡ stamp_of_number number }
 {
     let event = number / DISKS / DISKS;
     let time = event / KINDS;

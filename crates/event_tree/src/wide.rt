@@ -5,7 +5,7 @@ ghost use Rattle.event_tree.specs.Keys.{IsLeastKey, key_at};
 ghost use Rattle.event_tree.specs.Entries.{EntriesData, IsEntered, is_empty};
 
 use crate::EventTree;
-use crate::bounds::Bounds;
+use crate::bounds::DiskBounds;
 use crate::packed::Packed;
 use std::alloc::{AllocError, Global};
 
@@ -13,15 +13,15 @@ use std::alloc::{AllocError, Global};
 #[derive(Drop)]
 pub(crate) struct Wide {
     keys: EventTree,
-    bounds: Bounds,
+    bounds: DiskBounds,
 }
 
 impl std::marker::Model for Wide {
-    ghost use Rattle.event_tree.specs.Entries.{EntriesData, entries_of};
+    ghost use Rattle.event_tree.specs.Entries.{EntriesData, entries_with};
 
     ghost Value = { EntriesData };
 
-    ghost view = { λ a. entries_of a.keys a.bounds };
+    ghost view = { λ a. entries_with a.keys a.bounds };
 }
 
 impl Wide {
@@ -31,7 +31,7 @@ impl Wide {
     {
         Wide {
             keys: EventTree::new(alloc),
-            bounds: Bounds::new(alloc),
+            bounds: DiskBounds::new(alloc),
         }
     }
 

@@ -4,7 +4,7 @@ use Rattle.std.specs.Prelude.{Option, Some, None}
 use Rattle.std.proofs.lemmas.Int.{ints}
 use Rattle.fixed_motion.specs.declared.rules.RuleFault.{RuleFault}
 use Rattle.fixed_motion.specs.declared.rules.Rules.{Rules}
-use Rattle.fixed_motion.specs.Rules.{Numbers, Range, IsIn, AreInRange, rule_fault, is_in, is_size, sides, speed_limits, round_limits, ends}
+use Rattle.fixed_motion.specs.Rules.{Numbers, Range, IsIn, AreNumbersInRange, rule_fault, is_in, is_size, sides, speed_limits, round_limits, ends}
 use Rattle.fixed_motion.specs.Motion.{IsSize}
 
 -- ---- tests
@@ -62,7 +62,7 @@ passed false rest fault h = absurd (none fault h)
     none : (fault : RuleFault) → ¬ (Some fault ≡ None)
     none fault h = cc
 
-pub in_range : (n : Numbers) → rule_fault n ≡ None → AreInRange n
+pub in_range : (n : Numbers) → rule_fault n ≡ None → AreNumbersInRange n
 in_range n h =
     let width = passed (is_in sides n.width) _ _ h in
     let height = passed (is_in sides n.height) _ _ width.1 in
@@ -83,7 +83,7 @@ in_range n h =
       end = from_in ends n.end end.0;
     }
 
-pub no_fault : (n : Numbers) → AreInRange n → rule_fault n ≡ None
+pub no_fault : (n : Numbers) → AreNumbersInRange n → rule_fault n ≡ None
 no_fault n h = grind (arith, ints, h.width, h.height, h.diameter, h.diameter_in_height, h.diameter_even, h.speed_limit, h.round_limit, h.end)
 
 -- no fault, by the tests in their order

@@ -1,7 +1,7 @@
 //! The rules of a scene.
 
 ghost use Rattle.std.specs.Prelude.{◌≡◌, ◌&&◌, int_le, None, Some, MatchResult};
-ghost use Rattle.fixed_motion.specs.Rules.{IsChecked, is_in, is_size, rule_fault, numbers_of};
+ghost use Rattle.fixed_motion.specs.Rules.{IsChecked, is_in, is_size, rule_fault, six_numbers};
 
 /// The greatest width and height, in units of length.
 pub const MAX_SIDE: i64 = 1_073_741_824;
@@ -52,8 +52,8 @@ pub enum RuleFault {
 impl Rules {
     /// Tests each number against its range, in the order of [`RuleFault`].
     pub fn check(&self) -> Result<(), RuleFault>
-        ensures { MatchResult result (λ _. (rule_fault (numbers_of self.now) ≡ None) × IsChecked self.now)
-            (λ fault. rule_fault (numbers_of self.now) ≡ Some fault) }
+        ensures { MatchResult result (λ _. (rule_fault (six_numbers self.now) ≡ None) × IsChecked self.now)
+            (λ fault. rule_fault (six_numbers self.now) ≡ Some fault) }
     {
         if !is_in(2, MAX_SIDE, self.width) {
             return Err(RuleFault::Width);

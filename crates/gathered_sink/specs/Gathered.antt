@@ -27,8 +27,8 @@ abbrev pub IsWhole : GatheredData → Type 0
 IsWhole s = (s.faults ≡ 0) × (s.faults_below ≡ 0) × (s.told ≡ append_known s.passed s.held)
 
 -- after a failure of the sink below, that one has taken a front of it
-abbrev pub IsTorn : GatheredData → Type 0
-IsTorn s = (1 ≤ s.faults) × (1 ≤ s.faults_below) × IsFront s.passed s.told
+abbrev pub IsTornBelow : GatheredData → Type 0
+IsTornBelow s = (1 ≤ s.faults) × (1 ≤ s.faults_below) × IsFront s.passed s.told
 
 -- after a failure nothing more is given to the sink below
 abbrev pub StaysTorn : GatheredData → GatheredData → Type 0
@@ -46,10 +46,10 @@ held_after room held piece =
 abbrev pub LeavesGiven : GatheredData → GatheredData → Given → List ℕ → Type 0
 LeavesGiven before after AllGiven piece =
     (before.faults ≡ 0) × IsWhole after × (after.held ≡ held_after before.room before.held piece)
-LeavesGiven before after GiveFailed piece = IsTorn after × StaysTorn before after
+LeavesGiven before after GiveFailed piece = IsTornBelow after × StaysTorn before after
 
 -- what a flush leaves, by its answer
 abbrev pub LeavesFlushed : GatheredData → GatheredData → Given → Type 0
 LeavesFlushed before after AllGiven =
     (before.faults ≡ 0) × IsWhole after × (after.held ≡ []) × (after.passed ≡ before.told)
-LeavesFlushed before after GiveFailed = IsTorn after × StaysTorn before after
+LeavesFlushed before after GiveFailed = IsTornBelow after × StaysTorn before after

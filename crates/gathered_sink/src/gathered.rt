@@ -15,7 +15,7 @@ use std::snapshot::Snapshot;
 /// fails. From then on it takes nothing, gives nothing, and answers that it failed; the sink below has taken a front of
 /// what was taken here.
 #[derive(Drop)]
-pub struct Gathered<K: Sink> {
+pub struct GatheringSink<K: Sink> {
     sink: K,
     // The sink below when it had taken all but what is held. It takes no place, and is there to say what that one had
     // taken before it failed.
@@ -26,7 +26,7 @@ pub struct Gathered<K: Sink> {
     faults: u64,
 }
 
-impl<K: Sink> Model for Gathered<K> {
+impl<K: Sink> Model for GatheringSink<K> {
     ghost use Rattle.std.specs.Prelude.{◌≡◌, ◌≤◌, length, vec_capacity};
     ghost use Rattle.std.specs.Io.KnownBytes.{append_known};
     ghost use Rattle.gathered_sink.specs.Gathered.{GatheredData, IsFront};
@@ -50,10 +50,10 @@ impl<K: Sink> Model for Gathered<K> {
         × IsFront (K.taken g.sink) (append_known (K.taken g.seen.value) g.held.items) };
 }
 
-impl<K: Sink> Gathered<K> {
+impl<K: Sink> GatheringSink<K> {
     /// One over the sink, of which no call has failed. It holds up to `room` bytes; with no room each piece goes to the
     /// sink at once. The memory for the room is taken here, and no later call takes any. Out of memory it has no room.
-    pub fn new(alloc: Global, sink: K, room: usize) -> Gathered<K>
+    pub fn new(alloc: Global, sink: K, room: usize) -> GatheringSink<K>
         requires { K.faults sink ≡ 0 }
         ensures told { result.told ≡ K.taken sink }
         ensures passed { result.passed ≡ K.taken sink }
@@ -67,7 +67,7 @@ impl<K: Sink> Gathered<K> {
             Ok(held) => (held, room),
             Err(_) => (Vec::new(alloc), 0),
         };
-        Gathered {
+        GatheringSink {
             sink,
             seen,
             held,
@@ -133,7 +133,7 @@ impl<K: Sink> Gathered<K> {
     }
 }
 
-impl<K: Sink> Sink for Gathered<K> {
+impl<K: Sink> Sink for GatheringSink<K> {
     ghost Lasting = { Unit {0} };
 
     ghost lasting = { λ _. tt };

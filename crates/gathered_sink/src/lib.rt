@@ -3,4 +3,4 @@
 
 mod gathered;
 
-pub use gathered::Gathered;
+pub use gathered::GatheringSink;

@@ -12,7 +12,7 @@ use Rattle.collision_report.specs.declared.format.Format.{Format}
 use Rattle.collision_report.specs.Laws.{end_text}
 use Rattle.collision_report.specs.Meaning.{LentReport, IsSceneOf, nothing_yet, told_on_loan, IsTornOnLoan}
 use Rattle.live_progress.specs.Lists.{StartsWith}
-use Rattle.live_progress.specs.Watching.{SoFar, with_change, IsTorn, pairs_of}
+use Rattle.live_progress.specs.Watching.{SoFar, with_published, IsTorn, pairs_of}
 use Rattle.live_progress.proofs.Watches.{run_watched, cut_watched}
 use Rattle.hard_disks.specs.Reports.{IsReport, status_of}
 use Rattle.hard_disks.specs.declared.status.Status.{Status}
@@ -48,7 +48,7 @@ pub record ToldAll {Loan : Type 0} (format : Format) (scene : SceneData) (outcom
       Wrote (IsReport format scene) taken after status
 
 pub told_all : {Loan : Type 0} (format : Format) (scene : SceneData) (outcome : Outcome) (taken : Option (List ℕ)) (m n : SoFar (LentReport Loan)) (a b : LentReport Loan) →
-    RunTold (with_change told_on_loan) scene outcome (Some m) (Some n) → m.inner ≡ Some a → n.inner ≡ Some b → IsValidScene scene → m.list ≡ [] →
+    RunTold (with_published told_on_loan) scene outcome (Some m) (Some n) → m.inner ≡ Some a → n.inner ≡ Some b → IsValidScene scene → m.list ≡ [] →
     a.1 ≡ nothing_yet format scene taken → ToldAll format scene outcome taken m n a b
 told_all format scene outcome taken m n a b told before after valid none first =
     let changes = told.0 in let run = told.1 in
@@ -78,7 +78,7 @@ pub record ToldPart {Loan : Type 0} (format : Format) (scene : SceneData) (taken
   pub prefix : WrotePrefix (IsReport format scene) taken b.1.taken
 
 told_begun : {Loan : Type 0} (format : Format) (scene : SceneData) (taken : Option (List ℕ)) (m n : SoFar (LentReport Loan)) (a b : LentReport Loan) →
-    RunBegun (with_change told_on_loan) (IsTorn IsTornOnLoan) scene (Some m) (Some n) → m.inner ≡ Some a → n.inner ≡ Some b →
+    RunBegun (with_published told_on_loan) (IsTorn IsTornOnLoan) scene (Some m) (Some n) → m.inner ≡ Some a → n.inner ≡ Some b →
     IsValidScene scene → m.list ≡ [] → a.1 ≡ nothing_yet format scene taken → ToldPart format scene taken m n a b
 told_begun format scene taken m n a b told before after valid none first =
     let changes = told.0 in let outcome = told.1 in let run = told.2 in
@@ -96,7 +96,7 @@ told_begun format scene taken m n a b told before after valid none first =
     }
 
 pub told_part : {Loan : Type 0} (format : Format) (scene : SceneData) (taken : Option (List ℕ)) (m n : SoFar (LentReport Loan)) (a b : LentReport Loan) (fault : RunFault) →
-    RunCutShort (with_change told_on_loan) (IsTorn IsTornOnLoan) scene fault (Some m) (Some n) → m.inner ≡ Some a → n.inner ≡ Some b →
+    RunCutShort (with_published told_on_loan) (IsTorn IsTornOnLoan) scene fault (Some m) (Some n) → m.inner ≡ Some a → n.inner ≡ Some b →
     IsValidScene scene → m.list ≡ [] → a.1 ≡ nothing_yet format scene taken → ToldPart format scene taken m n a b
 told_part format scene taken m n a b Listener told before after valid none first =
     told_begun format scene taken m n a b told before after valid none first

@@ -7,14 +7,14 @@ const HALF_MINUTE: u64 = 30_000_000;
 #[derive(Drop)]
 pub(crate) struct Forecast {
     // From here on is measured: half a minute to a minute ago, once the run has gone on for so long.
-    from: Mark,
+    from: Milestone,
     // What takes its place.
-    next: Mark,
+    next: Milestone,
 }
 
 // When a run came to a tick.
 #[derive(Clone, Copy)]
-struct Mark {
+struct Milestone {
     micros: u64,
     tick: u64,
 }
@@ -22,7 +22,7 @@ struct Mark {
 impl Forecast {
     /// Of a run that begins now.
     pub(crate) fn new(now: u64) -> Forecast {
-        let begin = Mark {
+        let begin = Milestone {
             micros: now,
             tick: 0,
         };
@@ -36,7 +36,7 @@ impl Forecast {
     pub(crate) fn seconds_left(&mut self, now: u64, tick: u64, end: u64) -> Option<u64> {
         if now.saturating_sub(self.next.micros) >= HALF_MINUTE {
             self.from = self.next;
-            self.next = Mark { micros: now, tick };
+            self.next = Milestone { micros: now, tick };
         }
         let ticks = tick.saturating_sub(self.from.tick);
         let millis = now.saturating_sub(self.from.micros) / 1_000;

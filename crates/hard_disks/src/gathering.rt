@@ -11,7 +11,7 @@ ghost use Rattle.hard_disks.specs.Gathers.{IsFresh, CountsReadsBelow};
 use crate::calls::top;
 use crate::status::Status;
 use crate::timely::Timely;
-use gathered_sink::Gathered;
+use gathered_sink::GatheringSink;
 use region_core::Gate;
 use report_ports::{Given, Sink, Source};
 use std::alloc::Global;
@@ -52,7 +52,7 @@ pub fn top_gathered<R: Threads + Wait + Sync, S: Source, K: Sink, G: Gate, C: Cl
     ensures reads { CountsReadsBelow (S.faults source.old) (S.faults source.new) result.0 }
     ensures writes { CountsWrites (K.faults sink) (K.faults result.1) result.0 }
 {
-    let gathered = Gathered::new(alloc, sink, room);
+    let gathered = GatheringSink::new(alloc, sink, room);
     let mut timely = Timely::new(clock, gathered);
     let status = top(rt, alloc, words, source, &mut timely, gate);
     finish(timely.gathered, status)
@@ -60,7 +60,7 @@ pub fn top_gathered<R: Threads + Wait + Sync, S: Source, K: Sink, G: Gate, C: Cl
 
 // Gives the rest of what was gathered, where the call that gave it ended with the status.
 #[tactic(auto, using(crate::proofs::PassedOn::answered_torn, crate::proofs::PassedOn::answered_unread, crate::proofs::PassedOn::answered_whole, crate::proofs::PassedOn::writes, crate::proofs::PassedOn::counted_whole, crate::proofs::PassedOn::counted_torn, crate::proofs::PassedOn::risen,))]
-pub(crate) fn finish<K: Sink>(mut gathered: Gathered<K>, status: Status) -> (Status, K)
+pub(crate) fn finish<K: Sink>(mut gathered: GatheringSink<K>, status: Status) -> (Status, K)
     ensures answers { (settings : Option Settings) (left taken : Option (List ℕ)) → IsFresh taken →
         Answers settings left taken gathered.told status →
         Answers settings left taken (K.taken result.1) result.0 }

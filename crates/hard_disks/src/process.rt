@@ -15,7 +15,7 @@ use crate::progress_line::{BesideLine, ProgressLine};
 use crate::status::Status;
 use crate::time_sharing::TimeSharing;
 use crate::timely::Timely;
-use gathered_sink::Gathered;
+use gathered_sink::GatheringSink;
 use live_progress::{Board, Pen};
 use report_ports::{Sink, Source, StdSink, StdSource};
 use std::io::{Read, Write};
@@ -170,7 +170,10 @@ fn run_beside<R: AllocGlobal + Input + Print + Eprint + Threads + Wait + Clock +
         is_shared,
         sink: StdSink::new(io::writer(rt)),
     };
-    let mut sink = Timely::new(rt, Gathered::new(rt.alloc(), beside, room_of(is_shared)));
+    let mut sink = Timely::new(
+        rt,
+        GatheringSink::new(rt.alloc(), beside, room_of(is_shared)),
+    );
     let gate = TimeSharing::new(rt, rt.alloc());
     let status = top_watched(
         rt,

@@ -41,13 +41,13 @@ const WRAP: &str = "\x1b[?7h";
 /// A line on standard error, which one thread rewrites until another ends it.
 #[derive(Drop)]
 pub struct ProgressLine {
-    stage: Mutex<Stage>,
+    stage: Mutex<LineState>,
     sleeper: Parker,
 }
 
 // Whether the line stands on the row above the cursor.
 #[derive(Clone, Copy, Debug, PartialEq, Eq)]
-enum Stage {
+enum LineState {
     Hidden,
     Shown,
     Ended,
@@ -57,7 +57,7 @@ impl ProgressLine {
     /// A line that isn't shown yet.
     pub fn new() -> ProgressLine {
         ProgressLine {
-            stage: Mutex::new(Stage::Hidden),
+            stage: Mutex::new(LineState::Hidden),
             sleeper: Parker::new(),
         }
     }
@@ -80,7 +80,7 @@ impl ProgressLine {
             self.sleeper.park_timeout(rt, Duration::from_millis(pause));
             let now = micros(rt);
             let shown = board.look(rt, &mut glass);
-            let sight = Sight {
+            let sight = ShownProgress {
                 shown,
                 end: board.end(),
                 seconds_left: forecast.seconds_left(now, shown.tick, board.end()),
@@ -100,8 +100,8 @@ impl ProgressLine {
     // What stands above the cursor isn't the line any more.
     fn lose<R: Wait>(&self, rt: &R) {
         let mut stage = self.stage.lock(rt);
-        if *stage == Stage::Shown {
-            *stage = Stage::Hidden;
+        if *stage == LineState::Shown {
+            *stage = LineState::Hidden;
         }
     }
 
@@ -109,19 +109,19 @@ impl ProgressLine {
     fn rewrite<R: AllocGlobal + Eprint + Wait>(
         &self,
         rt: &R,
-        sight: &Sight,
+        sight: &ShownProgress,
         is_ours: bool,
     ) -> bool {
         let mut stage = self.stage.lock(rt);
-        if *stage == Stage::Ended {
+        if *stage == LineState::Ended {
             return false;
         }
         if is_ours && sight.is_any() {
-            let back = if *stage == Stage::Shown { BACK } else { "" };
+            let back = if *stage == LineState::Shown { BACK } else { "" };
             // What can't be shown is left out.
             if let Ok(text) = format!(in rt.alloc(); "{back}{CLEAR}{CUT}{sight}{WRAP}\n") {
                 let _ = eprint!(rt; "{text}");
-                *stage = Stage::Shown;
+                *stage = LineState::Shown;
             }
         }
         true
@@ -130,10 +130,10 @@ impl ProgressLine {
     /// Clears the line, which isn't shown from now on.
     pub fn end<R: Eprint + Wait>(&self, rt: &R) {
         let mut stage = self.stage.lock(rt);
-        if *stage == Stage::Shown {
+        if *stage == LineState::Shown {
             let _ = eprint!(rt; "{BACK}{CLEAR}");
         }
-        *stage = Stage::Ended;
+        *stage = LineState::Ended;
         drop(stage);
         self.sleeper.unpark();
     }
@@ -141,21 +141,21 @@ impl ProgressLine {
 
 // What is seen of a run.
 #[derive(Drop)]
-struct Sight {
+struct ShownProgress {
     shown: Progress,
     // The tick at which it ends; 0 where that isn't known.
     end: u64,
     seconds_left: Option<u64>,
 }
 
-impl Sight {
+impl ShownProgress {
     // Whether there is anything to see.
     fn is_any(&self) -> bool {
         self.end > 0 || self.shown.events > 0
     }
 }
 
-impl Display for Sight {
+impl Display for ShownProgress {
     fn fmt<W: Write>(&self, f: &mut Formatter<W>) -> fmt::Result {
         let Progress { events, tick } = self.shown;
         let end = self.end;

@@ -4,7 +4,7 @@ ghost use Rattle.std.specs.Prelude.{◌≡◌, is_some};
 ghost use Rattle.report_ports.specs.Ports.{Gives, CountsGive};
 
 use crate::moments::micros;
-use gathered_sink::Gathered;
+use gathered_sink::GatheringSink;
 use report_ports::{Given, Sink};
 use std::time::Clock;
 
@@ -18,7 +18,7 @@ const PATIENCE: u64 = 100_000;
 #[derive(Drop)]
 pub struct Timely<'c, C: Clock, K: Sink> {
     /// What holds the pieces.
-    pub gathered: Gathered<K>,
+    pub gathered: GatheringSink<K>,
     /// The clock that it looks at.
     pub clock: &'c C,
     /// When it was flushed last, in microseconds.
@@ -27,7 +27,7 @@ pub struct Timely<'c, C: Clock, K: Sink> {
 
 impl<'c, C: Clock, K: Sink> Timely<'c, C, K> {
     /// One that begins to count time now.
-    pub fn new(clock: &'c C, gathered: Gathered<K>) -> Timely<'c, C, K>
+    pub fn new(clock: &'c C, gathered: GatheringSink<K>) -> Timely<'c, C, K>
         ensures { result.gathered ≡ gathered }
     {
         Timely {

@@ -18,7 +18,7 @@ use report_ports::{Sink, Source};
 use std::alloc::Global;
 use std::sync::Wait;
 use std::thread::Threads;
-use text_lines::Line;
+use text_lines::TextLine;
 
 /// Audits the claimed report of a source, and writes the verdict, or the line of a refused scene.
 pub fn show_audit<R: Threads + Wait + Sync, G: Gate, B: Burst<Idle, ()>, S: Source, K: Sink>(
@@ -58,7 +58,7 @@ fn verdict_status(verdict: &Verdict) -> Status
 }
 
 /// The lines of a verdict.
-pub fn verdict_text(verdict: &Verdict) -> Line
+pub fn verdict_text(verdict: &Verdict) -> TextLine
     ensures { result ≡ verdict_text verdict.now }
 {
     match verdict {
@@ -74,10 +74,10 @@ pub fn verdict_text(verdict: &Verdict) -> Line
     }
 }
 
-fn ok_line(lines: u128) -> Line
+fn ok_line(lines: u128) -> TextLine
     ensures { result ≡ line_of (codes "audit ok" ∷ decimal lines ∷ []) }
 {
-    let mut line = Line::new();
+    let mut line = TextLine::new();
     line.push_text("audit ok");
     line.push_text(" ");
     line.push_wide(lines);
@@ -85,11 +85,11 @@ fn ok_line(lines: u128) -> Line
     line
 }
 
-fn wrong_line(number: u128) -> Line
+fn wrong_line(number: u128) -> TextLine
     ensures text { result ≡ line_of (codes "audit line" ∷ decimal number ∷ []) }
     ensures len { length result ≤ 51 }
 {
-    let mut line = Line::new();
+    let mut line = TextLine::new();
     line.push_text("audit line");
     line.push_text(" ");
     line.push_wide(number);
@@ -97,7 +97,7 @@ fn wrong_line(number: u128) -> Line
     line
 }
 
-fn push_expected(text: &mut Line, line: &[u8])
+fn push_expected(text: &mut TextLine, line: &[u8])
     requires room { length text.old ≤ 51 }
     requires short { length line.now ≤ 128 }
     ensures { text.new ≡ text.old ++ line_of (codes "expected" ∷ line.now ∷ []) }
@@ -108,7 +108,7 @@ fn push_expected(text: &mut Line, line: &[u8])
     text.push_newline();
 }
 
-fn push_nothing(text: &mut Line)
+fn push_nothing(text: &mut TextLine)
     requires { length text.old ≤ 51 }
     ensures { text.new ≡ text.old ++ line_of (codes "expected nothing" ∷ []) }
 {

@@ -8,7 +8,7 @@ ghost use Rattle.std.specs.Prelude.{◌≡◌, ◌+◌, ◌*◌, ◌^◌, ◌≤
 ghost use Rattle.plane_vectors.specs.Vectors.{vector, dot, IsWithin};
 ghost use Rattle.impulse_rounding.specs.Impulse.{nearest, ceiling, signed, with_signs};
 ghost use Rattle.impulse_rounding.specs.Impulse.{impulse_of, parting, energy_change};
-ghost use Rattle.impulse_rounding.specs.Laws.{RoundsRight, EnergyNearlyStays};
+ghost use Rattle.impulse_rounding.specs.Laws.{RoundsRight, ImpulseEnergyNearlyStays};
 
 use plane_vectors::Vector;
 
@@ -63,7 +63,7 @@ pub fn rounds_right()
 /// The energy of two disks that approach each other, of whatever size the numbers are, but for the
 /// roundings of [`impulse`].
 pub fn energy_nearly_stays()
-    ensures { EnergyNearlyStays }
+    ensures { ImpulseEnergyNearlyStays }
 {}
 
 // The exact impulse rounded to nearest, or up where the two wouldn't recede.

@@ -5,19 +5,19 @@ use lib.ListN.{get_elem?}
 use Rattle.crossbeam_utils.specs.Register.{Turns, Forks, Merges}
 use Rattle.atomic_table.proofs.Lists.{at_set, at_snoc, set_again}
 use Rattle.live_progress.specs.declared.board.Progress.{Progress}
-use Rattle.live_progress.specs.declared.rule.View.{View}
-use Rattle.live_progress.specs.Lists.{progress, last_from, last_of, IsNoLess, RisesAfter, StartsWith}
-use Rattle.live_progress.specs.Rule.{pen_of, glass_of, words_of, Fits, IsShown, Publishing, Looking, Checking, told_of}
+use Rattle.live_progress.specs.declared.rule.BoardView.{BoardView}
+use Rattle.live_progress.specs.Lists.{progress, last_from, last_of, IsNoLess, NeverFallsAfter, StartsWith}
+use Rattle.live_progress.specs.Rule.{pen_of, glass_of, words_of, FitsBoard, IsShown, Publishing, Looking, Checking, told_of}
 
 pub last_from-push : (p : Progress) (xs : List Progress) (x : Progress) → last_from p (xs ++ x ∷ []) ≡ x
 last_from-push p [] x = refl
 last_from-push p (y ∷ xs) x = last_from-push y xs x
 
-rises_push : (p : Progress) (xs : List Progress) (x : Progress) → RisesAfter p xs → IsNoLess (last_from p xs) x → RisesAfter p (xs ++ x ∷ [])
+rises_push : (p : Progress) (xs : List Progress) (x : Progress) → NeverFallsAfter p xs → IsNoLess (last_from p xs) x → NeverFallsAfter p (xs ++ x ∷ [])
 rises_push p [] x rises more = (more, tt)
 rises_push p (y ∷ xs) x rises more = (rises.0, rises_push y xs x rises.1 more)
 
-no_less_than_last : (p : Progress) (xs : List Progress) → RisesAfter p xs → IsNoLess p (last_from p xs)
+no_less_than_last : (p : Progress) (xs : List Progress) → NeverFallsAfter p xs → IsNoLess p (last_from p xs)
 no_less_than_last p [] rises = (omega arith, omega arith)
 no_less_than_last p (x ∷ xs) rises =
     let rest = no_less_than_last x xs rises.1 in let here = rises.0 in
@@ -25,14 +25,14 @@ no_less_than_last p (x ∷ xs) rises =
     (omega arith, omega arith)
 
 -- the last pair of a beginning is no more than that of the whole
-no_less_later : (p : Progress) (xs ys : List Progress) → RisesAfter p (xs ++ ys) → IsNoLess (last_from p xs) (last_from p (xs ++ ys))
+no_less_later : (p : Progress) (xs ys : List Progress) → NeverFallsAfter p (xs ++ ys) → IsNoLess (last_from p xs) (last_from p (xs ++ ys))
 no_less_later p [] ys rises = no_less_than_last p ys rises
 no_less_later p (x ∷ xs) ys rises = no_less_later x xs ys rises.1
 
-no_less_seen : (list seen : List Progress) → RisesAfter (progress 0 0) list → StartsWith list seen → IsNoLess (last_of seen) (last_of list)
+no_less_seen : (list seen : List Progress) → NeverFallsAfter (progress 0 0) list → StartsWith list seen → IsNoLess (last_of seen) (last_of list)
 no_less_seen list seen rises s =
     subst (λ (l : List Progress). IsNoLess (last_of seen) (last_of l)) (sym s.1)
-    (no_less_later (progress 0 0) seen s.0 (subst (RisesAfter (progress 0 0)) s.1 rises))
+    (no_less_later (progress 0 0) seen s.0 (subst (NeverFallsAfter (progress 0 0)) s.1 rises))
 
 -- a longer list begins with what the shorter began with
 longer : (list more seen : List Progress) → StartsWith list seen → StartsWith (list ++ more) seen
@@ -48,30 +48,30 @@ off : false ≡ true → ⊥
 off e = true≢false (sym e)
 
 -- one view is set, and fits
-fits_set : (seat : ℕ) (list : List Progress) (views : List View) (by : ℕ) (w : View) →
-    ((j : ℕ) (u : View) → j ≢ by → get_elem? views j ≡ some u → Fits seat list j u) → Fits seat list by w →
-    (j : ℕ) (u : View) → get_elem? (set views by w) j ≡ some u → Fits seat list j u
+fits_set : (seat : ℕ) (list : List Progress) (views : List BoardView) (by : ℕ) (w : BoardView) →
+    ((j : ℕ) (u : BoardView) → j ≢ by → get_elem? views j ≡ some u → FitsBoard seat list j u) → FitsBoard seat list by w →
+    (j : ℕ) (u : BoardView) → get_elem? (set views by w) j ≡ some u → FitsBoard seat list j u
 fits_set seat list views by w others mine j u e =
     ⊎_elim
-    (λ (x : (j ≡ by) × (w ≡ u)). subst (λ (y : ℕ × View). Fits seat list y.0 y.1) (λ i. (sym x.0 i, x.1 i)) mine)
+    (λ (x : (j ≡ by) × (w ≡ u)). subst (λ (y : ℕ × BoardView). FitsBoard seat list y.0 y.1) (λ i. (sym x.0 i, x.1 i)) mine)
     (λ (x : (j ≢ by) × (get_elem? views j ≡ some u)). others j u x.0 x.1)
     (at_set views by j w u e)
 
 pub begins : IsShown (0 ∷ 0 ∷ []) (pen_of [] ∷ [])
 begins = (0, [], record { shows = refl; rises = tt; fits = one })
   where
-    one : (by : ℕ) (v : View) → get_elem? (pen_of [] ∷ []) by ≡ some v → Fits 0 [] by v
-    one zero v e = subst (Fits 0 [] 0) (some-injective _ _ e) ((λ _. (refl, refl)), whole [], whole [])
+    one : (by : ℕ) (v : BoardView) → get_elem? (pen_of [] ∷ []) by ≡ some v → FitsBoard 0 [] by v
+    one zero v e = subst (FitsBoard 0 [] 0) (some-injective _ _ e) ((λ _. (refl, refl)), whole [], whole [])
     one (suc by) v e = absurd (some-ne-none v (sym e))
 
-pub publishes : (by : ℕ) (v : View) (a b : ℕ) → v.writes ≡ true → IsNoLess (last_of v.list) (progress a b) →
+pub publishes : (by : ℕ) (v : BoardView) (a b : ℕ) → v.writes ≡ true → IsNoLess (last_of v.list) (progress a b) →
     Turns IsShown by v (λ _. a ∷ b ∷ []) Publishing
 publishes by v a b writes more words views h at =
     let fits = h.2.fits in
     let mine = fits by v at in
     let known = mine.0 writes in
     let list : List Progress = h.1 ++ progress a b ∷ [] in
-    let w : View = record { writes = v.writes; list = v.list ++ progress a b ∷ []; told = v.told } in
+    let w : BoardView = record { writes = v.writes; list = v.list ++ progress a b ∷ []; told = v.told } in
     let same : w.list ≡ list = ap (λ l. l ++ progress a b ∷ []) known.1 in (
       w,
       (
@@ -93,11 +93,11 @@ publishes by v a b writes more words views h at =
       refl,
     )
 
-pub looks : (by : ℕ) (v : View) → v.writes ≡ false → Turns IsShown by v (λ x. x) Looking
+pub looks : (by : ℕ) (v : BoardView) → v.writes ≡ false → Turns IsShown by v (λ x. x) Looking
 looks by v glass words views h at =
     let fits = h.2.fits in
     let mine = fits by v at in
-    let w : View = record { writes = v.writes; list = h.1; told = v.told } in (
+    let w : BoardView = record { writes = v.writes; list = h.1; told = v.told } in (
       w,
       (
         h.0,
@@ -111,7 +111,7 @@ looks by v glass words views h at =
       (refl, mine.1, h.2.shows, no_less_seen h.1 v.list h.2.rises mine.1),
     )
 
-pub copies : (by : ℕ) (v : View) → Forks IsShown by v v (glass_of v.list)
+pub copies : (by : ℕ) (v : BoardView) → Forks IsShown by v v (glass_of v.list)
 copies by v words views h at = let fits = h.2.fits in (
   h.0,
   h.1,
@@ -120,13 +120,13 @@ copies by v words views h at = let fits = h.2.fits in (
     rises = h.2.rises;
     fits = λ j u e. ⊎_elim
         (λ was. fits j u (subst (λ l. get_elem? l j ≡ some u) (set_again views by v at) was))
-        (λ (same : glass_of v.list ≡ u). subst (Fits h.0 h.1 j) same ((λ k. absurd (off k)), (fits by v at).1, nothing h.1))
+        (λ (same : glass_of v.list ≡ u). subst (FitsBoard h.0 h.1 j) same ((λ k. absurd (off k)), (fits by v at).1, nothing h.1))
         (at_snoc (set views by v) (glass_of v.list) u j e);
   },
 )
 
 -- a glass's view goes to another pass
-pub leaves : (by : ℕ) (v : View) → v.writes ≡ false → Forks IsShown by v (glass_of []) v
+pub leaves : (by : ℕ) (v : BoardView) → v.writes ≡ false → Forks IsShown by v (glass_of []) v
 leaves by v glass words views h at = let fits = h.2.fits in (
   h.0,
   h.1,
@@ -135,13 +135,13 @@ leaves by v glass words views h at = let fits = h.2.fits in (
     rises = h.2.rises;
     fits = λ j u e. ⊎_elim
         (λ was. fits_set h.0 h.1 views by (glass_of []) (λ i y apart e'. fits i y e') ((λ k. absurd (off k)), nothing h.1, nothing h.1) j u was)
-        (λ (same : v ≡ u). subst (Fits h.0 h.1 j) same ((λ k. absurd (off (sym glass ∙ k))), (fits by v at).1, (fits by v at).2))
+        (λ (same : v ≡ u). subst (FitsBoard h.0 h.1 j) same ((λ k. absurd (off (sym glass ∙ k))), (fits by v at).1, (fits by v at).2))
         (at_snoc (set views by (glass_of [])) v u j e);
   },
 )
 
 -- the pen is told what a glass has seen
-pub takes_in : (by : ℕ) (v : View) (other : ℕ) (u : View) → Merges IsShown by v other u (told_of v u) (glass_of [])
+pub takes_in : (by : ℕ) (v : BoardView) (other : ℕ) (u : BoardView) → Merges IsShown by v other u (told_of v u) (glass_of [])
 takes_in by v other u words views h at apart there =
     let fits = h.2.fits in
     let w = told_of v u in
@@ -158,7 +158,7 @@ takes_in by v other u words views h at apart there =
       },
     )
 
-pub checks : (by : ℕ) (v : View) → v.writes ≡ true → Turns IsShown by v (λ x. x) Checking
+pub checks : (by : ℕ) (v : BoardView) → v.writes ≡ true → Turns IsShown by v (λ x. x) Checking
 checks by v writes words views h at =
     let fits = h.2.fits in
     let mine = fits by v at in (

@@ -10,13 +10,13 @@ use Rattle.event_stamps.proofs.StampOrder.{before_trans, not_before_itself, tick
 use Rattle.event_rules.specs.declared.change.Change.{Change}
 use Rattle.event_rules.specs.declared.outcome.Outcome.{Outcome}
 use Rattle.event_rules.specs.declared.listener.Deaf.{Deaf}
-use Rattle.event_rules.specs.Laws.{RisesAfter, stamps_of}
+use Rattle.event_rules.specs.Laws.{StampsRiseAfter, stamps_of}
 use Rattle.event_rules.specs.Run.{IsRun}
 use Rattle.event_rules.specs.Told.{told, Told, Torn, PrefixTold, IsAwaited, AreAwaited, AwaitsAll}
 use Rattle.event_rules.proofs.Rise.{stamps_rise}
 use Rattle.live_progress.specs.declared.board.Progress.{Progress}
 use Rattle.live_progress.specs.Lists.{progress, last_of, StartsWith}
-use Rattle.live_progress.specs.Watching.{SoFar, counted, next_of, published, within, with_change, IsTorn, IsAwaitedWithin, pairs_from, pairs_of}
+use Rattle.live_progress.specs.Watching.{SoFar, counted_event, next_of, published, within, with_published, IsTorn, IsAwaitedWithin, pairs_from, pairs_of}
 use Rattle.live_progress.proofs.Moves.{last_from-push}
 
 -- ---- the ticks of a run
@@ -28,7 +28,7 @@ abbrev Ascends : ℕ → List Change → Type 0
 Ascends from [] = ⊤
 Ascends from (c ∷ cs) = (from ≤ c.stamp.tick) × Ascends c.stamp.tick cs
 
-ascends : (s : Stamp) (changes : List Change) (outcome : Outcome) → RisesAfter s (stamps_of changes outcome) → Ascends s.tick changes
+ascends : (s : Stamp) (changes : List Change) (outcome : Outcome) → StampsRiseAfter s (stamps_of changes outcome) → Ascends s.tick changes
 ascends s [] outcome h = tt
 ascends s (c ∷ cs) outcome h = (tick_le s c.stamp h.0, ascends c.stamp cs outcome h.1)
 
@@ -40,17 +40,17 @@ run_ascends : (scene : SceneData) (changes : List Change) (outcome : Outcome) �
 run_ascends scene changes outcome valid run = ascends first_stamp changes outcome (stamps_rise scene changes outcome valid run).0
 
 -- ---- the pairs of changes
-counted_next : (n : ℕ) → counted (counted n + 1) ≡ counted (n + 1)
+counted_next : (n : ℕ) → counted_event (counted_event n + 1) ≡ counted_event (n + 1)
 counted_next n = omega arith
 
 later_tick : (a b : ℕ) → a ≤ b → max a b ≡ b
 later_tick a b h = omega arith
 
-pairs_published : (n from : ℕ) (list : List Progress) (changes : List Change) → last_of list ≡ progress (counted n) from → Ascends from changes →
+pairs_published : (n from : ℕ) (list : List Progress) (changes : List Change) → last_of list ≡ progress (counted_event n) from → Ascends from changes →
     fold published list changes ≡ list ++ pairs_from n changes
 pairs_published n from list [] last h = sym (append-nil list)
 pairs_published n from list (c ∷ cs) last h =
-    let p : Progress = progress (counted (n + 1)) c.stamp.tick in
+    let p : Progress = progress (counted_event (n + 1)) c.stamp.tick in
     let next : next_of (last_of list) c ≡ p =
     ap (λ (q : Progress). next_of q c) last ∙ (λ i. progress (counted_next n i) (later_tick from c.stamp.tick h.0 i)) in
     let more : published list c ≡ list ++ p ∷ [] = ap (λ (q : Progress). list ++ q ∷ []) next in
@@ -62,7 +62,7 @@ pairs_begin : (n : ℕ) (xs ys : List Change) → StartsWith (pairs_from n (xs +
 pairs_begin n [] ys = (pairs_from n ys, refl)
 pairs_begin n (x ∷ xs) ys =
     let rest = pairs_begin (n + 1) xs ys in
-    (rest.0, ap (λ (l : List Progress). progress (counted (n + 1)) x.stamp.tick ∷ l) rest.1)
+    (rest.0, ap (λ (l : List Progress). progress (counted_event (n + 1)) x.stamp.tick ∷ l) rest.1)
 
 -- who was told a run has published its pairs
 run_published : (scene : SceneData) (changes : List Change) (outcome : Outcome) → IsValidScene scene → IsRun scene changes outcome →
@@ -101,7 +101,7 @@ one_within after (Some m) change (Some n) alike told = ap Some told
 -- so a change that was told was published and told
 pub one_told : {M : Type 0} (after : M → Change → M) (m n : SoFar M) (change : Change) (answer : Result (Unit {0}) Deaf) →
     n.loan ≡ m.loan → n.board ≡ m.board → n.list ≡ published m.list change → is_some n.inner ≡ is_some m.inner →
-    OnOk answer (Told after m.inner (change ∷ []) n.inner) → OnOk answer (n ≡ with_change after m change)
+    OnOk answer (Told after m.inner (change ∷ []) n.inner) → OnOk answer (n ≡ with_published after m change)
 one_told after m n change (Ok done) loan board list alike told =
     let inner = one_within after m.inner change n.inner alike told in
     λ i. record { loan = loan i; board = board i; list = list i; inner = inner i }
@@ -109,9 +109,9 @@ one_told after m n change (Err deaf) loan board list alike told = tt
 
 -- ---- the parts of a telling
 parts : {M : Type 0} (after : M → Change → M) (m : SoFar M) (changes : List Change) →
-    told (with_change after) m changes ≡ record { loan = m.loan; board = m.board; list = fold published m.list changes; inner = told (within after) m.inner changes }
+    told (with_published after) m changes ≡ record { loan = m.loan; board = m.board; list = fold published m.list changes; inner = told (within after) m.inner changes }
 parts after m [] = refl
-parts after m (c ∷ cs) = parts after (with_change after m c) cs
+parts after m (c ∷ cs) = parts after (with_published after m c) cs
 
 -- a telling that broke off: the loan is kept, some changes were published, and of the listener within the same is told
 record BrokeOff {M : Type 0} (after : M → Change → M) (torn : M → Change → M → Type 0) (m : SoFar M) (changes : List Change) (n : SoFar M) : Type 0 where
@@ -121,7 +121,7 @@ record BrokeOff {M : Type 0} (after : M → Change → M) (torn : M → Change �
   pub inner : PrefixTold after torn m.inner changes n.inner
 
 broke_off : {M : Type 0} (after : M → Change → M) (torn : M → Change → M → Type 0) (m : SoFar M) (changes : List Change) (n : SoFar M) →
-    PrefixTold (with_change after) (IsTorn torn) (Some m) changes (Some n) → BrokeOff after torn m changes n
+    PrefixTold (with_published after) (IsTorn torn) (Some m) changes (Some n) → BrokeOff after torn m changes n
 broke_off {M} after torn m changes n (k, h) = elim h [
   | inl all ↦
       let same = all ∙ parts after m (take k changes) in record {
@@ -134,7 +134,7 @@ broke_off {M} after torn m changes n (k, h) = elim h [
 ]
   where
     at_torn : (mid : Option (SoFar M)) (c : Change) (rest : List Change) → drop k changes ≡ c ∷ rest →
-        Told (with_change after) (Some m) (take k changes) mid → Torn (IsTorn torn) mid c (Some n) → BrokeOff after torn m changes n
+        Told (with_published after) (Some m) (take k changes) mid → Torn (IsTorn torn) mid c (Some n) → BrokeOff after torn m changes n
     at_torn None c rest e first last = absurd first
     at_torn (Some mid) c rest e first last =
         let same = first ∙ parts after m (take k changes) in
@@ -159,7 +159,7 @@ pub record RunWatched {M : Type 0} (after : M → Change → M) (m : SoFar M) (c
   pub inner : Told after m.inner changes n.inner
 
 pub run_watched : {M : Type 0} (after : M → Change → M) (scene : SceneData) (changes : List Change) (outcome : Outcome) (m n : SoFar M) →
-    IsValidScene scene → IsRun scene changes outcome → m.list ≡ [] → n ≡ told (with_change after) m changes → RunWatched after m changes n
+    IsValidScene scene → IsRun scene changes outcome → m.list ≡ [] → n ≡ told (with_published after) m changes → RunWatched after m changes n
 run_watched {M} after scene changes outcome m n valid run none h =
     let same = h ∙ parts after m changes in record {
       loan = ap (λ (v : SoFar M). v.loan) same;
@@ -178,7 +178,7 @@ pub record CutWatched {M : Type 0} (after : M → Change → M) (torn : M → Ch
 
 pub cut_watched : {M : Type 0} (after : M → Change → M) (torn : M → Change → M → Type 0) (scene : SceneData) (changes : List Change) (outcome : Outcome)
     (m n : SoFar M) → IsValidScene scene → IsRun scene changes outcome → m.list ≡ [] →
-    PrefixTold (with_change after) (IsTorn torn) (Some m) changes (Some n) → CutWatched after torn m changes n
+    PrefixTold (with_published after) (IsTorn torn) (Some m) changes (Some n) → CutWatched after torn m changes n
 cut_watched after torn scene changes outcome m n valid run none h =
     let cut = broke_off after torn m changes n h in
     let xs = cut.list.0 in record {
@@ -193,10 +193,10 @@ cut_watched after torn scene changes outcome m n valid run none h =
 -- by the one within, and so by the one that is watched
 pub watched_awaits : {M : Type 0} (after : M → Change → M) (awaits : M → Change → Type 0) (m : SoFar M)
     (changes : List Change) → AwaitsAll after awaits m.inner changes →
-    AreAwaited (with_change after) (IsAwaitedWithin awaits) m changes
+    AreAwaited (with_published after) (IsAwaitedWithin awaits) m changes
 watched_awaits after awaits m [] each = tt
 watched_awaits {M} after awaits m (c ∷ cs) each =
-    (first m.inner each, watched_awaits after awaits (with_change after m c) cs (later m.inner each))
+    (first m.inner each, watched_awaits after awaits (with_published after m c) cs (later m.inner each))
   where
     first : (inner : Option M) → AwaitsAll after awaits inner (c ∷ cs) → IsAwaited awaits inner c
     first None each = tt

@@ -6,7 +6,7 @@ ghost use Rattle.crossbeam_utils.specs.Seq.{cell_view};
 ghost use Rattle.live_progress.specs.Lists.{last_of, IsNoLess, StartsWith};
 ghost use Rattle.live_progress.specs.Rule.{IsShown, Publishing, Checking};
 
-use crate::rule::{Cell, Checks, Copies, Leaves, Looks, Publishes, Token};
+use crate::rule::{Cell, Checks, HandsOut, Leaves, Looks, Publishes, Token};
 use crate::words::{pair_of, words_of};
 use std::alloc::{AllocError, Global};
 use std::marker::Model;
@@ -114,7 +114,7 @@ impl Board {
         ensures glass { result ≡ pen.old }
     {
         Glass {
-            token: self.cell.split_pass::<Copies>(&mut pen.token),
+            token: self.cell.split_pass::<HandsOut>(&mut pen.token),
         }
     }
 

@@ -1,7 +1,7 @@
 //! A listener that publishes what it is told.
 
 ghost use Rattle.std.specs.Prelude.{◌≡◌, Some, is_some};
-ghost use Rattle.live_progress.specs.Watching.{SoFar, next_of, with_change, IsTorn, IsAwaitedWithin};
+ghost use Rattle.live_progress.specs.Watching.{SoFar, next_of, with_published, IsTorn, IsAwaitedWithin};
 
 use crate::{Board, Pen, Progress};
 use event_rules::{Change, Deaf, Listener};
@@ -31,7 +31,7 @@ pub struct Watched<'p, R: Wait, L: Listener> {
 impl<'p, R: Wait, L: Listener> Listener for Watched<'p, R, L> {
     ghost Meaning = { SoFar L.Meaning };
 
-    ghost after = { with_change L.after };
+    ghost after = { with_published L.after };
 
     ghost torn = { IsTorn L.torn };
 

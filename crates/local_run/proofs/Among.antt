@@ -7,14 +7,14 @@ use Rattle.event_stamps.proofs.Parts as parts
 use Rattle.region_view.specs.declared.rows.Message.{Message}
 use Rattle.region_messages.specs.Trails.{IsAmong, Rises, below, message_key}
 use Rattle.region_messages.proofs.Among.{rises_tail}
-use Rattle.local_run.specs.LocalRun.{Trails, trail_of, rest_of, without_first, IsWaiting}
+use Rattle.local_run.specs.LocalRun.{Trails, trail_of, messages_after_first, without_first, IsWaiting}
 
 -- ---- trails that rise
-pub rises_rest : (ms : List Message) → Rises ms → Rises (rest_of ms)
+pub rises_rest : (ms : List Message) → Rises ms → Rises (messages_after_first ms)
 rises_rest [] h = tt
 rises_rest (m ∷ ms) h = rises_tail m.stamp ms h
 
-pub among_rest : (ms : List Message) (n : Message) → IsAmong n (rest_of ms) → IsAmong n ms
+pub among_rest : (ms : List Message) (n : Message) → IsAmong n (messages_after_first ms) → IsAmong n ms
 among_rest [] n h = h
 among_rest (m ∷ ms) n h = inr h
 
@@ -23,7 +23,7 @@ pub below_nil : (s : Stamp) (ms : List Message) →
 below_nil s ms = parts.below_nil message_key s ms
 
 -- ---- the trails of the regions
-pub same_trail : (ts : Trails) (q : ℕ) → trail_of (without_first ts q) q ≡ rest_of (trail_of ts q)
+pub same_trail : (ts : Trails) (q : ℕ) → trail_of (without_first ts q) q ≡ messages_after_first (trail_of ts q)
 same_trail [] q = refl
 same_trail (t ∷ ts) zero = refl
 same_trail (t ∷ ts) (suc q) = same_trail ts q

@@ -20,7 +20,7 @@ use Rattle.region_messages.specs.Trails.{IsAmong}
 use Rattle.region_view.specs.Naming.{Names, NamesAny}
 use Rattle.region_view.proofs.Naming.{none_among, among_or_not, natives_stay}
 use Rattle.local_run.specs.declared.home.Home.{Home}
-use Rattle.local_run.specs.LocalRun.{IsOwn, ComesTo}
+use Rattle.local_run.specs.LocalRun.{IsOwn, ComesToInView}
 use Rattle.local_run.specs.Weaving.{AreOthers}
 use Rattle.local_run.proofs.Touched.{over_others, same_but}
 use Rattle.local_run.proofs.Untouched.{as_rows, two_are_a_pair}
@@ -95,7 +95,7 @@ pub later_still : (x : ℕ) (xs : List ℕ) (i : ℕ) → Contains xs i → Cont
 later_still x xs i (k, lt, at) = (suc k, omega arith, at)
 
 -- an event sets rows of its own disks alone
-pub set_are_named : (h : Home) (view : ViewData) (x : Action) (i : ℕ) → ComesTo h view (stamp_of x) (Ok x) →
+pub set_are_named : (h : Home) (view : ViewData) (x : Action) (i : ℕ) → ComesToInView h view (stamp_of x) (Ok x) →
     Contains (numbers_of (rows_set (rows_in view) x)) i → Names (stamp_of x) i
 set_are_named h view (Cross s cell) i comes has = by_row (rows_in view s.first) has
   where
@@ -142,7 +142,7 @@ partner_same Wall f g j same = refl
 partner_same Pair f g j same = ap disk_in (same refl)
 
 pub same_action : (h : Home) (v w : ViewData) (s : Stamp) (x : Action) → AreSame s v w →
-    ComesTo h v s (Ok x) → ComesTo h w s (Ok x)
+    ComesToInView h v s (Ok x) → ComesToInView h w s (Ok x)
 same_action h v w s x same (p, there, is) = (
   p,
   same s.first (inl refl) ∙ there,
@@ -150,7 +150,7 @@ same_action h v w s x same (p, there, is) = (
       (sym (partner_same s.kind (rows_in w) (rows_in v) s.second (λ pair. same s.second (inr (pair, refl))))),
 )
 
-pub same_rows : (h : Home) (v w : ViewData) (x : Action) → ComesTo h v (stamp_of x) (Ok x) →
+pub same_rows : (h : Home) (v w : ViewData) (x : Action) → ComesToInView h v (stamp_of x) (Ok x) →
     AreSame (stamp_of x) v w → rows_set (rows_in w) x ≡ rows_set (rows_in v) x
 same_rows h v w (Cross s cell) comes same =
     ap (λ (o : Option Placed). as_rows (recelled s.first cell o)) (same s.first (inl refl))

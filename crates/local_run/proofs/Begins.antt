@@ -8,9 +8,9 @@ use Rattle.local_run.specs.declared.answers.Step.TheVariants.{Ran, Heard, Idle, 
 use Rattle.local_run.specs.LocalRun.{Local}
 use Rattle.local_run.specs.Answers.{StepsTo}
 use Rattle.local_run.specs.Opening.{RegionData}
-use Rattle.local_run.specs.Running.{Runs, RunsBefore}
+use Rattle.local_run.specs.Running.{RunsSteps, RunsBefore}
 use Rattle.local_run.specs.RunOn.{BeginsAs}
-use Rattle.local_run.specs.Steps.{StepsOn, Steps}
+use Rattle.local_run.specs.Steps.{StepsOn, RegionSteps}
 
 run_base : (h : Home) (run new : Local) (answer : Step) → StepsTo h run answer new → new.base ≡ run.base
 run_base h run new (Ran s) (due, turn, (a, stamp, move, is)) = ap (λ (v : Local). v.base) is
@@ -28,7 +28,7 @@ step_base h None new answer (spent, none) = ap (option_map (λ (run : Local). ru
 step_base h (Some run) new answer (left, steps, is) =
     ap (option_map (λ (v : Local). v.base)) is ∙ ap Some (run_base h run left answer steps)
 
-pub step_begins : (old new : RegionData) (answer : Step) → Steps old answer new → BeginsAs old new
+pub step_begins : (old new : RegionData) (answer : Step) → RegionSteps old answer new → BeginsAs old new
 step_begins old new answer step = record {
   home = step.home;
   floor = step.floor;
@@ -43,7 +43,7 @@ begins_on old mid new first then = record {
 }
 
 -- however many steps it makes
-pub runs_begin : (steps : ℕ) (old new : RegionData) (answer : Step) → Runs steps old answer new →
+pub runs_begin : (steps : ℕ) (old new : RegionData) (answer : Step) → RunsSteps steps old answer new →
     BeginsAs old new
 runs_begin zero old new answer runs = absurd runs
 runs_begin (suc rest) old new answer (inl (step, last)) = step_begins old new answer step

@@ -22,12 +22,12 @@ use Rattle.local_run.specs.Answers.{HearsFrom}
 use Rattle.local_run.specs.Laws.{LogsGoOneWay, EntriesWereDue}
 use Rattle.local_run.specs.Entries.{entries_below, entry_stamp}
 use Rattle.local_run.specs.LocalRun.{Local, start_of, after_log, At, trail_of}
-use Rattle.local_run.specs.LocalRun.{after_entry, ComesTo, IsOffered, IsDue, IsMove}
+use Rattle.local_run.specs.LocalRun.{after_entry, ComesToInView, IsOffered, IsDue, IsMove}
 use Rattle.local_run.specs.LocalRun.{IsOwn, Moves}
 use Rattle.local_run.proofs.Logs.{moves_split}
 
 pub one_result : (h : Home) (view : ViewData) (s : Stamp) (x y : Result Action Limit) →
-    ComesTo h view s x → ComesTo h view s y → x ≡ y
+    ComesToInView h view s x → ComesToInView h view s y → x ≡ y
 one_result h view s x y (p, there, is) (q, also, too) =
     let same : p ≡ q = same_Some p q (sym there ∙ also) in
     is ∙ ap (λ (v : Placed). action_of h.rules h.grid s v.disk
@@ -49,7 +49,7 @@ one_move h a e f move other =
     by_kind (Native x) (Native y) move other same =
         let result : ◌≡◌ {A = Result Action Limit} (Ok x) (Ok y)
         = one_result h a.view (stamp_of x) (Ok x) (Ok y) move.comes
-        (subst (λ (s : Stamp). ComesTo h a.view s (Ok y)) (sym same) other.comes) in cc
+        (subst (λ (s : Stamp). ComesToInView h a.view s (Ok y)) (sym same) other.comes) in cc
     by_kind (Native x) (Heard q m) move other same =
         absurd (other.alone (subst (IsOwn h a.view) same move.native))
     by_kind (Heard q m) (Native y) move other same =

@@ -12,7 +12,7 @@ use Rattle.region_messages.proofs.Parts.{among_below, below_among, below_first, 
 use Rattle.local_run.specs.declared.home.Home.{Home}
 use Rattle.local_run.specs.declared.entry.Entry.{Entry}
 use Rattle.local_run.specs.declared.entry.Entry.TheVariants.{Native, Heard}
-use Rattle.local_run.specs.LocalRun.{Local, Trails, trail_of, rest_of, without_first, IsWaiting}
+use Rattle.local_run.specs.LocalRun.{Local, Trails, trail_of, messages_after_first, without_first, IsWaiting}
 use Rattle.local_run.specs.Entries.{entry_stamp, entries_below}
 use Rattle.local_run.specs.LocalRun.{IsOffered, IsDue, IsMove, Moves, IsHearable}
 use Rattle.local_run.specs.LocalRun.{IsRight}
@@ -56,8 +56,8 @@ same_without d w v q m rest same is lt k = elim (same_or_other k q) [
     at_q : AgreeBelow d (trail_of (without_first w q) q) (trail_of (without_first v q) q)
     at_q =
         let first = first_across d w v q m rest same is lt in
-        ap (below d) (same_trail w q ∙ ap rest_of is) ∙ sym first.2
-        ∙ sym (ap (below d) (same_trail v q ∙ ap rest_of first.1))
+        ap (below d) (same_trail w q ∙ ap messages_after_first is) ∙ sym first.2
+        ∙ sym (ap (below d) (same_trail v q ∙ ap messages_after_first first.1))
 
 -- ---- moves
 offered_across : (h : Home) (view : ViewData) (d : Stamp) (w v : Trails) (s : Stamp) →

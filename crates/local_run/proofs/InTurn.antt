@@ -12,7 +12,7 @@ use Rattle.local_run.specs.declared.entry.Entry.{Entry}
 use Rattle.local_run.specs.declared.entry.Entry.TheVariants.{Native, Heard}
 use Rattle.local_run.specs.LocalRun.{At, Local, trail_of, without_first, start_of, now_of}
 use Rattle.local_run.specs.Entries.{entry_stamp, clock_of}
-use Rattle.local_run.specs.LocalRun.{after_entry, after_log, rest_of, IsWaiting}
+use Rattle.local_run.specs.LocalRun.{after_entry, after_log, messages_after_first, IsWaiting}
 use Rattle.local_run.specs.LocalRun.{IsMove, Moves, IsRight}
 use Rattle.local_run.specs.Answers.{IsInTurn}
 use Rattle.local_run.proofs.Among.{AllRise, same_trail, other_trail, same_or_other, waits_among, rise_without}
@@ -35,9 +35,9 @@ after_move h a (Heard p n) rise move q m among = elim (same_or_other q p) [
   | inr other ↦ there other (subst (IsAmong m) (other_trail a.waiting p q other) among)
 ]
   where
-    here : IsAmong m (rest_of (trail_of a.waiting p)) → Before n.stamp m.stamp
+    here : IsAmong m (messages_after_first (trail_of a.waiting p)) → Before n.stamp m.stamp
     here in_rest = rises_from_first n move.first.0 (trail_of a.waiting p) m move.first.1 (rise p)
-        (subst (λ (ms : List Message). IsAmong m (rest_of ms)) move.first.1 in_rest)
+        (subst (λ (ms : List Message). IsAmong m (messages_after_first ms)) move.first.1 in_rest)
 
     there : q ≢ p → IsAmong m (trail_of a.waiting q) → Before n.stamp m.stamp
     there other among = before_other n.stamp m.stamp

@@ -7,7 +7,7 @@ use Rattle.region_messages.specs.Trails.{IsAmong, with_message, message_key}
 use Rattle.local_run.specs.declared.home.Home.{Home}
 use Rattle.local_run.specs.declared.entry.Entry.{Entry}
 use Rattle.local_run.specs.declared.entry.Entry.TheVariants.{Native, Heard}
-use Rattle.local_run.specs.LocalRun.{At, Trails, trail_of, rest_of, without_first, after_entry, after_log, Moves}
+use Rattle.local_run.specs.LocalRun.{At, Trails, trail_of, messages_after_first, without_first, after_entry, after_log, Moves}
 use Rattle.local_run.proofs.Among.{same_trail, other_trail, same_or_other}
 use Rattle.local_run.proofs.Logs.{AllBefore}
 
@@ -45,8 +45,8 @@ inserted_heard q m w v p n rest is lt inserted = (at_q, at_other)
     here same =
         let first : trail_of w q ≡ n ∷ rest = subst (λ (x : ℕ). trail_of w x ≡ n ∷ rest) (sym same) is in
         same_trail v q
-        ∙ ap rest_of (inserted.0 ∙ ap (with_message m) first ∙ with_later m n rest lt)
-        ∙ sym (ap (with_message m) (same_trail w q ∙ ap rest_of first))
+        ∙ ap messages_after_first (inserted.0 ∙ ap (with_message m) first ∙ with_later m n rest lt)
+        ∙ sym (ap (with_message m) (same_trail w q ∙ ap messages_after_first first))
 
     at_q : trail_of (without_first v p) q ≡ with_message m (trail_of (without_first w p) q)
     at_q = elim (same_or_other q p) [
@@ -59,7 +59,7 @@ inserted_heard q m w v p n rest is lt inserted = (at_q, at_other)
     at_other : (k : ℕ) → k ≢ q → trail_of (without_first v p) k ≡ trail_of (without_first w p) k
     at_other k apart = elim (same_or_other k p) [
       | inl same ↦ subst (λ (x : ℕ). trail_of (without_first v x) k ≡ trail_of (without_first w x) k) same
-          (same_trail v k ∙ ap rest_of (inserted.1 k apart) ∙ sym (same_trail w k))
+          (same_trail v k ∙ ap messages_after_first (inserted.1 k apart) ∙ sym (same_trail w k))
       | inr other ↦ other_trail v p k other ∙ inserted.1 k apart ∙ sym (other_trail w p k other)
     ]
 

@@ -9,7 +9,7 @@ use Rattle.event_stamps.proofs.Parts as parts
 use Rattle.region_messages.specs.Trails.{IsAmong}
 use Rattle.local_run.specs.declared.home.Home.{Home}
 use Rattle.local_run.specs.declared.entry.Entry.{Entry}
-use Rattle.local_run.specs.Entries.{entry_stamp, RiseAfter, RiseFrom, entries_below, entries_from, clock_of}
+use Rattle.local_run.specs.Entries.{entry_stamp, EntriesRiseAfter, RiseFrom, entries_below, entries_from, clock_of}
 use Rattle.local_run.specs.LocalRun.{At, Local, after_entry, after_log, start_of}
 use Rattle.local_run.specs.LocalRun.{now_of, Moves}
 use Rattle.local_run.specs.Answers.{with_entry}
@@ -51,10 +51,10 @@ below_out s e es = parts.below_none entry_stamp s e es
 pub all_below : (s : Stamp) (log : List Entry) → AllBefore s (entries_below s log)
 all_below s log = parts.all_below entry_stamp s log
 
-pub rises_log_tail : (s : Stamp) (es : List Entry) → RiseAfter s es → RiseFrom s es
+pub rises_log_tail : (s : Stamp) (es : List Entry) → EntriesRiseAfter s es → RiseFrom s es
 rises_log_tail s es = rising.from_if_after entry_stamp s es
 
-pub among_after : (s : Stamp) (es : List Entry) (x : Entry) → RiseAfter s es → IsAmong x es →
+pub among_after : (s : Stamp) (es : List Entry) (x : Entry) → EntriesRiseAfter s es → IsAmong x es →
     Before s (entry_stamp x)
 among_after s es x = rising.among_after entry_stamp s es x
 

@@ -18,7 +18,7 @@ use Rattle.local_run.specs.declared.answers.Step.TheVariants.{Ran, Heard, Idle, 
 use Rattle.local_run.specs.declared.answers.Step.TheVariants.{Halted, Held, Spent}
 use Rattle.local_run.specs.LocalRun.{At, Local, now_of, IsWaiting, IsOwn, IsOffered, IsNativeMove}
 use Rattle.local_run.specs.Entries.{entry_stamp, clock_of}
-use Rattle.local_run.specs.LocalRun.{IsHeardMove, IsMove, ComesTo}
+use Rattle.local_run.specs.LocalRun.{IsHeardMove, IsMove, ComesToInView}
 use Rattle.local_run.specs.Answers.{IsInTurn, IsShared, HasDue, StepsTo, with_entry}
 use Rattle.local_run.proofs.Choices.{not_shared}
 use Rattle.local_run.proofs.Determined.{one_result, one_move}
@@ -99,15 +99,15 @@ tied_is h r Held kept s here in_turn shared (full, leaves) = absurd (omega (arit
 tied_is h r Spent kept s here in_turn shared never = absurd never
 
 never_both : (h : Home) (a : At) (s : Stamp) (limit : Limit) (x : Action) → stamp_of x ≡ s →
-    ComesTo h a.view s (Err limit) → IsNativeMove h a x → ⊥
+    ComesToInView h a.view s (Err limit) → IsNativeMove h a x → ⊥
 never_both h a s limit x is fails move =
     let result : ◌≡◌ {A = Result Action Limit} (Err limit) (Ok x)
     = one_result h a.view s (Err limit) (Ok x) fails
-    (subst (λ (v : Stamp). ComesTo h a.view v (Ok x)) is move.comes) in cc
+    (subst (λ (v : Stamp). ComesToInView h a.view v (Ok x)) is move.comes) in cc
 
 halted_is : (h : Home) (r : Local) (given : Step) (kept : Local) (s : Stamp) (limit : Limit) →
     HasDue h r s → IsInTurn r s → ¬ IsShared h (now_of r) s → IsOwn h (now_of r).view s →
-    ComesTo h (now_of r).view s (Err limit) → StepsTo h r given kept → IsOf (Halted limit) r given kept
+    ComesToInView h (now_of r).view s (Err limit) → StepsTo h r given kept → IsOf (Halted limit) r given kept
 halted_is h r (Ran t) kept s limit here in_turn apart mine fails (due, turn, (x, is, move, leaves)) =
     absurd (never_both h (now_of r) s limit x (is ∙ sym (same_due h r s t here due)) fails move)
 halted_is h r (Heard t) kept s limit here in_turn apart mine fails (due, turn, (q, m, is, move, leaves)) =
@@ -122,7 +122,7 @@ halted_is h r (Halted other) kept s limit here in_turn apart mine fails
     ((t, due, turn, alone, own, comes), leaves) =
     let result : ◌≡◌ {A = Result Action Limit} (Err limit) (Err other)
     = one_result h (now_of r).view s (Err limit) (Err other) fails (subst
-    (λ (v : Stamp). ComesTo h (now_of r).view v (Err other)) (sym (same_due h r s t here due)) comes) in
+    (λ (v : Stamp). ComesToInView h (now_of r).view v (Err other)) (sym (same_due h r s t here due)) comes) in
     let same : limit ≡ other = cc in
     (ap (λ (v : Limit). Halted v) (sym same), leaves)
 halted_is h r Held kept s limit here in_turn apart mine fails (full, leaves) =
@@ -140,7 +140,7 @@ move_alone h a (Native x) s is move = native_alone h a x s is move
 move_alone h a (Took q m) s is move = heard_alone h a q m s is move
 
 move_passes : (h : Home) (a : At) (e : Entry) (s : Stamp) (limit : Limit) → entry_stamp e ≡ s →
-    IsMove h a e → IsOwn h a.view s → ComesTo h a.view s (Err limit) → ⊥
+    IsMove h a e → IsOwn h a.view s → ComesToInView h a.view s (Err limit) → ⊥
 move_passes h a (Native x) s limit is move own fails = never_both h a s limit x is fails move
 move_passes h a (Took q m) s limit is move own fails =
     move.alone (subst (IsOwn h a.view) (sym is) own)

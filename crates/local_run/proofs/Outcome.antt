@@ -16,7 +16,7 @@ use Rattle.region_view.specs.Events.{IsEventBy}
 use Rattle.region_view.specs.Placing.{IsNearPair}
 use Rattle.region_view.specs.Views.{ViewData, rows_in}
 use Rattle.local_run.specs.declared.home.Home.{Home}
-use Rattle.local_run.specs.LocalRun.{IsOwn, ComesTo}
+use Rattle.local_run.specs.LocalRun.{IsOwn, ComesToInView}
 use Rattle.local_run.proofs.Valid.{own_candidate}
 
 -- ---- reads
@@ -84,7 +84,7 @@ alone_by h view s p own not at = elim (own_candidate h view s own) [
 
 pub pair_comes : (h : Home) (view : ViewData) (s : Stamp) (p q : Placed) (r : Result Action Limit) →
     s.kind ≡ Pair → rows_in view s.first ≡ Some p → rows_in view s.second ≡ Some q →
-    r ≡ action_of h.rules h.grid s p.disk (Some q.disk) s.kind → ComesTo h view s r
+    r ≡ action_of h.rules h.grid s p.disk (Some q.disk) s.kind → ComesToInView h view s r
 pair_comes h view s p q r kind at_p at_q is =
     let partner : partner_in s.kind (rows_in view) s.second ≡ Some q.disk =
     ap (λ (k : Kind). partner_in k (rows_in view) s.second) kind ∙ ap disk_in at_q in (
@@ -95,7 +95,7 @@ pair_comes h view s p q r kind at_p at_q is =
 
 pub alone_comes : (h : Home) (view : ViewData) (s : Stamp) (p : Placed) (r : Result Action Limit) →
     ¬ (s.kind ≡ Pair) → rows_in view s.first ≡ Some p →
-    r ≡ action_of h.rules h.grid s p.disk None s.kind → ComesTo h view s r
+    r ≡ action_of h.rules h.grid s p.disk None s.kind → ComesToInView h view s r
 alone_comes h view s p r not at is = (
   p,
   at,

@@ -15,7 +15,7 @@ use Rattle.region_messages.proofs.Parts.{split, from_among}
 use Rattle.local_run.specs.declared.home.Home.{Home}
 use Rattle.local_run.specs.declared.entry.Entry.{Entry}
 use Rattle.local_run.specs.declared.entry.Entry.TheVariants.{Native, Heard}
-use Rattle.local_run.specs.LocalRun.{At, Local, Trails, trail_of, rest_of, without_first, start_of, now_of}
+use Rattle.local_run.specs.LocalRun.{At, Local, Trails, trail_of, messages_after_first, without_first, start_of, now_of}
 use Rattle.local_run.specs.Entries.{entry_stamp, RiseFrom, entries_below, entries_from}
 use Rattle.local_run.specs.LocalRun.{after_entry, after_log, IsOffered, IsMove, Moves}
 use Rattle.local_run.specs.LocalRun.{IsInPlace, IsHearable, IsRight, sent_to}
@@ -44,7 +44,7 @@ from_without h a s (Heard p m) q move lt = elim (same_or_other q p) [
 ]
   where
     here : from s (trail_of (without_first a.waiting p) p) ≡ from s (trail_of a.waiting p)
-    here = ap (from s) (same_trail a.waiting p ∙ ap rest_of move.first.1)
+    here = ap (from s) (same_trail a.waiting p ∙ ap messages_after_first move.first.1)
         ∙ sym (ap (from s) move.first.1 ∙ from_later message_key s m move.first.0 lt)
 
 -- nothing that is offered comes before a move
@@ -71,7 +71,7 @@ as_many_wait : (a : At) (log : List Entry) → length (after_log a log).waiting 
 as_many_wait a [] = refl
 as_many_wait a (Native x ∷ es) = as_many_wait (after_entry a (Native x)) es
 as_many_wait a (Heard q m ∷ es) = as_many_wait (after_entry a (Heard q m)) es
-    ∙ length-set a.waiting q (rest_of (trail_of a.waiting q))
+    ∙ length-set a.waiting q (messages_after_first (trail_of a.waiting q))
 
 same_trails : (ts us : Trails) → length ts ≡ length us → ((q : ℕ) → trail_of ts q ≡ trail_of us q) →
     ts ≡ us

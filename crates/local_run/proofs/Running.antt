@@ -4,34 +4,34 @@ use Rattle.event_stamps.specs.declared.Stamp.{Stamp}
 use Rattle.local_run.specs.declared.answers.Step.{Step}
 use Rattle.local_run.specs.declared.answers.Step.TheVariants.{Ran, Heard, Idle, Past, Tied, Halted, Held, Spent}
 use Rattle.local_run.specs.Opening.{RegionData, spent}
-use Rattle.local_run.specs.Running.{GoesOn, Runs, IsDueBefore, IsDueLater, RunsBefore}
-use Rattle.local_run.specs.Steps.{Steps}
+use Rattle.local_run.specs.Running.{GoesOn, RunsSteps, IsDueBefore, IsDueLater, RunsBefore}
+use Rattle.local_run.specs.Steps.{RegionSteps}
 
 -- so many steps were made: the run ends with them, or goes on from where they came to
 pub record IsUnderWay (made : ℕ) (old : RegionData) (answer : Step) (mid : RegionData) : Type 0 where
   pub same : spent mid ≡ spent old
   pub ends : (left steps : ℕ) → made + left ≡ steps → (GoesOn answer → left ≡ 0) →
-      Runs steps old answer mid
+      RunsSteps steps old answer mid
   pub goes : (left steps : ℕ) (last : Step) (new : RegionData) → made + left ≡ steps →
-      GoesOn answer → Runs left mid last new → Runs steps old last new
+      GoesOn answer → RunsSteps left mid last new → RunsSteps steps old last new
 
-spent_same : (old new : RegionData) (answer : Step) → Steps old answer new → spent new ≡ spent old
+spent_same : (old new : RegionData) (answer : Step) → RegionSteps old answer new → spent new ≡ spent old
 spent_same old new answer step = let home = step.home in let floor = step.floor in cc
 
-pub first_made : (old new : RegionData) (answer : Step) → Steps old answer new →
+pub first_made : (old new : RegionData) (answer : Step) → RegionSteps old answer new →
     IsUnderWay 1 old answer new
 first_made old new answer step = record {
   same = spent_same old new answer step;
   ends = λ left steps e last.
       let one : suc left ≡ steps = omega arith in
-      subst (λ (n : ℕ). Runs n old answer new) one (inl (step, last));
+      subst (λ (n : ℕ). RunsSteps n old answer new) one (inl (step, last));
   goes = λ left steps last after e on rest.
       let one : suc left ≡ steps = omega arith in
-      subst (λ (n : ℕ). Runs n old last after) one (inr (answer, new, step, on, rest));
+      subst (λ (n : ℕ). RunsSteps n old last after) one (inr (answer, new, step, on, rest));
 }
 
 pub one_more_made : (made : ℕ) (old mid new : RegionData) (first answer : Step) →
-    IsUnderWay made old first mid → GoesOn first → Steps mid answer new →
+    IsUnderWay made old first mid → GoesOn first → RegionSteps mid answer new →
     IsUnderWay (made + 1) old answer new
 one_more_made made old mid new first answer before on step = record {
   same = spent_same mid new answer step ∙ before.same;
@@ -52,7 +52,7 @@ pub record IsUnderWayBefore (bound : Stamp) (made : ℕ) (old : RegionData) (ans
       GoesOn answer → RunsBefore bound left mid last new → RunsBefore bound steps old last new
 
 pub first_made_before : (bound : Stamp) (old new : RegionData) (answer : Step) → IsDueBefore bound old →
-    Steps old answer new → IsUnderWayBefore bound 1 old answer new
+    RegionSteps old answer new → IsUnderWayBefore bound 1 old answer new
 first_made_before bound old new answer due step = record {
   same = spent_same old new answer step;
   ends = λ left steps e last.
@@ -65,7 +65,7 @@ first_made_before bound old new answer due step = record {
 
 pub one_more_made_before : (bound : Stamp) (made : ℕ) (old mid new : RegionData) (first answer : Step) →
     IsUnderWayBefore bound made old first mid → GoesOn first → IsDueBefore bound mid →
-    Steps mid answer new → IsUnderWayBefore bound (made + 1) old answer new
+    RegionSteps mid answer new → IsUnderWayBefore bound (made + 1) old answer new
 one_more_made_before bound made old mid new first answer before on due step = record {
   same = spent_same mid new answer step ∙ before.same;
   ends = λ left steps e last.

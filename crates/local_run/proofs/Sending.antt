@@ -14,12 +14,12 @@ use Rattle.region_messages.specs.Trails.{IsAfterAll}
 use Rattle.local_run.proofs.Sent.{message_stamp}
 use Rattle.region_view.specs.Messages.{message_of}
 use Rattle.local_run.specs.declared.home.Home.{Home}
-use Rattle.local_run.specs.LocalRun.{Trails, trail_of, told}
+use Rattle.local_run.specs.LocalRun.{Trails, trail_of, prepended}
 use Rattle.local_run.specs.Keeping.{SendsTo}
 
 -- what goes to a region after an action
 abbrev pub sent_on : Home → Placing → Action → Trails → ℕ → List Message
-sent_on home at x old to = trail_of old to ++ told (message_of home.grid to at x) []
+sent_on home at x old to = trail_of old to ++ prepended (message_of home.grid to at x) []
 
 -- ---- which regions are near
 -- the first columns of two regions are at least as far apart as their numbers
@@ -96,7 +96,7 @@ one_skipped home at x n old new none is = record {
 }
 
 pub one_sent : (home : Home) (at : Placing) (x : Action) (n : ℕ) (old new : Trails) (trail : List Message) →
-    n < length new → trail ≡ trail_of new n ++ told (message_of home.grid n at x) [] →
+    n < length new → trail ≡ trail_of new n ++ prepended (message_of home.grid n at x) [] →
     IsSentBelow home at x n old new → IsSentBelow home at x (n + 1) old (slice_set new n trail)
 one_sent home at x n old new trail within wrote is = record {
   size = length-set new n trail ∙ is.size;
@@ -113,7 +113,7 @@ one_sent home at x n old new trail within wrote is = record {
 }
   where
     here : trail ≡ sent_on home at x old n
-    here = wrote ∙ ap (λ (ms : List Message). ms ++ told (message_of home.grid n at x) [])
+    here = wrote ∙ ap (λ (ms : List Message). ms ++ prepended (message_of home.grid n at x) [])
         (is.above n (omega arith))
 
 -- the message comes after those that were sent

@@ -19,9 +19,9 @@ use Rattle.region_messages.specs.Trails.{IsAmong, IsAfterAll, RisesAfter, Rises,
 use Rattle.region_messages.proofs.Parts.{below_first, below_none}
 use Rattle.local_run.specs.declared.entry.Entry.{Entry}
 use Rattle.local_run.specs.declared.entry.Entry.TheVariants.{Native, Heard}
-use Rattle.local_run.specs.Entries.{entry_stamp, RiseAfter, RiseFrom, entries_below, clock_of}
+use Rattle.local_run.specs.Entries.{entry_stamp, EntriesRiseAfter, RiseFrom, entries_below, clock_of}
 use Rattle.local_run.specs.LocalRun.{At, Local, start_of, after_entry, after_log}
-use Rattle.local_run.specs.LocalRun.{now_of, sent_to, told}
+use Rattle.local_run.specs.LocalRun.{now_of, sent_to, prepended}
 use Rattle.local_run.proofs.Among.{below_nil}
 use Rattle.local_run.proofs.Logs.{all_before_turn, among_before, below_in, below_out, among_after}
 use Rattle.local_run.proofs.Logs.{rises_log_tail}
@@ -63,7 +63,7 @@ sent_by grid q a (Native x ∷ es) m h =
     by_message (message_of grid q (rows_in a.view) x) refl h (sent_by grid q (after_entry a (Native x)) es m)
   where
     by_message : (o : Option Message) → message_of grid q (rows_in a.view) x ≡ o →
-        IsAmong m (told o (sent_to grid q (after_action a.view x) es)) →
+        IsAmong m (prepended o (sent_to grid q (after_action a.view x) es)) →
         (IsAmong m (sent_to grid q (after_action a.view x) es) →
         IsSentBy grid q (after_entry a (Native x)) es m) → IsSentBy grid q a (Native x ∷ es) m
     by_message None e k more = one_more grid q a (Native x) es m (more k)
@@ -84,7 +84,7 @@ among_middle xs e ys = among_right e xs (e ∷ ys) (inl refl)
 
 -- what a log sends that rises after a stamp comes after it
 pub sent_after : (grid : GridData) (q : ℕ) (view : ViewData) (log : List Entry) (m : Message)
-    (s : Stamp) → RiseAfter s log → IsAmong m (sent_to grid q view log) → Before s m.stamp
+    (s : Stamp) → EntriesRiseAfter s log → IsAmong m (sent_to grid q view log) → Before s m.stamp
 sent_after grid q view log m s rises among =
     let by = sent_by grid q (record { view = view; waiting = [] }) log m among in
     let entry : IsAmong (Native by.action) log
@@ -94,7 +94,7 @@ sent_after grid q view log m s rises among =
 
 -- what a log sends that rises after a stamp not before s
 sent_late : (grid : GridData) (q : ℕ) (view : ViewData) (s t : Stamp) (log : List Entry) →
-    RiseAfter t log → ¬ Before t s → (m : Message) → IsAmong m (sent_to grid q view log) →
+    EntriesRiseAfter t log → ¬ Before t s → (m : Message) → IsAmong m (sent_to grid q view log) →
     ¬ Before m.stamp s
 sent_late grid q view s t log rises not m among less =
     not (before_trans t m.stamp s (sent_after grid q view log m t rises among) less)
@@ -104,18 +104,18 @@ rises_further s t ms lt rises = after_if_from message_key s t ms lt (from_if_aft
 
 -- messages before which all others of the log come
 told_rises : (t : Stamp) (o : Option Message) (ms : List Message) →
-    ((n : Message) → o ≡ Some n → n.stamp ≡ t) → RisesAfter t ms → Rises (told o ms)
+    ((n : Message) → o ≡ Some n → n.stamp ≡ t) → RisesAfter t ms → Rises (prepended o ms)
 told_rises t None ms stamp rises = rises_tail message_key t ms rises
 told_rises t (Some n) ms stamp rises = subst (λ (v : Stamp). RisesAfter v ms) (sym (stamp n refl)) rises
 
 told_rises_from : (s t : Stamp) (o : Option Message) (ms : List Message) →
-    ((n : Message) → o ≡ Some n → n.stamp ≡ t) → Before s t → RisesAfter t ms → RisesAfter s (told o ms)
+    ((n : Message) → o ≡ Some n → n.stamp ≡ t) → Before s t → RisesAfter t ms → RisesAfter s (prepended o ms)
 told_rises_from s t None ms stamp lt rises = rises_further s t ms lt rises
 told_rises_from s t (Some n) ms stamp lt rises =
     subst (λ (v : Stamp). Before s v × RisesAfter v ms) (sym (stamp n refl)) (lt, rises)
 
 sent_rises_after : (grid : GridData) (q : ℕ) (view : ViewData) (s : Stamp) (log : List Entry) →
-    RiseAfter s log → RisesAfter s (sent_to grid q view log)
+    EntriesRiseAfter s log → RisesAfter s (sent_to grid q view log)
 sent_rises_after grid q view s [] rises = tt
 sent_rises_after grid q view s (Native a ∷ es) rises =
     told_rises_from s (stamp_of a) (message_of grid q (rows_in view) a) (sent_to grid q (after_action view a) es)
@@ -158,13 +158,13 @@ sent_below grid q view s f (Native a ∷ es) rises =
     later = sent_to grid q (after_action view a) es
 
     keeps : (o : Option Message) → message_of grid q (rows_in view) a ≡ o → Before (stamp_of a) s →
-        told o (below s later) ≡ below s (told o later)
+        prepended o (below s later) ≡ below s (prepended o later)
     keeps None msg lt = refl
     keeps (Some n) msg lt = sym (below_first s n later (subst (λ (v : Stamp). Before v s)
         (sym (message_stamp grid q (rows_in view) a n msg)) lt))
 
     drops : (o : Option Message) → message_of grid q (rows_in view) a ≡ o → ¬ Before (stamp_of a) s →
-        [] ≡ below s (told o later)
+        [] ≡ below s (prepended o later)
     drops None msg not =
         sym (below_nil s later (sent_late grid q (after_action view a) s (stamp_of a) es rises.1 not))
     drops (Some n) msg not = sym (below_none s n later (subst (λ (v : Stamp). ¬ Before v s)
@@ -173,9 +173,9 @@ sent_below grid q view s f (Native a ∷ es) rises =
     by_test : Before (stamp_of a) s ⊎ ¬ Before (stamp_of a) s →
         sent_to grid q (after_action view a) (entries_below s es) ≡ below s later →
         sent_to grid q view (entries_below s (Native a ∷ es))
-        ≡ below s (told (message_of grid q (rows_in view) a) later)
+        ≡ below s (prepended (message_of grid q (rows_in view) a) later)
     by_test (inl lt) rest = ap (sent_to grid q view) (below_in s (Native a) es lt)
-        ∙ ap (told (message_of grid q (rows_in view) a)) rest
+        ∙ ap (prepended (message_of grid q (rows_in view) a)) rest
         ∙ keeps (message_of grid q (rows_in view) a) refl lt
     by_test (inr not) rest = ap (sent_to grid q view) (below_out s (Native a) es not)
         ∙ drops (message_of grid q (rows_in view) a) refl not
@@ -194,7 +194,7 @@ sent_below grid q view s f (Heard r m ∷ es) rises =
         (sent_late grid q (set_rows view m.rows) s m.stamp es rises.1 not))
 
 -- ---- what one more entry sends
-told_joined : (o : Option Message) (ms ns : List Message) → told o (ms ++ ns) ≡ told o ms ++ ns
+told_joined : (o : Option Message) (ms ns : List Message) → prepended o (ms ++ ns) ≡ prepended o ms ++ ns
 told_joined None ms ns = refl
 told_joined (Some m) ms ns = refl
 
@@ -203,13 +203,13 @@ pub sent_joined : (grid : GridData) (q : ℕ) (a : At) (xs ys : List Entry) →
     ≡ sent_to grid q a.view xs ++ sent_to grid q (after_log a xs).view ys
 sent_joined grid q a [] ys = refl
 sent_joined grid q a (Native x ∷ xs) ys =
-    ap (told (message_of grid q (rows_in a.view) x)) (sent_joined grid q (after_entry a (Native x)) xs ys)
+    ap (prepended (message_of grid q (rows_in a.view) x)) (sent_joined grid q (after_entry a (Native x)) xs ys)
     ∙ told_joined (message_of grid q (rows_in a.view) x) _ _
 sent_joined grid q a (Heard r m ∷ xs) ys = sent_joined grid q (after_entry a (Heard r m)) xs ys
 
 pub sent_native : (grid : GridData) (q : ℕ) (r : Local) (a : Action) →
     sent_to grid q r.base (r.log ++ Native a ∷ [])
-    ≡ sent_to grid q r.base r.log ++ told (message_of grid q (rows_in (now_of r).view) a) []
+    ≡ sent_to grid q r.base r.log ++ prepended (message_of grid q (rows_in (now_of r).view) a) []
 sent_native grid q r a = sent_joined grid q (start_of r) r.log (Native a ∷ [])
 
 pub sent_heard : (grid : GridData) (q : ℕ) (r : Local) (p : ℕ) (m : Message) →

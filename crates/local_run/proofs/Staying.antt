@@ -16,9 +16,9 @@ use Rattle.region_view.proofs.Naming.{among_or_not, near_pair, is_pair_or_not, n
 use Rattle.local_run.specs.declared.home.Home.{Home}
 use Rattle.local_run.specs.declared.entry.Entry.{Entry}
 use Rattle.local_run.specs.declared.entry.Entry.TheVariants.{Native, Heard}
-use Rattle.local_run.specs.Entries.{entry_stamp, RiseAfter, clock_of}
-use Rattle.local_run.specs.LocalRun.{At, Trails, trail_of, rest_of, without_first, IsWaiting}
-use Rattle.local_run.specs.LocalRun.{after_entry, after_log, IsOwn, IsOffered, IsDue, IsMove, Moves, sent_to, told}
+use Rattle.local_run.specs.Entries.{entry_stamp, EntriesRiseAfter, clock_of}
+use Rattle.local_run.specs.LocalRun.{At, Trails, trail_of, messages_after_first, without_first, IsWaiting}
+use Rattle.local_run.specs.LocalRun.{after_entry, after_log, IsOwn, IsOffered, IsDue, IsMove, Moves, sent_to, prepended}
 use Rattle.local_run.specs.Weaving.{IsApart, LeavesNear, AreAside, AreOthers}
 use Rattle.local_run.proofs.Among.{same_trail, other_trail, same_or_other, waits_first}
 use Rattle.local_run.proofs.Touched.{same_but}
@@ -35,7 +35,7 @@ waiting_same v w s same (q, m, among, is) = (q, m, subst (IsAmong m) (same q) am
 same_without : (v w : Trails) (q : ℕ) → SameTrails v w → SameTrails (without_first v q) (without_first w q)
 same_without v w q same k = elim (same_or_other k q) [
   | inl here ↦ subst (λ (x : ℕ). trail_of (without_first w q) x ≡ trail_of (without_first v q) x) (sym here)
-      (same_trail w q ∙ ap rest_of (same q) ∙ sym (same_trail v q))
+      (same_trail w q ∙ ap messages_after_first (same q) ∙ sym (same_trail v q))
   | inr other ↦ other_trail w q k other ∙ same k ∙ sym (other_trail v q k other)
 ]
 
@@ -120,7 +120,7 @@ IsLaterThan h rows view c = (s : Stamp) → IsOwn h (set_rows view rows) s → N
 -- where it does so at the end, it comes after the first entry: a candidate stays one to the end, or up to an
 -- entry that it comes after
 pub still_later : (h : Home) (rows : RowList) (a : At) (e : Entry) (es : List Entry) →
-    RiseAfter (entry_stamp e) es → AreAside h rows a (e ∷ es) →
+    EntriesRiseAfter (entry_stamp e) es → AreAside h rows a (e ∷ es) →
     IsLaterThan h rows (after_log a (e ∷ es)).view (clock_of (entry_stamp e) es) →
     IsLaterThan h rows a.view (entry_stamp e)
 still_later h rows a e [] rises aside later s own names =
@@ -212,7 +212,7 @@ next_beside h rows a w e apart move = λ i. record {
 
 -- ---- all entries
 pub stays : (h : Home) (rows : RowList) (a : At) (w : Trails) (f : Stamp) (es : List Entry) →
-    SameTrails a.waiting w → Moves h a es → AreAside h rows a es → RiseAfter f es →
+    SameTrails a.waiting w → Moves h a es → AreAside h rows a es → EntriesRiseAfter f es →
     IsLaterThan h rows (after_log a es).view (clock_of f es) →
     Moves h (beside rows a w) es
     × ((after_log (beside rows a w) es).view ≡ set_rows (after_log a es).view rows)
@@ -238,7 +238,7 @@ stays_sent h rows k a (Native x ∷ es) moves aside =
     (λ i has. same_but a.view rows i (aside.0 i (set_are_named h a.view x i moves.0.comes has))) in
     let rest = ap (λ (v : ViewData). sent_to h.grid k v es) (stays_view h rows a a.waiting (Native x) aside.0 moves.0)
     ∙ stays_sent h rows k (after_entry a (Native x)) es moves.1 aside.2 in
-    λ i. told (message i) (rest i)
+    λ i. prepended (message i) (rest i)
 stays_sent h rows k a (Heard q m ∷ es) moves aside =
     ap (λ (v : ViewData). sent_to h.grid k v es) (stays_view h rows a a.waiting (Heard q m) aside.0 moves.0)
     ∙ stays_sent h rows k (after_entry a (Heard q m)) es moves.1 aside.2

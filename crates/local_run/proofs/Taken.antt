@@ -10,7 +10,7 @@ use Rattle.region_view.specs.declared.rows.Message.{Message}
 use Rattle.local_run.specs.declared.home.Home.{Home}
 use Rattle.local_run.specs.declared.entry.Entry.{Entry}
 use Rattle.local_run.specs.declared.entry.Entry.TheVariants.{Native, Heard}
-use Rattle.local_run.specs.LocalRun.{Moves, At, trail_of, rest_of, without_first, after_entry}
+use Rattle.local_run.specs.LocalRun.{Moves, At, trail_of, messages_after_first, without_first, after_entry}
 use Rattle.local_run.specs.Entries.{entries_below, entries_from}
 use Rattle.local_run.specs.LocalRun.{after_log}
 use Rattle.local_run.specs.Taken.{is_of, taken_of}
@@ -68,7 +68,7 @@ taken_below q s log = ap (taken_of q) (below_then_from s log)
     ∙ taken_joined q (entries_below s log) (entries_from s log)
 
 -- ---- what waits
-drop_rest : (n : ℕ) (ms : List Message) → drop n (rest_of ms) ≡ drop (suc n) ms
+drop_rest : (n : ℕ) (ms : List Message) → drop n (messages_after_first ms) ≡ drop (suc n) ms
 drop_rest zero [] = refl
 drop_rest (suc n) [] = refl
 drop_rest n (m ∷ ms) = refl
@@ -118,7 +118,7 @@ taken_fits h a (Heard p m ∷ es) q moves = elim (same_or_other q p) [
         let one = taken_here p m es in
         let first = moves.0.first in
         let all = ap length first.1 in
-        let kept = ap length (same_trail a.waiting p ∙ ap rest_of first.1) in
+        let kept = ap length (same_trail a.waiting p ∙ ap messages_after_first first.1) in
         omega arith
 
 -- ---- the next message of a region

@@ -20,7 +20,7 @@ use Rattle.region_view.specs.Views.{ViewData, rows_in}
 use Rattle.region_view.proofs.Puts.{get_put_here, get_put_other}
 use Rattle.region_view.specs.Naming.{IsSameButBy, IsMoved}
 use Rattle.local_run.specs.declared.home.Home.{Home}
-use Rattle.local_run.specs.LocalRun.{ComesTo}
+use Rattle.local_run.specs.LocalRun.{ComesToInView}
 
 -- what a list of new records sets
 abbrev pub as_rows : List (ℕ × Placed) → RowList
@@ -85,7 +85,7 @@ hit_leaves view change i other both =
 
 -- a collision that changes two disks is that of a pair
 pub two_are_a_pair : (h : Home) (view : ViewData) (change : Change) →
-    ComesTo h view change.stamp (Ok (Hit change)) → IfSome change.second (λ _. change.stamp.kind ≡ Pair)
+    ComesToInView h view change.stamp (Ok (Hit change)) → IfSome change.second (λ _. change.stamp.kind ≡ Pair)
 two_are_a_pair h view change (p, there, comes) = by_kind s.kind refl comes
   where
     s : Stamp
@@ -117,7 +117,7 @@ two_are_a_pair h view change (p, there, comes) = by_kind s.kind refl comes
     by_kind Pair is e = always change.second is
 
 -- ---- any action
-pub action_leaves : (h : Home) (view : ViewData) (x : Action) → ComesTo h view (stamp_of x) (Ok x) →
+pub action_leaves : (h : Home) (view : ViewData) (x : Action) → ComesToInView h view (stamp_of x) (Ok x) →
     IsSameButBy (stamp_of x) (after_action view x) view
 action_leaves h view (Cross s cell) comes i not =
     sym (crossing_leaves view s cell i (λ same. not (inl (sym same))))

@@ -8,7 +8,7 @@ use Rattle.region_messages.proofs.Among.{among_rises}
 use Rattle.local_run.specs.declared.home.Home.{Home}
 use Rattle.local_run.specs.declared.entry.Entry.{Entry}
 use Rattle.local_run.specs.declared.entry.Entry.TheVariants.{Native, Heard}
-use Rattle.local_run.specs.LocalRun.{At, trail_of, rest_of, without_first, start_of, after_entry, after_log}
+use Rattle.local_run.specs.LocalRun.{At, trail_of, messages_after_first, without_first, start_of, after_entry, after_log}
 use Rattle.local_run.specs.LocalRun.{IsHeardMove, Moves}
 use Rattle.local_run.specs.Laws.{WaitsIfNotTaken}
 use Rattle.local_run.proofs.Among.{AllRise, same_trail, other_trail, same_or_other, rise_without}
@@ -17,7 +17,7 @@ use Rattle.local_run.proofs.Right.{heard_rise}
 
 -- the first message of a trail goes, and no other: its stamp is before theirs
 first_goes : (q : ℕ) (n m : Message) (ms rest : List Message) → Rises ms → ms ≡ n ∷ rest →
-    IsAmong m (rest_of ms) ↔ (IsAmong m ms × (Heard q m ≢ Heard q n))
+    IsAmong m (messages_after_first ms) ↔ (IsAmong m ms × (Heard q m ≢ Heard q n))
 first_goes q n m [] rest rises is = cc
 first_goes q n m (x ∷ xs) rest rises is = (
   λ among. (

@@ -14,8 +14,8 @@ use Rattle.region_messages.proofs.Parts.{below_replaced}
 use Rattle.local_run.specs.declared.home.Home.{Home}
 use Rattle.local_run.specs.declared.entry.Entry.{Entry}
 use Rattle.local_run.specs.declared.entry.Entry.TheVariants.{Native, Heard}
-use Rattle.local_run.specs.LocalRun.{At, Local, Trails, trail_of, rest_of, start_of, now_of, after_entry, after_log}
-use Rattle.local_run.specs.Entries.{entry_stamp, entries_below, entries_from, RiseAfter, clock_of}
+use Rattle.local_run.specs.LocalRun.{At, Local, Trails, trail_of, messages_after_first, start_of, now_of, after_entry, after_log}
+use Rattle.local_run.specs.Entries.{entry_stamp, entries_below, entries_from, EntriesRiseAfter, clock_of}
 use Rattle.local_run.specs.LocalRun.{IsWaiting, IsOwn, IsOffered, IsDue, IsMove, IsHeardMove, Moves, IsHearable, IsRight, sent_to}
 use Rattle.local_run.specs.Weaving.{AreAside, MayWeave, WeavingKeepsRight}
 use Rattle.local_run.proofs.Among.{same_trail, other_trail, same_or_other, waits_among, waits_first}
@@ -92,7 +92,7 @@ taken_at_place h a b q m after view inserted = (
     same : SameTrails a.waiting (after_entry b (Heard q m)).waiting
     same k = elim (same_or_other k q) [
       | inl here ↦ subst (λ (x : ℕ). trail_of (after_entry b (Heard q m)).waiting x ≡ trail_of a.waiting x)
-          (sym here) (same_trail b.waiting q ∙ ap rest_of first)
+          (sym here) (same_trail b.waiting q ∙ ap messages_after_first first)
       | inr other ↦ other_trail b.waiting q k other ∙ inserted.1 k other
     ]
 
@@ -144,8 +144,8 @@ woven_with h r q m v e ys right may hearable inserted is = (
     parts : r.log ≡ xs ++ e ∷ ys
     parts = below_then_from m.stamp r.log ∙ ap (λ (es : List Entry). xs ++ es) is
 
-    rises : RiseAfter m.stamp (e ∷ ys)
-    rises = subst (RiseAfter m.stamp) is may.after
+    rises : EntriesRiseAfter m.stamp (e ∷ ys)
+    rises = subst (EntriesRiseAfter m.stamp) is may.after
 
     moves : Moves h (start_of r) xs × Moves h a (e ∷ ys)
     moves = moves_split h (start_of r) xs (e ∷ ys) (subst (Moves h (start_of r)) parts right.moves)

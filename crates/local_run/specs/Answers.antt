@@ -17,7 +17,7 @@ use Rattle.local_run.specs.declared.answers.Hearing.{Hearing}
 use Rattle.local_run.specs.declared.answers.Hearing.TheVariants.{Same, Rewound, Later, Apart}
 use Rattle.local_run.specs.Entries.{clock_of, entries_below}
 use Rattle.local_run.specs.LocalRun.{At, Local, trail_of, now_of}
-use Rattle.local_run.specs.LocalRun.{IsWaiting, IsOwn, IsOffered, IsDue, IsNativeMove, IsHeardMove, ComesTo}
+use Rattle.local_run.specs.LocalRun.{IsWaiting, IsOwn, IsOffered, IsDue, IsNativeMove, IsHeardMove, ComesToInView}
 
 -- ---- step
 -- the stamp may come next: not before the floor, and after the last entry
@@ -52,7 +52,7 @@ StepsTo h r (Past s clock) new = HasDue h r s × (¬ IsInTurn r s) × (clock ≡
 StepsTo h r (Tied s) new = HasDue h r s × IsInTurn r s × IsShared h (now_of r) s × (new ≡ r)
 StepsTo h r (Halted limit) new = ((s : Stamp) × HasDue h r s × IsInTurn r s
     × (¬ IsShared h (now_of r) s) × IsOwn h (now_of r).view s
-    × ComesTo h (now_of r).view s (Err limit))
+    × ComesToInView h (now_of r).view s (Err limit))
     × (new ≡ r)
 StepsTo h r Held new = (MAX_ENTRIES ≤ length r.log) × (new ≡ r)
 StepsTo h r Spent new = ⊥

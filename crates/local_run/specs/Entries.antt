@@ -26,14 +26,14 @@ abbrev pub clock_of : Stamp → List Entry → Stamp
 clock_of floor es = ordered.last_key entry_stamp floor es
 
 -- the last entry's stamp, where there is an entry
-abbrev pub last_stamp : List Entry → Option Stamp
-last_stamp [] = None
-last_stamp (e ∷ es) = Some (clock_of (entry_stamp e) es)
+abbrev pub last_entry_stamp : List Entry → Option Stamp
+last_entry_stamp [] = None
+last_entry_stamp (e ∷ es) = Some (clock_of (entry_stamp e) es)
 
 -- ---- stamps of entries
 -- they rise strictly, all after one
-abbrev pub RiseAfter : Stamp → List Entry → Type 0
-RiseAfter s es = ordered.RisesAfter entry_stamp s es
+abbrev pub EntriesRiseAfter : Stamp → List Entry → Type 0
+EntriesRiseAfter s es = ordered.KeysRiseAfter entry_stamp s es
 
 -- they rise strictly, none before one
 abbrev pub RiseFrom : Stamp → List Entry → Type 0
@@ -41,7 +41,7 @@ RiseFrom s es = ordered.RisesFrom entry_stamp s es
 
 -- the entries before a stamp, and those from it on
 abbrev pub entries_below : Stamp → List Entry → List Entry
-entries_below s es = ordered.below entry_stamp s es
+entries_below s es = ordered.keyed_below entry_stamp s es
 
 abbrev pub entries_from : Stamp → List Entry → List Entry
-entries_from s es = ordered.from entry_stamp s es
+entries_from s es = ordered.keyed_from entry_stamp s es

@@ -17,13 +17,13 @@ pub record IsKept (region : RegionData) : Type 0 where
   pub begins : IfSome region.run (λ run. run.floor ≡ region.floor)
 
 -- ---- the log
-abbrev pub entries_in : Option Local → List Entry
-entries_in None = []
-entries_in (Some run) = run.log
+abbrev pub run_entries : Option Local → List Entry
+run_entries None = []
+run_entries (Some run) = run.log
 
 -- the entries of the log; none where the region is spent
 abbrev pub entries_of : RegionData → List Entry
-entries_of region = entries_in region.run
+entries_of region = run_entries region.run
 
 -- ---- what is due
 abbrev pub IsDueAt : Home → Stamp → Option Local → Stamp → Type 0

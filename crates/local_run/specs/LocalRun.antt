@@ -29,13 +29,13 @@ Trails = List (List Message)
 abbrev pub trail_of : Trails → ℕ → List Message
 trail_of trails q = get_or trails q []
 
-abbrev pub rest_of : List Message → List Message
-rest_of [] = []
-rest_of (m ∷ ms) = ms
+abbrev pub messages_after_first : List Message → List Message
+messages_after_first [] = []
+messages_after_first (m ∷ ms) = ms
 
 -- without the first message of a region
 abbrev pub without_first : Trails → ℕ → Trails
-without_first trails q = slice_set trails q (rest_of (trail_of trails q))
+without_first trails q = slice_set trails q (messages_after_first (trail_of trails q))
 
 -- a message with this stamp is there
 unfoldable pub IsWaiting : Trails → Stamp → Type 0
@@ -63,8 +63,8 @@ unfoldable pub IsOwn : Home → ViewData → Stamp → Type 0
 IsOwn h view s = IsNative h.rules h.grid h.number (rows_in view) s
 
 -- what a native candidate comes to in the view
-abbrev pub ComesTo : Home → ViewData → Stamp → Result Action Limit → Type 0
-ComesTo h view s r = ActsAs h.rules h.grid (rows_in view) s r
+abbrev pub ComesToInView : Home → ViewData → Stamp → Result Action Limit → Type 0
+ComesToInView h view s r = ActsAs h.rules h.grid (rows_in view) s r
 
 -- the stamp of a native candidate, or of a message that waits
 abbrev pub IsOffered : Home → At → Stamp → Type 0
@@ -83,7 +83,7 @@ pub record IsNativeMove (h : Home) (a : At) (action : Action) : Type 0 where
   pub due : IsDue h a (stamp_of action)
   pub native : IsOwn h a.view (stamp_of action)
   pub alone : ¬ IsWaiting a.waiting (stamp_of action)
-  pub comes : ComesTo h a.view (stamp_of action) (Ok action)
+  pub comes : ComesToInView h a.view (stamp_of action) (Ok action)
 
 -- the first message of region q, which is due, and nothing else with it
 pub record IsHeardMove (h : Home) (a : At) (q : ℕ) (m : Message) : Type 0 where
@@ -102,15 +102,15 @@ Moves h a [] = ⊤
 Moves h a (e ∷ es) = IsMove h a e × Moves h (after_entry a e) es
 
 -- ---- what is sent
-abbrev pub told : Option Message → List Message → List Message
-told None ms = ms
-told (Some m) ms = m ∷ ms
+abbrev pub prepended : Option Message → List Message → List Message
+prepended None ms = ms
+prepended (Some m) ms = m ∷ ms
 
 -- what region q is told of the native entries, of each by the view before it
 abbrev pub sent_to : GridData → ℕ → ViewData → List Entry → List Message
 sent_to grid q view [] = []
 sent_to grid q view (Native action ∷ es) =
-    told (message_of grid q (rows_in view) action) (sent_to grid q (after_action view action) es)
+    prepended (message_of grid q (rows_in view) action) (sent_to grid q (after_action view action) es)
 sent_to grid q view (Heard r m ∷ es) = sent_to grid q (set_rows view m.rows) es
 
 -- ---- the local run

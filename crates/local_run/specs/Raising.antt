@@ -20,8 +20,8 @@ raised_run to run = record {
 }
 
 -- the same region with its local run raised
-abbrev pub raised : Stamp → RegionData → RegionData
-raised to region = record {
+abbrev pub raised_region : Stamp → RegionData → RegionData
+raised_region to region = record {
   home = region.home;
   floor = to;
   run = option_map (raised_run to) region.run;

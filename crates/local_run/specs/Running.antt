@@ -6,7 +6,7 @@ use Rattle.event_stamps.specs.declared.Stamp.{Stamp}
 use Rattle.event_stamps.specs.Order.{Before}
 use Rattle.local_run.specs.Opening.{RegionData}
 use Rattle.local_run.specs.Keeping.{IsDueIn}
-use Rattle.local_run.specs.Steps.{Steps}
+use Rattle.local_run.specs.Steps.{RegionSteps}
 
 -- a step that did something, so that another may follow
 abbrev pub GoesOn : Step → Type 0
@@ -15,10 +15,10 @@ GoesOn (Heard s) = ⊤
 GoesOn _ = ⊥
 
 -- steps one after the other, as many as these or up to the first that did nothing; the answer is the last one's
-abbrev pub Runs : ℕ → RegionData → Step → RegionData → Type 0
-Runs zero old answer new = ⊥
-Runs (suc rest) old answer new = (Steps old answer new × (GoesOn answer → rest ≡ 0))
-    ⊎ ((first : Step) × (mid : RegionData) × Steps old first mid × GoesOn first × Runs rest mid answer new)
+abbrev pub RunsSteps : ℕ → RegionData → Step → RegionData → Type 0
+RunsSteps zero old answer new = ⊥
+RunsSteps (suc rest) old answer new = (RegionSteps old answer new × (GoesOn answer → rest ≡ 0))
+    ⊎ ((first : Step) × (mid : RegionData) × RegionSteps old first mid × GoesOn first × RunsSteps rest mid answer new)
 
 -- what is due is before a bound
 abbrev pub IsDueBefore : Stamp → RegionData → Type 0
@@ -33,6 +33,6 @@ IsDueLater bound region = (s : Stamp) × IsDueIn region s × ¬ Before s bound
 abbrev pub RunsBefore : Stamp → ℕ → RegionData → Step → RegionData → Type 0
 RunsBefore bound zero old answer new = ⊥
 RunsBefore bound (suc rest) old answer new = IsDueBefore bound old
-    × ((Steps old answer new × (GoesOn answer → (rest ≡ 0) ⊎ IsDueLater bound new))
-    ⊎ ((first : Step) × (mid : RegionData) × Steps old first mid × GoesOn first
+    × ((RegionSteps old answer new × (GoesOn answer → (rest ≡ 0) ⊎ IsDueLater bound new))
+    ⊎ ((first : Step) × (mid : RegionData) × RegionSteps old first mid × GoesOn first
     × RunsBefore bound rest mid answer new))

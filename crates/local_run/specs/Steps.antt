@@ -12,7 +12,7 @@ abbrev pub StepsOn : Home → Option Local → Step → Option Local → Type 0
 StepsOn h None answer new = (answer ≡ Spent) × (new ≡ None)
 StepsOn h (Some run) answer new = (left : Local) × StepsTo h run answer left × (new ≡ Some left)
 
-pub record Steps (old : RegionData) (answer : Step) (new : RegionData) : Type 0 where
+pub record RegionSteps (old : RegionData) (answer : Step) (new : RegionData) : Type 0 where
   pub home : new.home ≡ old.home
   pub floor : new.floor ≡ old.floor
   pub run : StepsOn old.home old.run answer new.run

@@ -14,7 +14,7 @@ use Rattle.local_run.specs.declared.home.Home.{Home}
 use Rattle.local_run.specs.declared.entry.Entry.{Entry}
 use Rattle.local_run.specs.declared.entry.Entry.TheVariants.{Native, Heard}
 use Rattle.local_run.specs.declared.entry.TheConstants.{MAX_ENTRIES}
-use Rattle.local_run.specs.Entries.{entry_stamp, RiseAfter, clock_of, entries_below, entries_from}
+use Rattle.local_run.specs.Entries.{entry_stamp, EntriesRiseAfter, clock_of, entries_below, entries_from}
 use Rattle.local_run.specs.LocalRun.{At, Local, trail_of, start_of, now_of, after_entry, after_log}
 use Rattle.local_run.specs.LocalRun.{IsOwn, IsHearable, IsRight, sent_to}
 
@@ -63,7 +63,7 @@ pub record MayWeave (h : Home) (r : Local) (m : Message) : Type 0 where
   pub room : length r.log < MAX_ENTRIES
   -- it is late, and no entry has its stamp
   pub late : entries_from m.stamp r.log ≢ []
-  pub after : RiseAfter m.stamp (entries_from m.stamp r.log)
+  pub after : EntriesRiseAfter m.stamp (entries_from m.stamp r.log)
   -- the entries after it have nothing to do with its disks
   pub aside : AreAside h m.rows (after_log (start_of r) (entries_below m.stamp r.log))
       (entries_from m.stamp r.log)

@@ -31,7 +31,7 @@ use Rattle.collision_report.specs.Lines.{event_line}
 use Rattle.collision_report.specs.Blocks.{disk_lines, block, blocks, block_ticks}
 use Rattle.collision_report.specs.Report.{listed, is_wall, is_pair, latest, changes_text, last_blocks, counts_text, end_block, report}
 use Rattle.mirrored_runs.specs.Mirror.{Axis, LeftRight, BottomTop, mirrored, mirrored_vector, mirrored_scene, mirrored_side, mirrored_second, mirrored_if, mirrored_change, mirrored_spot, mirrored_outcome}
-use Rattle.mirrored_runs.specs.Reports.{Line, WallLine, PairLine, StateLine, DiskLine, DoneLine, LimitLine, WallsLine, PairsLine, MomentumLine, EnergyLine, text_of, mirrored_line, AreMirrored, ReportsMirror}
+use Rattle.mirrored_runs.specs.Reports.{Line, WallLine, PairLine, StateLine, DiskLine, DoneLine, LimitLine, WallsLine, PairsLine, MomentumLine, EnergyLine, line_text, mirrored_line, AreMirrored, ReportsMirror}
 use Rattle.mirrored_runs.proofs.Mirrored.{neg_size, sum_mirrored}
 use Rattle.mirrored_runs.proofs.MirroredRuns.{mirrored_disks, effect_mirrored, spots_mirrored, runs_mirror}
 
@@ -78,12 +78,12 @@ module _ (axis : Axis) {A : Type 0} (velocity : A → Vector) (turn : A → A)
 nothing : {axis : Axis} {rules : Rules} → AreMirrored axis rules [] []
 nothing = record { lines = []; text_is = refl; mirror_is = refl }
 
-one_line : {axis : Axis} {rules : Rules} {mirror : List ℕ} (line : Line) → mirror ≡ text_of (mirrored_line axis rules line) →
-    AreMirrored axis rules (text_of line) mirror
+one_line : {axis : Axis} {rules : Rules} {mirror : List ℕ} (line : Line) → mirror ≡ line_text (mirrored_line axis rules line) →
+    AreMirrored axis rules (line_text line) mirror
 one_line {axis} {rules} line is = record {
   lines = line ∷ [];
-  text_is = sym (append-nil (text_of line));
-  mirror_is = is ∙ sym (append-nil (text_of (mirrored_line axis rules line)));
+  text_is = sym (append-nil (line_text line));
+  mirror_is = is ∙ sym (append-nil (line_text (mirrored_line axis rules line)));
 }
 
 both : {axis : Axis} {rules : Rules} {a b c d : List ℕ} → AreMirrored axis rules a b → AreMirrored axis rules c d →
@@ -92,9 +92,9 @@ both {axis} {rules} h k =
     let turn = mirrored_line axis rules in
     record {
       lines = h.lines ++ k.lines;
-      text_is = (λ i. h.text_is i ++ k.text_is i) ∙ sym (flat_map-append text_of h.lines k.lines);
-      mirror_is = (λ i. h.mirror_is i ++ k.mirror_is i) ∙ sym (flat_map-append text_of (map turn h.lines) (map turn k.lines))
-          ∙ ap (flat_map text_of) (sym (map-append turn h.lines k.lines));
+      text_is = (λ i. h.text_is i ++ k.text_is i) ∙ sym (flat_map-append line_text h.lines k.lines);
+      mirror_is = (λ i. h.mirror_is i ++ k.mirror_is i) ∙ sym (flat_map-append line_text (map turn h.lines) (map turn k.lines))
+          ∙ ap (flat_map line_text) (sym (map-append turn h.lines k.lines));
     }
 
 in_lines : {axis : Axis} {rules : Rules} {text mirror : List ℕ} (format : Format) → AreMirrored axis rules text mirror →
@@ -153,9 +153,9 @@ module _ (axis : Axis) (rules : Rules) where
       AreMirrored axis rules (event_line (record { stamp = s; first = a; second = o }))
       (event_line (mirrored_change axis rules (record { stamp = s; first = a; second = o })))
   event_mirrored s a None h = let n = side_stands s.kind s.second h in
-      one_line (WallLine s a) (λ i. text_of (WallLine (record s { second = n i }) (mirrored axis rules a)))
+      one_line (WallLine s a) (λ i. line_text (WallLine (record s { second = n i }) (mirrored axis rules a)))
   event_mirrored s a (Some b) h = let n = second_stands s.kind s.second b h in
-      one_line (PairLine s a b) (λ i. text_of (PairLine (record s { second = n i }) (mirrored axis rules a) (mirrored axis rules b)))
+      one_line (PairLine s a b) (λ i. line_text (PairLine (record s { second = n i }) (mirrored axis rules a) (mirrored axis rules b)))
 
   -- ---- states
   disk_lines_mirrored : (i : ℕ) (spots : List Spot) →
@@ -217,9 +217,9 @@ module _ (axis : Axis) (scene : SceneData) where
       let after = energy_stays axis spot_velocity (mirrored_spot axis scene.rules) (λ spot. refl) spots in
       both (one_line (DoneLine scene.rules.end) refl)
       (both (counts_mirrored axis scene.rules walls pairs)
-      (both (one_line (MomentumLine (total_of spot_velocity spots)) (λ i. text_of (MomentumLine (momentum i))))
+      (both (one_line (MomentumLine (total_of spot_velocity spots)) (λ i. line_text (MomentumLine (momentum i))))
       (both (one_line (EnergyLine (energy_of velocity_of scene.disks) (energy_of spot_velocity spots))
-      (λ i. text_of (EnergyLine (before i) (after i))))
+      (λ i. line_text (EnergyLine (before i) (after i))))
       (in_lines format (disk_lines_mirrored axis scene.rules 0 spots)))))
 
   report_mirrored : (format : Format) (changes : List Change) (outcome : Outcome) → AreTellable changes →

@@ -29,17 +29,17 @@ pub data Line : Type 0 where
   EnergyLine : ℕ → ℕ → Line
 
 -- how it stands in the report
-abbrev pub text_of : Line → List ℕ
-text_of (WallLine s a) = wall_line s a
-text_of (PairLine s a b) = pair_line s a b
-text_of (StateLine tick) = state_line tick
-text_of (DiskLine i spot) = disk_line i spot
-text_of (DoneLine tick) = number_line (codes "done") tick
-text_of (LimitLine limit) = limit_line limit
-text_of (WallsLine count) = number_line (codes "walls") count
-text_of (PairsLine count) = number_line (codes "pairs") count
-text_of (MomentumLine p) = momentum_line p
-text_of (EnergyLine before after) = energy_line before after
+abbrev pub line_text : Line → List ℕ
+line_text (WallLine s a) = wall_line s a
+line_text (PairLine s a b) = pair_line s a b
+line_text (StateLine tick) = state_line tick
+line_text (DiskLine i spot) = disk_line i spot
+line_text (DoneLine tick) = number_line (codes "done") tick
+line_text (LimitLine limit) = limit_line limit
+line_text (WallsLine count) = number_line (codes "walls") count
+line_text (PairsLine count) = number_line (codes "pairs") count
+line_text (MomentumLine p) = momentum_line p
+line_text (EnergyLine before after) = energy_line before after
 
 -- what says the same of the mirrored run: sides, places, velocities and the momentum are mirrored, and ticks, rounds, numbers of
 -- disks, counts and energies are the same
@@ -54,8 +54,8 @@ mirrored_line axis rules line = line
 -- a text of some lines, and that of the same lines, each mirrored
 pub record AreMirrored (axis : Axis) (rules : Rules) (text mirror : List ℕ) : Type 0 where
   pub lines : List Line
-  pub text_is : text ≡ flat_map text_of lines
-  pub mirror_is : mirror ≡ flat_map text_of (map (mirrored_line axis rules) lines)
+  pub text_is : text ≡ flat_map line_text lines
+  pub mirror_is : mirror ≡ flat_map line_text (map (mirrored_line axis rules) lines)
 
 -- the report of a mirrored scene's run is the report of the scene's run, mirrored line by line
 abbrev pub ReportsMirror : Type 0

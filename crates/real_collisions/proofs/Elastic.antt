@@ -6,14 +6,14 @@ use Rattle.std.proofs.Math.IntN.{*ℤ_comm}
 use Rattle.plane_vectors.specs.declared.Vector.{Vector}
 use Rattle.plane_vectors.specs.Vectors.{difference, dot}
 use Rattle.plane_vectors.proofs.Products.{distributes}
-use Rattle.real_collisions.specs.Elastic.{times, after_exact, ExactImpulsesAreElastic}
+use Rattle.real_collisions.specs.Elastic.{scaled, after_exact, ExactImpulsesAreElastic}
 use Rattle.real_collisions.proofs.Numbers.{times_times, times_across, times_minus, times_negative}
 
 -- ---- scalar products
 dot_comm : (v w : Vector) → dot v w ≡ dot w v
 dot_comm v w = λ i. *ℤ_comm v.x w.x i +ℤ *ℤ_comm v.y w.y i
 
-dot_times : (v w : Vector) (k : ℤ) → dot v (times k w) ≡ k *ℤ dot v w
+dot_times : (v w : Vector) (k : ℤ) → dot v (scaled k w) ≡ k *ℤ dot v w
 dot_times v w k =
     let x = across v.x w.x in
     let y = across v.y w.y in
@@ -32,7 +32,7 @@ dot_difference v p q =
 -- ---- the relative velocity after the exact impulse
 dot_after : (v r u : Vector) → dot v (after_exact r u) ≡ (dot r r *ℤ dot v u) -ℤ ((pos 2 *ℤ dot r u) *ℤ dot v r)
 dot_after v r u =
-    dot_difference v (times (dot r r) u) (times (pos 2 *ℤ dot r u) r)
+    dot_difference v (scaled (dot r r) u) (scaled (pos 2 *ℤ dot r u) r)
     ∙ (λ i. dot_times v u (dot r r) i -ℤ dot_times v r (pos 2 *ℤ dot r u) i)
 
 turned_of : (n b : ℤ) → (n *ℤ b) -ℤ ((pos 2 *ℤ b) *ℤ n) ≡ neg_ℤ (n *ℤ b)

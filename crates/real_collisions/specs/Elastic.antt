@@ -5,13 +5,13 @@ use Rattle.plane_vectors.specs.Vectors.{vector, sum, difference, dot}
 use Rattle.impulse_rounding.specs.Impulse.{nearest, rounded_impulse, impulse_of, parting}
 
 -- a vector so many times as long
-abbrev pub times : ℤ → Vector → Vector
-times k v = vector (k *ℤ v.x) (k *ℤ v.y)
+abbrev pub scaled : ℤ → Vector → Vector
+scaled k v = vector (k *ℤ v.x) (k *ℤ v.y)
 
 -- Two equal smooth disks that collide, with the separation r and the relative velocity u, give each other exactly the impulse
 -- -(r·u / r·r) r. This is the relative velocity after it, told r·r times as large, so that it is whole: (r·r) u - 2 (r·u) r.
 abbrev pub after_exact : Vector → Vector → Vector
-after_exact r u = difference (times (dot r r) u) (times (pos 2 *ℤ dot r u) r)
+after_exact r u = difference (scaled (dot r r) u) (scaled (pos 2 *ℤ dot r u) r)
 
 -- the exact impulse turns the speed along r round, and keeps the size of the relative velocity, and so the energy
 pub record IsElastic (r u : Vector) : Type 0 where
@@ -24,7 +24,7 @@ ExactImpulsesAreElastic = (r u : Vector) → IsElastic r u
 
 -- an impulse less the exact one, told r·r times as large
 abbrev pub difference_from_exact : Vector → Vector → Vector → Vector
-difference_from_exact r u j = sum (times (dot r r) j) (times (dot r u) r)
+difference_from_exact r u j = sum (scaled (dot r r) j) (scaled (dot r u) r)
 
 -- each component is less than one unit per tick from the exact one
 abbrev pub IsWithinOne : Vector → Vector → Vector → Type 0

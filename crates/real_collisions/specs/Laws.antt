@@ -46,18 +46,18 @@ EventsAreReal = (rules : Rules) (disks : List Disk) (before after : List Change)
     Runs rules disks (before ++ (c ∷ after)) outcome → IsReal rules (fold effect disks before) c.stamp
 
 -- the stamp of the event that fails
-abbrev pub stamp_of : Limit → Stamp
-stamp_of (Rounds s) = s
-stamp_of (Speed s) = s
+abbrev pub stamp_of_limit : Limit → Stamp
+stamp_of_limit (Rounds s) = s
+stamp_of_limit (Speed s) = s
 
 -- the event that fails a limit is a real one, too
 abbrev pub FailingEventsAreReal : Type 0
 FailingEventsAreReal = (rules : Rules) (disks : List Disk) (changes : List Change) (limit : Limit) →
-    Runs rules disks changes (Passes limit) → IsReal rules (fold effect disks changes) (stamp_of limit)
+    Runs rules disks changes (Passes limit) → IsReal rules (fold effect disks changes) (stamp_of_limit limit)
 
 -- ---- what it does
 -- a disk stays where it is at the tick of the event, and has this velocity then
-pub record GoesOn (a : Disk) (tick : ℕ) (velocity : Vector) (x : Disk) : Type 0 where
+pub record GoesOnWith (a : Disk) (tick : ℕ) (velocity : Vector) (x : Disk) : Type 0 where
   pub place : place_of x tick ≡ place_of a tick
   pub velocity_after : velocity_of x ≡ velocity
 
@@ -66,7 +66,7 @@ pub record IsElasticBounce (disks : List Disk) (c : Change) : Type 0 where
   pub kind : c.stamp.kind ≡ Wall
   pub disk : Disk
   pub at : slice_get disks c.stamp.first ≡ Some disk
-  pub goes_on : GoesOn disk c.stamp.tick (turned c.stamp.second (velocity_of disk)) c.first
+  pub goes_on : GoesOnWith disk c.stamp.tick (turned c.stamp.second (velocity_of disk)) c.first
   pub alone : c.second ≡ None
 
 -- of two disks the first gets an impulse, and the second loses it
@@ -80,9 +80,9 @@ pub record IsElasticCollision (disks : List Disk) (c : Change) : Type 0 where
   pub second_at : slice_get disks c.stamp.second ≡ Some second
   pub elastic : IsNearlyElastic (difference (place_of first c.stamp.tick) (place_of second c.stamp.tick))
       (difference (velocity_of first) (velocity_of second)) impulse
-  pub first_goes_on : GoesOn first c.stamp.tick (sum (velocity_of first) impulse) c.first
+  pub first_goes_on : GoesOnWith first c.stamp.tick (sum (velocity_of first) impulse) c.first
   pub second_later : c.second ≡ Some later
-  pub second_goes_on : GoesOn second c.stamp.tick (difference (velocity_of second) impulse) later
+  pub second_goes_on : GoesOnWith second c.stamp.tick (difference (velocity_of second) impulse) later
 
 -- each event of a run is elastic: exactly at a side, and of two disks nearly
 abbrev pub EventsAreElastic : Type 0

@@ -21,7 +21,7 @@ use Rattle.local_run.specs.declared.entry.TheConstants.{MAX_ENTRIES}
 use Rattle.region_core.specs.declared.live.Live.{Live}
 use Rattle.local_run.specs.declared.moves.Move.TheVariants.{Run, TakeIn}
 use Rattle.local_run.specs.Entries.{entry_stamp}
-use Rattle.local_run.specs.LocalRun.{Local, Trails, trail_of, told, IsInPlace, IsRight, IsMove}
+use Rattle.local_run.specs.LocalRun.{Local, Trails, trail_of, prepended, IsInPlace, IsRight, IsMove}
 use Rattle.local_run.specs.Answers.{with_entry, IsInTurn}
 use Rattle.region_parts.specs.Inbox.{InboxData, next_from, taken_from, with_taken}
 use Rattle.local_run.specs.Taken.{is_of, taken_of}
@@ -29,7 +29,7 @@ use Rattle.region_core.specs.Live.{base_in, run_in, start_in, now_in, HasTrace, 
 use Rattle.event_log.specs.Logged.{Logged, entries_in}
 use Rattle.event_log.specs.Undoing.{rows_by}
 use Rattle.event_log.specs.Traced.{IsTraced}
-use Rattle.event_log.specs.Running.{acted}
+use Rattle.event_log.specs.Running.{logged_action}
 use Rattle.event_log.proofs.Traced.{traced_pushed}
 use Rattle.local_run.specs.Keeping.{SendsTo}
 use Rattle.local_run.specs.Moves.{Fits}
@@ -142,12 +142,12 @@ outbox_heard home floor live q m is = record {
 pub outbox_native : (home : Home) (floor : Stamp) (live : Live) (x : Action) (sent : Trails) →
     IsOutbox home (base_in live) (entries_in live.log) live.sent.items → length sent ≡ length live.sent.items →
     ((to : ℕ) → SendsTo home to → trail_of sent to ≡ trail_of live.sent.items to
-    ++ told (message_of home.grid to (rows_in (now_in live).view) x) []) →
+    ++ prepended (message_of home.grid to (rows_in (now_in live).view) x) []) →
     IsOutbox home (base_in live) ((entries_in live.log) ++ Native x ∷ []) sent
 outbox_native home floor live x sent is size each = record {
   regions = size ∙ is.regions;
   each = λ to lt linked. each to (lt, linked)
-      ∙ ap (λ (ms : List Message). ms ++ told (message_of home.grid to (rows_in (now_in live).view) x) [])
+      ∙ ap (λ (ms : List Message). ms ++ prepended (message_of home.grid to (rows_in (now_in live).view) x) [])
       (is.each to lt linked)
       ∙ sym (sent_native home.grid to (run_in floor live) x);
 }
@@ -240,13 +240,13 @@ cells_are home floor live place is = subst (λ (v : ViewData). HasCells home.gri
 -- a body that ran an action and sent its messages, in parts
 pub record HasActed (home : Home) (live new : Live) (x : Action) : Type 0 where
   pub inbox : new.inbox ≡ live.inbox
-  pub log : new.log ≡ live.log ++ acted live.view x ∷ []
+  pub log : new.log ≡ live.log ++ logged_action live.view x ∷ []
   pub view : new.view ≡ after_action live.view x
   pub queue : IsOf new.queue live.queue.rules live.queue.grid live.queue.region
   pub stands : StandsFor new.queue new.view
   pub size : length new.sent.items ≡ length live.sent.items
-  pub told : (to : ℕ) → SendsTo home to → trail_of new.sent.items to ≡ trail_of live.sent.items to
-      ++ told (message_of home.grid to (rows_in live.view) x) []
+  pub prepended : (to : ℕ) → SendsTo home to → trail_of new.sent.items to ≡ trail_of live.sent.items to
+      ++ prepended (message_of home.grid to (rows_in live.view) x) []
 
 pub acted_is_live : (home : Home) (floor : Stamp) (live new : Live) (x : Action) → IsBodyOf home floor live →
     Fits home (run_in floor live) (Run x) → HasActed home live new x → IsBodyOf home floor new
@@ -267,5 +267,5 @@ acted_is_live home floor live new x kept fits is =
       sent = outbox_native home floor live x new.sent.items kept.sent is.size
           (λ to sends. is.told to sends
           ∙ ap (λ (v : ViewData). trail_of live.sent.items to
-          ++ told (message_of home.grid to (rows_in v) x) []) (sym (now_is live kept.traced)));
+          ++ prepended (message_of home.grid to (rows_in v) x) []) (sym (now_is live kept.traced)));
     }

@@ -6,7 +6,7 @@ use Rattle.local_run.specs.declared.home.Home.{Home}
 use Rattle.local_run.specs.declared.answers.Step.{Step}
 use Rattle.local_run.specs.Answers.{StepsTo}
 use Rattle.local_run.specs.Running.{IsDueBefore, IsDueLater}
-use Rattle.local_run.specs.Steps.{Steps}
+use Rattle.local_run.specs.Steps.{RegionSteps}
 use Rattle.region_core.specs.declared.live.Live.{Live}
 use Rattle.region_parts.specs.declared.place.Place.{Place}
 use Rattle.region_core.specs.Live.{run_in, region_in, HasDueBefore, HasDueLater}
@@ -22,7 +22,7 @@ pub bounded_step : (place : Place) (bound : Stamp) (old new : Live) (last : Opti
     (λ step. HasDueBefore place.home bound old
     × StepsTo place.home (run_in place.floor old) step (run_in place.floor new)) →
     MatchOption last (IsDueLater bound (region_in place old) × (region_in place new ≡ region_in place old))
-    (λ step. IsDueBefore bound (region_in place old) × Steps (region_in place old) step (region_in place new))
+    (λ step. IsDueBefore bound (region_in place old) × RegionSteps (region_in place old) step (region_in place new))
 bounded_step place bound old new None (due, same) = (due, ap (region_in place) same)
 bounded_step place bound old new (Some step) (due, made) = (
   due,
@@ -46,10 +46,10 @@ as_some last step P Q is q = subst (λ (o : Option Step). MatchOption o P Q) (sy
 
 -- ---- what a region that is spent answers
 pub steps_spent : (home : Home) (floor : Stamp) (o : Option Live) (region : RegionData) → o ≡ None →
-    seen_as home floor o ≡ region → Steps region Spent (seen_as home floor o)
+    seen_as home floor o ≡ region → RegionSteps region Spent (seen_as home floor o)
 steps_spent home floor o region none is =
-    subst (λ (p : Option Live). Steps region Spent (seen_as home floor p)) (sym none)
-    (subst (λ (old : RegionData). Steps old Spent (seen_as home floor None))
+    subst (λ (p : Option Live). RegionSteps region Spent (seen_as home floor p)) (sym none)
+    (subst (λ (old : RegionData). RegionSteps old Spent (seen_as home floor None))
     (ap (seen_as home floor) (sym none) ∙ is) record { home = refl; floor = refl; run = (refl, refl) })
 
 due_spent : (home : Home) (floor : Stamp) (o : Option Live) (region : RegionData) → o ≡ None →
@@ -59,7 +59,7 @@ due_spent home floor o region none is =
 
 pub spent_before : (home : Home) (floor bound : Stamp) (o : Option Live) (region : RegionData) → o ≡ None →
     seen_as home floor o ≡ region → Before floor bound →
-    IsDueBefore bound region × Steps region Spent (seen_as home floor o)
+    IsDueBefore bound region × RegionSteps region Spent (seen_as home floor o)
 spent_before home floor bound o region none is before =
     ((floor, due_spent home floor o region none is, before), steps_spent home floor o region none is)
 

@@ -17,7 +17,7 @@ use Rattle.local_run.specs.declared.entry.Entry.TheVariants.{Native, Heard}
 use Rattle.local_run.specs.declared.answers.Hearing.{Hearing}
 use Rattle.local_run.specs.declared.answers.Hearing.TheVariants.{Same, Rewound, Later, Apart}
 use Rattle.region_core.specs.declared.live.Live.{Live}
-use Rattle.local_run.specs.Entries.{entry_stamp, RiseFrom, entries_below, clock_of, last_stamp}
+use Rattle.local_run.specs.Entries.{entry_stamp, RiseFrom, entries_below, clock_of, last_entry_stamp}
 use Rattle.local_run.specs.LocalRun.{Local, Trails, trail_of, now_of, after_log, without_first, IsHearable, IsRight}
 use Rattle.local_run.specs.Answers.{HasHeard, HearsFrom}
 use Rattle.event_log.specs.Logged.{Logged, entries_in, backs_in}
@@ -31,12 +31,12 @@ use Rattle.local_run.proofs.Hears.{hearing, right_heard}
 use Rattle.region_core.proofs.Traced.{has_trace}
 
 -- ---- the last entry
-pub none_there : (at : Stamp) (log : List Entry) → None ≡ last_stamp log → entries_below at log ≡ log
+pub none_there : (at : Stamp) (log : List Entry) → None ≡ last_entry_stamp log → entries_below at log ≡ log
 none_there at [] last = refl
 none_there at (e ∷ es) last = cc
 
 pub ends_there : (f at s : Stamp) (log : List Entry) (b : Bool) → RiseFrom f log →
-    Some s ≡ last_stamp log → IsTrue b ↔ Before s at → IsTrue b ↔ (entries_below at log ≡ log)
+    Some s ≡ last_entry_stamp log → IsTrue b ↔ Before s at → IsTrue b ↔ (entries_below at log ≡ log)
 ends_there f at s [] b rises last tested = absurd (none-some s (sym last))
 ends_there f at s (e ∷ es) b rises last tested =
     let clock : s ≡ clock_of f (e ∷ es) = same_Some s (clock_of (entry_stamp e) es) last in (

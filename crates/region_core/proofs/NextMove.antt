@@ -17,10 +17,10 @@ use Rattle.local_run.specs.declared.entry.Entry.{Entry}
 use Rattle.region_core.specs.declared.live.Live.{Live}
 use Rattle.local_run.specs.declared.moves.Move.TheVariants.{Answer, Run, TakeIn}
 use Rattle.local_run.specs.declared.answers.Step.TheVariants.{Tied}
-use Rattle.local_run.specs.Entries.{entry_stamp, clock_of, last_stamp}
-use Rattle.local_run.specs.LocalRun.{At, Local, trail_of, IsInPlace, IsOwn, IsWaiting, IsDue, ComesTo}
+use Rattle.local_run.specs.Entries.{entry_stamp, clock_of, last_entry_stamp}
+use Rattle.local_run.specs.LocalRun.{At, Local, trail_of, IsInPlace, IsOwn, IsWaiting, IsDue, ComesToInView}
 use Rattle.local_run.specs.Answers.{HasDue, IsInTurn, IsShared}
-use Rattle.region_parts.specs.Inbox.{InboxData, next_from, head_stamp, IsFirstOf, IsLeastHead, IsSharedHead}
+use Rattle.region_parts.specs.Inbox.{InboxData, next_from, head_stamp, IsHeadOf, IsLeastHead, IsSharedHead}
 use Rattle.local_run.specs.Taken.{taken_of}
 use Rattle.event_log.specs.Logged.{entries_in}
 use Rattle.region_core.specs.Live.{run_in, start_in, now_in, IsInbox, IsBodyOf}
@@ -142,7 +142,7 @@ pub too_early : (floor s : Stamp) (clock : Option Stamp) → Before s floor → 
 too_early floor s None lt late = late lt
 too_early floor s (Some last) lt after = after.0 lt
 
-pub turn_by : (r : Local) (s : Stamp) → ComesAfter r.floor (last_stamp r.log) s ↔ IsInTurn r s
+pub turn_by : (r : Local) (s : Stamp) → ComesAfter r.floor (last_entry_stamp r.log) s ↔ IsInTurn r s
 turn_by r s = by_log r.log
   where
     last : (e : Entry) (es : List Entry) → (e ∷ es ≡ []) ⊎ Before (clock_of (entry_stamp e) es) s →
@@ -150,14 +150,14 @@ turn_by r s = by_log r.log
     last e es (inl none) = cc
     last e es (inr lt) = lt
 
-    by_log : (log : List Entry) → ComesAfter r.floor (last_stamp log) s ↔
+    by_log : (log : List Entry) → ComesAfter r.floor (last_entry_stamp log) s ↔
         ((¬ Before s r.floor) × ((log ≡ []) ⊎ Before (clock_of r.floor log) s))
     by_log [] = (λ late. (late, inl refl), λ turn. turn.0)
     by_log (e ∷ es) = (λ after. (after.0, inr after.1), λ turn. (turn.0, last e es turn.1))
 
 -- ---- messages
 pub tied_by_own : (h : Home) (floor : Stamp) (live : Live) (q : ℕ) (due : Stamp) → IsBodyOf h floor live →
-    HasDue h (run_in floor live) due → IsInTurn (run_in floor live) due → IsFirstOf live.inbox q due →
+    HasDue h (run_in floor live) due → IsInTurn (run_in floor live) due → IsHeadOf live.inbox q due →
     IsOwn h (now_in live).view due → Fits h (run_in floor live) (Answer (Tied due))
 tied_by_own h floor live q due is here turn (m, next, same) own =
     let first = waits_next h live is.inbox q m next in
@@ -166,7 +166,7 @@ tied_by_own h floor live q due is here turn (m, next, same) own =
     (here, turn, inl (own, waits), refl)
 
 pub tied_by_other : (h : Home) (floor : Stamp) (live : Live) (q : ℕ) (due : Stamp) → IsBodyOf h floor live →
-    HasDue h (run_in floor live) due → IsInTurn (run_in floor live) due → IsFirstOf live.inbox q due →
+    HasDue h (run_in floor live) due → IsInTurn (run_in floor live) due → IsHeadOf live.inbox q due →
     IsSharedHead live.inbox q due → Fits h (run_in floor live) (Answer (Tied due))
 tied_by_other h floor live q due is here turn (m, next, same) (k, n, other, there, also) =
     let first = waits_next h live is.inbox q m next in
@@ -176,7 +176,7 @@ tied_by_other h floor live q due is here turn (m, next, same) (k, n, other, ther
     (here, turn, subst (IsShared h (now_in live)) same shared, refl)
 
 -- a region has one first message
-pub first_has : (inbox : InboxData) (q : ℕ) (s : Stamp) (m : Message) → IsFirstOf inbox q s →
+pub first_has : (inbox : InboxData) (q : ℕ) (s : Stamp) (m : Message) → IsHeadOf inbox q s →
     next_from inbox q ≡ Some m → m.stamp ≡ s
 first_has inbox q s m (n, next, same) here =
     ap (λ (v : Message). v.stamp) (same_Some m n (sym here ∙ next)) ∙ same
@@ -201,7 +201,7 @@ take_fits h floor live q m is due turn next alone only =
 -- ---- events
 pub event_fits : (h : Home) (floor : Stamp) (live : Live) (due : Stamp) (x : Action) → IsInPlace h →
     IsBodyOf h floor live → HasDue h (run_in floor live) due → IsInTurn (run_in floor live) due →
-    ¬ IsWaiting (now_in live).waiting due → ComesTo h (now_in live).view due (Ok x) →
+    ¬ IsWaiting (now_in live).waiting due → ComesToInView h (now_in live).view due (Ok x) →
     Fits h (run_in floor live) (Run x)
 event_fits h floor live due x place is here turn alone comes =
     let own = own_due h (now_in live) due here.1 alone in
@@ -215,6 +215,6 @@ event_fits h floor live due x place is here turn alone comes =
         due = subst (IsDue h (now_in live)) same here.1;
         native = subst (IsOwn h (now_in live).view) same own;
         alone = subst (λ (s : Stamp). ¬ IsWaiting (now_in live).waiting s) same alone;
-        comes = subst (λ (s : Stamp). ComesTo h (now_in live).view s (Ok x)) same comes;
+        comes = subst (λ (s : Stamp). ComesToInView h (now_in live).view s (Ok x)) same comes;
       },
     )

@@ -21,7 +21,7 @@ use Rattle.region_view.specs.declared.action.Placed.{Placed}
 use Rattle.region_view.specs.declared.action.Action.{Action}
 use Rattle.region_view.specs.declared.action.Action.TheVariants.{Cross, Hit}
 use Rattle.region_view.specs.Acting.{stamp_of, action_of, crossed, hit_of}
-use Rattle.region_view.specs.Compact.{IsNarrow, IsSmall}
+use Rattle.region_view.specs.Compact.{IsNarrow, IsSmallRow}
 use Rattle.region_view.specs.Events.{IsEventBy}
 use Rattle.region_view.specs.Placing.{Placing}
 use Rattle.region_view.specs.Views.{ViewData, rows_in}
@@ -30,7 +30,7 @@ use Rattle.local_run.specs.declared.home.Home.{Home}
 use Rattle.local_run.specs.declared.entry.Entry.TheVariants.{Native}
 use Rattle.local_run.specs.declared.moves.Move.TheVariants.{Run}
 use Rattle.local_run.specs.declared.answers.Step.TheVariants.{Ran, Halted}
-use Rattle.local_run.specs.LocalRun.{Local, now_of, IsInPlace, IsOwn, ComesTo}
+use Rattle.local_run.specs.LocalRun.{Local, now_of, IsInPlace, IsOwn, ComesToInView}
 use Rattle.local_run.specs.Answers.{HasDue, IsInTurn, StepsTo, with_entry}
 use Rattle.local_run.specs.Moves.{Fits}
 use Rattle.local_run.proofs.Outcome.{pair_by, alone_by, alone_comes, pair_comes}
@@ -39,9 +39,9 @@ use Rattle.local_run.proofs.Choices.{not_shared}
 use Rattle.local_run.proofs.Valid.{valid_now, own_candidate}
 use Rattle.event_log.specs.declared.running.HitRows.{HitRows}
 use Rattle.event_log.specs.Heads.{disk_or}
-use Rattle.event_log.specs.Running.{collision, redisked_row, IsMoved}
+use Rattle.event_log.specs.Running.{collision, redisked_row, IsMovedRow}
 use Rattle.region_core.specs.declared.live.Live.{Live}
-use Rattle.region_parts.specs.Border.{IsFar, IsFarRow, IsUntold}
+use Rattle.region_parts.specs.Border.{IsFarFromOthers, IsFarRow, IsUntold}
 use Rattle.region_core.specs.Choices.{IsAtTurn}
 use Rattle.region_core.specs.Live.{run_in, now_in, IsBodyOf, HasTrace}
 use Rattle.region_core.specs.RunsOn.{FailsLimit}
@@ -58,7 +58,7 @@ ran_is h r new s x same fits run =
 
 -- it fails a limit
 pub halted_is : (h : Home) (r : Local) (s : Stamp) (limit : Limit) → IsAtTurn h r s →
-    ComesTo h (now_of r).view s (Err limit) → StepsTo h r (Halted limit) r
+    ComesToInView h (now_of r).view s (Err limit) → StepsTo h r (Halted limit) r
 halted_is h r s limit at comes = (
   (
     s,
@@ -73,10 +73,10 @@ halted_is h r s limit at comes = (
 
 -- which limit, is known by what the newest view makes of the event
 pub fails_once : (h : Home) (live : Live) (s : Stamp) (r : Result Action Limit) → HasTrace live →
-    (fails : FailsLimit h (now_in live).view s) → ComesTo h live.view s r → r ≡ Err fails.0
+    (fails : FailsLimit h (now_in live).view s) → ComesToInView h live.view s r → r ≡ Err fails.0
 fails_once h live s r traced fails comes =
     one_result h (now_in live).view s r (Err fails.0)
-    (subst (λ (v : ViewData). ComesTo h v s r) (sym (now_is live traced)) comes) fails.1
+    (subst (λ (v : ViewData). ComesToInView h v s r) (sym (now_is live traced)) comes) fails.1
 
 -- ---- rows of the newest view
 pub own_at_turn : (h : Home) (floor : Stamp) (live : Live) (s : Stamp) → IsAtTurn h (run_in floor live) s →
@@ -96,11 +96,11 @@ valid_row h floor live i p place is at =
 
 -- what the event at its turn comes to is what comes next
 pub turn_fits : (h : Home) (floor : Stamp) (live : Live) (s : Stamp) (x : Action) → IsInPlace h → IsBodyOf h floor live →
-    IsAtTurn h (run_in floor live) s → ComesTo h (now_in live).view s (Ok x) → Fits h (run_in floor live) (Run x)
+    IsAtTurn h (run_in floor live) s → ComesToInView h (now_in live).view s (Ok x) → Fits h (run_in floor live) (Run x)
 turn_fits h floor live s x place is at comes = event_fits h floor live s x place is at.due at.turn at.alone comes
 
 pub turn_ran : (h : Home) (floor : Stamp) (live : Live) (s : Stamp) (x : Action) (new : Local) → IsInPlace h →
-    IsBodyOf h floor live → IsAtTurn h (run_in floor live) s → ComesTo h (now_in live).view s (Ok x) →
+    IsBodyOf h floor live → IsAtTurn h (run_in floor live) s → ComesToInView h (now_in live).view s (Ok x) →
     new ≡ with_entry (run_in floor live) (Native x) → StepsTo h (run_in floor live) (Ran s) new
 turn_ran h floor live s x new place is at comes run =
     let valid = actions_are_valid h.rules h.grid (rows_in (now_in live).view) s x place.checked place.grid
@@ -122,7 +122,7 @@ crossing_event h floor live s p is at kind here =
 
 pub crossing_comes : (h : Home) (floor : Stamp) (live : Live) (s : Stamp) (p : Placed) (r : Result Action Limit) →
     IsBodyOf h floor live → s.kind ≡ Crossing → rows_in live.view s.first ≡ Some p →
-    crossed h.rules h.grid s p.disk ≡ r → ComesTo h (now_in live).view s r
+    crossed h.rules h.grid s p.disk ≡ r → ComesToInView h (now_in live).view s r
 crossing_comes h floor live s p r is kind here comes =
     alone_comes h (now_in live).view s p r (no_pair s.kind kind) (row_now h floor live s.first p is here)
     (sym comes ∙ ap (action_of h.rules h.grid s p.disk None) (sym kind))
@@ -138,7 +138,7 @@ pub crossing_in_range : (h : Home) (s : Stamp) (p : Placed) → IsInPlace h →
 crossing_in_range h s p place event = tick_in_range h.rules s.tick place.checked event.1
 
 pub crossing_is_untold : (h : Home) (at : Placing) (s : Stamp) (cell : ℕ) (p : Placed) → at s.first ≡ Some p →
-    IsFar h p.cell × IsFar h cell → IsUntold h at (Cross s cell)
+    IsFarFromOthers h p.cell × IsFarFromOthers h cell → IsUntold h at (Cross s cell)
 crossing_is_untold h at s cell p here far =
     crossing_untold h at s cell (subst (IsFarRow h) (sym here) far.0) far.1
 
@@ -153,7 +153,7 @@ pair_event h floor live s p q is at kind here beside =
 
 pub hit_comes : (h : Home) (floor : Stamp) (live : Live) (s : Stamp) (p q : Placed) (r : Result Change Limit) →
     IsBodyOf h floor live → s.kind ≡ Pair → rows_in live.view s.first ≡ Some p → rows_in live.view s.second ≡ Some q →
-    r ≡ applied h.rules s p.disk (Some q.disk) → ComesTo h (now_in live).view s (hit_of r)
+    r ≡ applied h.rules s p.disk (Some q.disk) → ComesToInView h (now_in live).view s (hit_of r)
 hit_comes h floor live s p q r is kind here beside comes =
     pair_comes h (now_in live).view s p q (hit_of r) kind (row_now h floor live s.first p is here)
     (row_now h floor live s.second q is beside)
@@ -161,7 +161,7 @@ hit_comes h floor live s p q r is kind here beside comes =
 
 pub pair_is_untold : (h : Home) (at : Placing) (s : Stamp) (change : Change) (second : Disk) (p q : Placed) →
     change.stamp ≡ s → change.second ≡ Some second → at s.first ≡ Some p → at s.second ≡ Some q →
-    IsFar h p.cell × IsFar h q.cell → IsUntold h at (Hit change)
+    IsFarFromOthers h p.cell × IsFarFromOthers h q.cell → IsUntold h at (Hit change)
 pair_is_untold h at s change second p q same is here beside far =
     pair_untold h at change second is
     (subst (λ (t : Stamp). IsFarRow h (at t.first)) (sym same) (subst (IsFarRow h) (sym here) far.0))
@@ -180,15 +180,15 @@ change_of_both rules s a b change is =
 
 -- a row after a collision has the new record
 pub moved_has : (there : Option Placed) (p : Placed) (disk : Disk) (rows : HitRows) → there ≡ Some p →
-    IsMoved there disk rows → disk_or rows.after ≡ disk
+    IsMovedRow there disk rows → disk_or rows.after ≡ disk
 moved_has there p disk rows at is = ap disk_or (is.after ∙ ap (redisked_row disk) at)
 
 -- as it stands at a number
 pub moved_to : (there here : Option Placed) (p : Placed) (disk : Disk) (rows : HitRows) → here ≡ Some p →
-    here ≡ there → IsMoved here disk rows → IsMoved there (disk_or rows.after) rows
+    here ≡ there → IsMovedRow here disk rows → IsMovedRow there (disk_or rows.after) rows
 moved_to there here p disk rows at same is =
-    subst (λ (o : Option Placed). IsMoved o (disk_or rows.after) rows) same
-    (subst (λ (d : Disk). IsMoved here d rows) (sym (moved_has here p disk rows at is)) is)
+    subst (λ (o : Option Placed). IsMovedRow o (disk_or rows.after) rows) same
+    (subst (λ (d : Disk). IsMovedRow here d rows) (sym (moved_has here p disk rows at is)) is)
 
 -- the change is that of the rows
 pub change_is : (change : Change) (partner : Disk) (first second : HitRows) → change.second ≡ Some partner →
@@ -212,7 +212,7 @@ narrow_speed : (n : ℤ) → nat_abs n ≤ 2 ^ 20 → IsNarrow n
 narrow_speed n most = (omega (arith, ints), omega (arith, ints))
 
 -- a valid disk has room in a narrow row
-pub valid_is_small : (rules : Rules) (p : Placed) → IsChecked rules → IsValidDisk rules p.disk → IsSmall p
+pub valid_is_small : (rules : Rules) (p : Placed) → IsChecked rules → IsValidDisk rules p.disk → IsSmallRow p
 valid_is_small rules p checked valid =
     let box = inside_in_box rules p.disk (centre_of p.disk) checked valid.size valid.centre in
     let slow = slow_size rules (velocity_of p.disk) checked valid.velocity in

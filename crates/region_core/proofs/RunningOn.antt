@@ -19,14 +19,14 @@ use Rattle.local_run.specs.LocalRun.{At, Local, Trails, now_of, IsOwn, IsWaiting
 use Rattle.local_run.specs.Answers.{IsInTurn}
 use Rattle.local_run.specs.Opening.{RegionData}
 use Rattle.local_run.specs.Running.{GoesOn, IsDueBefore}
-use Rattle.local_run.specs.Steps.{Steps}
+use Rattle.local_run.specs.Steps.{RegionSteps}
 use Rattle.local_run.proofs.Logs.{now_appended}
 use Rattle.local_run.proofs.Running.{IsUnderWayBefore, one_more_made_before}
 use Rattle.region_core.specs.declared.live.Live.{Live}
 use Rattle.region_parts.specs.declared.place.Place.{Place}
 use Rattle.region_core.specs.Choices.{IsAtTurn}
 use Rattle.region_core.specs.Live.{run_in, region_in}
-use Rattle.region_core.specs.RunsOn.{IsClear, IsOwnInTurn, RunsNext, RunsOrFails, RunsOn, Follow, answer_after}
+use Rattle.region_core.specs.RunsOn.{IsClear, IsOwnInTurn, RunsOneBefore, RunsOrFails, RunsOn, Follow, answer_after}
 use Rattle.region_core.specs.declared.running_on.RunSoFar.{RunSoFar}
 use Rattle.event_log.specs.Logged.{entries_in}
 use Rattle.region_parts.proofs.Lists.{as_many}
@@ -41,7 +41,7 @@ clear_of_bound first bound waiting least late s waits lt =
     least.1 s waits (before_not_before s first bound lt late)
 
 -- an event of its own columns leaves the messages that wait
-pub still_clear : (h : Home) (limit s : Stamp) (r new : Local) → RunsNext h limit s r new →
+pub still_clear : (h : Home) (limit s : Stamp) (r new : Local) → RunsOneBefore h limit s r new →
     IsClear limit (now_of r).waiting → IsClear limit (now_of new).waiting
 still_clear h limit s r new next clear =
     subst (IsClear limit)
@@ -76,7 +76,7 @@ found_in_turn h r (Some own) is turn = λ s least.
     subst (IsInTurn r) (one_least (IsOwn h (now_of r).view) own s is least) turn
 
 -- what is later than the event that ran is in turn
-later_in_turn : (h : Home) (limit s t : Stamp) (r new : Local) → RunsNext h limit s r new → Before s t → IsInTurn new t
+later_in_turn : (h : Home) (limit s t : Stamp) (r new : Local) → RunsOneBefore h limit s r new → Before s t → IsInTurn new t
 later_in_turn h limit s t r new (near, (due, turn, (x, same, move, run))) lt =
     let clock : clock_of r.floor (r.log ++ Native x ∷ []) ≡ s =
     last_joined entry_stamp r.floor r.log (Native x) [] ∙ same in
@@ -85,7 +85,7 @@ later_in_turn h limit s t r new (near, (due, turn, (x, same, move, run))) lt =
       inr (subst (λ (v : Stamp). Before v t) (sym clock) lt),
     )
 
-pub next_in_turn : (h : Home) (limit s : Stamp) (r new : Local) (top : Option Stamp) → RunsNext h limit s r new →
+pub next_in_turn : (h : Home) (limit s : Stamp) (r new : Local) (top : Option Stamp) → RunsOneBefore h limit s r new →
     IsLeastOf (IsOwn h (now_of new).view) top → IsKeyBefore (Some s) top → IsOwnInTurn h new
 next_in_turn h limit s r new None next none later = λ t least. absurd (none t least.0)
 next_in_turn h limit s r new (Some t) next least later =
@@ -94,7 +94,7 @@ next_in_turn h limit s r new (Some t) next least later =
 -- the key of an event that ran is before that of the limit
 pub ran_next : (place : Place) (limit s : Stamp) (live new : Live) (top before : Option Stamp) (ran : Bool) →
     top ≡ Some s → before ≡ Some limit → IsKeyBefore top before → ran ≡ true → RunsOrFails place s live new ran →
-    RunsNext place.home limit s (run_in place.floor live) (run_in place.floor new)
+    RunsOneBefore place.home limit s (run_in place.floor live) (run_in place.floor new)
 ran_next place limit s live new top before ran is at near did steps = (
   subst (λ (k : Option Stamp). IsKeyBefore (Some s) k) at (subst (λ (k : Option Stamp). IsKeyBefore k before) is near),
   subst (RunsOrFails place s live new) did steps,
@@ -102,15 +102,15 @@ ran_next place limit s live new top before ran is at near did steps = (
 
 -- a step that runs an event appends one entry
 pub one_longer : (h : Home) (floor limit s : Stamp) (live new : Live) →
-    RunsNext h limit s (run_in floor live) (run_in floor new) → length new.log ≡ length live.log + 1
+    RunsOneBefore h limit s (run_in floor live) (run_in floor new) → length new.log ≡ length live.log + 1
 one_longer h floor limit s live new (near, (due, turn, (x, same, move, run))) =
     sym (as_many new.log) ∙ ap (λ (r : Local). length r.log) run
     ∙ length-append (entries_in live.log) (Native x ∷ []) ∙ ap (λ (n : ℕ). n + 1) (as_many live.log)
 
 -- ---- what follows
 pub next_follows : (place : Place) (bound limit s : Stamp) (live new : Live) → ¬ Before bound limit →
-    RunsNext place.home limit s (run_in place.floor live) (run_in place.floor new) →
-    IsDueBefore bound (region_in place live) × Steps (region_in place live) (Ran s) (region_in place new)
+    RunsOneBefore place.home limit s (run_in place.floor live) (run_in place.floor new) →
+    IsDueBefore bound (region_in place live) × RegionSteps (region_in place live) (Ran s) (region_in place new)
 next_follows place bound limit s live new near next = (
   (s, inl next.1.0.1, before_not_before s bound limit next.0 near),
   record { home = refl; floor = refl; run = (run_in place.floor new, next.1, refl) },
@@ -119,7 +119,7 @@ next_follows place bound limit s live new near next = (
 -- one more step after those that follow
 pub one_follows : (place : Place) (bound limit s : Stamp) (made : ℕ) (given before : Step) (old : RegionData)
     (live new : Live) → ¬ Before bound limit → Follow bound made given old before (region_in place live) →
-    RunsNext place.home limit s (run_in place.floor live) (run_in place.floor new) →
+    RunsOneBefore place.home limit s (run_in place.floor live) (run_in place.floor new) →
     Follow bound (made + 1) given old (Ran s) (region_in place new)
 one_follows place bound limit s made given before old live new near follow next =
     let step = next_follows place bound limit s live new near next in

@@ -20,7 +20,7 @@ use Rattle.local_run.specs.Entries.{entry_stamp}
 use Rattle.local_run.specs.LocalRun.{At, after_entry, IsOwn, IsInPlace, IsMove, Moves}
 use Rattle.local_run.specs.Weaving.{IsApart, LeavesNear, AreAside, AreOthers}
 use Rattle.event_log.specs.Logged.{Logged, entries_in, sets}
-use Rattle.event_log.specs.Undoing.{LeadBack, IsAside, rows_by, view_with, AreAside as AreSpared}
+use Rattle.event_log.specs.Undoing.{LeadBack, IsAside, rows_by, view_with, LoggedAreAside as AreSpared}
 use Rattle.event_log.proofs.AtFloor.{view_of_entry}
 use Rattle.region_parts.specs.Aside.{IsOwnTouch, AllTouchAfter, IsLateAside, IsValidBack}
 use Rattle.local_run.proofs.Touched.{over_others, same_but}

@@ -19,7 +19,7 @@ use Rattle.region_view.specs.Naming.{IsSameBut, IsMoved}
 use Rattle.region_queue.specs.Queue.{QueueData, IsOf}
 use Rattle.event_log.specs.Logged.{Logged, logged_stamp, entries_in, stamps_in}
 use Rattle.local_run.proofs.Touched.{same_but}
-use Rattle.region_core.specs.Weaving.{disk_of, BeginsAfter}
+use Rattle.region_core.specs.Weaving.{record_in, BeginsAfter}
 
 pub begins_at : (at s : Stamp) (log : List Logged) (n : ℕ) → slice_get (stamps_in log) n ≡ Some s → Before at s →
     BeginsAfter at (drop n (entries_in log))
@@ -44,14 +44,14 @@ same_record a b e = ap (λ (p : Placed). p.disk) ((placed_decides (record { disk
 
 -- a disk whose only row has the record that stood there is moved
 pub moved_by_row : (was : ViewData) (rows before : RowList) (row old : ℕ × Option Placed) → rows ≡ row ∷ [] →
-    before ≡ old ∷ [] → disk_of row.1 ≡ disk_of old.1 → before ≡ rows_at (rows_in was) rows →
+    before ≡ old ∷ [] → record_in row.1 ≡ record_in old.1 → before ≡ rows_at (rows_in was) rows →
     IsMoved row.0 was (set_rows was rows)
 moved_by_row was rows before row old one other same is =
     let there : old ∷ [] ≡ (row.0, rows_in was row.0) ∷ [] = sym other ∙ is ∙ ap (rows_at (rows_in was)) one in
     let first : old ≡ (row.0, rows_in was row.0) = cc in
     subst (λ (v : RowList). IsMoved row.0 was (set_rows was v)) (sym one) (
       λ i not. get_put_other was row.0 row.1 i not,
-      ap disk_of (get_put_here was row.0 row.1) ∙ same ∙ ap (λ (r : ℕ × Option Placed). disk_of r.1) first,
+      ap record_in (get_put_here was row.0 row.1) ∙ same ∙ ap (λ (r : ℕ × Option Placed). record_in r.1) first,
     )
 
 pub back_differs : (view new again : ViewData) (rows : RowList) → new ≡ set_rows view rows → again ≡ view →

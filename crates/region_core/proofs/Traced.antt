@@ -7,7 +7,7 @@ use Rattle.region_view.specs.Views.{ViewData}
 use Rattle.region_queue.specs.Queue.{StandsFor}
 use Rattle.local_run.specs.declared.home.Home.{Home}
 use Rattle.local_run.specs.declared.entry.Entry.{Entry}
-use Rattle.local_run.specs.Entries.{clock_of, last_stamp}
+use Rattle.local_run.specs.Entries.{clock_of, last_entry_stamp}
 use Rattle.local_run.specs.LocalRun.{after_log}
 use Rattle.event_log.specs.Logged.{Logged, entries_in, backs_in, stamps_in}
 use Rattle.event_log.specs.Undoing.{view_after, undone}
@@ -69,18 +69,18 @@ entries_dropped n log = drop-map (λ l. l.0) n log
 
 -- ---- the last one
 last_at : (log : List Logged) (n : ℕ) → suc n ≡ length log →
-    slice_get (stamps_in log) n ≡ last_stamp (entries_in log)
+    slice_get (stamps_in log) n ≡ last_entry_stamp (entries_in log)
 last_at [] n len = absurd (omega arith)
 last_at (l ∷ []) zero len = refl
 last_at (l ∷ []) (suc n) len = absurd (omega arith)
 last_at (l ∷ k ∷ log) zero len = absurd (omega arith)
 last_at (l ∷ k ∷ log) (suc n) len = last_at (k ∷ log) n (omega arith)
 
-pub last_stamp_is : (log : List Logged) → slice_get (stamps_in log) (length log - 1) ≡ last_stamp (entries_in log)
+pub last_stamp_is : (log : List Logged) → slice_get (stamps_in log) (length log - 1) ≡ last_entry_stamp (entries_in log)
 last_stamp_is [] = refl
 last_stamp_is (l ∷ log) = last_at (l ∷ log) (length (l ∷ log) - 1) (omega arith)
 
 -- the last stamp, or the floor
-pub clock_is : (floor : Stamp) (log : List Entry) → unwrap_or (last_stamp log) floor ≡ clock_of floor log
+pub clock_is : (floor : Stamp) (log : List Entry) → unwrap_or (last_entry_stamp log) floor ≡ clock_of floor log
 clock_is floor [] = refl
 clock_is floor (e ∷ es) = refl

@@ -21,11 +21,11 @@ use Rattle.local_run.specs.declared.entry.Entry.{Entry}
 use Rattle.local_run.specs.declared.entry.Entry.TheVariants.{Heard}
 use Rattle.local_run.specs.declared.entry.TheConstants.{MAX_ENTRIES}
 use Rattle.region_core.specs.declared.live.Live.{Live}
-use Rattle.local_run.specs.Entries.{entry_stamp, RiseAfter as RiseOn, RiseFrom, entries_below, entries_from, clock_of, last_stamp}
+use Rattle.local_run.specs.Entries.{entry_stamp, EntriesRiseAfter as RiseOn, RiseFrom, entries_below, entries_from, clock_of, last_entry_stamp}
 use Rattle.local_run.specs.LocalRun.{At, trail_of, after_log, Moves, IsInPlace, IsHearable, IsOwn, Local}
 use Rattle.region_parts.specs.Inbox.{taken_from}
 use Rattle.event_log.specs.Logged.{Logged, entries_in}
-use Rattle.event_log.specs.Undoing.{LeadBack, view_after, AreAside as AreSpared}
+use Rattle.event_log.specs.Undoing.{LeadBack, view_after, LoggedAreAside as AreSpared}
 use Rattle.event_log.specs.Traced.{IsTraced}
 use Rattle.event_log.proofs.AtFloor.{view_of_log}
 use Rattle.event_log.proofs.Traced.{traced_dropped, traced_woven}
@@ -191,13 +191,13 @@ late_after : (f s : Stamp) (xs ys : List Entry) → RiseFrom f (xs ++ ys) → Be
 late_after f s xs [] rises begins = absurd begins
 late_after f s xs (e ∷ ys) rises begins = ((λ none. cc), (begins, rises_past f xs e ys rises))
 
-last_is_clock : (f last : Stamp) (log : List Entry) → Some last ≡ last_stamp log → last ≡ clock_of f log
+last_is_clock : (f last : Stamp) (log : List Entry) → Some last ≡ last_entry_stamp log → last ≡ clock_of f log
 last_is_clock f last [] is = cc
 last_is_clock f last (e ∷ es) is = same_Some last (clock_of (entry_stamp e) es) is
 
 pub may_be_woven : (home : Home) (floor : Stamp) (live : Live) (q kept : ℕ) (m : Message) (last : Stamp) →
     IsBodyOf home floor live → IsParted live kept m → IsTried q kept m live →
-    All (IsLateAside home m.rows) (drop kept live.log) → Some last ≡ last_stamp (entries_in live.log) →
+    All (IsLateAside home m.rows) (drop kept live.log) → Some last ≡ last_entry_stamp (entries_in live.log) →
     ((s : Stamp) → IsOwn home (set_rows (now_in live).view m.rows) s → Before last s) →
     MayWeave home (run_in floor live) m
 may_be_woven home floor live q kept m last is parted tried late ends later = record {

@@ -8,11 +8,11 @@ use Rattle.local_run.specs.declared.home.Home.{Home}
 use Rattle.local_run.specs.declared.answers.Step.{Step}
 use Rattle.local_run.specs.declared.answers.Step.TheVariants.{Ran}
 use Rattle.local_run.specs.Answers.{IsInTurn, StepsTo}
-use Rattle.local_run.specs.LocalRun.{Local, Trails, now_of, IsOwn, IsWaiting, ComesTo}
+use Rattle.local_run.specs.LocalRun.{Local, Trails, now_of, IsOwn, IsWaiting, ComesToInView}
 use Rattle.region_view.specs.Views.{ViewData}
 use Rattle.local_run.specs.Opening.{RegionData}
 use Rattle.local_run.specs.Running.{GoesOn, IsDueBefore}
-use Rattle.local_run.specs.Steps.{Steps}
+use Rattle.local_run.specs.Steps.{RegionSteps}
 use Rattle.region_parts.specs.declared.place.Place.{Place}
 use Rattle.region_core.specs.declared.running_on.RunSoFar.{RunSoFar}
 use Rattle.region_core.specs.declared.live.Live.{Live}
@@ -20,7 +20,7 @@ use Rattle.region_core.specs.Live.{run_in, now_in}
 
 -- in the view the event fails at a limit
 abbrev pub FailsLimit : Home → ViewData → Stamp → Type 0
-FailsLimit h view s = (limit : Limit) × ComesTo h view s (Err limit)
+FailsLimit h view s = (limit : Limit) × ComesToInView h view s (Err limit)
 
 -- the event ran, or it fails at a limit and nothing changed
 abbrev pub RunsOrFails : Place → Stamp → Live → Live → Bool → Type 0
@@ -36,8 +36,8 @@ abbrev pub IsClear : Stamp → Trails → Type 0
 IsClear limit waiting = (s : Stamp) → IsWaiting waiting s → ¬ Before s limit
 
 -- the step runs this event, which is before a stamp
-abbrev pub RunsNext : Home → Stamp → Stamp → Local → Local → Type 0
-RunsNext h limit s old new = Before s limit × StepsTo h old (Ran s) new
+abbrev pub RunsOneBefore : Home → Stamp → Stamp → Local → Local → Type 0
+RunsOneBefore h limit s old new = Before s limit × StepsTo h old (Ran s) new
 
 -- what the last step answered, where the last event that ran is given, if one did
 abbrev pub answer_after : Step → Option Stamp → Step
@@ -48,7 +48,7 @@ answer_after answer (Some s) = Ran s
 abbrev pub Follow : Stamp → ℕ → Step → RegionData → Step → RegionData → Type 0
 Follow bound zero before old answer new = (answer ≡ before) × (new ≡ old)
 Follow bound (suc rest) before old answer new = (last : Step) × (mid : RegionData)
-    × Follow bound rest before old last mid × IsDueBefore bound mid × Steps mid answer new × GoesOn answer
+    × Follow bound rest before old last mid × IsDueBefore bound mid × RegionSteps mid answer new × GoesOn answer
 
 -- as many as are left fewer
 abbrev pub RunsOn : Stamp → RunSoFar → RegionData → RegionData → RunSoFar → Type 0

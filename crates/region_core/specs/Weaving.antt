@@ -19,8 +19,8 @@ use Rattle.event_log.specs.Logged.{entries_in}
 use Rattle.region_core.specs.declared.live.Live.{Live}
 
 -- the record in a row
-abbrev pub disk_of : Option Placed → Option Disk
-disk_of row = option_map (λ p. p.disk) row
+abbrev pub record_in : Option Placed → Option Disk
+record_in row = option_map (λ p. p.disk) row
 
 -- the rows were set, and each native candidate comes after a stamp then; or the view is as it was
 abbrev pub IsSetLate : Stamp → ViewData → RowList → QueueData → ViewData → RowList → Option Stamp → Type 0

@@ -5,10 +5,10 @@ ghost use Rattle.event_stamps.specs.Least.{IsLeastOf};
 ghost use Rattle.region_view.specs.Placing.{IsValidPlacing};
 ghost use Rattle.region_view.specs.Views.{rows_in};
 ghost use Rattle.local_run.specs.declared.answers.Step.TheVariants.{Halted};
-ghost use Rattle.local_run.specs.LocalRun.{At, IsOwn, IsOffered, IsDue, IsDueOrEnd, IsWaiting, ComesTo};
+ghost use Rattle.local_run.specs.LocalRun.{At, IsOwn, IsOffered, IsDue, IsDueOrEnd, IsWaiting, ComesToInView};
 ghost use Rattle.local_run.specs.Answers.{HasDue, IsInTurn, StepsTo};
 ghost use Rattle.region_core.specs.Choices.{Chooses, IsAtTurn};
-ghost use Rattle.region_parts.specs.Inbox.{head_stamp, IsLeastHead, IsFirstOf};
+ghost use Rattle.region_parts.specs.Inbox.{head_stamp, IsLeastHead, IsHeadOf};
 ghost use Rattle.region_parts.specs.declared.place.Place.{Place};
 ghost use Rattle.region_parts.specs.Place.{IsPlace};
 ghost use Rattle.region_core.specs.declared.live.Live.{Live};
@@ -181,7 +181,7 @@ impl Live {
         requires live { IsLive place.now self.now }
         requires due { HasDue place.now.home (run_in place.now.floor self.now) due }
         requires turn { IsInTurn (run_in place.now.floor self.now) due }
-        requires first { IsFirstOf self.now.inbox from due }
+        requires first { IsHeadOf self.now.inbox from due }
         ensures { Chooses place.now.home (run_in place.now.floor self.now) result }
     {
         if self.is_own(&due) || self.inbox.is_shared(from, &due) {
@@ -199,7 +199,7 @@ fn sender_at(head: Option<(u32, Stamp)>, due: &Stamp) -> Option<u32>
     ensures { (place : Place) (live : Live) → IsLive place live → IsLeastHead live.inbox head →
         IsDue place.home (now_in live) due.now →
         MatchOption result (¬ IsWaiting (now_in live).waiting due.now)
-        (λ from. IsFirstOf live.inbox from due.now) }
+        (λ from. IsHeadOf live.inbox from due.now) }
 {
     match head {
         Some((from, stamp)) => {
@@ -256,7 +256,7 @@ pub(crate) fn outcome(place: &Place, view: &View, stamp: &Stamp) -> Result<Actio
     requires place { IsPlace place.now }
     requires valid { IsValidPlacing place.now.home.rules place.now.home.grid (rows_in view.now) }
     requires own { IsOwn place.now.home view.now stamp.now }
-    ensures { ComesTo place.now.home view.now stamp.now result }
+    ensures { ComesToInView place.now.home view.now stamp.now result }
 {
     let home = &place.home;
     let row = view.get(stamp.first).unwrap();

@@ -53,9 +53,9 @@ ghost use Rattle.cell_grid.specs.Grid.{IsRegion};
 ghost use Rattle.local_run.specs.LocalRun.{IsInPlace};
 ghost use Rattle.region_view.specs.Acting.{stamp_of};
 ghost use Rattle.local_run.specs.Opening.{IsOpened, spent};
-ghost use Rattle.local_run.specs.Steps.{Steps};
+ghost use Rattle.local_run.specs.Steps.{RegionSteps};
 ghost use Rattle.region_core.specs.FirstRows.{first_row};
-ghost use Rattle.local_run.specs.Entries.{native_in, last_stamp};
+ghost use Rattle.local_run.specs.Entries.{native_in, last_entry_stamp};
 ghost use Rattle.local_run.specs.Keeping.{IsKept, entries_of, IsDueIn, SendsTo, HearsOf, IsSent, IsHeard};
 
 use crate::Step;
@@ -123,7 +123,7 @@ impl Region {
     /// # Errors
     /// Out of memory: the region is spent.
     pub fn step(&mut self, alloc: Global) -> Result<Step, AllocError>
-        ensures step { IfOk result (λ answer. Steps self.old answer self.new) }
+        ensures step { IfOk result (λ answer. RegionSteps self.old answer self.new) }
         ensures spent { OnErr result (self.new ≡ spent self.old) }
     {
         let Some(live) = &mut self.live else {
@@ -240,7 +240,7 @@ impl Region {
 
     /// The stamp of the last entry; none exactly where there is no entry.
     pub fn clock(&self) -> Option<Stamp>
-        ensures value { result ≡ last_stamp (entries_of self.now) }
+        ensures value { result ≡ last_entry_stamp (entries_of self.now) }
         ensures kept { IsKept self.now }
     {
         match &self.live {

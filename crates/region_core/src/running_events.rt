@@ -5,13 +5,13 @@ ghost use Rattle.std.specs.FinMap as map;
 ghost use Rattle.event_stamps.specs.declared.Kind.TheVariants.{Cross as Crossing, Pair};
 ghost use Rattle.region_view.specs.declared.action.Action.TheVariants.{Cross, Hit};
 ghost use Rattle.region_view.specs.Views.{rows_in};
-ghost use Rattle.region_view.specs.Compact.{IsRowThere, IsSmall};
+ghost use Rattle.region_view.specs.Compact.{IsRowThere, IsSmallRow};
 ghost use Rattle.local_run.specs.declared.entry.Entry.TheVariants.{Native};
 ghost use Rattle.local_run.specs.declared.moves.Move.TheVariants.{Run};
 ghost use Rattle.local_run.specs.Answers.{with_entry};
 ghost use Rattle.local_run.specs.Moves.{Fits};
 ghost use Rattle.event_log.specs.Heads.{disk_or};
-ghost use Rattle.event_log.specs.Running.{collision, IsMoved};
+ghost use Rattle.event_log.specs.Running.{collision, IsMovedRow};
 ghost use Rattle.region_parts.specs.Border.{IsUntold};
 ghost use Rattle.region_core.specs.Choices.{IsAtTurn};
 ghost use Rattle.region_core.specs.Live.{run_in, IsLive};
@@ -174,8 +174,8 @@ impl Live {
         requires live { IsLive place.now self.old }
         requires fits { Fits place.now.home (run_in place.now.floor self.old) (Run (Hit change.now)) }
         requires change { change.now ≡ collision change.now.stamp first.now second.now }
-        requires first { IsMoved (map.get self.old.view change.now.stamp.first) (disk_or first.now.after) first.now }
-        requires second { IsMoved (map.get self.old.view change.now.stamp.second) (disk_or second.now.after) second.now }
+        requires first { IsMovedRow (map.get self.old.view change.now.stamp.first) (disk_or first.now.after) first.now }
+        requires second { IsMovedRow (map.get self.old.view change.now.stamp.second) (disk_or second.now.after) second.now }
         requires untold { IsTrue is_untold → IsUntold place.now.home (rows_in self.old.view) (Hit change.now) }
         ensures live { OnOk result (IsLive place.now self.new) }
         ensures run { OnOk result (run_in place.now.floor self.new
@@ -195,8 +195,8 @@ impl Live {
 fn rows_of_hit(before: Compact, cell: u32, disk: Disk) -> HitRows
     requires there { IfSome before (λ p. p.cell ≡ cell) }
     requires some { IsTrue (is_some before) }
-    requires small { IsSmall (record { disk = disk; cell = cell }) }
-    ensures { IsMoved before disk result }
+    requires small { IsSmallRow (record { disk = disk; cell = cell }) }
+    ensures { IsMovedRow before disk result }
 {
     HitRows {
         before,

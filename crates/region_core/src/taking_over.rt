@@ -6,7 +6,7 @@ ghost use Rattle.cell_grid.specs.Grid.{IsRegion};
 ghost use Rattle.region_view.specs.declared.rows.Message.{Message};
 ghost use Rattle.region_messages.specs.Trails.{IsAmong, Rises};
 ghost use Rattle.local_run.specs.declared.entry.Entry.{Entry};
-ghost use Rattle.local_run.specs.Entries.{RiseFrom, entries_below, last_stamp};
+ghost use Rattle.local_run.specs.Entries.{RiseFrom, entries_below, last_entry_stamp};
 ghost use Rattle.local_run.specs.LocalRun.{IsHearable, trail_of};
 ghost use Rattle.local_run.specs.Answers.{HearsFrom};
 ghost use Rattle.region_core.specs.Live.{base_in, run_in, IsLive};
@@ -174,7 +174,7 @@ impl Live {
 
 // Whether all entries of a log, whose stamps rise and of which this is the last one's, are before a stamp.
 fn ends_before(last: Option<Stamp>, at: Stamp) -> bool
-    ensures { (floor : Stamp) (log : List Entry) → RiseFrom floor log → last ≡ last_stamp log →
+    ensures { (floor : Stamp) (log : List Entry) → RiseFrom floor log → last ≡ last_entry_stamp log →
         IsTrue result ↔ (entries_below at log ≡ log) }
 {
     match last {

@@ -14,7 +14,7 @@ ghost use Rattle.local_run.specs.LocalRun.{IsHearable};
 ghost use Rattle.event_log.specs.Logged.{entries_in};
 ghost use Rattle.region_core.specs.Live.{base_in, run_in, IsLive};
 ghost use Rattle.region_parts.specs.Aside.{IsLateAside};
-ghost use Rattle.region_core.specs.Weaving.{disk_of, Weaves, IsSetLate, BeginsAfter, IsTried};
+ghost use Rattle.region_core.specs.Weaving.{record_in, Weaves, IsSetLate, BeginsAfter, IsTried};
 
 use crate::appending::touch;
 use crate::live::Live;
@@ -304,7 +304,7 @@ fn only_row(rows: &Rows) -> Option<&(u32, Option<Placed>)>
 
 // Whether there is a disk in both of two rows, with one record.
 fn is_same_disk(row: &Option<Placed>, old: &Option<Placed>) -> bool
-    ensures { IsTrue result → disk_of row.now ≡ disk_of old.now }
+    ensures { IsTrue result → record_in row.now ≡ record_in old.now }
 {
     match (row, old) {
         (Some(new), Some(was)) => new.disk == was.disk,

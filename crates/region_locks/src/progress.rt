@@ -4,7 +4,7 @@ use event_stamps::Stamp;
 
 /// How far a region came when it ran. Nothing is claimed of it.
 #[derive(Clone, Copy, Debug)]
-pub struct Progress {
+pub struct RegionProgress {
     /// Whether it heard anything new before it ran.
     pub heard_news: bool,
     /// What was due there when it began to run: see [`Region::due`](region_core::Region::due).

@@ -13,18 +13,18 @@ message_key m = m.stamp
 
 -- stamps rise strictly, all after one
 abbrev pub RisesAfter : Stamp → List Message → Type 0
-RisesAfter s ms = ordered.RisesAfter message_key s ms
+RisesAfter s ms = ordered.KeysRiseAfter message_key s ms
 
 -- stamps rise strictly
 abbrev pub Rises : List Message → Type 0
-Rises ms = ordered.Rises message_key ms
+Rises ms = ordered.KeysRise message_key ms
 
 -- the messages before a stamp, and those from it on
 abbrev pub below : Stamp → List Message → List Message
-below s ms = ordered.below message_key s ms
+below s ms = ordered.keyed_below message_key s ms
 
 abbrev pub from : Stamp → List Message → List Message
-from s ms = ordered.from message_key s ms
+from s ms = ordered.keyed_from message_key s ms
 
 -- the messages with one more, at its place
 abbrev pub with_message : Message → List Message → List Message

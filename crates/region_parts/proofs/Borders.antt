@@ -21,7 +21,7 @@ use Rattle.region_view.specs.Messages.{message_of, message_with, told_rows, sees
 use Rattle.local_run.specs.declared.home.Home.{Home}
 use Rattle.local_run.specs.Keeping.{SendsTo}
 use Rattle.region_parts.specs.declared.border.Border.{Border}
-use Rattle.region_parts.specs.Border.{IsBorderOf, IsFar, IsFarRow, IsUntold}
+use Rattle.region_parts.specs.Border.{IsBorderOf, IsFarFromOthers, IsFarRow, IsUntold}
 
 -- ---- columns
 -- a later region starts no earlier
@@ -57,7 +57,7 @@ end_is_past columns regions k some fits =
 far_between : (h : Home) (cell : ℕ) → HasSizes h.grid →
     (h.number ≢ 0 → strip_start h.grid h.number < column_of h.grid cell) →
     (h.number + 1 ≢ h.grid.regions → column_of h.grid cell + 1 < strip_start h.grid (h.number + 1)) →
-    IsFar h cell
+    IsFarFromOthers h cell
 far_between h cell sizes low high k region reach = elim (cases_lt k h.number) [
   | inl left ↦
       let next : k + 1 ≤ h.number = omega arith in
@@ -84,7 +84,7 @@ pub record IsBetween (h : Home) (cell : ℕ) : Type 0 where
   pub high : h.number + 1 ≢ h.grid.regions → column_of h.grid cell + 1 < strip_start h.grid (h.number + 1)
 
 between_far : (h : Home) (cell : ℕ) → HasSizes h.grid → IsRegion h.grid h.number → IsCell h.grid cell →
-    IsFar h cell → IsBetween h cell
+    IsFarFromOthers h cell → IsBetween h cell
 between_far h cell sizes region within far =
     let owner = each_cell_has_one_owner h.grid cell sizes within in
     let is : owner.0 ≡ h.number = far owner.0 owner.1 (own_is_in_reach h.grid owner.0 cell owner.2) in
@@ -180,7 +180,7 @@ abbrev put_row : ℕ × Placed → ℕ × Option Placed
 put_row r = (r.0, Some r.1)
 
 -- a crossing from one far cell into another
-pub crossing_untold : (h : Home) (at : Placing) (s : Stamp) (cell : ℕ) → IsFarRow h (at s.first) → IsFar h cell →
+pub crossing_untold : (h : Home) (at : Placing) (s : Stamp) (cell : ℕ) → IsFarRow h (at s.first) → IsFarFromOthers h cell →
     IsUntold h at (Cross s cell)
 unfolding AreFar
 crossing_untold h at s cell before after = untold_rows h at (Cross s cell) (by_row (at s.first))

@@ -8,14 +8,14 @@ use Rattle.event_stamps.proofs.StampOrder.{before_decides, before_trans, not_bef
 use Rattle.region_view.specs.declared.rows.Message.{Message}
 use Rattle.region_messages.specs.Trails.{is_before}
 use Rattle.local_run.specs.LocalRun.{Trails, trail_of}
-use Rattle.region_parts.specs.Inbox.{InboxData, next_from, taken_from, nearer_of, HasStamp, IsFirstOf, IsLeastHead, IsSharedHead}
+use Rattle.region_parts.specs.Inbox.{InboxData, next_from, taken_from, nearer_of, HasStamp, IsHeadOf, IsLeastHead, IsSharedHead}
 use Rattle.region_messages.proofs.Order.{is_before_true, is_before_false}
 
 -- ---- the least of them
 -- of the first messages of the regions below a number, none is before it; or there are none
 abbrev pub IsLeastBelow : InboxData → ℕ → Option (ℕ × Stamp) → Type 0
 IsLeastBelow inbox n None = (q : ℕ) → q < n → next_from inbox q ≡ None
-IsLeastBelow inbox n (Some head) = IsFirstOf inbox head.0 head.1
+IsLeastBelow inbox n (Some head) = IsHeadOf inbox head.0 head.1
     × ((q : ℕ) (m : Message) → q < n → next_from inbox q ≡ Some m → ¬ Before m.stamp head.1)
 
 pub none_below : (inbox : InboxData) → IsLeastBelow inbox 0 None

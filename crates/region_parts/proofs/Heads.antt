@@ -6,12 +6,12 @@ use Rattle.std.proofs.lemmas.List.{length-replicate, get_or-replicate}
 use Rattle.event_stamps.specs.declared.Stamp.{Stamp}
 use Rattle.region_view.specs.declared.rows.Message.{Message}
 use Rattle.local_run.specs.LocalRun.{Trails, trail_of}
-use Rattle.region_parts.specs.Inbox.{InboxData, inbox_of, taken_from, next_from, HasSizes, HasHead, IsLeastHead}
+use Rattle.region_parts.specs.Inbox.{InboxData, inbox_of, taken_from, next_from, HasInboxSizes, HasHead, IsLeastHead}
 use Rattle.region_parts.proofs.Firsts.{below_or_past, no_trail_past, nothing_heard, none_past, none_in_nothing}
 
 -- it was looked for in what is kept now, of as many regions
 pub least_found : (regions : ℕ) (head : Option (ℕ × Stamp)) (old new : InboxData) (heard : Trails) (taken : List ℕ) →
-    HasSizes regions old → length new.heard ≡ length old.heard → length new.taken ≡ length old.taken →
+    HasInboxSizes regions old → length new.heard ≡ length old.heard → length new.taken ≡ length old.taken →
     heard ≡ new.heard → taken ≡ new.taken → IsLeastHead (inbox_of heard taken) head → HasHead regions head new
 least_found regions head old new heard taken sizes trails counts heard_is taken_is least = record {
   sizes = (trails ∙ sizes.0, counts ∙ sizes.1);
@@ -42,7 +42,7 @@ heard_within inbox q waits = elim (below_or_past q (length inbox.heard)) [
   | inr past ↦ absurd (false≢true (subst IsSome (none_past inbox q past) waits))
 ]
 
-pub waits_within : (regions : ℕ) (kept inbox : InboxData) (q : ℕ) → kept ≡ inbox → HasSizes regions kept →
+pub waits_within : (regions : ℕ) (kept inbox : InboxData) (q : ℕ) → kept ≡ inbox → HasInboxSizes regions kept →
     IsSome (next_from inbox q) → q < length inbox.taken
 waits_within regions kept inbox q same sizes waits =
     let heard = ap (λ (a : InboxData). length a.heard) (sym same) ∙ sizes.0 in

@@ -10,17 +10,17 @@ use Rattle.local_run.specs.Keeping.{SendsTo}
 use Rattle.region_parts.specs.declared.border.Border.{Border}
 
 -- no region but this one reaches the cell
-abbrev pub IsFar : Home → ℕ → Type 0
-IsFar h cell = (k : ℕ) → IsRegion h.grid k → Reaches h.grid k cell → k ≡ h.number
+abbrev pub IsFarFromOthers : Home → ℕ → Type 0
+IsFarFromOthers h cell = (k : ℕ) → IsRegion h.grid k → Reaches h.grid k cell → k ≡ h.number
 
 -- nor what stands there
 abbrev pub IsFarRow : Home → Option Placed → Type 0
-IsFarRow h row = IfSome row (λ p. IsFar h p.cell)
+IsFarRow h row = IfSome row (λ p. IsFarFromOthers h p.cell)
 
 -- the columns are those whose cells are far
 abbrev pub IsBorderOf : Home → Border → Type 0
 IsBorderOf h border = (cell : ℕ) → IsCell h.grid cell →
-    (((border.first ≤ column_of h.grid cell) × (column_of h.grid cell < border.end)) ↔ IsFar h cell)
+    (((border.first ≤ column_of h.grid cell) × (column_of h.grid cell < border.end)) ↔ IsFarFromOthers h cell)
 
 -- nobody is sent a message of the action
 abbrev pub IsUntold : Home → Placing → Action → Type 0

@@ -16,8 +16,8 @@ abbrev pub inbox_of : Trails → List ℕ → InboxData
 inbox_of heard taken = record { heard = heard; taken = taken }
 
 -- so many of both
-abbrev pub HasSizes : ℕ → InboxData → Type 0
-HasSizes regions inbox = (length inbox.heard ≡ regions) × (length inbox.taken ≡ regions)
+abbrev pub HasInboxSizes : ℕ → InboxData → Type 0
+HasInboxSizes regions inbox = (length inbox.heard ≡ regions) × (length inbox.taken ≡ regions)
 
 abbrev pub empty_inbox : ℕ → InboxData
 empty_inbox regions = record { heard = replicate regions []; taken = replicate regions 0 }
@@ -30,8 +30,8 @@ abbrev pub next_from : InboxData → ℕ → Option Message
 next_from inbox q = slice_get (trail_of inbox.heard q) (taken_from inbox q)
 
 -- the first message of a region has this stamp
-abbrev pub IsFirstOf : InboxData → ℕ → Stamp → Type 0
-IsFirstOf inbox q s = (m : Message) × (next_from inbox q ≡ Some m) × (m.stamp ≡ s)
+abbrev pub IsHeadOf : InboxData → ℕ → Stamp → Type 0
+IsHeadOf inbox q s = (m : Message) × (next_from inbox q ≡ Some m) × (m.stamp ≡ s)
 
 -- the lesser of two first messages; of one stamp, the one that was there
 abbrev pub nearer_of : Option (ℕ × Stamp) → ℕ → Option Message → Option (ℕ × Stamp)
@@ -47,12 +47,12 @@ HasStamp (Some m) s = m.stamp ≡ s
 -- of the first messages of all regions, none is before it; or there are none
 abbrev pub IsLeastHead : InboxData → Option (ℕ × Stamp) → Type 0
 IsLeastHead inbox None = (q : ℕ) → next_from inbox q ≡ None
-IsLeastHead inbox (Some head) = IsFirstOf inbox head.0 head.1
+IsLeastHead inbox (Some head) = IsHeadOf inbox head.0 head.1
     × ((q : ℕ) (m : Message) → next_from inbox q ≡ Some m → ¬ Before m.stamp head.1)
 
 -- of so many regions, and this is the least of their first messages
 pub record HasHead (regions : ℕ) (head : Option (ℕ × Stamp)) (inbox : InboxData) : Type 0 where
-  pub sizes : HasSizes regions inbox
+  pub sizes : HasInboxSizes regions inbox
   pub least : IsLeastHead inbox head
 
 -- the first message of another region has this stamp

@@ -27,7 +27,7 @@ impl Model for Inbox {
 }
 
 ghost use Rattle.std.specs.Prelude.{◌≡◌, ◌↔◌, ◌<◌, length, option_copied, slice_get, IfOk, IsSome, IsTrue};
-ghost use Rattle.region_parts.specs.Inbox.{HasSizes, inbox_of, empty_inbox, taken_from, next_from, with_taken, nearer_of, IsLeastHead, HasStamp, IsSharedHead};
+ghost use Rattle.region_parts.specs.Inbox.{HasInboxSizes, inbox_of, empty_inbox, taken_from, next_from, with_taken, nearer_of, IsLeastHead, HasStamp, IsSharedHead};
 
 use crate::trails::empty_trails;
 use event_stamps::Stamp;
@@ -111,7 +111,7 @@ fn first_of<'a>(heard: &'a [Trail], taken: &[usize], from: u32) -> Option<&'a Me
 // The least stamp of the first messages, by a look at each region, of which there are so many.
 #[inline(never)]
 fn least_head(regions: u32, heard: &[Trail], taken: &[usize]) -> Option<(u32, Stamp)>
-    requires { HasSizes regions (inbox_of heard.now taken.now) }
+    requires { HasInboxSizes regions (inbox_of heard.now taken.now) }
     ensures { IsLeastHead (inbox_of heard.now taken.now) result }
 {
     let mut least = None;

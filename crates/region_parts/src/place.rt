@@ -7,7 +7,7 @@ ghost use Rattle.cell_grid.specs.Grid.{IsCell};
 ghost use Rattle.region_view.specs.Laws.{HasCells};
 ghost use Rattle.region_view.specs.Views.{rows_in};
 ghost use Rattle.region_view.specs.Messages.{RecordsCell};
-ghost use Rattle.region_parts.specs.Border.{IsFar, IsFarRow, IsUntold};
+ghost use Rattle.region_parts.specs.Border.{IsFarFromOthers, IsFarRow, IsUntold};
 ghost use Rattle.region_parts.specs.Place.{IsPlace};
 
 use crate::border::Border;
@@ -32,7 +32,7 @@ impl Place {
     pub fn is_far(&self, cell: u32) -> bool
         requires place { IsPlace self.now }
         requires cell { IsCell self.now.home.grid cell }
-        ensures { IsTrue result ↔ IsFar self.now.home cell }
+        ensures { IsTrue result ↔ IsFarFromOthers self.now.home cell }
     {
         let column = self.home.grid.column(cell);
         self.border.first <= column && column < self.border.end
@@ -44,7 +44,7 @@ impl Place {
         requires place { IsPlace self.now }
         requires cell { IsCell self.now.home.grid cell }
         requires other { IsCell self.now.home.grid other }
-        ensures { IsTrue result → IsFar self.now.home cell × IsFar self.now.home other }
+        ensures { IsTrue result → IsFarFromOthers self.now.home cell × IsFarFromOthers self.now.home other }
     {
         self.is_far(cell) && self.is_far(other)
     }

@@ -9,7 +9,7 @@ ghost use Rattle.region_view.specs.Setting.{IsInOrder};
 ghost use Rattle.region_view.specs.Messages.{message_of, RecordsCell};
 ghost use Rattle.region_messages.specs.Trails.{IsAfterAll};
 ghost use Rattle.cell_grid.specs.Grid.{IsRegion};
-ghost use Rattle.local_run.specs.LocalRun.{trail_of, told};
+ghost use Rattle.local_run.specs.LocalRun.{trail_of, prepended};
 ghost use Rattle.local_run.specs.Keeping.{SendsTo};
 ghost use Rattle.region_parts.specs.Border.{IsUntold};
 
@@ -44,7 +44,7 @@ pub fn send_if_told(
     ensures size { OnOk result (length sent.new.items ≡ length sent.old.items) }
     ensures told { OnOk result ((to : ℕ) → SendsTo home.now to → trail_of sent.new.items to
         ≡ trail_of sent.old.items to
-        ++ told (message_of home.now.grid to (rows_in before.now) action.now) []) }
+        ++ prepended (message_of home.now.grid to (rows_in before.now) action.now) []) }
 {
     if is_untold {
         return Ok(());
@@ -74,7 +74,7 @@ pub fn send_crossing(
     ensures size { OnOk result (length sent.new.items ≡ length sent.old.items) }
     ensures told { OnOk result ((to : ℕ) → SendsTo home.now to → trail_of sent.new.items to
         ≡ trail_of sent.old.items to
-        ++ told (message_of home.now.grid to (rows_in before.now) (Cross stamp.now cell)) []) }
+        ++ prepended (message_of home.now.grid to (rows_in before.now) (Cross stamp.now cell)) []) }
 {
     // The action is put together only where it is sent.
     if is_untold {
@@ -106,7 +106,7 @@ pub fn send_hit(
     ensures size { OnOk result (length sent.new.items ≡ length sent.old.items) }
     ensures told { OnOk result ((to : ℕ) → SendsTo home.now to → trail_of sent.new.items to
         ≡ trail_of sent.old.items to
-        ++ told (message_of home.now.grid to (rows_in before.now) (Hit change.now)) []) }
+        ++ prepended (message_of home.now.grid to (rows_in before.now) (Hit change.now)) []) }
 {
     if is_untold {
         return Ok(());
@@ -132,7 +132,7 @@ fn send(
     ensures size { OnOk result (length sent.new.items ≡ length sent.old.items) }
     ensures told { OnOk result ((to : ℕ) → SendsTo home.now to → trail_of sent.new.items to
         ≡ trail_of sent.old.items to
-        ++ told (message_of home.now.grid to (rows_in before.now) action.now) []) }
+        ++ prepended (message_of home.now.grid to (rows_in before.now) action.now) []) }
 {
     // Regions whose numbers are further apart aren't linked.
     let regions = home.grid.regions();
@@ -151,7 +151,7 @@ fn send(
 // Appends a message, if there is one.
 fn send_one(trail: &mut Trail, message: Option<Message>) -> Result<(), AllocError>
     requires { IfSome message (λ m. IsAfterAll trail.old m.stamp) }
-    ensures { OnOk result (trail.new ≡ trail.old ++ told message []) }
+    ensures { OnOk result (trail.new ≡ trail.old ++ prepended message []) }
 {
     if let Some(message) = message {
         trail.push(message)?;

@@ -9,7 +9,7 @@ use Rattle.event_stamps.proofs.Least.{least_same}
 use Rattle.cell_grid.specs.Grid.{GridData, Owns}
 use Rattle.cell_lists.specs.declared.near.Block.{Block}
 use Rattle.cell_lists.specs.Listing.{ListsData}
-use Rattle.cell_lists.specs.Nearby.{IsWithin, IsListedWithin, AreGathered}
+use Rattle.cell_lists.specs.Nearby.{IsWithinBlock, IsListedWithin, AreGathered}
 use Rattle.region_view.specs.Views.{ViewData}
 use Rattle.region_view.proofs.Naming.{none_among}
 use Rattle.region_queue.specs.declared.finder.Finder.{Finder}
@@ -41,8 +41,8 @@ nearby_listed finder view at other block whole ready listed beside owned x q row
     same : x.0 ≡ q.cell
     same = let e : Some x.0 ≡ Some q.cell = sym x.1 ∙ listed_at view finder.lists other q listed row in cc
 
-    within : IsWithin finder.grid block q.cell
-    within = subst (λ (g : GridData). IsWithin g block q.cell) ready.lists (subst (IsWithin finder.lists.grid block) same x.2)
+    within : IsWithinBlock finder.grid block q.cell
+    within = subst (λ (g : GridData). IsWithinBlock g block q.cell) ready.lists (subst (IsWithinBlock finder.lists.grid block) same x.2)
 
     owns : IsTrue whole → Owns finder.grid finder.region q.cell
     owns all =

@@ -10,7 +10,7 @@ use Rattle.event_rules.specs.Events.{IsPairEvent, NeverHit}
 use Rattle.cell_grid.specs.Grid.{GridData, IsCell, IsAdjacent, Owns, column_of, row_of}
 use Rattle.cell_lists.specs.declared.near.Block.{Block}
 use Rattle.cell_lists.specs.Listing.{IsListed}
-use Rattle.cell_lists.specs.Nearby.{IsBlock, IsWithin}
+use Rattle.cell_lists.specs.Nearby.{IsBlock, IsWithinBlock}
 use Rattle.region_view.specs.declared.action.Placed.{Placed}
 use Rattle.region_view.specs.Events.{IsNear}
 use Rattle.region_view.specs.Views.{ViewData, rows_in}
@@ -43,7 +43,7 @@ cell_within grid block at row column is beside low high left right = (cell, besi
     in_row : row_of grid (row * grid.columns + column) ≡ row
     in_row = div-mul-add row grid.columns column inside
 
-    within : IsWithin grid block (row * grid.columns + column)
+    within : IsWithinBlock grid block (row * grid.columns + column)
     within = rw (in_column, in_row) ((left, right), (low, high))
 
 -- a disk that is listed in a cell stands in it

@@ -13,7 +13,7 @@ use Rattle.cell_grid.specs.Grid.{GridData, IsCell, IsAdjacent, Owns}
 use Rattle.cell_grid.specs.Crossing.{IsCrossEvent}
 use Rattle.cell_lists.specs.declared.near.Block.{Block}
 use Rattle.cell_lists.specs.Listing.{ListsData, IsListed, IsFirstIn}
-use Rattle.cell_lists.specs.Nearby.{IsWithin, IsListedWithin, columns_to}
+use Rattle.cell_lists.specs.Nearby.{IsWithinBlock, IsListedWithin, columns_to}
 use Rattle.cell_lists.proofs.Blocks.{rows_to, split_column, wider_column, in_last_column, split_row, join_row}
 use Rattle.region_view.specs.declared.action.Placed.{Placed}
 use Rattle.region_view.specs.Events.{IsAlone, IsNear}
@@ -22,7 +22,7 @@ use Rattle.region_view.specs.Views.{ViewData, rows_in}
 use Rattle.region_queue.specs.declared.finder.Finder.{Finder}
 use Rattle.region_view.specs.Naming.{Names, IsPairOf}
 use Rattle.region_view.proofs.Naming.{same_row, near_pair, pair_kind, by_itself}
-use Rattle.region_queue.specs.Finding.{IsReady, IsFound, IsAloneAt, IsEventOf, IsNativeOf, IsNativePair, IsNativeWith, IsSingle, IsPaired, IsBest, IsBestSingle, IsBestPair, AreListed}
+use Rattle.region_queue.specs.Finding.{IsReady, IsFound, IsAloneAt, IsPairPlaced, IsNativeOf, IsNativePair, IsNativeWith, IsSingle, IsPaired, IsBest, IsBestSingle, IsBestPair, AreListed}
 
 -- ---- a disk by itself
 pub alone_found : (finder : Finder) (view : ViewData) (disk : ℕ) (p : Placed) (s : Stamp) → rows_in view disk ≡ Some p →
@@ -137,7 +137,7 @@ native_is finder view low high p q o lt at_low at_high owns h =
 
 -- a stamp of a pair is that of a native candidate where both of its disks have rows, and it is that of their event
 pub event_found : (finder : Finder) (view : ViewData) (s : Stamp) (p q : Placed) → s.kind ≡ Pair → rows_in view s.first ≡ Some p →
-    rows_in view s.second ≡ Some q → (IsEventOf finder s p q ↔ IsFound finder view s)
+    rows_in view s.second ≡ Some q → (IsPairPlaced finder s p q ↔ IsFound finder view s)
 event_found finder view s p q pair at_first at_second = (
   λ h. (inr (inr (h.0, (p, at_first, (q, at_second, h.2.0, h.2.1)))), (p, at_first, h.1)),
   λ found.
@@ -304,7 +304,7 @@ listed_at view lists disk p listed row = listed disk ∙ ap (option_map (λ (q :
 
 -- the cells of the block are those adjacent to a cell
 abbrev pub IsAround : GridData → ℕ → Block → Type 0
-IsAround grid at block = (cell : ℕ) → IsCell grid cell → (IsAdjacent grid at cell ↔ IsWithin grid block cell)
+IsAround grid at block = (cell : ℕ) → IsCell grid cell → (IsAdjacent grid at cell ↔ IsWithinBlock grid block cell)
 
 -- two disks of a pair are in adjacent cells, whichever is first
 pub pair_beside : (rules : Rules) (grid : GridData) (view : ViewData) (disk other : ℕ) (p : Placed) (s : Stamp) → rows_in view disk ≡ Some p →
@@ -326,12 +326,12 @@ pair_beside rules grid view disk other p s row near (inr e) = (
 pub listed_beside : (finder : Finder) (view : ViewData) (disk other : ℕ) (p : Placed) (block : Block) (s : Stamp) → IsReady finder view →
     rows_in view disk ≡ Some p → IsAround finder.grid p.cell block → AreListed view finder.lists.cells → IsFound finder view s →
     s.kind ≡ Pair → IsPairOf s disk other →
-    (q : Placed) × (rows_in view other ≡ Some q) × IsListed finder.lists q.cell other × IsWithin finder.lists.grid block q.cell
+    (q : Placed) × (rows_in view other ≡ Some q) × IsListed finder.lists q.cell other × IsWithinBlock finder.lists.grid block q.cell
 listed_beside finder view disk other p block s ready row around listed found kind pair = (
   beside.0,
   beside.1,
   listed_at view finder.lists other beside.0 listed beside.1,
-  subst (λ (g : GridData). IsWithin g block beside.0.cell) (sym ready.lists)
+  subst (λ (g : GridData). IsWithinBlock g block beside.0.cell) (sym ready.lists)
       ((around beside.0.cell (ready.valid.cell other beside.0 beside.1)).0 beside.2),
 )
   where

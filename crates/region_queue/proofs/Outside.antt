@@ -8,12 +8,12 @@ use Rattle.event_stamps.proofs.Least.{least_same}
 use Rattle.cell_grid.specs.Grid.{GridData, IsCell, IsAdjacent, column_of, row_of}
 use Rattle.cell_lists.specs.declared.near.Block.{Block}
 use Rattle.cell_lists.specs.Listing.{ListsData}
-use Rattle.cell_lists.specs.Nearby.{IsBlock, IsWithin, IsListedWithin}
+use Rattle.cell_lists.specs.Nearby.{IsBlock, IsWithinBlock, IsListedWithin}
 use Rattle.region_view.specs.declared.action.Placed.{Placed}
 use Rattle.region_view.specs.Views.{ViewData, rows_in}
 use Rattle.region_queue.specs.declared.finder.Finder.{Finder}
 use Rattle.region_queue.specs.declared.parts.Parts.{Parts}
-use Rattle.region_queue.specs.Outside.{IsIn, IsPart, AreParts, IsListedOutside, IsListedInParts}
+use Rattle.region_queue.specs.Outside.{IsInBlock, IsPart, AreParts, IsListedOutside, IsListedInParts}
 use Rattle.region_queue.specs.Finding.{IsReady, IsNativeWith, IsPairedBeyond, IsBestBeyond, IsBlockBeside, AreListed, cell_in}
 use Rattle.region_queue.proofs.Candidates.{IsAround, with_more, pair_found, pair_of, no_pair, listed_beside}
 
@@ -101,10 +101,10 @@ parts_cut block known left right low high columns rows known_columns known_rows 
           each column row of out (cases_lt column left) (cases_lt column right) (cases_lt row low) (cases_lt row high);
     }
   where
-    each : (column row : ℕ) → IsIn block column row → ¬ IsIn known column row → (column < left) ⊎ (left ≤ column) →
+    each : (column row : ℕ) → IsInBlock block column row → ¬ IsInBlock known column row → (column < left) ⊎ (left ≤ column) →
         (column < right) ⊎ (right ≤ column) → (row < low) ⊎ (low ≤ row) → (row < high) ⊎ (high ≤ row) →
-        ((IsIn (parts_at block left right low high).left column row ⊎ IsIn (parts_at block left right low high).right column row)
-        ⊎ IsIn (parts_at block left right low high).low column row) ⊎ IsIn (parts_at block left right low high).high column row
+        ((IsInBlock (parts_at block left right low high).left column row ⊎ IsInBlock (parts_at block left right low high).right column row)
+        ⊎ IsInBlock (parts_at block left right low high).low column row) ⊎ IsInBlock (parts_at block left right low high).high column row
     each column row of out (inl before) side bottom top = inl (inl (inl ((of.0.0, before), of.1)))
     each column row of out (inr from) (inr past) bottom top = inl (inl (inr ((past, of.0.1), of.1)))
     each column row of out (inr from) (inl below) (inl under) top = inl (inr ((from, below), (of.1.0, under)))
@@ -121,7 +121,7 @@ parts_cut block known left right low high columns rows known_columns known_rows 
     ))
 
 -- ---- one part
-in_block : (block known part : Block) (column row : ℕ) → IsPart block known part → IsIn part column row → IsIn block column row
+in_block : (block known part : Block) (column row : ℕ) → IsPart block known part → IsInBlock part column row → IsInBlock block column row
 in_block block known part column row is x =
     let left = is.left in
     let right = is.right in
@@ -210,9 +210,9 @@ placed_in (Some q) cell e = (q, refl, (let same : Some q.cell ≡ Some cell = e 
 -- the cells of the block around one are those adjacent to it, of the cells where disks are
 within_known : (finder : Finder) (view : ViewData) (old other : ℕ) (known : Block) → IsReady finder view →
     IsAround finder.grid old known → (cell : ℕ) → cell_in view other ≡ Some cell →
-    (IsWithin finder.lists.grid known cell ↔ IsAdjacent finder.grid old cell)
+    (IsWithinBlock finder.lists.grid known cell ↔ IsAdjacent finder.grid old cell)
 within_known finder view old other known ready around cell at =
-    subst (λ (g : GridData). IsWithin g known cell ↔ IsAdjacent finder.grid old cell) (sym ready.lists) ((around cell is).1, (around cell is).0)
+    subst (λ (g : GridData). IsWithinBlock g known cell ↔ IsAdjacent finder.grid old cell) (sym ready.lists) ((around cell is).1, (around cell is).0)
   where
     is : IsCell finder.grid cell
     is =
@@ -242,7 +242,7 @@ best_beyond finder view disk old p block known o ready row around around_old lis
         let same : at.0.cell ≡ far.0 = (let e : Some at.0.cell ≡ Some far.0 = sym at.2 ∙ listed other ∙ far.1 in cc) in
         let is = within_known finder view old other known ready around_old far.0 far.1 in (
           other,
-          (far.0, listed other ∙ far.1, subst (λ (n : ℕ). IsWithin finder.lists.grid block n) same at.3, λ within. far.2 (is.0 within)),
+          (far.0, listed other ∙ far.1, subst (λ (n : ℕ). IsWithinBlock finder.lists.grid block n) same at.3, λ within. far.2 (is.0 within)),
           pair_of finder view disk other s x.0 x.1 pair,
         )
 

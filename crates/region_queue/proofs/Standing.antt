@@ -18,7 +18,7 @@ use Rattle.region_queue.specs.declared.finder.Finder.{Finder}
 use Rattle.region_view.specs.Naming.{Names, IsSameBut, IsSameButBy, IsMoved}
 use Rattle.region_view.proofs.Naming.{native_stays, natives_stay}
 use Rattle.region_queue.specs.Finding.{Cells, cell_in, KeepCells, AreListed, AreRelisted, AreRelistedOf, AreRetaken, AreGiven, IsFound, IsReady}
-use Rattle.region_queue.specs.Queue.{QueueData, queue_of, StandsFor, IsSound}
+use Rattle.region_queue.specs.Queue.{QueueData, queue_of, StandsFor, IsSoundQueue}
 use Rattle.region_queue.specs.Covering.{Covers, IsSettled}
 use Rattle.region_queue.proofs.Covered.{covers_again}
 use Rattle.region_queue.proofs.Back.{covers_back}
@@ -132,11 +132,11 @@ stands_least queue view key stands least =
 
 -- ---- what the lists are of stays the same
 pub sound_again : (rules : Rules) (grid : GridData) (region : ℕ) (strip : Strip) (old new : GridData) → new ≡ old →
-    IsSound rules grid region strip old → IsSound rules grid region strip new
-sound_again rules grid region strip old new same = subst (IsSound rules grid region strip) (sym same)
+    IsSoundQueue rules grid region strip old → IsSoundQueue rules grid region strip new
+sound_again rules grid region strip old new same = subst (IsSoundQueue rules grid region strip) (sym same)
 
 pub ready_again : (finder : Finder) (view : ViewData) (old : GridData) → finder.lists.grid ≡ old →
-    IsSound finder.rules finder.grid finder.region finder.strip old → IsValidPlacing finder.rules finder.grid (rows_in view) →
+    IsSoundQueue finder.rules finder.grid finder.region finder.strip old → IsValidPlacing finder.rules finder.grid (rows_in view) →
     IsReady finder view
 ready_again finder view old same sound valid = record {
   checked = sound.checked;

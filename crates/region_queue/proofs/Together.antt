@@ -7,7 +7,7 @@ use Rattle.event_stamps.specs.Least.{IsLeastOf, HasNone}
 use Rattle.event_stamps.proofs.Least.{least_same}
 use Rattle.cell_grid.specs.Grid.{GridData, IsAdjacent}
 use Rattle.cell_lists.specs.declared.near.Block.{Block}
-use Rattle.cell_lists.specs.Nearby.{IsWithin, AreGathered}
+use Rattle.cell_lists.specs.Nearby.{IsWithinBlock, AreGathered}
 use Rattle.region_view.specs.declared.action.Placed.{Placed}
 use Rattle.region_view.specs.Views.{ViewData, rows_in}
 use Rattle.region_view.proofs.Naming.{near_pair}
@@ -23,7 +23,7 @@ near_gathered finder view at block wider old near ready listed around has gather
     (gathered i).1 (inr (
       q.cell,
       listed_at view finder.lists i q listed row,
-      subst (λ (g : GridData). IsWithin g wider q.cell) (sym ready.lists)
+      subst (λ (g : GridData). IsWithinBlock g wider q.cell) (sym ready.lists)
           (has finder.grid q.cell ((around q.cell (ready.valid.cell i q row)).0 beside)),
     ))
 

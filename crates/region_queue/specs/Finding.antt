@@ -15,8 +15,8 @@ use Rattle.event_rules.specs.Events.{NeverHit}
 use Rattle.event_rules.specs.Small.{IsSmallPair}
 use Rattle.cell_grid.specs.Grid.{GridData, IsGridOf, IsRegion, IsCell, IsAdjacent, IsStripOf, Owns}
 use Rattle.cell_lists.specs.declared.near.Block.{Block}
-use Rattle.cell_lists.specs.Listing.{ListsData, IsFree}
-use Rattle.cell_lists.specs.Nearby.{IsWithin, IsListedWithin}
+use Rattle.cell_lists.specs.Listing.{ListsData, IsUnlisted}
+use Rattle.cell_lists.specs.Nearby.{IsWithinBlock, IsListedWithin}
 use Rattle.region_view.specs.declared.action.Placed.{Placed}
 use Rattle.region_view.specs.Events.{IsAlone, IsNear}
 use Rattle.region_view.specs.Placing.{IsNative, IsValidPlacing}
@@ -44,7 +44,7 @@ KeepCells before after = (disk : ℕ) → cell_in after disk ≡ cell_in before 
 -- one disk is listed nowhere, and the others are where they were
 pub record IsTakenOff (disk : ℕ) (old new : ListsData) : Type 0 where
   pub grid : new.grid ≡ old.grid
-  pub free : IsFree new disk
+  pub free : IsUnlisted new disk
   pub others : (other : ℕ) → other ≢ disk → map.get new.cells other ≡ map.get old.cells other
 
 -- one disk is listed where the view has it, and the others are where they were
@@ -80,8 +80,8 @@ abbrev pub IsAloneAt : Finder → ℕ → Placed → Stamp → Type 0
 IsAloneAt finder disk p s = IsAlone finder.rules finder.grid disk p s × Owns finder.grid finder.region p.cell
 
 -- the stamp is that of a native event of its disks, which are placed so
-abbrev pub IsEventOf : Finder → Stamp → Placed → Placed → Type 0
-IsEventOf finder s p q = (s.first < s.second) × Owns finder.grid finder.region p.cell
+abbrev pub IsPairPlaced : Finder → Stamp → Placed → Placed → Type 0
+IsPairPlaced finder s p q = (s.first < s.second) × Owns finder.grid finder.region p.cell
     × IsNear finder.rules finder.grid s.first p s.second q s
 
 -- a native event of a lower and a higher disk
@@ -100,7 +100,7 @@ IsNearby finder view cell whole other = (q : Placed) → rows_in view other ≡ 
 
 -- the cells of the block are adjacent to a cell
 abbrev pub IsBlockBeside : GridData → ℕ → Block → Type 0
-IsBlockBeside grid cell block = (other : ℕ) → IsCell grid other → IsWithin grid block other → IsAdjacent grid cell other
+IsBlockBeside grid cell block = (other : ℕ) → IsCell grid other → IsWithinBlock grid block other → IsAdjacent grid cell other
 
 -- each of some disks is listed in the block
 abbrev pub AreAllWithin : ListsData → Block → List ℕ → Type 0
@@ -112,7 +112,7 @@ HasNearby finder view cell disks = (i : ℕ) (q : Placed) → rows_in view i ≡
 
 -- each cell of a block is in the other one
 abbrev pub IsWider : Block → Block → Type 0
-IsWider block wider = (grid : GridData) (cell : ℕ) → IsWithin grid block cell → IsWithin grid wider cell
+IsWider block wider = (grid : GridData) (cell : ℕ) → IsWithinBlock grid block cell → IsWithinBlock grid wider cell
 
 -- two disks never hit each other
 abbrev pub NeverMeet : Rules → Disk → Disk → Type 0

@@ -2,12 +2,12 @@
 use Rattle.std.specs.Prelude.{◌⊎◌, ℕ, ◌<◌, ◌≤◌}
 use Rattle.cell_lists.specs.declared.near.Block.{Block}
 use Rattle.cell_lists.specs.Listing.{ListsData, IsListed}
-use Rattle.cell_lists.specs.Nearby.{IsWithin, IsListedWithin}
+use Rattle.cell_lists.specs.Nearby.{IsWithinBlock, IsListedWithin}
 use Rattle.region_queue.specs.declared.parts.Parts.{Parts}
 
 -- the cell of this column and row is in the block
-abbrev pub IsIn : Block → ℕ → ℕ → Type 0
-IsIn block column row = ((block.left ≤ column) × (column < block.right)) × ((block.low ≤ row) × (row < block.high))
+abbrev pub IsInBlock : Block → ℕ → ℕ → Type 0
+IsInBlock block column row = ((block.left ≤ column) × (column < block.right)) × ((block.low ≤ row) × (row < block.high))
 
 -- a part of the block that has no cell of the second one
 pub record IsPart (block known part : Block) : Type 0 where
@@ -17,7 +17,7 @@ pub record IsPart (block known part : Block) : Type 0 where
   pub right : part.right ≤ block.right
   pub low : block.low ≤ part.low
   pub high : part.high ≤ block.high
-  pub outside : (column row : ℕ) → IsIn part column row → ¬ IsIn known column row
+  pub outside : (column row : ℕ) → IsInBlock part column row → ¬ IsInBlock known column row
 
 -- such parts, which have all cells of the block that are outside the second one
 pub record AreParts (block known : Block) (parts : Parts) : Type 0 where
@@ -25,13 +25,13 @@ pub record AreParts (block known : Block) (parts : Parts) : Type 0 where
   pub right : IsPart block known parts.right
   pub low : IsPart block known parts.low
   pub high : IsPart block known parts.high
-  pub whole : (column row : ℕ) → IsIn block column row → ¬ IsIn known column row →
-      ((IsIn parts.left column row ⊎ IsIn parts.right column row) ⊎ IsIn parts.low column row) ⊎ IsIn parts.high column row
+  pub whole : (column row : ℕ) → IsInBlock block column row → ¬ IsInBlock known column row →
+      ((IsInBlock parts.left column row ⊎ IsInBlock parts.right column row) ⊎ IsInBlock parts.low column row) ⊎ IsInBlock parts.high column row
 
 -- the disk is listed in a cell of the block that isn't in the second one
 abbrev pub IsListedOutside : ListsData → Block → Block → ℕ → Type 0
-IsListedOutside lists block known disk = (cell : ℕ) × IsListed lists cell disk × IsWithin lists.grid block cell
-    × ¬ IsWithin lists.grid known cell
+IsListedOutside lists block known disk = (cell : ℕ) × IsListed lists cell disk × IsWithinBlock lists.grid block cell
+    × ¬ IsWithinBlock lists.grid known cell
 
 -- the disk is listed in a cell of one of the parts
 abbrev pub IsListedInParts : ListsData → Parts → ℕ → Type 0

@@ -39,7 +39,7 @@ queue_code =
     (λ p. queue_of p.0 p.1.0 p.1.1.0 p.1.1.1.0 p.1.1.1.1.0 p.1.1.1.1.1) (λ _. refl)
 
 -- what each queue keeps: a region of a grid of checked rules, its columns, and lists of this grid
-pub record IsSound (r : Rules) (g : GridData) (k : ℕ) (columns : Strip) (listed : GridData) : Type 0 where
+pub record IsSoundQueue (r : Rules) (g : GridData) (k : ℕ) (columns : Strip) (listed : GridData) : Type 0 where
   pub checked : IsChecked r
   pub grid : IsGridOf r g
   pub region : IsRegion g k

@@ -15,7 +15,7 @@ ghost use Rattle.cell_lists.specs.Nearby.{IsBlock, IsListedWithin, AreGathered, 
 ghost use Rattle.region_queue.specs.Outside.{IsListedOutside, IsListedInParts};
 ghost use Rattle.region_view.specs.declared.action.Placed.{Placed};
 ghost use Rattle.region_view.specs.Events.{IsAlone};
-ghost use Rattle.region_queue.specs.Finding.{IsReady, IsFound, IsAloneAt, IsEventOf, IsNativePair, IsNativeWith, IsBestSingle, IsBestPair, IsBestBeyond, IsBlockBeside, IsNearby, AreAllWithin, IsMissed, IsMissedBySmall, IsMissedByGreatest, AreKept, AreListed};
+ghost use Rattle.region_queue.specs.Finding.{IsReady, IsFound, IsAloneAt, IsPairPlaced, IsNativePair, IsNativeWith, IsBestSingle, IsBestPair, IsBestBeyond, IsBlockBeside, IsNearby, AreAllWithin, IsMissed, IsMissedBySmall, IsMissedByGreatest, AreKept, AreListed};
 ghost use Rattle.region_view.specs.Views.{AreRowsOf};
 ghost use Rattle.event_rules.specs.Small.{HaveSmallProducts};
 
@@ -140,7 +140,7 @@ impl Finder {
         requires first_cell { IsCell self.now.grid first.now.cell }
         requires second_cell { IsCell self.now.grid second.now.cell }
         requires pair { stamp.now.kind ≡ Pair }
-        ensures { IsTrue result ↔ IsEventOf self.now stamp.now first.now second.now }
+        ensures { IsTrue result ↔ IsPairPlaced self.now stamp.now first.now second.now }
     {
         if stamp.first >= stamp.second {
             return false;

@@ -25,7 +25,7 @@ pub struct Queue {
 }
 
 impl Model for Queue {
-    ghost use Rattle.region_queue.specs.Queue.{QueueData, queue_code, queue_of, IsSound};
+    ghost use Rattle.region_queue.specs.Queue.{QueueData, queue_code, queue_of, IsSoundQueue};
 
     ghost Value = { QueueData };
 
@@ -33,7 +33,7 @@ impl Model for Queue {
 
     ghost view = { λ a. queue_of a.finder.rules a.finder.grid a.finder.region a.finder.lists.cells a.keys.keys a.keys.bounds };
 
-    ghost invariant = { λ a. IsSound a.finder.rules a.finder.grid a.finder.region a.finder.strip a.finder.lists.grid };
+    ghost invariant = { λ a. IsSoundQueue a.finder.rules a.finder.grid a.finder.region a.finder.strip a.finder.lists.grid };
 }
 
 ghost use Rattle.std.specs.Prelude.{◌≡◌, ℕ, ◌<◌, None, Some, IfOk, OnOk, [], ◌∷◌};

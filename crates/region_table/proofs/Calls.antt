@@ -11,7 +11,7 @@ use Rattle.std.proofs.lemmas.Bool.{or_parts, or_cases, or_from, eq-eqb, ne_eqb}
 use Rattle.atomic_table.specs.Table.{Me, rest, turned}
 use Rattle.local_run.specs.Opening.{RegionData}
 use Rattle.region_table.specs.declared.rule.Hold.{Hold}
-use Rattle.region_table.specs.declared.rule.View.{View}
+use Rattle.region_table.specs.declared.rule.TableView.{TableView}
 use Rattle.region_table.specs.Rule.{Content, version_of, last_version, slots_of, is_held, without, seeing, holding, putting, undoing, count_next}
 use Rattle.region_table.specs.Tables.{IsKeptSeat, emptied}
 use Rattle.region_table.proofs.Held.{eqb_same, eqb_other, without_held, without_free}
@@ -100,16 +100,16 @@ distinct_without k [] d = d
 distinct_without k (h ∷ hs) d = distinct_step k h hs (all_other h.slot (slots_of hs) d.0) (distinct_without k hs d.1) (eqb k h.slot) refl
 
 -- ---- what a seat keeps
-pub has_room : (me : Me Content View) (order : List ℕ) (k : ℕ) → IsKeptSeat me order → is_held k me.0.held ≡ false → k < 64 → length order < 64
+pub has_room : (me : Me Content TableView) (order : List ℕ) (k : ℕ) → IsKeptSeat me order → is_held k me.0.held ≡ false → k < 64 → length order < 64
 has_room me order k kept free below =
     let free' : list_any (λ (s : ℕ). k == s) order ≡ false = subst (λ (z : List ℕ). list_any (λ (s : ℕ). k == s) z ≡ false) kept.held free in
     let d : IsDistinct eqb (k ∷ order) = IsDistinct-cons eqb k order (other_all k order free') kept.distinct in
     let more : length (k ∷ order) ≤ 64 = length-le_from_distinct_below (k ∷ order) 64 d (λ q e. any_has q (λ (z : ℕ). z < 64) (k ∷ order) e (All-cons (λ (z : ℕ). z < 64) k order below kept.few)) in
     omega (arith, more)
 
-pub keeps_out : (me me' : Me Content View) (order : List ℕ) (k word : ℕ) → IsKeptSeat me order → is_held k me.0.held ≡ false → k < 64 → version_of word < last_version
+pub keeps_out : (me me' : Me Content TableView) (order : List ℕ) (k word : ℕ) → IsKeptSeat me order → is_held k me.0.held ≡ false → k < 64 → version_of word < last_version
     → me' ≡ (holding me.0 k word, (k, None) ∷ me.1) → IsKeptSeat me' (k ∷ order)
-keeps_out me me' order k word kept free below young is = subst (λ (z : Me Content View). IsKeptSeat z (k ∷ order)) (sym is) record {
+keeps_out me me' order k word kept free below young is = subst (λ (z : Me Content TableView). IsKeptSeat z (k ∷ order)) (sym is) record {
   carried = ap (λ (z : List (ℕ × Content)). (k, None) ∷ z) kept.carried;
   held = ap (λ (z : List ℕ). k ∷ z) kept.held;
   distinct = IsDistinct-cons eqb k order (other_all k order (subst (λ (z : List ℕ). list_any (λ (s : ℕ). k == s) z ≡ false) kept.held free)) kept.distinct;
@@ -117,8 +117,8 @@ keeps_out me me' order k word kept free below young is = subst (λ (z : Me Conte
   few = All-cons (λ (z : ℕ). z < 64) k order below kept.few;
 }
 
-pub keeps_seeing : (me me' : Me Content View) (order : List ℕ) (k word : ℕ) → IsKeptSeat me order → me' ≡ (seeing me.0 k word, me.1) → IsKeptSeat me' order
-keeps_seeing me me' order k word kept is = subst (λ (z : Me Content View). IsKeptSeat z order) (sym is) record {
+pub keeps_seeing : (me me' : Me Content TableView) (order : List ℕ) (k word : ℕ) → IsKeptSeat me order → me' ≡ (seeing me.0 k word, me.1) → IsKeptSeat me' order
+keeps_seeing me me' order k word kept is = subst (λ (z : Me Content TableView). IsKeptSeat z order) (sym is) record {
   carried = kept.carried;
   held = kept.held;
   distinct = kept.distinct;
@@ -127,7 +127,7 @@ keeps_seeing me me' order k word kept is = subst (λ (z : Me Content View). IsKe
 }
 
 -- ---- a slot that is taken and goes home again
-pub undone : (me0 me1 me2 : Me Content View) (k word : ℕ) (region : RegionData)
+pub undone : (me0 me1 me2 : Me Content TableView) (k word : ℕ) (region : RegionData)
     → me1 ≡ (holding me0.0 k word, (k, Some region) ∷ me0.1)
     → me2 ≡ (undoing me1.0 k, rest me1.1)
     → is_held k me0.0.held ≡ false
@@ -135,18 +135,18 @@ pub undone : (me0 me1 me2 : Me Content View) (k word : ℕ) (region : RegionData
 undone me0 me1 me2 k word region e f free =
     let h : Hold = record { slot = k; version = version_of word } in
     let back : without k (h ∷ me0.0.held) ≡ me0.0.held = rw (eq-eqb k k refl) (without_free k me0.0.held free) in
-    f ∙ (ap (λ (m : Me Content View). (undoing m.0 k, rest m.1)) e
+    f ∙ (ap (λ (m : Me Content TableView). (undoing m.0 k, rest m.1)) e
     ∙ ap (λ (z : List Hold). (record { opened = me0.0.opened; seen = record { slot = k; word = word } ∷ me0.0.seen; held = z; notes = me0.0.notes; parts = me0.0.parts }, me0.1)) back)
 
 -- ---- a slot that is put back
 -- no more slots are turned than are carried
-pub enough : (me : Me Content View) (order : List ℕ) (p : ℕ) → IsKeptSeat me order → p < length order → p ≤ length me.1
+pub enough : (me : Me Content TableView) (order : List ℕ) (p : ℕ) → IsKeptSeat me order → p < length order → p ≤ length me.1
 enough me order p kept lt =
     let size = length-map order emptied in
     subst (λ (z : List (ℕ × Content)). p ≤ length z) (sym kept.carried) (omega (arith, lt, size))
 
 -- the slot at this place comes to the front
-pub in_front : (me : Me Content View) (order : List ℕ) (carried : List (ℕ × Content)) (p k : ℕ) → IsKeptSeat me order → p < length order → slice_index order p ≡ k
+pub in_front : (me : Me Content TableView) (order : List ℕ) (carried : List (ℕ × Content)) (p k : ℕ) → IsKeptSeat me order → p < length order → slice_index order p ≡ k
     → carried ≡ drop p me.1 ++ take p me.1 → carried ≡ (k, None) ∷ (drop (suc p) (map emptied order) ++ take p (map emptied order))
 in_front me order carried p k kept lt at is =
     is ∙ (ap (λ (z : List (ℕ × Content)). drop p z ++ take p z) kept.carried
@@ -158,7 +158,7 @@ in_front me order carried p k kept lt at is =
     here (y ∷ ys) (suc i) x l e = here ys i x (omega arith) e
 
 -- and the others come back to their order
-pub keeps_put : (me me' : Me Content View) (order : List ℕ) (p q k version count : ℕ) → IsKeptSeat me order → p < length order → slice_index order p ≡ k
+pub keeps_put : (me me' : Me Content TableView) (order : List ℕ) (p q k version count : ℕ) → IsKeptSeat me order → p < length order → slice_index order p ≡ k
     → q ≡ length order - 1 - p
     → me' ≡ (putting me.0 k version count, drop q (drop (suc p) (map emptied order) ++ take p (map emptied order)) ++ take q (drop (suc p) (map emptied order) ++ take p (map emptied order)))
     → IsKeptSeat me' (remove order p)
@@ -166,7 +166,7 @@ keeps_put me me' order p q k version count kept lt at size is =
     let slots : slots_of (without k me.0.held) ≡ remove order p =
     without_at k me.0.held p (subst (IsDistinct eqb) (sym kept.held) kept.distinct) (subst (λ (z : List ℕ). p < length z) (sym kept.held) lt) (ap (λ (z : List ℕ). slice_index z p) kept.held ∙ at)
     ∙ ap (λ (z : List ℕ). remove z p) kept.held in
-    subst (λ (z : Me Content View). IsKeptSeat z (remove order p)) (sym is) record {
+    subst (λ (z : Me Content TableView). IsKeptSeat z (remove order p)) (sym is) record {
       carried = turn_back (drop (suc p) (map emptied order)) (take p (map emptied order)) q (size ∙ sym (lengths order p lt)) ∙ sym (whole order p);
       held = slots;
       distinct = subst (IsDistinct eqb) slots (distinct_without k me.0.held (subst (IsDistinct eqb) (sym kept.held) kept.distinct));
@@ -193,13 +193,13 @@ value_next [] = None
 value_next (x ∷ xs) = x.1
 
 -- after a put, the slots that are left
-pub put_seat : (me0 me1 me2 me3 : Me Content View) (k version : ℕ) (region : RegionData) (left : List (ℕ × Content))
+pub put_seat : (me0 me1 me2 me3 : Me Content TableView) (k version : ℕ) (region : RegionData) (left : List (ℕ × Content))
     → me1.0 ≡ me0.0 → me1.1 ≡ (k, None) ∷ left
     → me2 ≡ (me1.0, (k, Some region) ∷ rest me1.1)
     → me3 ≡ (putting me2.0 k version (count_next me2.1), rest me2.1)
     → me3 ≡ (putting me0.0 k version (count_of region), left)
 put_seat me0 me1 me2 me3 k version region left view front e f =
-    f ∙ (ap (λ (m : Me Content View). (putting m.0 k version (count_next m.1), rest m.1)) e
+    f ∙ (ap (λ (m : Me Content TableView). (putting m.0 k version (count_next m.1), rest m.1)) e
     ∙ (λ i. (putting (view i) k version (count_of region), rest (front i))))
 
 pub left_size : (order : List ℕ) (p q : ℕ) → p < length order → q ≡ length order - 1 - p → q ≤ length (drop (suc p) (map emptied order) ++ take p (map emptied order))
@@ -210,7 +210,7 @@ left_size order p q lt e =
     omega (arith, a, b, d)
 
 -- ---- seats that hold nothing
-pub keeps_none : (me : Me Content View) → me.1 ≡ [] → me.0.held ≡ [] → IsKeptSeat me []
+pub keeps_none : (me : Me Content TableView) → me.1 ≡ [] → me.0.held ≡ [] → IsKeptSeat me []
 keeps_none me carried held = record {
   carried = carried;
   held = ap slots_of held;
@@ -219,5 +219,5 @@ keeps_none me carried held = record {
   few = All-nil (λ (k : ℕ). k < 64);
 }
 
-pub carries_none : (me : Me Content View) (order : List ℕ) → IsKeptSeat me order → me.0.held ≡ [] → me.1 ≡ []
+pub carries_none : (me : Me Content TableView) (order : List ℕ) → IsKeptSeat me order → me.0.held ≡ [] → me.1 ≡ []
 carries_none me order kept held = kept.carried ∙ ap (map emptied) (sym kept.held ∙ ap slots_of held)

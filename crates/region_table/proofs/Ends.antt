@@ -17,11 +17,11 @@ use Rattle.cell_grid.specs.Grid.{GridData, IsGridOf, columns_of}
 use Rattle.local_run.specs.Keeping.{IsKept}
 use Rattle.local_run.specs.Opening.{RegionData, spent}
 use Rattle.local_run.specs.Bursts.{IsAtPlace, AreTogether}
-use Rattle.region_table.specs.declared.rule.View.{View}
+use Rattle.region_table.specs.declared.rule.TableView.{TableView}
 use Rattle.region_table.specs.Bases.{AreReplaced}
-use Rattle.region_table.specs.Rule.{Content, IsHome, IsAtHome, version_of, all_parts, HasAll, no_view, is_held, is_noted, Kept}
+use Rattle.region_table.specs.Rule.{Content, IsHomeWord, IsAtHome, version_of, all_parts, HasAll, no_view, is_held, is_noted, Kept}
 use Rattle.region_table.proofs.Parts.{parts_of_two}
-use Rattle.region_table.specs.Tables.{IsKeptTable, ComesOf, Closes, AreLeft}
+use Rattle.region_table.specs.Tables.{IsKeptTable, ComesOfSlot, Closes, AreLeft}
 
 option_or : {A : Type 0} → A → StdOption A → A
 option_or x None = x
@@ -61,13 +61,13 @@ spent_there : (rules : Rules) (grid : GridData) (floor : Stamp) (k : ℕ) (first
 spent_there rules grid floor k first region at is = is ∙ (λ i. record { home = sym at.home i; floor = sym at.floor_is i; run = None })
 
 module _ (id : TableId) (opened : List RegionData) (rules : Rules) (grid : GridData) (floor : Stamp) (table : IsKeptTable id opened rules grid floor)
-    (words : List ℕ) (contents : List Content) (seat : ℕ) (v : View) (f : Final (Seen (Kept opened) seat v) words contents)
+    (words : List ℕ) (contents : List Content) (seat : ℕ) (v : TableView) (f : Final (Seen (Kept opened) seat v) words contents)
     (regions : List RegionData) (count : length regions ≡ length opened)
-    (each : (k : ℕ) (region : RegionData) → slice_get regions k ≡ Some region → ComesOf words contents rules grid floor k region) (mark : TableId) where
+    (each : (k : ℕ) (region : RegionData) → slice_get regions k ≡ Some region → ComesOfSlot words contents rules grid floor k region) (mark : TableId) where
   inside : (k : ℕ) (region : RegionData) → slice_get regions k ≡ Some region → k < length opened
   inside k region e = let lt = slice_get_within regions k region e in omega (arith, count, lt)
 
-  at_home : (k : ℕ) (region : RegionData) → slice_get regions k ≡ Some region → IsHome (slice_index f.0.words k)
+  at_home : (k : ℕ) (region : RegionData) → slice_get regions k ≡ Some region → IsHomeWord (slice_index f.0.words k)
       → get_elem? f.0.homes k ≡ some (some (Some region)) × IsAtHome opened f.0.views k (slice_index f.0.words k) region
   at_home k region e even =
       let r = f.1.0 in
@@ -79,7 +79,7 @@ module _ (id : TableId) (opened : List RegionData) (rules : Rules) (grid : GridD
         subst (IsAtHome opened f.0.views k (slice_index f.0.words k)) (sym same) home.2,
       )
 
-  when_out : (k : ℕ) (region : RegionData) → slice_get regions k ≡ Some region → ¬ IsHome (slice_index f.0.words k)
+  when_out : (k : ℕ) (region : RegionData) → slice_get regions k ≡ Some region → ¬ IsHomeWord (slice_index f.0.words k)
       → region ≡ record { home = record { number = k; rules = rules; grid = grid }; floor = floor; run = None }
   when_out k region e odd =
       let r = f.1.0 in
@@ -115,7 +115,7 @@ module _ (id : TableId) (opened : List RegionData) (rules : Rules) (grid : GridD
   }
 
   -- who has all parts is alone
-  alone : HasAll v → (i : ℕ) (u : View) → get_elem? f.0.views i ≡ some u → i ≢ seat → u ≡ no_view
+  alone : HasAll v → (i : ℕ) (u : TableView) → get_elem? f.0.views i ≡ some u → i ≢ seat → u ≡ no_view
   alone all i u e other =
       let r = f.1.0 in
       let two = parts_of_two f.0.views seat i v u f.1.1 e other in
@@ -123,26 +123,26 @@ module _ (id : TableId) (opened : List RegionData) (rules : Rules) (grid : GridD
       let mine : v.parts ≡ all_parts = all in
       r.idle (omega (arith, two, most, mine)) i u e (omega (arith, two, most, mine))
 
-  same_view : (i : ℕ) (u : View) → get_elem? f.0.views i ≡ some u → i ≡ seat → u ≡ v
+  same_view : (i : ℕ) (u : TableView) → get_elem? f.0.views i ≡ some u → i ≡ seat → u ≡ v
   same_view i u e same = some-injective _ _ (sym e ∙ (ap (get_elem? f.0.views) same ∙ f.1.1))
 
   -- and where it holds nothing, nothing is out
-  none_out : HasAll v → v.held ≡ [] → (k : ℕ) → k < length opened → IsHome (slice_index f.0.words k)
+  none_out : HasAll v → v.held ≡ [] → (k : ℕ) → k < length opened → IsHomeWord (slice_index f.0.words k)
   none_out all nothing k lt = dite (ℕ_discrete (slice_index f.0.words k % 2) 0)
       (λ even. even)
       (λ odd.
       let o = f.1.0.owner k lt odd in
       absurd (dite (ℕ_discrete o.0 seat)
-      (λ same. true≢false (sym o.3 ∙ ap (is_held k) (ap (λ (z : View). z.held) (same_view o.0 o.1 o.2 same) ∙ nothing)))
-      (λ other. true≢false (sym o.3 ∙ ap (λ (z : View). is_held k z.held) (alone all o.0 o.1 o.2 other)))))
+      (λ same. true≢false (sym o.3 ∙ ap (is_held k) (ap (λ (z : TableView). z.held) (same_view o.0 o.1 o.2 same) ∙ nothing)))
+      (λ other. true≢false (sym o.3 ∙ ap (λ (z : TableView). is_held k z.held) (alone all o.0 o.1 o.2 other)))))
 
   -- and the last put of each slot is among its notes
   put_last : HasAll v → (k : ℕ) → k < length opened → 0 < version_of (slice_index f.0.words k) → is_noted k (version_of (slice_index f.0.words k)) v.notes ≡ true
   put_last all k lt some_puts =
       let o = f.1.0.writer k lt some_puts in
       dite (ℕ_discrete o.0 seat)
-      (λ same. ap (λ (z : View). is_noted k (version_of (slice_index f.0.words k)) z.notes) (sym (same_view o.0 o.1 o.2 same)) ∙ o.3)
-      (λ other. absurd (true≢false (sym o.3 ∙ ap (λ (z : View). is_noted k (version_of (slice_index f.0.words k)) z.notes) (alone all o.0 o.1 o.2 other))))
+      (λ same. ap (λ (z : TableView). is_noted k (version_of (slice_index f.0.words k)) z.notes) (sym (same_view o.0 o.1 o.2 same)) ∙ o.3)
+      (λ other. absurd (true≢false (sym o.3 ∙ ap (λ (z : TableView). is_noted k (version_of (slice_index f.0.words k)) z.notes) (alone all o.0 o.1 o.2 other))))
 
   pub left : v.held ≡ [] → HasAll v → AreLeft opened v regions
   left nothing all k region e =

@@ -10,8 +10,8 @@ use Rattle.atomic_table.proofs.Lists.{at_set}
 use Rattle.local_run.specs.Opening.{RegionData}
 use Rattle.region_table.specs.declared.rule.Sight.{Sight}
 use Rattle.region_table.specs.declared.rule.Note.{Note}
-use Rattle.region_table.specs.declared.rule.View.{View}
-use Rattle.region_table.specs.Rule.{Content, IsHome, version_of, all_parts, is_held, is_noted, total, no_view, OneHas, TellsAll, IsAtHome, IsOut, IsPast, Kept}
+use Rattle.region_table.specs.declared.rule.TableView.{TableView}
+use Rattle.region_table.specs.Rule.{Content, IsHomeWord, version_of, all_parts, is_held, is_noted, total, no_view, OneHas, TellsAll, IsAtHome, IsOut, KnowsNoLater, Kept}
 use Rattle.region_table.proofs.Held.{held_at}
 use Rattle.region_table.proofs.Parts.{set_there, moved, total_set}
 
@@ -23,15 +23,15 @@ up words k n inside more j = dite (ℕ_discrete j k)
     (λ other. subst (λ (z : ℕ). version_of (slice_index words j) ≤ version_of z) (sym (get_or-set_other words k j n 0 other)) (omega arith))
 
 -- what was past stays past
-pub past_up : (words : List ℕ) (k n : ℕ) (v : View) → k < length words → version_of (slice_index words k) ≤ version_of n → IsPast words v → IsPast (set words k n) v
+pub past_up : (words : List ℕ) (k n : ℕ) (v : TableView) → k < length words → version_of (slice_index words k) ≤ version_of n → KnowsNoLater words v → KnowsNoLater (set words k n) v
 past_up words k n v inside more p = record {
   notes = λ a d l. let x : Note = get_or v.notes a d in let q : x.version ≤ version_of (slice_index words x.slot) = p.notes a d l in let u = up words k n inside more x.slot in omega (arith, q, u);
   seen = λ a d l. let x : Sight = get_or v.seen a d in let q : version_of x.word ≤ version_of (slice_index words x.slot) = p.seen a d l in let u = up words k n inside more x.slot in omega (arith, q, u);
 }
 
 -- nobody holds a slot that is at home
-pub nobody : (opened : List RegionData) (s : State Content View) → Kept opened s → (k : ℕ) → IsHome (slice_index s.words k)
-    → (i : ℕ) (v : View) → get_elem? s.views i ≡ some v → is_held k v.held ≡ false
+pub nobody : (opened : List RegionData) (s : State Content TableView) → Kept opened s → (k : ℕ) → IsHomeWord (slice_index s.words k)
+    → (i : ℕ) (v : TableView) → get_elem? s.views i ≡ some v → is_held k v.held ≡ false
 nobody opened s r k even i v e = by_test (is_held k v.held) refl
   where
     by_test : (b : Bool) → is_held k v.held ≡ b → is_held k v.held ≡ false
@@ -42,21 +42,21 @@ nobody opened s r k even i v e = by_test (is_held k v.held) refl
         absurd (omega (arith, odd, even))
 
 -- one word changes, with what lies in its slot and with the view of the seat that changes it
-pub step_kept : (opened : List RegionData) (s : State Content View) (k id n : ℕ) (v w : View) (homes : List (Option Content))
+pub step_kept : (opened : List RegionData) (s : State Content TableView) (k id n : ℕ) (v w : TableView) (homes : List (Option Content))
     → Kept opened s → k < length opened → get_elem? s.views id ≡ some v
     → version_of (slice_index s.words k) ≤ version_of n
     → length homes ≡ length s.homes
     → ((j : ℕ) → j ≢ k → get_elem? homes j ≡ get_elem? s.homes j)
-    → (IsHome n → (region : RegionData) × (get_elem? homes k ≡ some (some (Some region))) × IsAtHome opened (set s.views id w) k n region)
-    → (¬ IsHome n → get_elem? homes k ≡ some none)
+    → (IsHomeWord n → (region : RegionData) × (get_elem? homes k ≡ some (some (Some region))) × IsAtHome opened (set s.views id w) k n region)
+    → (¬ IsHomeWord n → get_elem? homes k ≡ some none)
     → ((j version : ℕ) (region : RegionData) → j ≢ k → TellsAll j version region v → TellsAll j version region w)
     → All (IsOut (set s.words k n)) w.held
-    → ((i : ℕ) (u : View) → i ≢ id → get_elem? s.views i ≡ some u → All (IsOut (set s.words k n)) u.held)
-    → ((j : ℕ) → is_held j w.held ≡ true → (is_held j v.held ≡ true) ⊎ ((i : ℕ) (u : View) → get_elem? s.views i ≡ some u → is_held j u.held ≡ false))
-    → IsPast (set s.words k n) w
+    → ((i : ℕ) (u : TableView) → i ≢ id → get_elem? s.views i ≡ some u → All (IsOut (set s.words k n)) u.held)
+    → ((j : ℕ) → is_held j w.held ≡ true → (is_held j v.held ≡ true) ⊎ ((i : ℕ) (u : TableView) → get_elem? s.views i ≡ some u → is_held j u.held ≡ false))
+    → KnowsNoLater (set s.words k n) w
     → (v ≢ no_view) × (w.parts ≡ v.parts)
     → ((j : ℕ) → j ≢ k → is_held j v.held ≡ true → is_held j w.held ≡ true)
-    → (¬ IsHome n → OneHas (set s.views id w) (λ u. is_held k u.held ≡ true))
+    → (¬ IsHomeWord n → OneHas (set s.views id w) (λ u. is_held k u.held ≡ true))
     → ((j version : ℕ) → is_noted j version v.notes ≡ true → is_noted j version w.notes ≡ true)
     → (version_of n ≡ version_of (slice_index s.words k)) ⊎ (is_noted k (version_of n) w.notes ≡ true)
     → Kept opened record { words = set s.words k n; homes = homes; views = set s.views id w }
@@ -66,10 +66,10 @@ step_kept opened s k id n v w homes r inside at more size else_same home_here ou
   home = λ j lt even. dite (ℕ_discrete j k)
       (λ here. subst (λ (z : ℕ). (region : RegionData) × (get_elem? homes z ≡ some (some (Some region))) × IsAtHome opened (set s.views id w) z (slice_index (set s.words k n) z) region) (sym here)
       (subst (λ (z : ℕ). (region : RegionData) × (get_elem? homes k ≡ some (some (Some region))) × IsAtHome opened (set s.views id w) k z region) (sym now)
-      (home_here (subst IsHome (now_at j here) even))))
+      (home_here (subst IsHomeWord (now_at j here) even))))
       (λ other.
       let same = get_or-set_other s.words k j n 0 other in
-      let old = r.home j lt (subst IsHome same even) in (
+      let old = r.home j lt (subst IsHomeWord same even) in (
         old.0,
         else_same j other ∙ old.1,
         subst (λ (z : ℕ). IsAtHome opened (set s.views id w) j z old.0) (sym same) record {
@@ -82,10 +82,10 @@ step_kept opened s k id n v w homes r inside at more size else_same home_here ou
         },
       ));
   out = λ j lt odd. dite (ℕ_discrete j k)
-      (λ here. subst (λ (z : ℕ). get_elem? homes z ≡ some none) (sym here) (out_here (λ even. odd (subst IsHome (sym (now_at j here)) even))))
-      (λ other. else_same j other ∙ r.out j lt (λ even. odd (subst IsHome (sym (get_or-set_other s.words k j n 0 other)) even)));
+      (λ here. subst (λ (z : ℕ). get_elem? homes z ≡ some none) (sym here) (out_here (λ even. odd (subst IsHomeWord (sym (now_at j here)) even))))
+      (λ other. else_same j other ∙ r.out j lt (λ even. odd (subst IsHomeWord (sym (get_or-set_other s.words k j n 0 other)) even)));
   held = λ i u e. ⊎_elim
-      (λ (x : (i ≡ id) × (w ≡ u)). subst (λ (z : View). All (IsOut (set s.words k n)) z.held) x.1 mine)
+      (λ (x : (i ≡ id) × (w ≡ u)). subst (λ (z : TableView). All (IsOut (set s.words k n)) z.held) x.1 mine)
       (λ (x : (i ≢ id) × (get_elem? s.views i ≡ some u)). others i u x.0 x.1)
       (at_set s.views id i w u e);
   one = λ i j u u' q e e' h h'. ⊎_elim
@@ -99,13 +99,13 @@ step_kept opened s k id n v w homes r inside at more size else_same home_here ou
       (at_set s.views id j w u' e'))
       (at_set s.views id i w u e);
   past = λ i u e. ⊎_elim
-      (λ (x : (i ≡ id) × (w ≡ u)). subst (IsPast (set s.words k n)) x.1 past)
+      (λ (x : (i ≡ id) × (w ≡ u)). subst (KnowsNoLater (set s.words k n)) x.1 past)
       (λ (x : (i ≢ id) × (get_elem? s.views i ≡ some u)). past_up s.words k n u within more (r.past i u x.1))
       (at_set s.views id i w u e);
   owner = λ j lt odd. dite (ℕ_discrete j k)
-      (λ here. subst (λ (z : ℕ). OneHas (set s.views id w) (λ u. is_held z u.held ≡ true)) (sym here) (owner_here (λ even. odd (subst IsHome (sym (now_at j here)) even))))
+      (λ here. subst (λ (z : ℕ). OneHas (set s.views id w) (λ u. is_held z u.held ≡ true)) (sym here) (owner_here (λ even. odd (subst IsHomeWord (sym (now_at j here)) even))))
       (λ other.
-      let o = r.owner j lt (λ even. odd (subst IsHome (sym (get_or-set_other s.words k j n 0 other)) even)) in
+      let o = r.owner j lt (λ even. odd (subst IsHomeWord (sym (get_or-set_other s.words k j n 0 other)) even)) in
       let m = moved s.views id v w (λ u. is_held j u.held ≡ true) at (holds j other) o.0 o.1 o.2 o.3 in (o.0, m.0, m.1, m.2));
   writer = λ j lt some_puts. dite (ℕ_discrete j k)
       (λ here. subst (λ (z : ℕ). OneHas (set s.views id w) (λ u. is_noted j (version_of z) u.notes ≡ true)) (sym (now_at j here))
@@ -115,7 +115,7 @@ step_kept opened s k id n v w homes r inside at more size else_same home_here ou
       (still j lt (subst (λ (z : ℕ). 0 < version_of z) (get_or-set_other s.words k j n 0 other) some_puts)));
   whole = let a = total_set s.views id v w at in let b = r.whole in let c = live.1 in omega (arith, a, b, c);
   idle = λ all i u e none_left. ⊎_elim
-      (λ (x : (i ≡ id) × (w ≡ u)). absurd (live.0 (r.idle (all_before all) id v at (sym live.1 ∙ (ap (λ (z : View). z.parts) x.1 ∙ none_left)))))
+      (λ (x : (i ≡ id) × (w ≡ u)). absurd (live.0 (r.idle (all_before all) id v at (sym live.1 ∙ (ap (λ (z : TableView). z.parts) x.1 ∙ none_left)))))
       (λ (x : (i ≢ id) × (get_elem? s.views i ≡ some u)). r.idle (all_before all) i u x.1 none_left)
       (at_set s.views id i w u e);
 }
@@ -145,20 +145,20 @@ step_kept opened s k id n v w homes r inside at more size else_same home_here ou
         (λ (new : is_noted k (version_of n) w.notes ≡ true). (id, w, set_there s.views id v w at, new))
         last
 
-    clash : {A : Type 0} (q : ℕ) (u : View) (j : ℕ) → u ≡ w → is_held q u.held ≡ true → (u' : View) → j ≢ id → get_elem? s.views j ≡ some u' → is_held q u'.held ≡ true → A
+    clash : {A : Type 0} (q : ℕ) (u : TableView) (j : ℕ) → u ≡ w → is_held q u.held ≡ true → (u' : TableView) → j ≢ id → get_elem? s.views j ≡ some u' → is_held q u'.held ≡ true → A
     clash q u j is h u' apart e h' = ⊎_elim
         (λ (old : is_held q v.held ≡ true). absurd (apart (r.one j id u' v q e at h' old)))
-        (λ (none_has : (i : ℕ) (z : View) → get_elem? s.views i ≡ some z → is_held q z.held ≡ false). absurd (true≢false (sym h' ∙ none_has j u' e)))
-        (names q (ap (λ (z : View). is_held q z.held) (sym is) ∙ h))
+        (λ (none_has : (i : ℕ) (z : TableView) → get_elem? s.views i ≡ some z → is_held q z.held ≡ false). absurd (true≢false (sym h' ∙ none_has j u' e)))
+        (names q (ap (λ (z : TableView). is_held q z.held) (sym is) ∙ h))
 
 -- a view that says no more than views that were there, and holds no more than the view at its place
-pub record Comes (s : State Content View) (i : ℕ) (u : View) : Type 0 where
-  pub tells : (k version : ℕ) (region : RegionData) → ((j : ℕ) (v : View) → get_elem? s.views j ≡ some v → TellsAll k version region v) → TellsAll k version region u
+pub record Comes (s : State Content TableView) (i : ℕ) (u : TableView) : Type 0 where
+  pub tells : (k version : ℕ) (region : RegionData) → ((j : ℕ) (v : TableView) → get_elem? s.views j ≡ some v → TellsAll k version region v) → TellsAll k version region u
   pub held : All (IsOut s.words) u.held
-  pub own : (k : ℕ) → is_held k u.held ≡ true → (v : View) × (get_elem? s.views i ≡ some v) × (is_held k v.held ≡ true)
-  pub past : IsPast s.words u
+  pub own : (k : ℕ) → is_held k u.held ≡ true → (v : TableView) × (get_elem? s.views i ≡ some v) × (is_held k v.held ≡ true)
+  pub past : KnowsNoLater s.words u
 
-pub stays : (opened : List RegionData) (s : State Content View) → Kept opened s → (i : ℕ) (u : View) → get_elem? s.views i ≡ some u → Comes s i u
+pub stays : (opened : List RegionData) (s : State Content TableView) → Kept opened s → (i : ℕ) (u : TableView) → get_elem? s.views i ≡ some u → Comes s i u
 stays opened s r i u e = record {
   tells = λ k version region all. all i u e;
   held = r.held i u e;
@@ -167,12 +167,12 @@ stays opened s r i u e = record {
 }
 
 -- views change alone
-pub views_kept : (opened : List RegionData) (s : State Content View) (vs : List View) → Kept opened s
-    → ((i : ℕ) (u : View) → get_elem? vs i ≡ some u → Comes s i u)
-    → ((k i : ℕ) (u : View) → get_elem? s.views i ≡ some u → is_held k u.held ≡ true → OneHas vs (λ z. is_held k z.held ≡ true))
-    → ((k version i : ℕ) (u : View) → get_elem? s.views i ≡ some u → is_noted k version u.notes ≡ true → OneHas vs (λ z. is_noted k version z.notes ≡ true))
+pub views_kept : (opened : List RegionData) (s : State Content TableView) (vs : List TableView) → Kept opened s
+    → ((i : ℕ) (u : TableView) → get_elem? vs i ≡ some u → Comes s i u)
+    → ((k i : ℕ) (u : TableView) → get_elem? s.views i ≡ some u → is_held k u.held ≡ true → OneHas vs (λ z. is_held k z.held ≡ true))
+    → ((k version i : ℕ) (u : TableView) → get_elem? s.views i ≡ some u → is_noted k version u.notes ≡ true → OneHas vs (λ z. is_noted k version z.notes ≡ true))
     → total vs ≤ all_parts
-    → (total vs ≡ all_parts → (i : ℕ) (u : View) → get_elem? vs i ≡ some u → u.parts ≡ 0 → u ≡ no_view)
+    → (total vs ≡ all_parts → (i : ℕ) (u : TableView) → get_elem? vs i ≡ some u → u.parts ≡ 0 → u ≡ no_view)
     → Kept opened record { words = s.words; homes = s.homes; views = vs }
 views_kept opened s vs r comes holders writers whole idle = record {
   words = r.words;

@@ -13,14 +13,14 @@ use Rattle.local_run.specs.Opening.{RegionData}
 use Rattle.region_table.specs.declared.rule.Sight.{Sight}
 use Rattle.region_table.specs.declared.rule.Hold.{Hold}
 use Rattle.region_table.specs.declared.rule.Note.{Note}
-use Rattle.region_table.specs.declared.rule.View.{View}
+use Rattle.region_table.specs.declared.rule.TableView.{TableView}
 use Rattle.region_table.specs.Bases.{count_of}
-use Rattle.region_table.specs.Rule.{Content, version_of, all_parts, first_view, no_view, halved, copied, joined, is_held, is_noted, total, Tells, IsOut, IsPast, Kept}
+use Rattle.region_table.specs.Rule.{Content, version_of, all_parts, first_view, no_view, halved, copied, joined_views, is_held, is_noted, total, Tells, IsOut, KnowsNoLater, Kept}
 use Rattle.region_table.proofs.Parts.{set_there, moved, total_set, total_snoc, any_left, any_right}
 use Rattle.region_table.proofs.Keeps.{Comes, stays, views_kept}
 
 -- a view that holds nothing and has noted nothing
-knows : (s : State Content View) (i : ℕ) (v : View) → IsPast s.words v → Comes s i (copied v)
+knows : (s : State Content TableView) (i : ℕ) (v : TableView) → KnowsNoLater s.words v → Comes s i (copied v)
 knows s i v p = record {
   tells = λ k version region all low high. All-nil (Tells k version region);
   held = All-nil (IsOut s.words);
@@ -28,7 +28,7 @@ knows s i v p = record {
   past = record { notes = All-nil (λ (n : Note). n.version ≤ version_of (slice_index s.words n.slot)); seen = p.seen };
 }
 
-nothing : (s : State Content View) (i : ℕ) → Comes s i no_view
+nothing : (s : State Content TableView) (i : ℕ) → Comes s i no_view
 nothing s i = record {
   tells = λ k version region all low high. All-nil (Tells k version region);
   held = All-nil (IsOut s.words);
@@ -40,7 +40,7 @@ nothing s i = record {
 }
 
 -- a seat that is split knows and holds what it did
-as_before : (opened : List RegionData) (s : State Content View) → Kept opened s → (i : ℕ) (v : View) → get_elem? s.views i ≡ some v → Comes s i (halved v)
+as_before : (opened : List RegionData) (s : State Content TableView) → Kept opened s → (i : ℕ) (v : TableView) → get_elem? s.views i ≡ some v → Comes s i (halved v)
 as_before opened s r i v e = let p = r.past i v e in record {
   tells = λ k version region all. all i v e;
   held = r.held i v e;
@@ -48,7 +48,7 @@ as_before opened s r i v e = let p = r.past i v e in record {
   past = record { notes = p.notes; seen = p.seen };
 }
 
-pub splits : (opened : List RegionData) (id : ℕ) (v : View) → v ≢ no_view → Splits (Kept opened) id v (halved v) (copied v)
+pub splits : (opened : List RegionData) (id : ℕ) (v : TableView) → v ≢ no_view → Splits (Kept opened) id v (halved v) (copied v)
 splits opened id v live s r at = views_kept opened s (set s.views id (halved v) ++ copied v ∷ []) r
     (λ i u e. ⊎_elim
     (λ (x : get_elem? (set s.views id (halved v)) i ≡ some u). ⊎_elim
@@ -57,20 +57,20 @@ splits opened id v live s r at = views_kept opened s (set s.views id (halved v) 
     (at_set s.views id i (halved v) u x))
     (λ (x : copied v ≡ u). subst (Comes s i) x (knows s i v (r.past id v at)))
     (at_snoc (set s.views id (halved v)) (copied v) u i e))
-    (λ k i u e h. let m = moved s.views id v (halved v) (λ (z : View). is_held k z.held ≡ true) at (λ t. t) i u e h in
+    (λ k i u e h. let m = moved s.views id v (halved v) (λ (z : TableView). is_held k z.held ≡ true) at (λ t. t) i u e h in
     (i, m.0, at_longer (set s.views id (halved v)) (copied v ∷ []) i m.0 m.1, m.2))
-    (λ k version i u e h. let m = moved s.views id v (halved v) (λ (z : View). is_noted k version z.notes ≡ true) at (λ t. t) i u e h in
+    (λ k version i u e h. let m = moved s.views id v (halved v) (λ (z : TableView). is_noted k version z.notes ≡ true) at (λ t. t) i u e h in
     (i, m.0, at_longer (set s.views id (halved v)) (copied v ∷ []) i m.0 m.1, m.2))
     (let a = sum in let b = r.whole in omega (arith, a, b))
     (λ all i u e none_left. ⊎_elim
     (λ (x : get_elem? (set s.views id (halved v)) i ≡ some u). ⊎_elim
-    (λ (y : (i ≡ id) × (halved v ≡ u)). absurd (half all (ap (λ (z : View). z.parts) y.1 ∙ none_left)))
+    (λ (y : (i ≡ id) × (halved v ≡ u)). absurd (half all (ap (λ (z : TableView). z.parts) y.1 ∙ none_left)))
     (λ (y : (i ≢ id) × (get_elem? s.views i ≡ some u)). r.idle (all_before all) i u y.1 none_left)
     (at_set s.views id i (halved v) u x))
-    (λ (x : copied v ≡ u). absurd (half all (ap (λ (z : View). z.parts) x ∙ none_left)))
+    (λ (x : copied v ≡ u). absurd (half all (ap (λ (z : TableView). z.parts) x ∙ none_left)))
     (at_snoc (set s.views id (halved v)) (copied v) u i e))
   where
-    after : List View
+    after : List TableView
     after = set s.views id (halved v) ++ copied v ∷ []
 
     sum : total after + v.parts ≡ total s.views + v.parts / 2 + v.parts / 2
@@ -87,7 +87,7 @@ splits opened id v live s r at = views_kept opened s (set s.views id (halved v) 
         some_parts (omega (arith, a, b, all, none_left))
 
 -- both views in one
-both : (opened : List RegionData) (s : State Content View) (id other : ℕ) (v w : View) → Kept opened s → get_elem? s.views id ≡ some v → get_elem? s.views other ≡ some w → Comes s id (joined v w)
+both : (opened : List RegionData) (s : State Content TableView) (id other : ℕ) (v w : TableView) → Kept opened s → get_elem? s.views id ≡ some v → get_elem? s.views other ≡ some w → Comes s id (joined_views v w)
 both opened s id other v w r at at' = let p = r.past id v at in let q = r.past other w at' in record {
   tells = λ k version region all low high. All-append (Tells k version region) v.notes w.notes (all id v at low high) (all other w at' low high);
   held = r.held id v at;
@@ -101,62 +101,62 @@ both opened s id other v w r at at' = let p = r.past id v at in let q = r.past o
 abbrev noted_at : ℕ → ℕ → Note → Bool
 noted_at k version n = eqb k n.slot && eqb version n.version
 
-pub joins : (opened : List RegionData) (id : ℕ) (v : View) (other : ℕ) (w : View) → v ≢ no_view → w.held ≡ [] → Joins (Kept opened) id v other w (joined v w) no_view
+pub joins : (opened : List RegionData) (id : ℕ) (v : TableView) (other : ℕ) (w : TableView) → v ≢ no_view → w.held ≡ [] → Joins (Kept opened) id v other w (joined_views v w) no_view
 joins opened id v other w live idle s r at apart at'' =
-    views_kept opened s (set (set s.views id (joined v w)) other no_view) r
+    views_kept opened s (set (set s.views id (joined_views v w)) other no_view) r
     (λ i u e. ⊎_elim
     (λ (x : (i ≡ other) × (no_view ≡ u)). subst (Comes s i) x.1 (nothing s i))
-    (λ (x : (i ≢ other) × (get_elem? (set s.views id (joined v w)) i ≡ some u)). ⊎_elim
-    (λ (y : (i ≡ id) × (joined v w ≡ u)). subst (λ (z : ℕ). Comes s z u) (sym y.0) (subst (Comes s id) y.1 (both opened s id other v w r at at')))
+    (λ (x : (i ≢ other) × (get_elem? (set s.views id (joined_views v w)) i ≡ some u)). ⊎_elim
+    (λ (y : (i ≡ id) × (joined_views v w ≡ u)). subst (λ (z : ℕ). Comes s z u) (sym y.0) (subst (Comes s id) y.1 (both opened s id other v w r at at')))
     (λ (y : (i ≢ id) × (get_elem? s.views i ≡ some u)). stays opened s r i u y.1)
-    (at_set s.views id i (joined v w) u x.1))
-    (at_set (set s.views id (joined v w)) other i no_view u e))
+    (at_set s.views id i (joined_views v w) u x.1))
+    (at_set (set s.views id (joined_views v w)) other i no_view u e))
     (λ k i u e h. dite (ℕ_discrete i other)
     (λ same. absurd (true≢false (sym h ∙ ap (λ (z : List Hold). is_held k z) (held_of u (subst (λ (z : ℕ). get_elem? s.views z ≡ some u) same e)))))
     (λ here.
-    let m = moved s.views id v (joined v w) (λ (z : View). is_held k z.held ≡ true) at (λ t. t) i u e h in
-    (i, m.0, set_else (set s.views id (joined v w)) other i no_view here ∙ m.1, m.2)))
+    let m = moved s.views id v (joined_views v w) (λ (z : TableView). is_held k z.held ≡ true) at (λ t. t) i u e h in
+    (i, m.0, set_else (set s.views id (joined_views v w)) other i no_view here ∙ m.1, m.2)))
     (λ k version i u e h. dite (ℕ_discrete i other)
     (λ same. (
       id,
-      joined v w,
-      set_else (set s.views id (joined v w)) other id no_view (λ z. apart (sym z)) ∙ set_there s.views id v (joined v w) at,
+      joined_views v w,
+      set_else (set s.views id (joined_views v w)) other id no_view (λ z. apart (sym z)) ∙ set_there s.views id v (joined_views v w) at,
       any_right (noted_at k version) v.notes w.notes
-          (ap (λ (z : View). is_noted k version z.notes) (sym (same_view other u w (subst (λ (z : ℕ). get_elem? s.views z ≡ some u) same e) at')) ∙ h),
+          (ap (λ (z : TableView). is_noted k version z.notes) (sym (same_view other u w (subst (λ (z : ℕ). get_elem? s.views z ≡ some u) same e) at')) ∙ h),
     ))
     (λ here.
-    let m = moved s.views id v (joined v w) (λ (z : View). is_noted k version z.notes ≡ true) at (any_left (noted_at k version) v.notes w.notes) i u e h in
-    (i, m.0, set_else (set s.views id (joined v w)) other i no_view here ∙ m.1, m.2)))
+    let m = moved s.views id v (joined_views v w) (λ (z : TableView). is_noted k version z.notes ≡ true) at (any_left (noted_at k version) v.notes w.notes) i u e h in
+    (i, m.0, set_else (set s.views id (joined_views v w)) other i no_view here ∙ m.1, m.2)))
     (let a = sum in let b = r.whole in omega (arith, a, b))
     (λ all i u e none_left. ⊎_elim
     (λ (x : (i ≡ other) × (no_view ≡ u)). sym x.1)
-    (λ (x : (i ≢ other) × (get_elem? (set s.views id (joined v w)) i ≡ some u)). ⊎_elim
-    (λ (y : (i ≡ id) × (joined v w ≡ u)).
-    let none_there : v.parts + w.parts ≡ 0 = ap (λ (z : View). z.parts) y.1 ∙ none_left in
+    (λ (x : (i ≢ other) × (get_elem? (set s.views id (joined_views v w)) i ≡ some u)). ⊎_elim
+    (λ (y : (i ≡ id) × (joined_views v w ≡ u)).
+    let none_there : v.parts + w.parts ≡ 0 = ap (λ (z : TableView). z.parts) y.1 ∙ none_left in
     absurd (live (r.idle (sym sum ∙ all) id v at (omega (arith, none_there)))))
     (λ (y : (i ≢ id) × (get_elem? s.views i ≡ some u)). r.idle (sym sum ∙ all) i u y.1 none_left)
-    (at_set s.views id i (joined v w) u x.1))
-    (at_set (set s.views id (joined v w)) other i no_view u e))
+    (at_set s.views id i (joined_views v w) u x.1))
+    (at_set (set s.views id (joined_views v w)) other i no_view u e))
   where
-    sum : total (set (set s.views id (joined v w)) other no_view) ≡ total s.views
+    sum : total (set (set s.views id (joined_views v w)) other no_view) ≡ total s.views
     sum =
-        let a = total_set s.views id v (joined v w) at in
-        let b = total_set (set s.views id (joined v w)) other w no_view at'' in
+        let a = total_set s.views id v (joined_views v w) at in
+        let b = total_set (set s.views id (joined_views v w)) other w no_view at'' in
         omega (arith, a, b)
 
     at' : get_elem? s.views other ≡ some w
     at' = ⊎_elim
-        (λ (x : (other ≡ id) × (joined v w ≡ w)). absurd (apart x.0))
+        (λ (x : (other ≡ id) × (joined_views v w ≡ w)). absurd (apart x.0))
         (λ (x : (other ≢ id) × (get_elem? s.views other ≡ some w)). x.1)
-        (at_set s.views id other (joined v w) w at'')
+        (at_set s.views id other (joined_views v w) w at'')
 
-    same_view : (i : ℕ) (u z : View) → get_elem? s.views i ≡ some u → get_elem? s.views i ≡ some z → u ≡ z
+    same_view : (i : ℕ) (u z : TableView) → get_elem? s.views i ≡ some u → get_elem? s.views i ≡ some z → u ≡ z
     same_view i u z e f = some-injective _ _ (sym e ∙ f)
 
-    held_of : (u : View) → get_elem? s.views other ≡ some u → u.held ≡ []
-    held_of u e = ap (λ (z : View). z.held) (same_view other u w e at') ∙ idle
+    held_of : (u : TableView) → get_elem? s.views other ≡ some u → u.held ≡ []
+    held_of u e = ap (λ (z : TableView). z.held) (same_view other u w e at') ∙ idle
 
-one_view : (v : View) (i : ℕ) (u : View) → get_elem? (v ∷ []) i ≡ some u → (i ≡ 0) × (v ≡ u)
+one_view : (v : TableView) (i : ℕ) (u : TableView) → get_elem? (v ∷ []) i ≡ some u → (i ≡ 0) × (v ≡ u)
 one_view v zero u e = (refl, some-injective v u e)
 one_view v (suc i) u e = absurd (some-ne-none u (sym e))
 
@@ -185,9 +185,9 @@ opens opened words slots zeros full = record {
         },
       );
   out = λ k lt odd. absurd (odd (ap (λ (z : ℕ). z % 2) (ap (λ (z : List ℕ). slice_index z k) zeros ∙ get_or-replicate (length opened) k 0 0 lt)));
-  held = λ i u e. subst (λ (z : View). All (IsOut words) z.held) (one_view (first_view opened) i u e).1 (All-nil (IsOut words));
+  held = λ i u e. subst (λ (z : TableView). All (IsOut words) z.held) (one_view (first_view opened) i u e).1 (All-nil (IsOut words));
   one = λ i j u w k e f h g. (one_view (first_view opened) i u e).0 ∙ sym (one_view (first_view opened) j w f).0;
-  past = λ i u e. subst (IsPast words) (one_view (first_view opened) i u e).1 record {
+  past = λ i u e. subst (KnowsNoLater words) (one_view (first_view opened) i u e).1 record {
     notes = All-nil (λ (n : Note). n.version ≤ version_of (slice_index words n.slot));
     seen = All-nil (λ (z : Sight). version_of z.word ≤ version_of (slice_index words z.slot));
   };
@@ -197,13 +197,13 @@ opens opened words slots zeros full = record {
       absurd (omega (arith, some_puts, z));
   whole = omega arith;
   idle = λ all i u e none_left.
-      let z : all_parts ≡ 0 = ap (λ (z : View). z.parts) (one_view (first_view opened) i u e).1 ∙ none_left in
+      let z : all_parts ≡ 0 = ap (λ (z : TableView). z.parts) (one_view (first_view opened) i u e).1 ∙ none_left in
       absurd (omega (arith, z));
 }
 
 -- a seat of the table wasn't joined to another
-pub is_live : (opened : List RegionData) (v : View) → v.opened ≡ opened → 0 < length opened → v ≢ no_view
+pub is_live : (opened : List RegionData) (v : TableView) → v.opened ≡ opened → 0 < length opened → v ≢ no_view
 is_live opened v mine some_there e =
-    let a : length v.opened ≡ 0 = ap (λ (z : View). length z.opened) e in
+    let a : length v.opened ≡ 0 = ap (λ (z : TableView). length z.opened) e in
     let b : length v.opened ≡ length opened = ap length mine in
     absurd (omega (arith, a, b, some_there))

@@ -6,9 +6,9 @@ use Rattle.atomic_table.specs.Table.{State}
 use Rattle.cell_sequence.specs.State.{CellStateData}
 use Rattle.local_run.specs.Opening.{RegionData}
 use Rattle.local_run.specs.Standing.{StandsOn}
-use Rattle.region_table.specs.declared.rule.View.{View}
+use Rattle.region_table.specs.declared.rule.TableView.{TableView}
 use Rattle.region_table.specs.declared.take_out.TakeOut.TheVariants.{Out}
-use Rattle.region_table.specs.Rule.{Content, IsHome, Kept}
+use Rattle.region_table.specs.Rule.{Content, IsHomeWord, Kept}
 use Rattle.region_table.specs.Tables.{SeatData, TakesOut}
 
 -- the regions of an opening stand on a state, each by its place
@@ -21,8 +21,8 @@ StillStands state k region = region.run ≢ None → StandsOn state k region
 
 -- whatever the seats did, what is at home in a slot still stands
 abbrev pub HomesStillStand : Type 0
-HomesStillStand = (state : CellStateData) (opened : List RegionData) (s : State Content View) → HaveStood state opened → Kept opened s →
-    (k : ℕ) (region : RegionData) → k < length opened → IsHome (slice_index s.words k) → get_elem? s.homes k ≡ some (some (Some region)) →
+HomesStillStand = (state : CellStateData) (opened : List RegionData) (s : State Content TableView) → HaveStood state opened → Kept opened s →
+    (k : ℕ) (region : RegionData) → k < length opened → IsHomeWord (slice_index s.words k) → get_elem? s.homes k ≡ some (some (Some region)) →
     StillStands state k region
 
 -- and so does what a seat takes out

@@ -17,41 +17,41 @@ use Rattle.cell_grid.specs.Grid.{GridData, IsGridOf}
 use Rattle.local_run.specs.Codes.{region_code}
 use Rattle.region_table.specs.declared.rule.Hold.{Hold}
 use Rattle.region_table.specs.declared.rule.Note.{Note}
-use Rattle.region_table.specs.declared.rule.View.{View}
-use Rattle.region_table.specs.contracts.rule.View as view
+use Rattle.region_table.specs.declared.rule.TableView.{TableView}
+use Rattle.region_table.specs.contracts.rule.TableView as view
 use Rattle.region_table.specs.declared.take_out.TakeOut.{TakeOut}
 use Rattle.region_table.specs.declared.take_out.TakeOut.TheVariants.{Out, Away, Worn}
 use Rattle.region_table.specs.Bases.{MayLieIn, count_of, CountsAsOpened}
-use Rattle.region_table.specs.Rule.{Content, IsHome, version_of, last_version, slots_of, first_view, is_noted, seeing, holding, putting, TellsAll, Kept, IsFound, IsNotBefore}
+use Rattle.region_table.specs.Rule.{Content, IsHomeWord, version_of, last_version, slots_of, first_view, is_noted, seeing, holding, putting, TellsAll, Kept, IsFoundAtHome, IsNotBeforeKnown}
 
 -- which table it is, and what it was opened with
-pub record TableData : Type 0 where
+pub record RegionTableData : Type 0 where
   pub id : TableId
   pub opened : List RegionData
 
 -- whose seat it is, and what it knows
 pub record SeatData : Type 0 where
   pub table : TableId
-  pub view : View
+  pub view : TableView
 
-abbrev pub table_code : Coded TableData
+abbrev pub table_code : Coded RegionTableData
 table_code = code_by (TableId × List RegionData) (coded× table_id_coded (coded_list region_code))
     (λ t. (t.id, t.opened)) (λ p. record { id = p.0; opened = p.1 }) (λ _. refl)
 
 abbrev pub seat_code : Coded SeatData
-seat_code = code_by (TableId × View) (coded× table_id_coded view.the_row.coded)
+seat_code = code_by (TableId × TableView) (coded× table_id_coded view.the_row.coded)
     (λ s. (s.table, s.view)) (λ p. record { table = p.0; view = p.1 }) (λ _. refl)
 
 -- the seat is of this table
-pub record IsSeatOf (table : TableData) (seat : SeatData) : Type 0 where
+pub record IsSeatOf (table : RegionTableData) (seat : SeatData) : Type 0 where
   pub table_is : seat.table ≡ table.id
   pub opened : seat.view.opened ≡ table.opened
 
 -- the seat of a table that was just opened
-abbrev pub first_seat : TableData → SeatData
+abbrev pub first_seat : RegionTableData → SeatData
 first_seat table = record { table = table.id; view = first_view table.opened }
 
-abbrev pub with_view : SeatData → View → SeatData
+abbrev pub with_view : SeatData → TableView → SeatData
 with_view seat v = record { table = seat.table; view = v }
 
 -- ---- what the table keeps
@@ -72,7 +72,7 @@ abbrev pub emptied : ℕ → ℕ × Content
 emptied k = (k, None)
 
 -- it carries the slots that its view names as held, in this order, each emptied, and can put all of them back
-pub record IsKeptSeat (me : Me Content View) (order : List ℕ) : Type 0 where
+pub record IsKeptSeat (me : Me Content TableView) (order : List ℕ) : Type 0 where
   pub carried : me.1 ≡ map emptied order
   pub held : slots_of me.0.held ≡ order
   pub distinct : IsDistinct eqb order
@@ -82,16 +82,16 @@ pub record IsKeptSeat (me : Me Content View) (order : List ℕ) : Type 0 where
 -- ---- what the calls make of a seat
 -- the answer by the word that was found
 abbrev pub AnswersTo : SeatData → ℕ → ℕ → TakeOut → SeatData → Type 0
-AnswersTo old k word (Out region) new = IsHome word × (version_of word < last_version)
-    × (new ≡ with_view old (holding old.view k word)) × IsFound old.view k word region
-AnswersTo old k word Away new = (¬ IsHome word) × (new ≡ with_view old (seeing old.view k word))
-AnswersTo old k word Worn new = IsHome word × (version_of word ≡ last_version)
+AnswersTo old k word (Out region) new = IsHomeWord word × (version_of word < last_version)
+    × (new ≡ with_view old (holding old.view k word)) × IsFoundAtHome old.view k word region
+AnswersTo old k word Away new = (¬ IsHomeWord word) × (new ≡ with_view old (seeing old.view k word))
+AnswersTo old k word Worn new = IsHomeWord word × (version_of word ≡ last_version)
     × (new ≡ with_view old (seeing old.view k word))
 
 pub record TakesOut (old : SeatData) (k : ℕ) (answer : TakeOut) (new : SeatData) : Type 0 where
   pub word : ℕ
   pub fits : word < 2 ^ 64
-  pub later : IsNotBefore old.view k word
+  pub later : IsNotBeforeKnown old.view k word
   pub answers : AnswersTo old k word answer new
 
 pub record PutsBack (old : SeatData) (k : ℕ) (region : RegionData) (new : SeatData) : Type 0 where
@@ -100,18 +100,18 @@ pub record PutsBack (old : SeatData) (k : ℕ) (region : RegionData) (new : Seat
   pub puts : new ≡ with_view old (putting old.view k (version + 1) (count_of region))
 
 -- what comes of slot k by its word and what it holds
-abbrev pub ComesOf : List ℕ → List Content → Rules → GridData → Stamp → ℕ → RegionData → Type 0
-ComesOf words contents rules grid floor k region = (word : ℕ) (content : Content) → get_elem? words k ≡ some word → get_elem? contents k ≡ some content
-    → (IsHome word → IfSome content (λ (found : RegionData). region ≡ found))
-    × ((¬ IsHome word) → region ≡ record { home = record { number = k; rules = rules; grid = grid }; floor = floor; run = None })
+abbrev pub ComesOfSlot : List ℕ → List Content → Rules → GridData → Stamp → ℕ → RegionData → Type 0
+ComesOfSlot words contents rules grid floor k region = (word : ℕ) (content : Content) → get_elem? words k ≡ some word → get_elem? contents k ≡ some content
+    → (IsHomeWord word → IfSome content (λ (found : RegionData). region ≡ found))
+    × ((¬ IsHomeWord word) → region ≡ record { home = record { number = k; rules = rules; grid = grid }; floor = floor; run = None })
 
 -- what is found in slot k of a table that is closed: what lay at home, or a spent one in its place
-pub record ClosesAt (opened : List RegionData) (s : State Content View) (k : ℕ) (region : RegionData) : Type 0 where
-  pub home : IsHome (slice_index s.words k) → get_elem? s.homes k ≡ some (some (Some region))
-  pub out : ¬ IsHome (slice_index s.words k) → (first : RegionData) → slice_get opened k ≡ Some first → region ≡ spent first
+pub record ClosesAt (opened : List RegionData) (s : State Content TableView) (k : ℕ) (region : RegionData) : Type 0 where
+  pub home : IsHomeWord (slice_index s.words k) → get_elem? s.homes k ≡ some (some (Some region))
+  pub out : ¬ IsHomeWord (slice_index s.words k) → (first : RegionData) → slice_get opened k ≡ Some first → region ≡ spent first
 
 -- what a seat's own puts left in slot k: the number of entries that it noted last, or the one at opening
-pub record IsLeft (opened : List RegionData) (v : View) (k : ℕ) (region : RegionData) : Type 0 where
+pub record IsLeft (opened : List RegionData) (v : TableView) (k : ℕ) (region : RegionData) : Type 0 where
   pub version : ℕ
   pub lies : MayLieIn opened k region
   pub at_first : version ≡ 0 → CountsAsOpened opened k region
@@ -119,12 +119,12 @@ pub record IsLeft (opened : List RegionData) (v : View) (k : ℕ) (region : Regi
   pub latest : All (λ (n : Note). n.slot ≡ k → n.version ≤ version) v.notes
   pub noted : TellsAll k version region v
 
-abbrev pub AreLeft : List RegionData → View → List RegionData → Type 0
+abbrev pub AreLeft : List RegionData → TableView → List RegionData → Type 0
 AreLeft opened v regions = (k : ℕ) (region : RegionData) → slice_get regions k ≡ Some region → IsLeft opened v k region
 
 -- the regions come from a state in the rule, in which the seat stands
-pub record Closes (table : TableData) (seat : SeatData) (regions : List RegionData) : Type 0 where
-  pub state : State Content View
+pub record Closes (table : RegionTableData) (seat : SeatData) (regions : List RegionData) : Type 0 where
+  pub state : State Content TableView
   pub kept : Kept table.opened state
   pub seen : (id : ℕ) × (get_elem? state.views id ≡ some seat.view)
   pub count : length regions ≡ length table.opened

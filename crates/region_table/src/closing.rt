@@ -7,8 +7,8 @@ ghost use Rattle.event_stamps.specs.Order.{Before, end_stamp};
 ghost use Rattle.cell_grid.specs.Grid.{IsGridOf};
 ghost use Rattle.local_run.specs.LocalRun.{IsInPlace};
 ghost use Rattle.local_run.specs.Opening.{RegionData};
-ghost use Rattle.region_table.specs.Rule.{IsHome};
-ghost use Rattle.region_table.specs.Tables.{ComesOf};
+ghost use Rattle.region_table.specs.Rule.{IsHomeWord};
+ghost use Rattle.region_table.specs.Tables.{ComesOfSlot};
 
 use atomic_table::Closed;
 use cell_grid::Grid;
@@ -32,7 +32,7 @@ pub(crate) fn gather(
     requires in_time { ¬ Before (end_stamp rules.now.end) floor }
     ensures count { length result.items ≡ slots_len closed.slots }
     ensures each { (k : ℕ) (region : RegionData) → slice_get result.items k ≡ Some region →
-        ComesOf (slots_items closed.words) (slots_items closed.slots) rules.now grid.now floor k region }
+        ComesOfSlot (slots_items closed.words) (slots_items closed.slots) rules.now grid.now floor k region }
 {
     for k in 0..closed.slot_count() {
         let word = closed.word(k);
@@ -57,8 +57,8 @@ fn region_of(
 ) -> Region
     requires place { IsInPlace (record { number = number; rules = rules.now; grid = grid.now }) }
     requires in_time { ¬ Before (end_stamp rules.now.end) floor }
-    ensures home { IsHome word → IfSome content (λ region. result ≡ region) }
-    ensures out { (¬ IsHome word) → result ≡ record {
+    ensures home { IsHomeWord word → IfSome content (λ region. result ≡ region) }
+    ensures out { (¬ IsHomeWord word) → result ≡ record {
       home = record { number = number; rules = rules.now; grid = grid.now };
       floor = floor;
       run = None;

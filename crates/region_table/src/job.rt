@@ -8,7 +8,7 @@ ghost use Rattle.region_table.specs.Rule.{slots_of, is_held};
 ghost use Rattle.region_table.specs.Tables.{IsSeatOf};
 
 use crate::calm::{Calm, Changes, Visit};
-use crate::pace::{Pace, Slice};
+use crate::pace::{TablePace, TableSlice};
 use crate::{RegionTable, TableSeat, TakeOut};
 use cell_grid::Grid;
 use event_stamps::Stamp;
@@ -17,13 +17,13 @@ use std::alloc::{AllocError, Global};
 
 /// The work of one worker.
 #[derive(Drop)]
-pub(crate) struct Job<'a, G: Gate> {
+pub(crate) struct TableJob<'a, G: Gate> {
     pub alloc: Global,
     pub table: &'a RegionTable,
     pub grid: &'a Grid,
     pub gate: &'a G,
     pub changes: &'a Changes,
-    pub pace: &'a Pace,
+    pub pace: &'a TablePace,
     pub worker: u32,
     /// How many workers there are.
     pub workers: u32,
@@ -32,7 +32,7 @@ pub(crate) struct Job<'a, G: Gate> {
     ghost some_steps: { 0 < steps },
 }
 
-impl<'a, G: Gate> Job<'a, G> {
+impl<'a, G: Gate> TableJob<'a, G> {
     /// Makes the given number of turns. Once no region has anything to do, they only pass the gate.
     ///
     /// # Errors
@@ -84,7 +84,7 @@ impl<'a, G: Gate> Job<'a, G> {
         &self,
         seat: &mut TableSeat,
         calm: &mut Calm<'_>,
-        slice: &Slice,
+        slice: &TableSlice,
     ) -> Result<(), AllocError>
         requires seat { IsSeatOf self.now.table.now seat.old }
         requires idle { slots_of seat.old.view.held ≡ [] }
@@ -99,7 +99,12 @@ impl<'a, G: Gate> Job<'a, G> {
     }
 
     // Lets a region run, and then hear those that it is linked with. What is away is passed over.
-    fn visit(&self, seat: &mut TableSeat, region: u32, slice: &Slice) -> Result<Visit, AllocError>
+    fn visit(
+        &self,
+        seat: &mut TableSeat,
+        region: u32,
+        slice: &TableSlice,
+    ) -> Result<Visit, AllocError>
         requires region { IsRegion self.now.grid.now region }
         requires seat { IsSeatOf self.now.table.now seat.old }
         requires idle { slots_of seat.old.view.held ≡ [] }
@@ -116,7 +121,12 @@ impl<'a, G: Gate> Job<'a, G> {
     }
 
     // Lets a region run, if it is at home.
-    fn step(&self, seat: &mut TableSeat, region: u32, slice: &Slice) -> Result<Visit, AllocError>
+    fn step(
+        &self,
+        seat: &mut TableSeat,
+        region: u32,
+        slice: &TableSlice,
+    ) -> Result<Visit, AllocError>
         requires region { IsRegion self.now.grid.now region }
         requires seat { IsSeatOf self.now.table.now seat.old }
         requires idle { slots_of seat.old.view.held ≡ [] }
@@ -142,7 +152,7 @@ impl<'a, G: Gate> Job<'a, G> {
         seat: &mut TableSeat,
         region: u32,
         mut value: Region,
-        slice: &Slice,
+        slice: &TableSlice,
     ) -> Result<u32, AllocError>
         requires seat { IsSeatOf self.now.table.now seat.old }
         requires out { slots_of seat.old.view.held ≡ region ∷ [] }
@@ -262,9 +272,9 @@ fn put(table: &RegionTable, seat: &mut TableSeat, region: u32, value: Region)
 fn run(
     alloc: Global,
     changes: &Changes,
-    pace: &Pace,
+    pace: &TablePace,
     value: &mut Region,
-    slice: &Slice,
+    slice: &TableSlice,
 ) -> Result<u32, AllocError>
     ensures { StaysOrSpent value.old value.new }
 {
@@ -281,7 +291,7 @@ fn run(
 fn hear(
     alloc: Global,
     changes: &Changes,
-    pace: &Pace,
+    pace: &TablePace,
     hears: &mut Region,
     tells: &mut Region,
 ) -> Result<(), AllocError>

@@ -24,19 +24,19 @@ const UNKNOWN: u64 = u64::MAX;
 
 /// How far the regions of a burst came, and how far they run next.
 #[derive(Drop)]
-pub(crate) struct Pace {
+pub(crate) struct TablePace {
     // How many there are, one at least.
     disks: u64,
     // How many steps a region makes in a slice at most.
     steps: u32,
     // Padded, since workers write them side by side.
-    marks: Vec<CachePadded<Mark>>,
+    marks: Vec<CachePadded<TableMark>>,
     ghost some_steps: { 0 < steps },
 }
 
 // How far a region came.
 #[derive(Drop)]
-struct Mark {
+struct TableMark {
     // What is due, in parts of a tick.
     due: AtomicU64,
     // How many parts of a tick the steps of recent slices covered.
@@ -45,7 +45,7 @@ struct Mark {
 
 /// How far a region runs in a slice.
 #[derive(Drop)]
-pub(crate) struct Slice {
+pub(crate) struct TableSlice {
     /// How many steps at most, at least 1.
     pub steps: u32,
     /// What is due has to be before it.
@@ -53,24 +53,24 @@ pub(crate) struct Slice {
     ghost some_steps: { 0 < steps },
 }
 
-impl Pace {
+impl TablePace {
     /// Of these regions.
     ///
     /// # Errors
     /// Out of memory.
-    pub(crate) fn new(alloc: Global, regions: &[Region]) -> Result<Pace, AllocError> {
+    pub(crate) fn new(alloc: Global, regions: &[Region]) -> Result<TablePace, AllocError> {
         let mut disks = 1;
         for region in regions {
             disks = disks.max(region.room() as u64);
         }
         let mut marks = Vec::with_capacity(alloc, regions.len())?;
         for region in regions {
-            marks.push(CachePadded::new(Mark {
+            marks.push(CachePadded::new(TableMark {
                 due: AtomicU64::new(to_parts(&region.due(), disks)),
                 lead: AtomicU64::new(UNKNOWN),
             }))?;
         }
-        Ok(Pace {
+        Ok(TablePace {
             disks,
             steps: steps_of(disks, regions.len() as u64),
             marks,
@@ -78,7 +78,7 @@ impl Pace {
     }
 
     /// The next slice, where so many steps are left, one at least.
-    pub(crate) fn next_slice(&self, left: u32) -> Slice
+    pub(crate) fn next_slice(&self, left: u32) -> TableSlice
         requires { 0 < left }
     {
         let bound = self.bound();
@@ -87,7 +87,7 @@ impl Pace {
         } else {
             self.steps
         };
-        Slice {
+        TableSlice {
             steps: left.min(most),
             bound: from_parts(bound, self.disks),
         }

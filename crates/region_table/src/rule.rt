@@ -1,7 +1,7 @@
 //! What a seat knows, and the steps that it makes.
 
 ghost use Rattle.std.specs.Prelude.{[]};
-ghost use Rattle.region_table.specs.Rule.{Kept, first_view, Taken, Put, Undone, halved, copied, joined, no_view};
+ghost use Rattle.region_table.specs.Rule.{Kept, first_view, Taken, Put, Undone, halved, copied, joined_views, no_view};
 
 use atomic_table::{Join, Play, Seat, Split, Table, TableRule};
 use region_core::Region;
@@ -29,7 +29,7 @@ pub struct Note {
 }
 
 /// What a seat knows. No value of it is made.
-pub struct View {
+pub struct TableView {
     /// The regions that the table was opened with.
     pub opened: LinkedList<Region>,
     /// What its takes found, the latest first.
@@ -44,7 +44,7 @@ pub struct View {
 
 pub struct Law;
 
-impl TableRule<Option<Region>, View, Snapshot<Vec<Region>>> for Law {
+impl TableRule<Option<Region>, TableView, Snapshot<Vec<Region>>> for Law {
     ghost holds = { λ key. Kept key.value.items };
 
     ghost first = { λ key. first_view key.value.items };
@@ -52,25 +52,25 @@ impl TableRule<Option<Region>, View, Snapshot<Vec<Region>>> for Law {
 
 pub struct Takes;
 
-impl Play<Option<Region>, View> for Takes {
+impl Play<Option<Region>, TableView> for Takes {
     ghost then = { Taken };
 }
 
 pub struct Puts;
 
-impl Play<Option<Region>, View> for Puts {
+impl Play<Option<Region>, TableView> for Puts {
     ghost then = { Put };
 }
 
 pub struct Undoes;
 
-impl Play<Option<Region>, View> for Undoes {
+impl Play<Option<Region>, TableView> for Undoes {
     ghost then = { Undone };
 }
 
 pub struct Copies;
 
-impl Split<View> for Copies {
+impl Split<TableView> for Copies {
     ghost left = { halved };
 
     ghost right = { copied };
@@ -78,12 +78,12 @@ impl Split<View> for Copies {
 
 pub struct Joins;
 
-impl Join<View> for Joins {
-    ghost both = { joined };
+impl Join<TableView> for Joins {
+    ghost both = { joined_views };
 
     ghost spent = { no_view };
 }
 
-pub type Slots = Table<Option<Region>, View, Snapshot<Vec<Region>>, Law, Global>;
+pub type Slots = Table<Option<Region>, TableView, Snapshot<Vec<Region>>, Law, Global>;
 
-pub type Token = Seat<Option<Region>, View>;
+pub type Token = Seat<Option<Region>, TableView>;

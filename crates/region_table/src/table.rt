@@ -18,9 +18,9 @@ pub struct RegionTable {
 }
 
 impl Model for RegionTable {
-    ghost use Rattle.region_table.specs.Tables.{TableData, table_code, IsKeptTable};
+    ghost use Rattle.region_table.specs.Tables.{RegionTableData, table_code, IsKeptTable};
 
-    ghost Value = { TableData };
+    ghost Value = { RegionTableData };
 
     ghost coded = { table_code };
 
@@ -33,7 +33,7 @@ ghost use Rattle.std.specs.Prelude.{◌≡◌, ◌<◌, ◌≤◌, [], length, m
 ghost use Rattle.cell_grid.specs.declared.grid.TheConstants.{MAX_REGIONS};
 ghost use Rattle.local_run.specs.Bursts.{AreTogether};
 ghost use Rattle.region_table.specs.Bases.{MayLieIn, AreReplaced};
-ghost use Rattle.region_table.specs.Rule.{HasAll, first_view, is_held, halved, copied, joined};
+ghost use Rattle.region_table.specs.Rule.{HasAll, first_view, is_held, halved, copied, joined_views};
 ghost use Rattle.region_table.specs.Tables.{IsSeatOf, first_seat, with_view, TakesOut, PutsBack, AreLeft, Closes};
 
 use crate::closing::gather;
@@ -96,7 +96,7 @@ impl RegionTable {
         requires seat { IsSeatOf self.now seat.old }
         requires other { IsSeatOf self.now other }
         requires idle { other.view.held ≡ [] }
-        ensures { seat.new ≡ with_view seat.old (joined seat.old.view other.view) }
+        ensures { seat.new ≡ with_view seat.old (joined_views seat.old.view other.view) }
     {
         let TableSeat { token, order: _ } = other;
         self.slots.shared.join_seat::<Joins>(&mut seat.token, token);

@@ -13,8 +13,8 @@ ghost use Rattle.region_table.specs.Rule.{slots_of};
 ghost use Rattle.region_table.specs.Tables.{IsSeatOf};
 
 use crate::calm::Changes;
-use crate::job::Job;
-use crate::pace::Pace;
+use crate::job::TableJob;
+use crate::pace::TablePace;
 use crate::{RegionTable, TableSeat};
 use cell_grid::Grid;
 use region_core::{Gate, Region};
@@ -44,7 +44,7 @@ pub fn burst_in_table<R: Threads + Wait + Sync, G: Gate>(
     };
     let grid = *first.grid();
     let jobs = workers.workers.min(grid.regions());
-    let pace = Pace::new(alloc, &regions)?;
+    let pace = TablePace::new(alloc, &regions)?;
     let (table, mut seat) = RegionTable::open(alloc, regions)?;
     run_jobs(workers, rt, alloc, &table, &grid, &pace, jobs, &mut seat)?;
     let worked = table.close(alloc, seat)?;
@@ -62,7 +62,7 @@ fn run_jobs<R: Threads + Wait + Sync, G: Gate>(
     alloc: Global,
     table: &RegionTable,
     grid: &Grid,
-    pace: &Pace,
+    pace: &TablePace,
     jobs: u32,
     seat: &mut TableSeat,
 ) -> Result<(), AllocError>
@@ -78,7 +78,7 @@ fn run_jobs<R: Threads + Wait + Sync, G: Gate>(
         ensures { IfOk result (λ seat. IsSeatOf table.entry.now seat × (seat.view.held ≡ [])) }
     {
         let (worker, mut seat) = start;
-        let job = Job {
+        let job = TableJob {
             alloc,
             table,
             grid,

@@ -11,7 +11,7 @@ use Rattle.std.proofs.lemmas.Nat.{div-mul-add, mod-mul-add}
 use Rattle.std.proofs.lemmas.Bool.Decides.{nat_tests}
 use Rattle.region_view.specs.declared.action.Placed.{Placed}
 use Rattle.region_view.specs.declared.compact.Compact.TheInside.{Inside}
-use Rattle.region_view.specs.Compact.{IsNarrow, IsSmall, no_time, row_of, unpacked, packed, recelled_row, IsPacked}
+use Rattle.region_view.specs.Compact.{IsNarrow, IsSmallRow, no_time, row_inside, unpacked, packed, recelled_row, IsPackedRow}
 
 -- ---- a number that is compared with the least and the greatest one of 32 bits
 tested : (b : Bool) → T b → b ≡ true
@@ -42,13 +42,13 @@ widened n narrow = ap (λ (k : ℤ). to_z w64 (of_z w64 k)) (to_z-of_z w32 n nar
 pub narrowed : (n : ℤ) → IsNarrow n → to_z w32 (of_z w32 (to_z w64 (of_z w64 n))) ≡ n
 narrowed n narrow = omega (arith, ints)
 
-present : (a : Inside) → a.time < 2 ^ 63 → unpacked a ≡ Some (row_of a)
+present : (a : Inside) → a.time < 2 ^ 63 → unpacked a ≡ Some (row_inside a)
 present a early = grind (arith, nat_tests)
 
 early : (base mark : ℕ) → base < 2 ^ 43 → mark < 2 ^ 20 → base * 2 ^ 20 + mark < 2 ^ 63
 early base mark b m = omega arith
 
-pub row_again : (p : Placed) → IsSmall p → unpacked (packed (Some p)) ≡ Some p
+pub row_again : (p : Placed) → IsSmallRow p → unpacked (packed (Some p)) ≡ Some p
 row_again p small =
     let base = div-mul-add p.disk.base (2 ^ 20) p.disk.mark small.time.mark in
     let mark = mod-mul-add p.disk.base (2 ^ 20) p.disk.mark small.time.mark in
@@ -66,22 +66,22 @@ row_again p small =
       cell = p.cell;
     }))
 
-pub is_packed : (p : Placed) → IsSmall p → IsPacked (packed (Some p))
+pub is_packed : (p : Placed) → IsSmallRow p → IsPackedRow (packed (Some p))
 is_packed p small = record { exact = ap packed (row_again p small) }
 
 -- ---- a row that is there
-pub is_row_of : (a : Inside) (p : Placed) → unpacked a ≡ Some p → (a.time ≢ no_time) × (row_of a ≡ p)
+pub is_row_of : (a : Inside) (p : Placed) → unpacked a ≡ Some p → (a.time ≢ no_time) × (row_inside a ≡ p)
 is_row_of a p e = by_test (a.time == no_time) refl e
   where
-    by_test : (b : Bool) → (a.time == no_time) ≡ b → (if b then None else Some (row_of a)) ≡ Some p →
-        (a.time ≢ no_time) × (row_of a ≡ p)
+    by_test : (b : Bool) → (a.time == no_time) ≡ b → (if b then None else Some (row_inside a)) ≡ Some p →
+        (a.time ≢ no_time) × (row_inside a ≡ p)
     by_test true is none = absurd (none-some p none)
-    by_test false is some = (eqb-false a.time no_time is, same_Some (row_of a) p some)
+    by_test false is some = (eqb-false a.time no_time is, same_Some (row_inside a) p some)
 
-there : (a : Inside) → a.time ≢ no_time → unpacked a ≡ Some (row_of a)
+there : (a : Inside) → a.time ≢ no_time → unpacked a ≡ Some (row_inside a)
 there a other = by_test (a.time == no_time) refl
   where
-    by_test : (b : Bool) → (a.time == no_time) ≡ b → (if b then None else Some (row_of a)) ≡ Some (row_of a)
+    by_test : (b : Bool) → (a.time == no_time) ≡ b → (if b then None else Some (row_inside a)) ≡ Some (row_inside a)
     by_test true is = absurd (other (eqb-true a.time no_time is))
     by_test false is = refl
 

@@ -90,7 +90,7 @@ filled (r ∷ []) = r ∷ nothing ∷ []
 filled (r ∷ s ∷ rows) = r ∷ s ∷ []
 
 -- the first of the items, so many, are rows in use
-pub record AreKept (items : RowList) (used : ℕ) : Type 0 where
+pub record AreRowsInUse (items : RowList) (used : ℕ) : Type 0 where
   pub rows : AreRows (take used items)
   pub few : used ≡ length (take used items)
   pub filled : items ≡ filled (take used items)

@@ -2,9 +2,9 @@
 use Rattle.std.specs.Prelude.{ℕ, ◌+◌, ◌^◌, ◌<◌, ◌≤◌, ◌⊎◌, Bool, true, false, IsTrue, List, [], ◌∷◌, length, slice_index_or, slice_set, Option, Some, None, IfSome}
 use Rattle.std.specs.FinMap as map
 use Rattle.region_view.specs.declared.action.Placed.{Placed}
-use Rattle.region_view.specs.declared.slots.Form.{Form}
-use Rattle.region_view.specs.declared.slots.Form.TheVariants.{Compact, Wide}
-use Rattle.region_view.specs.Compact.{IsSmall}
+use Rattle.region_view.specs.declared.slots.Storage.{Storage}
+use Rattle.region_view.specs.declared.slots.Storage.TheVariants.{Compact, Wide}
+use Rattle.region_view.specs.Compact.{IsSmallRow}
 use Rattle.region_view.specs.Views.{ViewData}
 
 -- what stands at each number, up to some number
@@ -16,7 +16,7 @@ pub record SlotsData : Type 0 where
   pub wide : Bool
   pub rows : SlotList
 
-abbrev pub slots_in : Form → SlotsData
+abbrev pub slots_in : Storage → SlotsData
 slots_in (Compact rows) = record { wide = false; rows = rows.items }
 slots_in (Wide rows) = record { wide = true; rows = rows.items }
 
@@ -25,27 +25,27 @@ pub record AreFew (rows : SlotList) : Type 0 where
   pub few : length rows ≤ 2 ^ 32
 
 -- what stands at a number; past the end nothing does
-abbrev pub at : SlotsData → ℕ → Option Placed
-at slots i = slice_index_or slots.rows i None
+abbrev pub slot_at : SlotsData → ℕ → Option Placed
+slot_at slots i = slice_index_or slots.rows i None
 
 -- a row may stand at the number
 pub record TakesRow (slots : SlotsData) (i : ℕ) (p : Placed) : Type 0 where
   pub within : i < length slots.rows
-  pub form : IsTrue slots.wide ⊎ IsSmall p
+  pub form : IsTrue slots.wide ⊎ IsSmallRow p
 
 -- what may be set at the number; where nothing stands there's no need of room
-abbrev pub Takes : SlotsData → ℕ → Option Placed → Type 0
-Takes slots i row = IfSome row (TakesRow slots i)
+abbrev pub MaySet : SlotsData → ℕ → Option Placed → Type 0
+MaySet slots i row = IfSome row (TakesRow slots i)
 
 abbrev pub set_slot : SlotsData → ℕ → Option Placed → SlotsData
 set_slot slots i row = record { wide = slots.wide; rows = slice_set slots.rows i row }
 
 -- the disks with their numbers, where the first slot is that of the number n
-abbrev pub entries_from : ℕ → SlotList → List (ℕ × Placed)
-entries_from n [] = []
-entries_from n (None ∷ rows) = entries_from (n + 1) rows
-entries_from n (Some p ∷ rows) = (n, p) ∷ entries_from (n + 1) rows
+abbrev pub numbered_rows : ℕ → SlotList → List (ℕ × Placed)
+numbered_rows n [] = []
+numbered_rows n (None ∷ rows) = numbered_rows (n + 1) rows
+numbered_rows n (Some p ∷ rows) = (n, p) ∷ numbered_rows (n + 1) rows
 
 -- the placed disks by number
 abbrev pub placed_in : SlotsData → ViewData
-placed_in slots = map.from_entries (entries_from 0 slots.rows)
+placed_in slots = map.from_entries (numbered_rows 0 slots.rows)

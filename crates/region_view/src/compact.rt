@@ -36,11 +36,11 @@ impl Model for Compact {
 
     ghost coded = { coded_option placed.the_row.coded };
 
-    ghost use Rattle.region_view.specs.Compact.{unpacked, packed, IsPacked};
+    ghost use Rattle.region_view.specs.Compact.{unpacked, packed, IsPackedRow};
 
     ghost view = { λ a. unpacked a };
 
-    ghost invariant = { λ a. IsPacked a };
+    ghost invariant = { λ a. IsPackedRow a };
 
     ghost inverse = { λ row. packed row };
 
@@ -48,7 +48,7 @@ impl Model for Compact {
 }
 
 ghost use Rattle.std.specs.Prelude.{◌≡◌, ◌↔◌, IfSome, IsTrue, None, Some, is_some, option_copied};
-ghost use Rattle.region_view.specs.Compact.{recelled_row, IsNarrow, HasSmallCourse, HasSmallTime, IsSmall};
+ghost use Rattle.region_view.specs.Compact.{recelled_row, IsNarrow, HasSmallCourse, HasSmallTime, IsSmallRow};
 
 impl Compact {
     /// No disk.
@@ -68,7 +68,7 @@ impl Compact {
 
     /// A placed disk of small numbers.
     pub fn some(row: &Placed) -> Compact
-        requires small { IsSmall row.now }
+        requires small { IsSmallRow row.now }
         ensures { result ≡ Some row.now }
     {
         let disk = &row.disk;
@@ -85,7 +85,7 @@ impl Compact {
 
     // A placed disk of small numbers, or none.
     pub(crate) fn new(row: Option<&Placed>) -> Compact
-        requires small { IfSome (option_copied row) IsSmall }
+        requires small { IfSome (option_copied row) IsSmallRow }
         ensures { result ≡ option_copied row.entry }
     {
         match row {
@@ -163,7 +163,7 @@ impl Compact {
 /// Whether each number of a row has room in the narrow form: coordinates, velocity and size in 32 bits each, with
 /// their signs, the base tick in 43 and the mark in 20.
 pub fn is_small(row: &Placed) -> bool
-    ensures { IsTrue result ↔ IsSmall row.now }
+    ensures { IsTrue result ↔ IsSmallRow row.now }
 {
     has_small_course(&row.disk) && has_small_time(&row.disk)
 }

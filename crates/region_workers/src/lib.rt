@@ -7,11 +7,11 @@
 
 mod by_call;
 mod call;
-mod course;
 mod job;
 pub mod pace;
 pub mod rendezvous;
 pub mod roll;
+mod schedule;
 mod shared;
 mod turns;
 pub mod virtual_time;

@@ -14,7 +14,7 @@ use crate::virtual_time::{from_parts, to_parts};
 use crossbeam_utils::CachePadded;
 use event_stamps::Stamp;
 use region_core::Region;
-use region_locks::Progress;
+use region_locks::RegionProgress;
 use std::alloc::{AllocError, Global};
 use std::sync::atomic::{AtomicU64, Ordering};
 
@@ -130,7 +130,7 @@ impl Pace {
     }
 
     /// Takes in how far a region came in a slice.
-    pub fn ran(&self, region: u32, progress: &Progress) {
+    pub fn ran(&self, region: u32, progress: &RegionProgress) {
         let Some(mark) = self.marks.get(region as usize) else {
             return;
         };

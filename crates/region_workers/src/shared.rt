@@ -3,10 +3,10 @@
 ghost use Rattle.std.specs.Prelude.{◌≡◌, ◌<◌, length, IfOk};
 ghost use Rattle.local_run.specs.RunOn.{AreRunOn};
 
-use crate::course::Course;
 use crate::job::Job;
 use crate::pace::Pace;
 use crate::rendezvous::Rendezvous;
+use crate::schedule::Schedule;
 use crate::turns::Turns;
 use region_core::{Beside, Gate, Region};
 use region_locks::{Locks, Origin};
@@ -20,7 +20,7 @@ pub(crate) struct Shared<'g, G: Gate, O: Origin> {
     pub locks: Locks<O>,
     pub turns: Turns<'g, G>,
     pub pace: Pace,
-    pub course: Course,
+    pub schedule: Schedule,
     pub rendezvous: Rendezvous,
     /// How many workers there are, 1 at least.
     pub workers: u32,
@@ -71,7 +71,7 @@ impl<'g, G: Gate, O: Origin> Shared<'g, G, O> {
             locks: &self.locks,
             turns: &self.turns,
             pace: &self.pace,
-            course: &self.course,
+            schedule: &self.schedule,
             rendezvous: &self.rendezvous,
             worker,
             workers: self.workers,

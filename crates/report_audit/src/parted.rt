@@ -5,7 +5,7 @@ ghost use Rattle.std.specs.Prelude.{◌≡◌, ◌≤◌, ◌<◌, ◌-◌, ◌^
 ghost use Rattle.report_ports.specs.Ports.{Takes, CountsTake};
 ghost use Rattle.report_audit.specs.Lines.{line_length};
 ghost use Rattle.report_audit.specs.Parting.{all_left, front_of_known, rest_of_known};
-ghost use Rattle.report_audit.specs.Stages.{left_in, coming_in, IsNext, Passes};
+ghost use Rattle.report_audit.specs.Stages.{left_in, coming_in, IsRestNext, PassesBytes};
 ghost use Rattle.report_audit.specs.Ready.{CountsUnread};
 
 use crate::ahead::Ahead;
@@ -86,8 +86,8 @@ impl<'s, S: Source> Parted<'s, S> {
     // Goes on to the front's end, and tells whether it came there.
     fn skip(&mut self) -> Result<bool, Unread>
         ensures met { IfOk result (λ met. met ≡ true →
-            IsNext self.new.stage (all_left self.new.ahead (S.left self.new.source.now))) }
-        ensures passes { IfOk result (λ met. met ≡ false → Passes (2 ^ 64)
+            IsRestNext self.new.stage (all_left self.new.ahead (S.left self.new.source.now))) }
+        ensures passes { IfOk result (λ met. met ≡ false → PassesBytes (2 ^ 64)
             (left_in self.old.stage (all_left self.old.ahead (S.left self.old.source.now)))
             (left_in self.new.stage (all_left self.new.ahead (S.left self.new.source.now)))) }
         ensures coming { coming_in self.new.stage (all_left self.new.ahead (S.left self.new.source.now))
@@ -110,8 +110,8 @@ impl<'s, S: Source> Parted<'s, S> {
     // Passes a line of the front, and tells whether the front's end is met.
     fn skip_line(&mut self) -> Result<bool, Unread>
         ensures met { IfOk result (λ met. met ≡ true →
-            IsNext self.new.stage (all_left self.new.ahead (S.left self.new.source.now))) }
-        ensures passes { IfOk result (λ met. met ≡ false → Passes 1
+            IsRestNext self.new.stage (all_left self.new.ahead (S.left self.new.source.now))) }
+        ensures passes { IfOk result (λ met. met ≡ false → PassesBytes 1
             (left_in self.old.stage (all_left self.old.ahead (S.left self.old.source.now)))
             (left_in self.new.stage (all_left self.new.ahead (S.left self.new.source.now)))) }
         ensures coming { coming_in self.new.stage (all_left self.new.ahead (S.left self.new.source.now))

@@ -30,7 +30,7 @@ use Rattle.collision_report.specs.Lines.{wall_line, pair_line, event_line, numbe
 use Rattle.collision_report.specs.Blocks.{disk_lines, block, blocks, numbers_from, times}
 use Rattle.collision_report.specs.Report.{latest, changes_text, counts_text}
 use Rattle.collision_report.proofs.Widths.{IsOfRun, IsShown}
-use Rattle.report_reader.specs.Reader.{Said, said, said_of, event_in, limit_in, is_done, spot, spot_in, ends, outcome_in}
+use Rattle.report_reader.specs.Reader.{Said, said, said_of, event_in, limit_in, is_done, spot, spot_in, outcome_said, outcome_in}
 use Rattle.report_reader.proofs.Rows.{IsRow, AreRows, both_rows, is_plain, word_plain, decimal_plain, decimal_back, signed_plain, signed_back, number_no_word}
 use Rattle.collision_report.proofs.ShortRuns.{slow, shown, AreValid, multiple_most, of_run}
 
@@ -43,7 +43,7 @@ GoOn (row ∷ rows) = (limit_in row ≡ None) × (is_done row ≡ false) × GoOn
 pub go_on : (rows more : List (List (List ℕ))) → GoOn rows → outcome_in (rows ++ more) ≡ outcome_in more
 go_on [] more h = refl
 go_on (row ∷ rows) more h =
-    (λ i. ends (h.0 i) (h.1 i) (filter_map spot_in (rows ++ more)) (outcome_in (rows ++ more))) ∙ go_on rows more h.2
+    (λ i. outcome_said (h.0 i) (h.1 i) (filter_map spot_in (rows ++ more)) (outcome_in (rows ++ more))) ∙ go_on rows more h.2
 
 both_go_on : (a b : List (List (List ℕ))) → GoOn a → GoOn b → GoOn (a ++ b)
 both_go_on [] b h k = k

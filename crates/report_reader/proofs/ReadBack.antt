@@ -27,7 +27,7 @@ use Rattle.collision_report.specs.Lines.{number_line, momentum_line, energy_line
 use Rattle.collision_report.specs.Blocks.{disk_lines}
 use Rattle.collision_report.specs.Report.{is_wall, is_pair, latest, changes_text, last_blocks, spot_velocity, momentum_of, energy_of, counts_text, kind_name, limit_text, limit_line, end_block}
 use Rattle.collision_report.proofs.Widths.{IsOfRun, stamp_of}
-use Rattle.report_reader.specs.Reader.{Said, said_of, event_in, stamp_in, kind_in, limit_in, limit_named, is_done, spot_in, ends, outcome_in, SaidRun, said_by, rows_of, read_report, ReportsReadBack, ReportsSayRuns}
+use Rattle.report_reader.specs.Reader.{Said, said_of, event_in, stamp_in, kind_in, limit_in, limit_named, is_done, spot_in, outcome_said, outcome_in, SaidRun, said_by, fields_by_line, read_report, ReportsReadBack, ReportsSayRuns}
 use Rattle.report_reader.proofs.Rows.{IsPlain, AreRows, both_rows, is_plain, word_plain, decimal_plain, decimal_back, number_no_word, last_row, rows_back}
 use Rattle.collision_report.proofs.ShortRuns.{last_valid, last_spots, last_limit, count_spots, momentum_within, energy_fits, slow_disks, slow_spots}
 use Rattle.report_reader.proofs.Bodies.{go_on, IsBody, both, none_of, disks_body, counts_body, momentum_body, energy_body, blocks_quiet, Says, both_say, changes_body}
@@ -90,7 +90,7 @@ named_end name s limit walls pairs plain named h few_walls few_pairs =
         counts.plain,
       );
       events = (λ i. cons_option (silent i) (filter_map event_in counts.rows)) ∙ counts.told;
-      ending = ap (λ (o : Option Limit). ends o (is_done row) (filter_map spot_in (counts.rows ++ last_row))
+      ending = ap (λ (o : Option Limit). outcome_said o (is_done row) (filter_map spot_in (counts.rows ++ last_row))
           (outcome_in (counts.rows ++ last_row))) says;
     }
 
@@ -153,8 +153,8 @@ read_both a b events spots outcome h k =
     let rows : List (List (List ℕ)) = h.rows ++ k.rows in
     let text : a ++ b ≡ flat_map line_of rows =
     (λ i. h.whole i ++ k.whole i) ∙ sym (flat_map-append line_of h.rows k.rows) in
-    let read : rows_of (a ++ b) ≡ h.rows ++ (k.rows ++ last_row) =
-    ap rows_of text ∙ rows_back rows (both_rows h.rows k.rows h.plain k.plain) ∙ append_assoc h.rows k.rows last_row in
+    let read : fields_by_line (a ++ b) ≡ h.rows ++ (k.rows ++ last_row) =
+    ap fields_by_line text ∙ rows_back rows (both_rows h.rows k.rows h.plain k.plain) ∙ append_assoc h.rows k.rows last_row in
     let later : filter_map event_in (k.rows ++ last_row) ≡ [] =
     filter_map-append event_in k.rows last_row ∙ append-nil _ ∙ k.events in
     let all : filter_map event_in (h.rows ++ (k.rows ++ last_row)) ≡ events =

@@ -12,7 +12,7 @@ use Rattle.std.proofs.lemmas.Fmt.{decimal_is_IsNumeral_wide}
 use Rattle.std.proofs.lemmas.Str.Parse.{digit_from_value, without_leading_plus_none}
 use Rattle.std.proofs.lemmas.List.Splits.{slice_split-cons_yes, slice_split-cons_no}
 use Rattle.text_lines.specs.Lines.{line_of}
-use Rattle.report_reader.specs.Reader.{parts_at, rows_of, number_in, signed_in}
+use Rattle.report_reader.specs.Reader.{parts_at, fields_by_line, number_in, signed_in}
 
 -- ---- texts without a byte
 abbrev pub Lacks : ℕ → List ℕ → Type 0
@@ -78,7 +78,7 @@ row_lacks (x ∷ xs) h = fields_lack x xs h.0 h.1
 abbrev pub last_row : List (List (List ℕ))
 last_row = ([] ∷ []) ∷ []
 
-pub rows_back : (rows : List (List (List ℕ))) → AreRows rows → rows_of (flat_map line_of rows) ≡ rows ++ last_row
+pub rows_back : (rows : List (List (List ℕ))) → AreRows rows → fields_by_line (flat_map line_of rows) ≡ rows ++ last_row
 rows_back [] h = refl
 rows_back (row ∷ rows) h =
     let text : List ℕ = join_with_byte 32 row in

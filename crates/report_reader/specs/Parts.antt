@@ -24,7 +24,7 @@ said_together at first rest = record {
 }
 
 -- the run up to a tick, and the run of what is left there
-pub record AreParts (scene : SceneData) (at : ℕ) (first : List Change) (spots : List Spot) (more : List Change) (last : Outcome) : Type 0 where
+pub record AreRunParts (scene : SceneData) (at : ℕ) (first : List Change) (spots : List Spot) (more : List Change) (last : Outcome) : Type 0 where
   pub tick : at ≤ scene.rules.end
   pub before : IsRun (before_scene scene at) first (Done spots)
   pub after : IsRun (rest_scene scene at spots) more last
@@ -32,7 +32,7 @@ pub record AreParts (scene : SceneData) (at : ℕ) (first : List Change) (spots 
 -- what is read of the reports of both parts, the ticks of the second raised, is what is read of the report of the whole run
 abbrev pub PartsReadAsOne : Type 0
 PartsReadAsOne = (scene : SceneData) (at : ℕ) (first : List Change) (spots : List Spot) (more : List Change) (last : Outcome)
-    (changes : List Change) (outcome : Outcome) → IsValidScene scene → AreParts scene at first spots more last → IsRun scene changes outcome →
+    (changes : List Change) (outcome : Outcome) → IsValidScene scene → AreRunParts scene at first spots more last → IsRun scene changes outcome →
     read_report (report Lines scene changes outcome)
     ≡ said_together at (read_report (report Lines (before_scene scene at) first (Done spots)))
     (read_report (report Lines (rest_scene scene at spots) more last))

@@ -26,8 +26,8 @@ abbrev pub parts_at : ℕ → List ℕ → List (List ℕ)
 parts_at c text = slice_split (λ b. b == c) text
 
 -- the fields of each line
-abbrev pub rows_of : List ℕ → List (List (List ℕ))
-rows_of text = map (parts_at 32) (parts_at 10 text)
+abbrev pub fields_by_line : List ℕ → List (List (List ℕ))
+fields_by_line text = map (parts_at 32) (parts_at 10 text)
 
 abbrev pub number_in : List ℕ → ℕ
 number_in field = digits_value 10 field
@@ -92,14 +92,14 @@ spot_in (word ∷ number ∷ x ∷ y ∷ vx ∷ vy ∷ []) =
 spot_in row = None
 
 -- by the limit or the end that a row says, the places that the rows after it say, and how else these end
-abbrev pub ends : Option Limit → Bool → List Spot → Option Outcome → Option Outcome
-ends (Some limit) done spots later = Some (Passes limit)
-ends None true spots later = Some (Done spots)
-ends None false spots later = later
+abbrev pub outcome_said : Option Limit → Bool → List Spot → Option Outcome → Option Outcome
+outcome_said (Some limit) done spots later = Some (Passes limit)
+outcome_said None true spots later = Some (Done spots)
+outcome_said None false spots later = later
 
 abbrev pub outcome_in : List (List (List ℕ)) → Option Outcome
 outcome_in [] = None
-outcome_in (row ∷ rows) = ends (limit_in row) (is_done row) (filter_map spot_in rows) (outcome_in rows)
+outcome_in (row ∷ rows) = outcome_said (limit_in row) (is_done row) (filter_map spot_in rows) (outcome_in rows)
 
 -- ---- reports
 -- what a report says: the events in order, and how the run ends
@@ -111,7 +111,7 @@ abbrev pub said_by : List (List (List ℕ)) → SaidRun
 said_by rows = record { events = filter_map event_in rows; outcome = outcome_in rows }
 
 abbrev pub read_report : List ℕ → SaidRun
-read_report text = said_by (rows_of text)
+read_report text = said_by (fields_by_line text)
 
 -- what is read of the report of a run is what the run does
 abbrev pub ReportsReadBack : Type 0

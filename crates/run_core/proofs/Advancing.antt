@@ -22,7 +22,7 @@ use Rattle.local_run.specs.declared.answers.Step.TheVariants.{Ran, Halted}
 use Rattle.local_run.specs.LocalRun.{Local, now_of, IsOffered}
 use Rattle.local_run.specs.Answers.{StepsTo}
 use Rattle.local_run.specs.Opening.{RegionData, home_of}
-use Rattle.commit_horizon.specs.Horizon.{Runs, runs_of, AreStanding}
+use Rattle.commit_horizon.specs.Horizon.{LocalRuns, runs_of, AreStanding}
 use Rattle.commit_horizon.specs.Commits.{Commits}
 use Rattle.commit_horizon.proofs.Offered.{cell_laws}
 use Rattle.run_core.specs.declared.answers.Advance.{Advance}
@@ -91,7 +91,7 @@ not_empty old new regions left batch s commits event less empty =
     subst (λ (v : CellStateData). HasNoneBelow v commits.horizon) same commits.none_below s event less
 
 -- ---- the first part
-first_leads : (old new : CellStateData) (runs : Runs) (batch : List Action) (left : List RegionData) →
+first_leads : (old new : CellStateData) (runs : LocalRuns) (batch : List Action) (left : List RegionData) →
     IsCellState old → AreStanding old runs → FirstPart old runs batch new left →
     Leads old runs batch new
 first_leads old new runs batch left is stand first =
@@ -113,8 +113,8 @@ same_followed f h state [] = refl
 same_followed f h state (x ∷ xs) = refl
 
 -- after a commit of nothing, which raises the floor to f
-module _ (old : CellStateData) (runs : Runs) (f : Stamp) (first : Leads old runs [] (raised f old))
-    (fresh : Runs) (dues : ℕ → Stamp) (k : ℕ) (all : AllFresh (raised f old) fresh)
+module _ (old : CellStateData) (runs : LocalRuns) (f : Stamp) (first : Leads old runs [] (raised f old))
+    (fresh : LocalRuns) (dues : ℕ → Stamp) (k : ℕ) (all : AllFresh (raised f old) fresh)
     (least : IsLeastDue (raised f old) fresh dues k) where
   here : IsCellState (raised f old)
   here = first.cell
@@ -149,7 +149,7 @@ module _ (old : CellStateData) (runs : Runs) (f : Stamp) (first : Leads old runs
       by_answer (inr (other, same, failed, is)) =
           let is_limit : limit ≡ other = cc in subst (FailsNext old) (sym is_limit) failed
 
-  raises : (ran : Runs) (after left : List RegionData) (batch : List Action) (new : CellStateData) →
+  raises : (ran : LocalRuns) (after left : List RegionData) (batch : List Action) (new : CellStateData) →
       StepsTo (home_of old k) (fresh k) (Ran (dues k)) (ran k) → ((q : ℕ) → q ≢ k → ran q ≡ fresh q) →
       AllTakeIn (raised f old) ran k (runs_of after) → Commits (raised f old) after batch new left →
       Leads old runs batch new × (batch ≢ [])
@@ -202,7 +202,7 @@ module _ (old : CellStateData) (runs : Runs) (f : Stamp) (first : Leads old runs
       (first, fails limit kept step))
 
 -- ---- both parts
-pub works_well : (old new : CellStateData) (runs : Runs) (answer : Advance) (left : List RegionData) →
+pub works_well : (old new : CellStateData) (runs : LocalRuns) (answer : Advance) (left : List RegionData) →
     IsCellState old → AreStanding old runs → Works old runs answer new left → IsAdvance old runs answer new
 works_well old new runs answer left is stand (inl (batch, first, some, same)) =
     subst (λ (v : Advance). IsAdvance old runs v new) (sym same)

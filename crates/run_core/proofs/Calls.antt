@@ -19,7 +19,7 @@ use Rattle.local_run.specs.declared.answers.Hearing.TheVariants.{Same, Rewound, 
 use Rattle.local_run.specs.LocalRun.{Local}
 use Rattle.local_run.specs.Answers.{StepsTo, HearsFrom}
 use Rattle.local_run.specs.Opening.{RegionData}
-use Rattle.local_run.specs.Steps.{Steps, StepsOn}
+use Rattle.local_run.specs.Steps.{RegionSteps, StepsOn}
 use Rattle.local_run.specs.Hearing.{HearsAnother, HearsRegion}
 use Rattle.local_run.specs.Standing.{StandsOn}
 use Rattle.run_core.specs.declared.playing.CoreStep.{CoreStep}
@@ -133,7 +133,7 @@ goes_on state k old new left h home floor alive base = record {
 }
 
 pub stepped_stands : (state : CellStateData) (k : ℕ) (old new : RegionData) (answer : Step) →
-    Steps old answer new → StandsOn state k old → StandsOn state k new
+    RegionSteps old answer new → StandsOn state k old → StandsOn state k new
 stepped_stands state k old new answer steps h =
     let on : StepsOn old.home (Some h.run) answer new.run =
     subst (λ (v : Option Local). StepsOn old.home v answer new.run) h.alive steps.run in

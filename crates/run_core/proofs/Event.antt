@@ -23,14 +23,14 @@ use Rattle.local_run.specs.declared.answers.Step.{Step}
 use Rattle.local_run.specs.declared.answers.Step.TheVariants.{Ran, Heard as Took, Idle, Past, Tied, Halted, Held, Spent}
 use Rattle.local_run.specs.declared.answers.Hearing.{Hearing}
 use Rattle.local_run.specs.declared.answers.Hearing.TheVariants.{Same, Rewound, Later, Apart}
-use Rattle.local_run.specs.LocalRun.{At, Local, trail_of, rest_of, without_first, start_of, now_of}
+use Rattle.local_run.specs.LocalRun.{At, Local, trail_of, messages_after_first, without_first, start_of, now_of}
 use Rattle.local_run.specs.Entries.{entries_below}
-use Rattle.local_run.specs.LocalRun.{IsWaiting, IsOwn, IsOffered, IsDue, sent_to, told}
+use Rattle.local_run.specs.LocalRun.{IsWaiting, IsOwn, IsOffered, IsDue, sent_to, prepended}
 use Rattle.local_run.specs.Answers.{StepsTo, HearsFrom, IsInTurn, IsShared, with_entry}
 use Rattle.local_run.specs.Opening.{home_of}
 use Rattle.local_run.proofs.Among.{same_trail, other_trail, same_or_other}
 use Rattle.local_run.proofs.Sent.{message_stamp}
-use Rattle.commit_horizon.specs.Horizon.{Runs, IsBound, IsHorizon}
+use Rattle.commit_horizon.specs.Horizon.{LocalRuns, IsBound, IsHorizon}
 use Rattle.commit_horizon.proofs.Offered.{cell_laws}
 use Rattle.run_core.specs.Hearings.{sent_by}
 use Rattle.run_core.specs.Second.{StepsIfLater, TakesIn, AllTakeIn}
@@ -38,11 +38,11 @@ use Rattle.run_core.proofs.Stamps.{next_stamp, before_next, after_is_next}
 use Rattle.run_core.proofs.Fresh.{IsFresh, AllFresh, IsStill, IsNextAt, offered_is, fresh_now, in_turn, full_not_empty}
 
 -- regions after region k ran the next action, and those linked to it took it in
-pub record OneEvent (state : CellStateData) (k : ℕ) (x : Action) (fresh after : Runs) : Type 0 where
+pub record OneEvent (state : CellStateData) (k : ℕ) (x : Action) (fresh after : LocalRuns) : Type 0 where
   pub within : IsRegion state.grid k
   pub next : IsNextAction state x
   pub home : IsHomeOf state (stamp_of x) k
-  pub ran : Runs
+  pub ran : LocalRuns
   pub home_ran : ran k ≡ with_entry (fresh k) (Native x)
   pub others : (q : ℕ) → q ≢ k → ran q ≡ fresh q
   pub took_in : AllTakeIn state ran k after
@@ -161,7 +161,7 @@ module _ (state : CellStateData) (k q : ℕ) (s : Stamp) (is : IsCellState state
   takes_it Spent new none = absurd none
 
 -- ---- all regions
-module _ (state : CellStateData) (k : ℕ) (x : Action) (fresh after : Runs) (is : IsCellState state)
+module _ (state : CellStateData) (k : ℕ) (x : Action) (fresh after : LocalRuns) (is : IsCellState state)
     (all : AllFresh state fresh) (one : OneEvent state k x fresh after) where
   home_fresh : IsFresh state k (fresh k)
   home_fresh = all k one.within
@@ -171,7 +171,7 @@ module _ (state : CellStateData) (k : ℕ) (x : Action) (fresh after : Runs) (is
 
   -- what the home sends
   sent : (q : ℕ) →
-      sent_by state one.ran k q ≡ told (message_of state.grid q (rows_in (fresh k).base) x) []
+      sent_by state one.ran k q ≡ prepended (message_of state.grid q (rows_in (fresh k).base) x) []
   sent q = ap (λ (v : Local). sent_to state.grid q v.base v.log) one.home_ran
       ∙ ap (sent_to state.grid q (fresh k).base) (at_end (fresh k) (Native x) home_fresh.log)
 
@@ -187,7 +187,7 @@ module _ (state : CellStateData) (k : ℕ) (x : Action) (fresh after : Runs) (is
       f : IsFresh state q (fresh q)
       f = all q lt
 
-      heard : (ms : List Message) → told (message_of state.grid q (rows_in (fresh k).base) x) [] ≡ ms →
+      heard : (ms : List Message) → prepended (message_of state.grid q (rows_in (fresh k).base) x) [] ≡ ms →
           HearsFrom k ms (fresh q) takes.answer takes.mid
       heard ms e = subst (λ (v : List Message). HearsFrom k v (fresh q) takes.answer takes.mid) (sent q ∙ e)
           (subst (λ (v : Local). HearsFrom k (sent_by state one.ran k q) v takes.answer takes.mid)
@@ -238,9 +238,9 @@ module _ (state : CellStateData) (k : ℕ) (x : Action) (fresh after : Runs) (is
 
       by_message : (o : Option Message) → message_of state.grid q (rows_in (fresh k).base) x ≡ o → Told q
       by_message None msg = by_none msg takes.answer
-          (heard [] (ap (λ (v : Option Message). told v []) msg)) takes.steps
+          (heard [] (ap (λ (v : Option Message). prepended v []) msg)) takes.steps
       by_message (Some m) msg = by_some m msg takes.answer
-          (heard (m ∷ []) (ap (λ (v : Option Message). told v []) msg)) takes.steps
+          (heard (m ∷ []) (ap (λ (v : Option Message). prepended v []) msg)) takes.steps
 
   -- what becomes of each region
   abbrev Became : ℕ → Type 0
@@ -290,7 +290,7 @@ module _ (state : CellStateData) (k : ℕ) (x : Action) (fresh after : Runs) (is
           silent : (y : ℕ) → trail_of (without_first (after q).heard k) y ≡ []
           silent y = elim (same_or_other y k) [
             | inl here ↦ ap (trail_of (without_first (after q).heard k)) here
-                ∙ same_trail (after q).heard k ∙ ap rest_of t.trail
+                ∙ same_trail (after q).heard k ∙ ap messages_after_first t.trail
             | inr other ↦ other_trail (after q).heard k y other ∙ t.others y other
           ]
       by_case (inr (inr kept)) = subst (IsStill (followed state x) q) (ap now_of (sym kept.same))
@@ -310,14 +310,14 @@ module _ (state : CellStateData) (k : ℕ) (x : Action) (fresh after : Runs) (is
       by_hearer (inr (inr kept)) = ap (λ (v : Local). trail_of v.heard y) kept.same ∙ (all z lt).silent y
 
   home_heard : (z : ℕ) → IsRegion state.grid z → AreLinked state.grid k z →
-      told (message_of state.grid z (rows_in (fresh k).base) x) [] ≡ trail_of (after z).heard k
+      prepended (message_of state.grid z (rows_in (fresh k).base) x) [] ≡ trail_of (after z).heard k
   home_heard z lt linked = by_hearer (became z lt)
     where
       by_hearer : Became z →
-          told (message_of state.grid z (rows_in (fresh k).base) x) [] ≡ trail_of (after z).heard k
+          prepended (message_of state.grid z (rows_in (fresh k).base) x) [] ≡ trail_of (after z).heard k
       by_hearer (inl (is_k, ran)) = absurd (linked.0 (sym is_k))
-      by_hearer (inr (inl t)) = ap (λ (v : Option Message). told v []) t.sent ∙ sym t.trail
-      by_hearer (inr (inr kept)) = ap (λ (v : Option Message). told v []) (kept.nothing linked)
+      by_hearer (inr (inl t)) = ap (λ (v : Option Message). prepended v []) t.sent ∙ sym t.trail
+      by_hearer (inr (inr kept)) = ap (λ (v : Option Message). prepended v []) (kept.nothing linked)
           ∙ sym (ap (λ (v : Local). trail_of v.heard k) kept.same ∙ (all z lt).silent k)
 
   agree : (y z : ℕ) → IsRegion state.grid y → IsRegion state.grid z → AreLinked state.grid y z →

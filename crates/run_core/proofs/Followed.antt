@@ -11,7 +11,7 @@ use Rattle.commit_horizon.specs.declared.cutting.Final.{Final}
 use Rattle.commit_horizon.specs.Horizon.{runs_of, AllStand}
 use Rattle.commit_horizon.specs.Following.{MayFollow}
 use Rattle.run_core.specs.declared.answers.Advance.{Advance}
-use Rattle.run_core.specs.declared.answers.Course.{Course}
+use Rattle.run_core.specs.declared.answers.AdvanceKind.{AdvanceKind}
 use Rattle.run_core.specs.Advances.{IsAdvance, Works}
 use Rattle.run_core.specs.AdvancesUntold.{answer_with, AdvanceMade}
 use Rattle.run_core.specs.Standing.{ComesOf}
@@ -43,7 +43,7 @@ not_before_floor [] state floor kept after = kept
 not_before_floor (x ∷ xs) state floor kept after =
     subst (λ (last : Option Stamp). IsNotBefore last floor) (floor_is_last x xs state) after
 
-module _ (old : CellStateData) (given : List RegionData) (course : Course) (batch : List Action) (made : Final)
+module _ (old : CellStateData) (given : List RegionData) (course : AdvanceKind) (batch : List Action) (made : Final)
     (left : List RegionData) (advance : AdvanceMade old given course batch made left) where
   -- the state may go on by the batch
   pub may_follow : MayFollow old batch made.floor

@@ -12,7 +12,7 @@ use Rattle.region_view.specs.declared.rows.Message.{Message}
 use Rattle.region_view.specs.Acting.{stamp_of}
 use Rattle.region_messages.specs.Trails.{IsAmong}
 use Rattle.region_messages.proofs.Order.{before_not_before}
-use Rattle.cell_sequence.specs.State.{CellStateData, IsCellState, IsCandidateOf, IsNextOf, ComesTo}
+use Rattle.cell_sequence.specs.State.{CellStateData, IsCellState, IsCandidateOf, IsNextOf, ComesToInState}
 use Rattle.cell_sequence.specs.Laws.{Sees, IsNextAction, IsHomeOf}
 use Rattle.cell_sequence.proofs.Orderly.{cell_states_are_orderly}
 use Rattle.local_run.specs.declared.entry.Entry.{Entry}
@@ -29,7 +29,7 @@ use Rattle.local_run.specs.Answers.{StepsTo, HearsFrom, IsInTurn, IsShared, with
 use Rattle.local_run.specs.Opening.{home_of}
 use Rattle.local_run.proofs.Logs.{below_out}
 use Rattle.local_run.proofs.Right.{right_rewound}
-use Rattle.commit_horizon.specs.Horizon.{Runs, IsStanding, AreStanding}
+use Rattle.commit_horizon.specs.Horizon.{LocalRuns, IsStanding, AreStanding}
 use Rattle.commit_horizon.proofs.GoesOn.{CellLaws}
 use Rattle.run_core.specs.Hearings.{Call, sent_by, Hearings, IsPass, one_if_rewound, rewinds}
 use Rattle.run_core.specs.Second.{rewound_to, IsLeastDue}
@@ -44,7 +44,7 @@ pub record IsFresh (state : CellStateData) (k : ℕ) (run : Local) : Type 0 wher
   pub log : run.log ≡ []
   pub silent : (q : ℕ) → trail_of run.heard q ≡ []
 
-abbrev pub AllFresh : CellStateData → Runs → Type 0
+abbrev pub AllFresh : CellStateData → LocalRuns → Type 0
 AllFresh state runs = (k : ℕ) → IsRegion state.grid k → IsFresh state k (runs k)
 
 -- no entry of a log that rises from a stamp on is before it
@@ -56,7 +56,7 @@ pub no_member : {A : Type 0} (xs : List A) → ((x : A) → ¬ IsAmong x xs) →
 no_member [] none = refl
 no_member (x ∷ xs) none = absurd (none x (inl refl))
 
-abbrev AreEmpty : CellStateData → Runs → Type 0
+abbrev AreEmpty : CellStateData → LocalRuns → Type 0
 AreEmpty state runs = (k : ℕ) → IsRegion state.grid k → (runs k).log ≡ []
 
 pub not_rewound : (k : ℕ) (sent : List Message) (r new : Local) (a : Hearing) →
@@ -67,7 +67,7 @@ not_rewound k sent r new (Rewound d) h e = absurd (h.1 (ap (entries_below d) e �
 not_rewound k sent r new Apart h e = refl
 
 -- regions with empty logs rewind none, and keep empty logs
-stay_empty : (state : CellStateData) (runs after : Runs) (cs : List Call) → AreEmpty state runs →
+stay_empty : (state : CellStateData) (runs after : LocalRuns) (cs : List Call) → AreEmpty state runs →
     Hearings state runs cs after → (rewinds cs ≡ 0) × AreEmpty state after
 stay_empty state runs after [] empty same =
     (refl, λ k within. ap (λ (v : Local). v.log) (same k) ∙ empty k within)
@@ -94,7 +94,7 @@ taken_back state k run stand = (
 )
 
 -- and are fresh once they have heard each other, in any order
-pub pass_makes_fresh : (state : CellStateData) (runs mid after : Runs) (cs : List Call) →
+pub pass_makes_fresh : (state : CellStateData) (runs mid after : LocalRuns) (cs : List Call) →
     IsCellState state → AreStanding state runs →
     ((k : ℕ) → IsRegion state.grid k → mid k ≡ rewound_to state.floor (runs k)) → IsPass state cs →
     Hearings state mid cs after → AllFresh state after
@@ -152,7 +152,7 @@ abbrev pub IsNextAt : CellStateData → ℕ → Stamp → Type 0
 IsNextAt state k s = IsNextOf state s × IsHomeOf state s k
 
 -- the least that fresh regions have due is the next event, or the end where no event is left
-pub least_due_is_next : (state : CellStateData) (runs : Runs) (dues : ℕ → Stamp) (k : ℕ) →
+pub least_due_is_next : (state : CellStateData) (runs : LocalRuns) (dues : ℕ → Stamp) (k : ℕ) →
     IsCellState state → CellLaws state → AllFresh state runs → IsLeastDue state runs dues k →
     IsNextAt state k (dues k)
     ⊎ (HasNone (IsCandidateOf state) × (dues k ≡ end_stamp state.rules.end))
@@ -251,7 +251,7 @@ home_runs_next state k s run new step laws fresh next = by_step step
       (
         s,
         next.0,
-        subst (λ (v : Stamp). ComesTo state v (Err limit)) (is_due t has.1)
+        subst (λ (v : Stamp). ComesToInState state v (Err limit)) (is_due t has.1)
             (laws.comes k (now_of run).view t (Err limit) within still.0 native comes),
       ),
       leaves,

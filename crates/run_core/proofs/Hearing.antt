@@ -17,7 +17,7 @@ use Rattle.local_run.specs.declared.entry.Entry.TheVariants.{Native, Heard}
 use Rattle.local_run.specs.declared.answers.Hearing.{Hearing}
 use Rattle.local_run.specs.declared.answers.Hearing.TheVariants.{Same, Rewound, Later, Apart}
 use Rattle.local_run.specs.Entries.{entry_stamp, entries_below, entries_from}
-use Rattle.local_run.specs.LocalRun.{At, Trails, Local, trail_of, rest_of, without_first, after_entry, after_log}
+use Rattle.local_run.specs.LocalRun.{At, Trails, Local, trail_of, messages_after_first, without_first, after_entry, after_log}
 use Rattle.local_run.specs.LocalRun.{start_of, now_of, Moves, IsWaiting, IsOwn, IsOffered, IsRight}
 use Rattle.local_run.specs.LocalRun.{sent_to}
 use Rattle.local_run.specs.Answers.{HasHeard, HearsFrom}
@@ -72,7 +72,7 @@ waits_or_taken h a (Heard p n ∷ es) q m moves among =
         inr (inl (ap (λ (x : ℕ). Heard x m) here ∙ ap (Heard p) same))
     at_first here later (inr more) = later (subst (IsAmong m)
         (sym (ap (trail_of (without_first a.waiting p)) here ∙ same_trail a.waiting p
-        ∙ ap rest_of moves.0.first.1)) more)
+        ∙ ap messages_after_first moves.0.first.1)) more)
 
     by_place : (IsAmong m (trail_of (without_first a.waiting p) q) → WaitsOrTaken a (Heard p n ∷ es) q m) →
         (q ≡ p) ⊎ (q ≢ p) → WaitsOrTaken a (Heard p n ∷ es) q m

@@ -25,7 +25,7 @@ use Rattle.run_core.specs.declared.answers.Advance.TheVariants.{Raised, End, Lim
 use Rattle.run_core.specs.Advances.{SecondAnswers}
 use Rattle.run_core.specs.Passing.{Heard, AllHearUpTo}
 use Rattle.run_core.specs.Second.{IsLeastDue, AllTakeIn}
-use Rattle.run_core.specs.Taking.{IsHome, Refreshed, TakenIfRan, RunsEvent, MakesNext}
+use Rattle.run_core.specs.Taking.{IsNextHome, Refreshed, TakenIfRan, RunsEvent, MakesNext}
 use Rattle.run_core.specs.Turns.{Turns}
 use Rattle.run_core.proofs.Fresh.{AllFresh, IsNextAt, RunsNext, pass_makes_fresh, least_due_is_next, home_runs_next}
 use Rattle.run_core.proofs.Passed.{is_pass}
@@ -46,7 +46,7 @@ refreshed state regions back fresh more stand kept is heard = record {
 }
 
 module _ (state : CellStateData) (regions fresh : List RegionData) (home : ℕ) (is : IsCellState state)
-    (refreshed : Refreshed state regions fresh) (is_home : IsHome fresh home) where
+    (refreshed : Refreshed state regions fresh) (is_home : IsNextHome fresh home) where
   number : (q : ℕ) → IsRegion state.grid q → q < length fresh
   number q within = subst (λ (n : ℕ). q < n) (sym refreshed.stand.count) within
 

@@ -5,7 +5,7 @@ use Rattle.region_view.specs.declared.action.Action.{Action}
 use Rattle.region_messages.proofs.Order.{before_not_before}
 use Rattle.cell_sequence.specs.State.{CellStateData, IsCellState}
 use Rattle.local_run.specs.Opening.{RegionData}
-use Rattle.commit_horizon.specs.Horizon.{Runs, runs_of, AllStand, AllKept}
+use Rattle.commit_horizon.specs.Horizon.{LocalRuns, runs_of, AllStand, AllKept}
 use Rattle.commit_horizon.specs.Commits.{Commits}
 use Rattle.commit_horizon.proofs.Standing.{are_standing}
 use Rattle.run_core.specs.declared.answers.Advance.{Advance}
@@ -51,7 +51,7 @@ not_lowered_by old new given left batch commits =
     subst (λ (v : CellStateData). ¬ Before v.floor old.floor) (sym commits.state) commits.is_horizon.bound.floor
 
 -- nor does an advance
-pub never_lowered : (old new : CellStateData) (runs : Runs) (answer : Advance) (left : List RegionData) →
+pub never_lowered : (old new : CellStateData) (runs : LocalRuns) (answer : Advance) (left : List RegionData) →
     Works old runs answer new left → ¬ Before new.floor old.floor
 never_lowered old new runs answer left (inl (batch, first, some, same)) =
     not_lowered_by old new first.heard left batch first.commits

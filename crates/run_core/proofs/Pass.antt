@@ -20,9 +20,9 @@ use Rattle.local_run.proofs.Among.{same_or_other}
 use Rattle.local_run.proofs.Keeps.{hearing_keeps_right}
 use Rattle.local_run.proofs.Valid.{heard_from}
 use Rattle.local_run.proofs.Opened.{state_place}
-use Rattle.commit_horizon.specs.Horizon.{Runs, IsStanding, AreStanding, IsBound}
+use Rattle.commit_horizon.specs.Horizon.{LocalRuns, IsStanding, AreStanding, IsBound}
 use Rattle.run_core.specs.Hearings.{Call, sent_by, Hears, Hearings, IsPass, one_if_rewound, rewinds}
-use Rattle.run_core.specs.Hearings.{entries_of, Passes, AllHeard, SameBases}
+use Rattle.run_core.specs.Hearings.{entry_count, Passes, AllHeard, SameBases}
 use Rattle.run_core.specs.Laws.{HearingsKeepBounds, PassesEnd, PassesEndInAgreement}
 use Rattle.run_core.proofs.Hearing.{HearsWhat, hears_what, IsLike, like_itself, like_with_news}
 
@@ -51,7 +51,7 @@ log_kept k sent r new (Rewound d) h e = absurd (omega arith)
 log_kept k sent r new Apart h e = absurd h
 
 -- ---- one hearing
-module _ (state : CellStateData) (runs mid : Runs) (c : Call) (hears : Hears state runs c mid) where
+module _ (state : CellStateData) (runs mid : LocalRuns) (c : Call) (hears : Hears state runs c mid) where
   sent : List Message
   sent = sent_by state runs c.sender c.hearer
 
@@ -123,13 +123,13 @@ module _ (state : CellStateData) (runs mid : Runs) (c : Call) (hears : Hears sta
     }
 
 -- ---- hearings
-pub same_runs : (runs after : Runs) → ((x : ℕ) → after x ≡ runs x) → runs ≡ after
+pub same_runs : (runs after : LocalRuns) → ((x : ℕ) → after x ≡ runs x) → runs ≡ after
 same_runs runs after same = λ i x. sym (same x) i
 
 pub hearings_keep_bounds : HearingsKeepBounds
 hearings_keep_bounds state runs after [] is stand same = record {
   standing = subst (AreStanding state) (same_runs runs after same) stand;
-  bound = λ h. subst (λ (v : Runs). IsBound state v h) (same_runs runs after same);
+  bound = λ h. subst (λ (v : LocalRuns). IsBound state v h) (same_runs runs after same);
   bases = λ x. (ap (λ (v : Local). v.base) (same x), ap (λ (v : Local). v.floor) (same x));
 }
 hearings_keep_bounds state runs after (c ∷ cs) is stand (mid, hears, rest) =
@@ -142,13 +142,13 @@ hearings_keep_bounds state runs after (c ∷ cs) is stand (mid, hears, rest) =
     }
 
 -- ---- hearings that rewind none
-abbrev pub SameLogs : Runs → Runs → Type 0
+abbrev pub SameLogs : LocalRuns → LocalRuns → Type 0
 SameLogs runs after = (x : ℕ) → (after x).log ≡ (runs x).log
 
-abbrev HasHeard : CellStateData → Runs → ℕ → ℕ → Type 0
+abbrev HasHeard : CellStateData → LocalRuns → ℕ → ℕ → Type 0
 HasHeard state runs k q = trail_of (runs q).heard k ≡ sent_by state runs k q
 
-module _ (state : CellStateData) (runs mid : Runs) (c : Call) (hears : Hears state runs c mid)
+module _ (state : CellStateData) (runs mid : LocalRuns) (c : Call) (hears : Hears state runs c mid)
     (none : one_if_rewound c.answer ≡ 0) where
   pub one_log : SameLogs runs mid
   one_log x = elim (same_or_other x c.hearer) [
@@ -191,16 +191,16 @@ module _ (state : CellStateData) (runs mid : Runs) (c : Call) (hears : Hears sta
             ∙ heard ∙ sym (same_sent k c.hearer)
       ]
 
-stay_heard : (state : CellStateData) (runs after : Runs) (cs : List Call) →
+stay_heard : (state : CellStateData) (runs after : LocalRuns) (cs : List Call) →
     Hearings state runs cs after → rewinds cs ≡ 0 → (k q : ℕ) → HasHeard state runs k q →
     HasHeard state after k q
 stay_heard state runs after [] same none k q heard =
-    subst (λ (v : Runs). HasHeard state v k q) (same_runs runs after same) heard
+    subst (λ (v : LocalRuns). HasHeard state v k q) (same_runs runs after same) heard
 stay_heard state runs after (c ∷ cs) (mid, hears, rest) none k q heard =
     stay_heard state mid after cs rest (omega arith) k q
     (stays_heard state runs mid c hears (omega arith) k q heard)
 
-each_heard : (state : CellStateData) (runs after : Runs) (cs : List Call) →
+each_heard : (state : CellStateData) (runs after : LocalRuns) (cs : List Call) →
     Hearings state runs cs after → rewinds cs ≡ 0 → (c : Call) → IsAmong c cs →
     HasHeard state after c.sender c.hearer
 each_heard state runs after [] same none c among = absurd among
@@ -212,7 +212,7 @@ each_heard state runs after (x ∷ xs) (mid, hears, rest) none c (inr more) =
     each_heard state mid after xs rest (omega arith) c more
 
 -- after a pass that rewinds none each has heard just what the others sent
-pub all_heard : (state : CellStateData) (runs after : Runs) (cs : List Call) → IsPass state cs →
+pub all_heard : (state : CellStateData) (runs after : LocalRuns) (cs : List Call) → IsPass state cs →
     Hearings state runs cs after → rewinds cs ≡ 0 → AllHeard state after
 all_heard state runs after cs pass hearings none k q sends hears linked =
     let call = pass k q sends hears linked in
@@ -250,27 +250,27 @@ log_takes k sent r new (Rewound d) h =
     elim (below_shorter d r.log) [ inl same ↦ absurd (h.1 same) | inr less ↦ omega arith ]
 log_takes k sent r new Apart h = absurd h
 
-entries_same : (n : ℕ) (runs mid : Runs) → ((x : ℕ) → x < n → (mid x).log ≡ (runs x).log) →
-    entries_of n mid ≡ entries_of n runs
+entries_same : (n : ℕ) (runs mid : LocalRuns) → ((x : ℕ) → x < n → (mid x).log ≡ (runs x).log) →
+    entry_count n mid ≡ entry_count n runs
 entries_same zero runs mid same = refl
 entries_same (suc n) runs mid same =
-    let rest : entries_of n mid ≡ entries_of n runs =
+    let rest : entry_count n mid ≡ entry_count n runs =
     entries_same n runs mid (λ x lt. same x (omega arith)) in
     let last : length (mid n).log ≡ length (runs n).log = ap length (same n (omega arith)) in
     omega arith
 
-entries_less : (n taken q : ℕ) (runs mid : Runs) → q < n → ((x : ℕ) → x ≢ q → mid x ≡ runs x) →
-    taken + length (mid q).log ≤ length (runs q).log → taken + entries_of n mid ≤ entries_of n runs
+entries_less : (n taken q : ℕ) (runs mid : LocalRuns) → q < n → ((x : ℕ) → x ≢ q → mid x ≡ runs x) →
+    taken + length (mid q).log ≤ length (runs q).log → taken + entry_count n mid ≤ entry_count n runs
 entries_less zero taken q runs mid lt others less = absurd (omega arith)
 entries_less (suc n) taken q runs mid lt others less = elim (same_or_other q n) [
   | inl here ↦
-      let rest : entries_of n mid ≡ entries_of n runs =
+      let rest : entry_count n mid ≡ entry_count n runs =
       entries_same n runs mid (λ x ltx. ap (λ (v : Local). v.log) (others x (omega arith))) in
       let last : taken + length (mid n).log ≤ length (runs n).log =
       subst (λ (x : ℕ). taken + length (mid x).log ≤ length (runs x).log) here less in
       omega arith
   | inr other ↦
-      let rest : taken + entries_of n mid ≤ entries_of n runs =
+      let rest : taken + entry_count n mid ≤ entry_count n runs =
       entries_less n taken q runs mid (omega arith) others less in
       let last : length (mid n).log ≡ length (runs n).log =
       ap (λ (v : Local). length v.log) (others n (λ e. other (sym e))) in
@@ -278,17 +278,17 @@ entries_less (suc n) taken q runs mid lt others less = elim (same_or_other q n) 
 ]
 
 -- each hearing that rewinds takes an entry
-pub rewinds_take : (state : CellStateData) (runs after : Runs) (cs : List Call) →
+pub rewinds_take : (state : CellStateData) (runs after : LocalRuns) (cs : List Call) →
     Hearings state runs cs after →
-    rewinds cs + entries_of state.grid.regions after ≤ entries_of state.grid.regions runs
+    rewinds cs + entry_count state.grid.regions after ≤ entry_count state.grid.regions runs
 rewinds_take state runs after [] same =
-    let e : entries_of state.grid.regions after ≡ entries_of state.grid.regions runs =
+    let e : entry_count state.grid.regions after ≡ entry_count state.grid.regions runs =
     entries_same state.grid.regions runs after (λ x lt. ap (λ (v : Local). v.log) (same x)) in
     omega arith
 rewinds_take state runs after (c ∷ cs) (mid, hears, rest) =
     let n = state.grid.regions in
-    let more : rewinds cs + entries_of n after ≤ entries_of n mid = rewinds_take state mid after cs rest in
-    let one : one_if_rewound c.answer + entries_of n mid ≤ entries_of n runs =
+    let more : rewinds cs + entry_count n after ≤ entry_count n mid = rewinds_take state mid after cs rest in
+    let one : one_if_rewound c.answer + entry_count n mid ≤ entry_count n runs =
     entries_less n (one_if_rewound c.answer) c.hearer runs mid hears.hearer hears.others
     (log_takes c.sender (sent_by state runs c.sender c.hearer) (runs c.hearer) (mid c.hearer) c.answer
     hears.hears) in
@@ -300,18 +300,18 @@ passes_end state runs after (p ∷ ps) (pass, (mid, hearings, inl last)) =
     let none : length ps ≡ 0 = ap length last.1 in omega arith
 passes_end state runs after (p ∷ ps) (pass, (mid, hearings, inr (some, more))) =
     let n = state.grid.regions in
-    let rest : length ps ≤ 1 + entries_of n mid = passes_end state mid after ps more in
-    let taken : rewinds p + entries_of n mid ≤ entries_of n runs =
+    let rest : length ps ≤ 1 + entry_count n mid = passes_end state mid after ps more in
+    let taken : rewinds p + entry_count n mid ≤ entry_count n runs =
     rewinds_take state runs mid p hearings in
     omega arith
 
 -- ---- what passes keep
-pub record PassesKeep (state : CellStateData) (runs after : Runs) : Type 0 where
+pub record PassesKeep (state : CellStateData) (runs after : LocalRuns) : Type 0 where
   pub standing : AreStanding state after
   pub bound : (h : Stamp) → IsBound state runs h → IsBound state after h
   pub heard : AllHeard state after
 
-pub passes_keep : (state : CellStateData) (runs after : Runs) (ps : List (List Call)) →
+pub passes_keep : (state : CellStateData) (runs after : LocalRuns) (ps : List (List Call)) →
     IsCellState state → AreStanding state runs → Passes state runs ps after →
     PassesKeep state runs after
 passes_keep state runs after [] is stand passes = absurd passes
@@ -319,7 +319,7 @@ passes_keep state runs after (p ∷ ps) is stand (pass, (mid, hearings, inl last
     let same = same_runs mid after last.2 in
     let kept = hearings_keep_bounds state runs mid p is stand hearings in record {
       standing = subst (AreStanding state) same kept.standing;
-      bound = λ h b. subst (λ (v : Runs). IsBound state v h) same (kept.bound h b);
+      bound = λ h b. subst (λ (v : LocalRuns). IsBound state v h) same (kept.bound h b);
       heard = subst (AllHeard state) same (all_heard state runs mid p pass hearings last.0);
     }
 passes_keep state runs after (p ∷ ps) is stand (pass, (mid, hearings, inr (some, more))) =

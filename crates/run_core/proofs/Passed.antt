@@ -9,18 +9,18 @@ use Rattle.local_run.specs.declared.answers.Hearing.TheVariants.{Same, Rewound, 
 use Rattle.local_run.specs.LocalRun.{Local}
 use Rattle.local_run.specs.Answers.{HearsFrom}
 use Rattle.local_run.specs.Opening.{RegionData}
-use Rattle.commit_horizon.specs.Horizon.{Runs, runs_of, AllStand}
-use Rattle.run_core.specs.Hearings.{Call, sent_by, Hearings, IsPass, one_if_rewound, rewinds, entries_of}
+use Rattle.commit_horizon.specs.Horizon.{LocalRuns, runs_of, AllStand}
+use Rattle.run_core.specs.Hearings.{Call, sent_by, Hearings, IsPass, one_if_rewound, rewinds, entry_count}
 use Rattle.run_core.specs.Passing.{StandOn, is_rewound, Heard, HearsOne, HearsUpTo, AllHearUpTo, Agrees}
 use Rattle.run_core.specs.Turns.{Meets}
 use Rattle.run_core.proofs.Pass.{same_runs, rewinds_take}
 use Rattle.run_core.proofs.Standing.{has_heard}
 
 -- ---- lists of calls
-hearings_join : (state : CellStateData) (runs mid after : Runs) (cs ds : List Call) →
+hearings_join : (state : CellStateData) (runs mid after : LocalRuns) (cs ds : List Call) →
     Hearings state runs cs mid → Hearings state mid ds after → Hearings state runs (cs ++ ds) after
 hearings_join state runs mid after [] ds same more =
-    subst (λ (v : Runs). Hearings state v ds after) (sym (same_runs runs mid same)) more
+    subst (λ (v : LocalRuns). Hearings state v ds after) (sym (same_runs runs mid same)) more
 hearings_join state runs mid after (c ∷ cs) ds (next, one, rest) more =
     (next, one, hearings_join state next mid after cs ds rest more)
 
@@ -193,7 +193,7 @@ pub record HavePassed (state : CellStateData) (old now : List RegionData) : Type
 
 -- all entries of the regions of a grid
 unfoldable pub entries_left : GridData → List RegionData → ℕ
-entries_left grid regions = entries_of grid.regions (runs_of regions)
+entries_left grid regions = entry_count grid.regions (runs_of regions)
 
 pub entries_fall : (state : CellStateData) (old mid : List RegionData) →
     Heard state old mid true (AllHearUpTo state state.grid.regions) →
@@ -201,7 +201,7 @@ pub entries_fall : (state : CellStateData) (old mid : List RegionData) →
 unfolding entries_left
 entries_fall state old mid heard =
     let some : 0 < rewinds heard.calls = rewinds_some (rewinds heard.calls) heard.tells in
-    let taken : rewinds heard.calls + entries_of state.grid.regions (runs_of mid)
-    ≤ entries_of state.grid.regions (runs_of old) =
+    let taken : rewinds heard.calls + entry_count state.grid.regions (runs_of mid)
+    ≤ entry_count state.grid.regions (runs_of old) =
     rewinds_take state (runs_of old) (runs_of mid) heard.calls heard.hearings in
     omega arith

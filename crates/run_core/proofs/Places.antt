@@ -7,7 +7,7 @@ use Rattle.local_run.specs.declared.answers.Step.{Step}
 use Rattle.local_run.specs.declared.answers.Hearing.{Hearing}
 use Rattle.local_run.specs.declared.answers.Hearing.TheVariants.{Apart}
 use Rattle.local_run.specs.Opening.{RegionData, AreApart, spent}
-use Rattle.local_run.specs.Steps.{Steps}
+use Rattle.local_run.specs.Steps.{RegionSteps}
 use Rattle.local_run.specs.Hearing.{HearsRegion}
 use Rattle.run_core.specs.Turns.{Turns, Meets, SpendsOne}
 
@@ -62,11 +62,11 @@ module _ {E : Type 0} (regions after : List RegionData) (k q : ℕ) (hearer send
 -- ---- one steps
 module _ {E : Type 0} (regions : List RegionData) (k : ℕ) (region left : RegionData) (r : Result Step E)
     (here : slice_get regions k ≡ Some region) where
-  pub turns : IfOk r (λ answer. Steps region answer left) →
+  pub turns : IfOk r (λ answer. RegionSteps region answer left) →
       IfOk r (λ answer. Turns regions k answer (slice_set regions k left))
   turns steps = by_result r steps
     where
-      by_result : (r : Result Step E) → IfOk r (λ answer. Steps region answer left) →
+      by_result : (r : Result Step E) → IfOk r (λ answer. RegionSteps region answer left) →
           IfOk r (λ answer. Turns regions k answer (slice_set regions k left))
       by_result (Err e) steps = tt
       by_result (Ok answer) steps =

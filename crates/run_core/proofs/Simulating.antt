@@ -10,17 +10,17 @@ use Rattle.event_rules.specs.declared.outcome.Outcome.{Outcome}
 use Rattle.event_rules.specs.declared.outcome.Outcome.TheVariants.{Done, Limit as Passes}
 use Rattle.event_rules.specs.declared.outcome.RunFault.{RunFault}
 use Rattle.event_rules.specs.declared.outcome.RunFault.TheVariants.{Listener, NoMemory}
-use Rattle.event_rules.specs.Tellings.{AwaitsRun, StepsCutShort, scene_of}
+use Rattle.event_rules.specs.Tellings.{AwaitsRun, StepsCutShort, bare_scene}
 use Rattle.event_rules.specs.Run.{IsRun, Steps, spots_of}
 use Rattle.event_rules.specs.Told.{Told, AwaitsAll}
 use Rattle.event_rules.proofs.Telling.{told_none, awaits_rest}
 use Rattle.cell_grid.specs.Grid.{GridData, grid_of, IsAsked}
 use Rattle.region_view.specs.declared.action.Action.{Action}
 use Rattle.cell_sequence.specs.Run.{opened, disks_of, hits, CellSteps, CellRuns}
-use Rattle.cell_sequence.specs.State.{CellStateData, IsCandidateOf, followed, followed_by, start_of}
+use Rattle.cell_sequence.specs.State.{CellStateData, IsCandidateOf, followed, followed_by, opening_state}
 use Rattle.cell_sequence.proofs.Joins.{steps_join, runs_join, hits_join}
 use Rattle.cell_sequence.proofs.Hits.{hits_are_changes, hits_are_steps}
-use Rattle.commit_horizon.specs.Horizon.{Runs}
+use Rattle.commit_horizon.specs.Horizon.{LocalRuns}
 use Rattle.commit_horizon.proofs.Tellings.{told_in_turn}
 use Rattle.run_core.specs.declared.answers.Advance.{Advance}
 use Rattle.run_core.specs.declared.answers.Advance.TheVariants.{Raised, End, Limit}
@@ -32,7 +32,7 @@ use Rattle.run_core.proofs.Advancing.{rules_after}
 use Rattle.run_core.proofs.Prefixes.{whole_after, prefix_after}
 
 -- ---- advances
-pub leads_of : (old new : CellStateData) (runs : Runs) (answer : Advance) → IsAdvance old runs answer new →
+pub leads_of : (old new : CellStateData) (runs : LocalRuns) (answer : Advance) → IsAdvance old runs answer new →
     Leads old runs (batch_of answer) new
 leads_of old new runs (Raised batch) h = h.0
 leads_of old new runs (End batch) h = h.0
@@ -67,7 +67,7 @@ pub record IsTold {M : Type 0} (after : M → Change → M) (scene : SceneData) 
 module _ {M : Type 0} (after : M → Change → M) (torn : M → Change → M → Type 0) (scene : SceneData)
     (asked : ℕ) (valid : IsValidScene scene) (some : IsAsked asked) where
   -- at the start nothing was, and nothing is untold
-  pub open_told : (old : Option M) → IsTold after scene asked (start_of scene asked) [] old old
+  pub open_told : (old : Option M) → IsTold after scene asked (opening_state scene asked) [] old old
   open_told old = record {
     rules = refl;
     grid = refl;
@@ -105,7 +105,7 @@ module _ {M : Type 0} (after : M → Change → M) (torn : M → Change → M �
 
     -- where the telling of it breaks off
     pub untold_cut : (fault : RunFault) (new : Option M) → HitsCutShort after torn untold fault mid new →
-        StepsCutShort after torn (scene_of scene.rules scene.disks) fault old new
+        StepsCutShort after torn (bare_scene scene.rules scene.disks) fault old new
     untold_cut Listener new cut = (
       hits so_far.done ++ hits untold,
       disks_of state.placed,
@@ -126,7 +126,7 @@ module _ {M : Type 0} (after : M → Change → M) (torn : M → Change → M �
         (opened (grid_of scene.rules asked) scene.disks) v state.placed) (append-nil so_far.done) so_far.steps
 
     -- after an advance its batch is untold
-    pub goes_on : (later : CellStateData) (runs : Runs) (answer : Advance) → IsAdvance state runs answer later →
+    pub goes_on : (later : CellStateData) (runs : LocalRuns) (answer : Advance) → IsAdvance state runs answer later →
         IsTold after scene asked later (batch_of answer) old new
     goes_on later runs answer advance =
         let batch = batch_of answer in

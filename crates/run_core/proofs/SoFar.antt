@@ -16,7 +16,7 @@ use Rattle.event_rules.specs.Tellings.{AwaitsRun, RunTold, RunCutShort}
 use Rattle.event_rules.proofs.Telling.{told_none}
 use Rattle.cell_grid.specs.Grid.{IsAsked}
 use Rattle.cell_sequence.specs.Run.{disks_of, hits}
-use Rattle.cell_sequence.specs.State.{CellStateData, IsCellState, IsCandidateOf, start_of}
+use Rattle.cell_sequence.specs.State.{CellStateData, IsCellState, IsCandidateOf, opening_state}
 use Rattle.region_view.specs.declared.action.Action.{Action}
 use Rattle.cell_sequence.proofs.Followed.{start_is}
 use Rattle.local_run.specs.Opening.{RegionData}
@@ -39,7 +39,7 @@ cell_after {old} {new} {answer} advance = (leads_of old new advance.runs answer 
 module _ {M : Type 0} {after : M → Change → M} (torn : M → Change → M → Type 0) {scene : SceneData}
     (asked : ℕ) (valid : IsValidScene scene) (some : IsAsked asked) where
   -- at the start
-  pub at_start : (old : Option M) (start : CellStateData) (untold : List Action) → start ≡ start_of scene asked →
+  pub at_start : (old : Option M) (start : CellStateData) (untold : List Action) → start ≡ opening_state scene asked →
       untold ≡ [] → IsTold after scene asked start untold old old
   at_start old start untold is none =
       subst (λ (v : List Action). IsTold after scene asked start v old old) (sym none)
@@ -99,7 +99,7 @@ pub next_fails : {state later : CellStateData} {answer : Advance} {batch : List 
 next_fails {state} {later} advance is = (subst (λ (v : Advance). Advances state v later) is advance).is.1
 
 pub cell_at_start : (scene : SceneData) (asked : ℕ) (start : CellStateData) → IsValidScene scene →
-    IsAsked asked → start ≡ start_of scene asked → IsCellState start
+    IsAsked asked → start ≡ opening_state scene asked → IsCellState start
 cell_at_start scene asked start valid some is =
     subst IsCellState (sym is) (start_is scene asked valid some)
 

@@ -15,7 +15,7 @@ use Rattle.local_run.specs.declared.home.Home.{Home}
 use Rattle.local_run.specs.LocalRun.{Local, sent_to}
 use Rattle.local_run.specs.Answers.{StepsTo, HearsFrom}
 use Rattle.local_run.specs.Opening.{RegionData, home_of, AreApart}
-use Rattle.local_run.specs.Steps.{Steps}
+use Rattle.local_run.specs.Steps.{RegionSteps}
 use Rattle.local_run.specs.Hearing.{rewound, HearsAnother, HearsRegion}
 use Rattle.local_run.specs.Standing.{StandsOn}
 use Rattle.local_run.proofs.Among.{same_or_other}
@@ -108,13 +108,13 @@ pub record HasStepped (state : CellStateData) (old new : List RegionData) (q : �
 pub has_stepped : (state : CellStateData) (old new : List RegionData) (q : ℕ) (s : Step) → AllStand state old →
     IsRegion state.grid q → Turns old q s new → HasStepped state old new q s
 has_stepped state old new q s stand is turns =
-    by_run (subst (λ (v : RegionData). Steps v s turns.left) same turns.steps)
+    by_run (subst (λ (v : RegionData). RegionSteps v s turns.left) same turns.steps)
   where
     same : turns.region ≡ region_on state q (runs_of old q)
     same = same_Some turns.region (region_on state q (runs_of old q))
         (sym turns.here ∙ region_at state old q stand is)
 
-    by_run : Steps (region_on state q (runs_of old q)) s turns.left → HasStepped state old new q s
+    by_run : RegionSteps (region_on state q (runs_of old q)) s turns.left → HasStepped state old new q s
     by_run steps =
         let run = steps.run.0 in
         let left : turns.left ≡ region_on state q run =

@@ -11,7 +11,7 @@ use Rattle.local_run.specs.declared.answers.Hearing.TheVariants.{Same, Rewound, 
 use Rattle.local_run.specs.LocalRun.{Local, sent_to}
 use Rattle.local_run.specs.Answers.{StepsTo, HearsFrom}
 use Rattle.local_run.specs.Opening.{RegionData, home_of}
-use Rattle.commit_horizon.specs.Horizon.{Runs, runs_of, AllStand}
+use Rattle.commit_horizon.specs.Horizon.{LocalRuns, runs_of, AllStand}
 use Rattle.run_core.specs.Hearings.{sent_by}
 use Rattle.run_core.specs.Second.{StepsIfLater}
 use Rattle.run_core.specs.Passing.{StandOn}
@@ -91,7 +91,7 @@ below_or_last : (q i : ℕ) → q < i + 1 → (q < i) ⊎ (q ≡ i)
 below_or_last q i lt = grind arith
 
 -- what region q makes of it depends on the teller and on q alone
-took_from : (state : CellStateData) (runs mid : Runs) (k q : ℕ) (after : Local) → mid k ≡ runs k →
+took_from : (state : CellStateData) (runs mid : LocalRuns) (k q : ℕ) (after : Local) → mid k ≡ runs k →
     mid q ≡ runs q → TookIn state mid k q after → TookIn state runs k q after
 took_from state runs mid k q after teller same (inl (linked, takes)) = inl (
   linked,

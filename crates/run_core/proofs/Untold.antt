@@ -22,8 +22,8 @@ use Rattle.commit_horizon.specs.Telling.{IsStateOf}
 use Rattle.commit_horizon.specs.Cutting.{FinalMade}
 use Rattle.commit_horizon.proofs.Commit.{final_is}
 use Rattle.run_core.specs.declared.answers.Advance.TheVariants.{Raised}
-use Rattle.run_core.specs.declared.answers.Course.{Course}
-use Rattle.run_core.specs.declared.answers.Course.TheVariants.{Raised as GoesOn, End as Ends, Limit as Fails}
+use Rattle.run_core.specs.declared.answers.AdvanceKind.{AdvanceKind}
+use Rattle.run_core.specs.declared.answers.AdvanceKind.TheVariants.{Raised as GoesOn, End as Ends, Limit as Fails}
 use Rattle.run_core.specs.Advances.{IsAdvance, Works}
 use Rattle.run_core.specs.AdvancesUntold.{answer_with, AdvanceMade, EventMade}
 use Rattle.run_core.specs.Passing.{Agrees}
@@ -36,7 +36,7 @@ use Rattle.run_core.proofs.Homes.{event_ran, event_halted, event_idled}
 use Rattle.run_core.proofs.Parts.{in_first, in_second, answers_well}
 
 -- ---- one answer and another
-pub batch_in : (course : Course) (batch : List Action) → batch ≡ batch_of (answer_with course batch)
+pub batch_in : (course : AdvanceKind) (batch : List Action) → batch ≡ batch_of (answer_with course batch)
 batch_in GoesOn batch = refl
 batch_in Ends batch = refl
 batch_in (Fails limit) batch = refl
@@ -176,7 +176,7 @@ module _ (old : CellStateData) (given heard : List RegionData) (is : IsCellState
       stand = final.commits.stand;
     }
 
-    pub second_made : (course : Course) (more : List Action) (then : Final) (last : List RegionData) →
+    pub second_made : (course : AdvanceKind) (more : List Action) (then : Final) (last : List RegionData) →
         EventMade final.new left course more then last → AdvanceMade old given course more then last
     second_made course more then last event =
         let answer = answer_with course more in
@@ -194,7 +194,7 @@ module _ (old : CellStateData) (given heard : List RegionData) (is : IsCellState
 
 -- ---- regions with their state
 module _ (earlier : CellStateData) (last : Option Stamp) (floor : Stamp) (given : List RegionData)
-    (old : CellStateData) (goes : GoesOnTo earlier last floor given old) (left : List RegionData) (course : Course)
+    (old : CellStateData) (goes : GoesOnTo earlier last floor given old) (left : List RegionData) (course : AdvanceKind)
     (batch : List Action) (made : Final) (advance : AdvanceMade old given course batch made left) where
   pub goes_to : GoesOnTo earlier (option_or made.last last) made.floor left advance.new
   goes_to = goes_on_by earlier last floor given old goes batch made.last made.floor left advance.new

@@ -7,19 +7,19 @@ use Rattle.commit_horizon.specs.declared.cutting.Final.{Final}
 use Rattle.commit_horizon.specs.Horizon.{runs_of, AllStand}
 use Rattle.run_core.specs.declared.answers.Advance.{Advance}
 use Rattle.run_core.specs.declared.answers.Advance.TheVariants.{Raised, End, Limit}
-use Rattle.run_core.specs.declared.answers.Course.{Course}
-use Rattle.run_core.specs.declared.answers.Course.TheVariants.{Raised as GoesOn, End as Ends, Limit as Fails}
+use Rattle.run_core.specs.declared.answers.AdvanceKind.{AdvanceKind}
+use Rattle.run_core.specs.declared.answers.AdvanceKind.TheVariants.{Raised as GoesOn, End as Ends, Limit as Fails}
 use Rattle.run_core.specs.Advances.{IsAdvance, Works}
 use Rattle.run_core.specs.Taking.{MakesNext}
 
 -- the answer of an advance with this batch
-abbrev pub answer_with : Course → List Action → Advance
+abbrev pub answer_with : AdvanceKind → List Action → Advance
 answer_with GoesOn batch = Raised batch
 answer_with Ends batch = End batch
 answer_with (Fails limit) batch = Limit batch limit
 
 -- the second part of an advance, with this batch, and what is answered of the state that comes of it
-pub record EventMade (old : CellStateData) (regions : List RegionData) (course : Course) (batch : List Action)
+pub record EventMade (old : CellStateData) (regions : List RegionData) (course : AdvanceKind) (batch : List Action)
     (made : Final) (left : List RegionData) : Type 0 where
   pub new : CellStateData
   pub is : MakesNext old regions (answer_with course batch) new left
@@ -28,7 +28,7 @@ pub record EventMade (old : CellStateData) (regions : List RegionData) (course :
   pub stand : AllStand new left
 
 -- an advance with this batch, and what is answered of the state that comes of it
-pub record AdvanceMade (old : CellStateData) (regions : List RegionData) (course : Course) (batch : List Action)
+pub record AdvanceMade (old : CellStateData) (regions : List RegionData) (course : AdvanceKind) (batch : List Action)
     (made : Final) (left : List RegionData) : Type 0 where
   pub new : CellStateData
   pub works : Works old (runs_of regions) (answer_with course batch) new left

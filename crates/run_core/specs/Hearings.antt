@@ -8,7 +8,7 @@ use Rattle.local_run.specs.declared.answers.Hearing.{Hearing}
 use Rattle.local_run.specs.declared.answers.Hearing.TheVariants.{Same, Rewound, Later, Apart}
 use Rattle.local_run.specs.LocalRun.{trail_of, sent_to}
 use Rattle.local_run.specs.Answers.{HearsFrom}
-use Rattle.commit_horizon.specs.Horizon.{Runs}
+use Rattle.commit_horizon.specs.Horizon.{LocalRuns}
 
 -- ---- calls
 -- a region that hears another, and what it answers
@@ -18,11 +18,11 @@ pub record Call : Type 0 where
   pub answer : Hearing
 
 -- what region k sent to region q
-abbrev pub sent_by : CellStateData → Runs → ℕ → ℕ → List Message
+abbrev pub sent_by : CellStateData → LocalRuns → ℕ → ℕ → List Message
 sent_by state runs k q = sent_to state.grid q (runs k).base (runs k).log
 
 -- what a call makes of the regions: the hearer hears what the sender sent, and the others stay
-pub record Hears (state : CellStateData) (runs : Runs) (c : Call) (after : Runs) : Type 0 where
+pub record Hears (state : CellStateData) (runs : LocalRuns) (c : Call) (after : LocalRuns) : Type 0 where
   pub hearer : IsRegion state.grid c.hearer
   pub sender : IsRegion state.grid c.sender
   pub linked : AreLinked state.grid c.sender c.hearer
@@ -31,10 +31,10 @@ pub record Hears (state : CellStateData) (runs : Runs) (c : Call) (after : Runs)
   pub others : (x : ℕ) → x ≢ c.hearer → after x ≡ runs x
 
 -- what calls make of them, one after the other
-abbrev pub Hearings : CellStateData → Runs → List Call → Runs → Type 0
+abbrev pub Hearings : CellStateData → LocalRuns → List Call → LocalRuns → Type 0
 Hearings state runs [] after = (x : ℕ) → after x ≡ runs x
 Hearings state runs (c ∷ cs) after =
-    (mid : Runs) × Hears state runs c mid × Hearings state mid cs after
+    (mid : LocalRuns) × Hears state runs c mid × Hearings state mid cs after
 
 -- ---- passes
 -- calls, in any order, among which each region hears each one that is linked to it
@@ -54,22 +54,22 @@ rewinds [] = 0
 rewinds (c ∷ cs) = one_if_rewound c.answer + rewinds cs
 
 -- how many entries the first n regions have
-abbrev pub entries_of : ℕ → Runs → ℕ
-entries_of zero runs = 0
-entries_of (suc n) runs = entries_of n runs + length (runs n).log
+abbrev pub entry_count : ℕ → LocalRuns → ℕ
+entry_count zero runs = 0
+entry_count (suc n) runs = entry_count n runs + length (runs n).log
 
 -- passes, up to the first that rewinds none
-abbrev pub Passes : CellStateData → Runs → List (List Call) → Runs → Type 0
+abbrev pub Passes : CellStateData → LocalRuns → List (List Call) → LocalRuns → Type 0
 Passes state runs [] after = ⊥
-Passes state runs (p ∷ ps) after = IsPass state p × ((mid : Runs) × Hearings state runs p mid
+Passes state runs (p ∷ ps) after = IsPass state p × ((mid : LocalRuns) × Hearings state runs p mid
     × (((rewinds p ≡ 0) × (ps ≡ []) × ((x : ℕ) → after x ≡ mid x))
     ⊎ ((0 < rewinds p) × Passes state mid ps after)))
 
 -- each region has heard just what the others sent
-abbrev pub AllHeard : CellStateData → Runs → Type 0
+abbrev pub AllHeard : CellStateData → LocalRuns → Type 0
 AllHeard state runs = (k q : ℕ) → IsRegion state.grid k → IsRegion state.grid q →
     AreLinked state.grid k q → trail_of (runs q).heard k ≡ sent_by state runs k q
 
 -- what no hearing changes
-abbrev pub SameBases : Runs → Runs → Type 0
+abbrev pub SameBases : LocalRuns → LocalRuns → Type 0
 SameBases runs after = (x : ℕ) → ((after x).base ≡ (runs x).base) × ((after x).floor ≡ (runs x).floor)

@@ -5,15 +5,15 @@ use Rattle.event_rules.specs.declared.change.Limit.{Limit as Failure}
 use Rattle.event_rules.specs.declared.outcome.Outcome.TheVariants.{Limit as Fails}
 use Rattle.cell_sequence.specs.Run.{CellRuns}
 use Rattle.cell_sequence.specs.State.{CellStateData, IsCellState}
-use Rattle.commit_horizon.specs.Horizon.{Runs, AreStanding, IsBound}
+use Rattle.commit_horizon.specs.Horizon.{LocalRuns, AreStanding, IsBound}
 use Rattle.region_view.specs.declared.action.Action.{Action}
 use Rattle.run_core.specs.declared.answers.Advance.TheVariants.{Raised, Limit}
-use Rattle.run_core.specs.Hearings.{Call, Hearings, Passes, entries_of, AllHeard, SameBases}
+use Rattle.run_core.specs.Hearings.{Call, Hearings, Passes, entry_count, AllHeard, SameBases}
 use Rattle.run_core.specs.Advances.{IsAdvance}
 use Rattle.run_core.specs.Simulates.{work_left}
 
 -- what hearings keep
-pub record AreKept (state : CellStateData) (runs after : Runs) : Type 0 where
+pub record AreKeptByHearings (state : CellStateData) (runs after : LocalRuns) : Type 0 where
   pub standing : AreStanding state after
   pub bound : (h : Stamp) → IsBound state runs h → IsBound state after h
   pub bases : SameBases runs after
@@ -21,27 +21,27 @@ pub record AreKept (state : CellStateData) (runs after : Runs) : Type 0 where
 -- regions that stand on a state go on standing on it, with every bound that they had, whatever they hear
 -- from each other
 abbrev pub HearingsKeepBounds : Type 0
-HearingsKeepBounds = (state : CellStateData) (runs after : Runs) (cs : List Call) →
+HearingsKeepBounds = (state : CellStateData) (runs after : LocalRuns) (cs : List Call) →
     IsCellState state → AreStanding state runs → Hearings state runs cs after →
-    AreKept state runs after
+    AreKeptByHearings state runs after
 
 -- after passes, of which the last rewinds none, each region has heard just what the others sent
 abbrev pub PassesEndInAgreement : Type 0
-PassesEndInAgreement = (state : CellStateData) (runs after : Runs) (ps : List (List Call)) →
+PassesEndInAgreement = (state : CellStateData) (runs after : LocalRuns) (ps : List (List Call)) →
     Passes state runs ps after → AllHeard state after
 
 -- there are at most as many passes as the regions had entries, and one
 abbrev pub PassesEnd : Type 0
-PassesEnd = (state : CellStateData) (runs after : Runs) (ps : List (List Call)) →
-    Passes state runs ps after → length ps ≤ 1 + entries_of state.grid.regions runs
+PassesEnd = (state : CellStateData) (runs after : LocalRuns) (ps : List (List Call)) →
+    Passes state runs ps after → length ps ≤ 1 + entry_count state.grid.regions runs
 
 -- after an advance that isn't the last less is left of the run
 abbrev pub AdvancesEnd : Type 0
-AdvancesEnd = (old new : CellStateData) (runs : Runs) (batch : List Action) → IsCellState old →
+AdvancesEnd = (old new : CellStateData) (runs : LocalRuns) (batch : List Action) → IsCellState old →
     IsAdvance old runs (Raised batch) new → work_left new < work_left old
 
 -- the limit that an advance answers is the one at which the cell run ends, right after the batch
 abbrev pub LimitsEndTheRun : Type 0
-LimitsEndTheRun = (old new : CellStateData) (runs : Runs) (batch : List Action) (limit : Failure) →
+LimitsEndTheRun = (old new : CellStateData) (runs : LocalRuns) (batch : List Action) (limit : Failure) →
     IsAdvance old runs (Limit batch limit) new →
     CellRuns old.rules old.grid old.placed batch (Fails limit)

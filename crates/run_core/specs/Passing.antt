@@ -49,6 +49,6 @@ pub record Agrees (state : CellStateData) (old new : List RegionData) : Type 0 w
   pub hear : Passes state (runs_of old) passes (runs_of new)
 
 -- so they did, and stand on the state still
-pub record AgreeOn (state : CellStateData) (old new : List RegionData) : Type 0 where
+pub record AgreeAndStand (state : CellStateData) (old new : List RegionData) : Type 0 where
   pub agree : Agrees state old new
   pub stand : AllStand state new

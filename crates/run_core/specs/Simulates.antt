@@ -5,7 +5,7 @@ use Rattle.event_stamps.specs.Order.{end_stamp, rank}
 use Rattle.region_view.specs.declared.action.Action.{Action}
 use Rattle.cell_sequence.specs.State.{CellStateData}
 use Rattle.local_run.specs.Opening.{RegionData}
-use Rattle.commit_horizon.specs.Horizon.{Runs}
+use Rattle.commit_horizon.specs.Horizon.{LocalRuns}
 use Rattle.run_core.specs.declared.answers.Advance.{Advance}
 use Rattle.run_core.specs.declared.answers.Advance.TheVariants.{Raised, End, Limit}
 use Rattle.run_core.specs.Advances.{IsAdvance, Works}
@@ -27,7 +27,7 @@ work_left state = rank (end_stamp state.rules.end) - rank_of state.last
 
 -- an advance, of some regions that stand on the state, and how it worked
 pub record Advances (old : CellStateData) (answer : Advance) (new : CellStateData) : Type 0 where
-  pub runs : Runs
+  pub runs : LocalRuns
   pub left : List RegionData
   pub is : IsAdvance old runs answer new
   pub works : Works old runs answer new left

@@ -9,7 +9,7 @@ use Rattle.local_run.specs.declared.answers.Step.TheVariants.{Ran}
 use Rattle.local_run.specs.LocalRun.{Local}
 use Rattle.local_run.specs.Opening.{RegionData}
 use Rattle.local_run.specs.Keeping.{IsDueIn}
-use Rattle.commit_horizon.specs.Horizon.{Runs, runs_of, AreStanding, AllStand}
+use Rattle.commit_horizon.specs.Horizon.{LocalRuns, runs_of, AreStanding, AllStand}
 use Rattle.run_core.specs.declared.answers.Advance.{Advance}
 use Rattle.run_core.specs.Advances.{SecondPart}
 use Rattle.run_core.specs.Hearings.{Call, Hearings, IsPass}
@@ -28,12 +28,12 @@ pub record IsFirstDue (regions : List RegionData) (n home : ℕ) (stamp : Stamp)
   pub first : (k : ℕ) → k < home → Before stamp (dues k)
 
 -- the same of all regions
-abbrev pub IsHome : List RegionData → ℕ → Type 0
-IsHome regions home = (stamp : Stamp) × IsFirstDue regions (length regions) home stamp
+abbrev pub IsNextHome : List RegionData → ℕ → Type 0
+IsNextHome regions home = (stamp : Stamp) × IsFirstDue regions (length regions) home stamp
 
 -- ---- what is taken in
 -- region q took in what region k sent, or isn't linked with it and is as it was
-abbrev pub TookIn : CellStateData → Runs → ℕ → ℕ → Local → Type 0
+abbrev pub TookIn : CellStateData → LocalRuns → ℕ → ℕ → Local → Type 0
 TookIn state runs k q after = (AreLinked state.grid k q × TakesIn state runs k q after)
     ⊎ ((¬ AreLinked state.grid k q) × (after ≡ runs q))
 
@@ -61,7 +61,7 @@ pub record StandFrom (grid : GridData) (floor : Stamp) (regions : List RegionDat
 -- regions that stand were all taken back to the floor, and heard each other
 pub record Refreshed (state : CellStateData) (regions fresh : List RegionData) : Type 0 where
   pub standing : AreStanding state (runs_of regions)
-  pub back : Runs
+  pub back : LocalRuns
   pub rewound : (k : ℕ) → IsRegion state.grid k → back k ≡ rewound_to state.floor (runs_of regions k)
   pub pass : List Call
   pub is_pass : IsPass state pass
@@ -80,7 +80,7 @@ pub record RunsEvent (state : CellStateData) (regions : List RegionData) (step :
   pub fresh : List RegionData
   pub refreshed : Refreshed state regions fresh
   pub home : ℕ
-  pub is_home : IsHome fresh home
+  pub is_home : IsNextHome fresh home
   pub stepped : List RegionData
   pub turns : Turns fresh home step stepped
   pub taken : TakenIfRan state stepped home step left

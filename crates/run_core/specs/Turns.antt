@@ -4,7 +4,7 @@ use Rattle.local_run.specs.declared.answers.Step.{Step}
 use Rattle.local_run.specs.declared.answers.Hearing.{Hearing}
 use Rattle.local_run.specs.declared.answers.Hearing.TheVariants.{Apart}
 use Rattle.local_run.specs.Opening.{RegionData, AreApart, spent}
-use Rattle.local_run.specs.Steps.{Steps}
+use Rattle.local_run.specs.Steps.{RegionSteps}
 use Rattle.local_run.specs.Hearing.{HearsRegion}
 
 -- the region at a place makes a step
@@ -12,7 +12,7 @@ pub record Turns (regions : List RegionData) (k : ℕ) (answer : Step) (after : 
   pub region : RegionData
   pub here : slice_get regions k ≡ Some region
   pub left : RegionData
-  pub steps : Steps region answer left
+  pub steps : RegionSteps region answer left
   pub is : after ≡ slice_set regions k left
 
 -- the region at a place hears the one at another

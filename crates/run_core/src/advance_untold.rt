@@ -6,7 +6,7 @@ ghost use Rattle.run_core.specs.AdvancesUntold.{AdvanceMade, EventMade, answer_w
 ghost use Rattle.run_core.specs.Simulates.{Advances};
 ghost use Rattle.run_core.specs.Standing.{ComesOf};
 
-use crate::answers::Course;
+use crate::answers::AdvanceKind;
 use crate::one_event::{know, run_event};
 use crate::one_state::Standing;
 use crate::passes::agree;
@@ -25,7 +25,7 @@ pub(crate) fn advance_untold(
     alloc: Global,
     standing: Standing,
     untold: &mut Untold,
-) -> Result<(Course, Standing), AllocError>
+) -> Result<(AdvanceKind, Standing), AllocError>
     requires { untold.old ≡ [] }
     ensures { IfOk result (λ advanced. Advances standing (answer_with advanced.0 untold.new) advanced.1) }
 {
@@ -49,7 +49,7 @@ pub(crate) fn make_final(
     earlier: &CellState,
     regions: &mut [Region],
     untold: &mut Untold,
-) -> Result<(Course, Final), AllocError>
+) -> Result<(AdvanceKind, Final), AllocError>
     requires stand { (state : CellStateData) × ComesOf earlier.now state.floor regions.old state }
     requires told { untold.old ≡ [] }
     ensures { IfOk result (λ advanced. (state : CellStateData) →
@@ -60,7 +60,7 @@ pub(crate) fn make_final(
     agree(alloc, earlier.grid(), regions)?;
     let made = commit_cutting(alloc, earlier.rules(), regions, untold)?;
     if made.last.is_some() {
-        return Ok((Course::Raised, made));
+        return Ok((AdvanceKind::Raised, made));
     }
     make_event(alloc, earlier, made.floor, regions, untold)
 }
@@ -73,7 +73,7 @@ fn make_event(
     floor: Stamp,
     regions: &mut [Region],
     untold: &mut Untold,
-) -> Result<(Course, Final), AllocError>
+) -> Result<(AdvanceKind, Final), AllocError>
     requires stand { (state : CellStateData) × ComesOf earlier.now floor regions.old state }
     requires told { untold.old ≡ [] }
     ensures { IfOk result (λ advanced. (state : CellStateData) → ComesOf earlier.now floor regions.old state →
@@ -83,9 +83,9 @@ fn make_event(
     match step {
         Step::Ran(_) => {
             let made = commit_cutting(alloc, earlier.rules(), regions, untold)?;
-            Ok((Course::Raised, made))
+            Ok((AdvanceKind::Raised, made))
         }
-        Step::Halted(limit) => Ok((Course::Limit(limit), Final { last: None, floor })),
-        _ => Ok((Course::End, Final { last: None, floor })),
+        Step::Halted(limit) => Ok((AdvanceKind::Limit(limit), Final { last: None, floor })),
+        _ => Ok((AdvanceKind::End, Final { last: None, floor })),
     }
 }

@@ -16,7 +16,7 @@ pub enum Advance {
 
 /// What an advance comes to, whatever it committed.
 #[derive(Clone, Copy)]
-pub(crate) enum Course {
+pub(crate) enum AdvanceKind {
     /// Some actions were committed.
     Raised,
     /// No event is left.
@@ -42,15 +42,15 @@ impl Advance {
     }
 }
 
-impl Course {
+impl AdvanceKind {
     /// The answer of an advance that committed a batch.
     pub(crate) fn answer_with(self, batch: Batch) -> Advance
         ensures { result ≡ answer_with self batch }
     {
         match self {
-            Course::Raised => Advance::Raised(batch),
-            Course::End => Advance::End(batch),
-            Course::Limit(limit) => Advance::Limit(batch, limit),
+            AdvanceKind::Raised => Advance::Raised(batch),
+            AdvanceKind::End => Advance::End(batch),
+            AdvanceKind::Limit(limit) => Advance::Limit(batch, limit),
         }
     }
 }

@@ -6,7 +6,7 @@ ghost use Rattle.local_run.specs.Hearing.{rewound};
 ghost use Rattle.cell_sequence.specs.State.{CellStateData};
 ghost use Rattle.commit_horizon.specs.Horizon.{AllKept};
 ghost use Rattle.run_core.specs.Passing.{StandOn};
-ghost use Rattle.run_core.specs.Taking.{IsHome, OneTookIn, AllTookIn, Refreshed, RunsEvent, StandFrom};
+ghost use Rattle.run_core.specs.Taking.{IsNextHome, OneTookIn, AllTookIn, Refreshed, RunsEvent, StandFrom};
 
 use crate::pairs::{hear_at, step_at};
 use crate::passes::pass;
@@ -82,7 +82,7 @@ fn rewind_all(alloc: Global, regions: &mut [Region], at: Stamp) -> Result<(), Al
 // The place of the first of the regions whose due stamp is the least.
 fn least_due(regions: &[Region]) -> usize
     requires { 0 < length regions.now }
-    ensures { IsHome regions.now result }
+    ensures { IsNextHome regions.now result }
 {
     let mut home = 0;
     let mut least = regions[0].due();

@@ -37,7 +37,7 @@ ghost use Rattle.fixed_motion.specs.Motion.{IsValidDisk};
 ghost use Rattle.event_rules.specs.Run.{spots_of, spot_of};
 ghost use Rattle.cell_grid.specs.Grid.{IsAsked};
 ghost use Rattle.cell_sequence.specs.Run.{disks_of};
-ghost use Rattle.cell_sequence.specs.State.{CellStateData, IsCellState, start_of};
+ghost use Rattle.cell_sequence.specs.State.{CellStateData, IsCellState, opening_state};
 ghost use Rattle.commit_horizon.specs.Horizon.{AllStand};
 ghost use Rattle.run_core.specs.Standing.{GoesOnTo, row_among};
 
@@ -62,7 +62,7 @@ impl Standing {
         regions: u32,
     ) -> Result<Standing, AllocError>
         requires { IsAsked regions }
-        ensures { IfOk result (λ standing. standing ≡ start_of scene.now regions) }
+        ensures { IfOk result (λ standing. standing ≡ opening_state scene.now regions) }
     {
         let committed = Committed::open(alloc, scene, regions)?;
         let regions = committed.open_side_by_side(rt, alloc)?;

@@ -3,7 +3,7 @@
 ghost use Rattle.std.specs.Prelude.{◌≡◌, IfOk, OnOk};
 ghost use Rattle.cell_grid.specs.Grid.{IsRegion};
 ghost use Rattle.cell_sequence.specs.State.{CellStateData};
-ghost use Rattle.run_core.specs.Passing.{StandOn, is_rewound, Heard, HearsOne, HearsUpTo, AllHearUpTo, AgreeOn};
+ghost use Rattle.run_core.specs.Passing.{StandOn, is_rewound, Heard, HearsOne, HearsUpTo, AllHearUpTo, AgreeAndStand};
 
 use crate::pairs::hear_at;
 use cell_grid::Grid;
@@ -17,7 +17,7 @@ use std::alloc::{AllocError, Global};
 pub(crate) fn agree(alloc: Global, grid: &Grid, regions: &mut [Region]) -> Result<(), AllocError>
     requires { (state : CellStateData) × StandOn grid.now regions.old state }
     ensures { OnOk result ((state : CellStateData) → StandOn grid.now regions.old state →
-        AgreeOn state regions.old regions.new) }
+        AgreeAndStand state regions.old regions.new) }
 {
     'passes: loop {
         let more = pass(alloc, grid, regions)?;

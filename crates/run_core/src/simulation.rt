@@ -10,7 +10,7 @@ ghost use Rattle.run_core.specs.AdvancesUntold.{answer_with};
 ghost use Rattle.run_core.specs.Simulates.{Advances};
 
 use crate::advance_untold::advance_untold;
-use crate::answers::Course;
+use crate::answers::AdvanceKind;
 use crate::one_state::Standing;
 use crate::telling::Telling;
 use event_rules::{Listener, Outcome, RunFault};
@@ -49,13 +49,13 @@ pub fn simulate<B: Burst<Telling, L>, R: Threads + Wait + Sync, L: Listener>(
     'bursts: loop {
         let (course, left) = work(rt, alloc, standing, burst, &mut telling, listener)?;
         match course {
-            Course::Raised => standing = left,
-            Course::End => {
+            AdvanceKind::Raised => standing = left,
+            AdvanceKind::End => {
                 telling.tell_rest(listener)?;
                 let spots = left.final_state(alloc)?;
                 return Ok(Outcome::Done(spots));
             }
-            Course::Limit(limit) => {
+            AdvanceKind::Limit(limit) => {
                 telling.tell_rest(listener)?;
                 return Ok(Outcome::Limit(limit));
             }
@@ -72,7 +72,7 @@ fn work<B: Burst<Telling, L>, R: Threads + Wait + Sync, L: Listener>(
     burst: &mut B,
     telling: &mut Telling,
     listener: &mut L,
-) -> Result<(Course, Standing), RunFault>
+) -> Result<(AdvanceKind, Standing), RunFault>
     requires heard { telling.old.fault ≡ None }
     requires awaited { AwaitsAll L.after L.awaits (L.meaning listener.old) (hits telling.old.untold) }
     ensures advances { IfOk result (λ advanced.

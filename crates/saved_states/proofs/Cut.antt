@@ -6,7 +6,7 @@ use Rattle.std.proofs.lemmas.List.{length-drop, take_rest, take_all, drop_all, t
 use Rattle.region_view.specs.Views.{ViewData}
 use Rattle.region_view.specs.Setting.{RowList, set_rows}
 use Rattle.saved_states.specs.Positions.{SavedData, EndsWith, up_to, dropped_after, dropped_before}
-use Rattle.saved_states.specs.Steps.{StepList, last_position, undone, later, rebuilt}
+use Rattle.saved_states.specs.Steps.{StepList, last_position, view_before, views_after, rebuilt}
 use Rattle.saved_states.proofs.Rising.{IsPlace, next_place}
 use Rattle.saved_states.proofs.Rebuilt.{undone_parts, undone_more, ends}
 
@@ -17,7 +17,7 @@ le_false : (m n : ℕ) → n < m → nat_le m n ≡ false
 le_false m n lt = grind arith
 
 later_up_to : (position n : ℕ) (view : ViewData) (steps : StepList) → IsPlace position steps n →
-    up_to position (later view steps) ≡ later (undone view (drop n steps)) (take n steps)
+    up_to position (views_after view steps) ≡ views_after (view_before view (drop n steps)) (take n steps)
 later_up_to position zero view [] h = refl
 later_up_to position (suc n) view [] h = refl
 later_up_to position zero view (step ∷ steps) h =
@@ -41,7 +41,7 @@ turned n count l e =
 
 pub cut : (position n first : ℕ) (view : ViewData) (steps : StepList) → IsPlace position steps n →
     dropped_after position (rebuilt first view steps)
-    ≡ rebuilt first (undone view (drop n steps)) (take n steps)
+    ≡ rebuilt first (view_before view (drop n steps)) (take n steps)
 cut position n first view steps h =
     let here = undone_parts view n steps in
     let more = later_up_to position n view steps h in
@@ -51,14 +51,14 @@ cut position n first view steps h =
 -- to the position
 pub restored : (position n first : ℕ) (newest copied view : ViewData) (steps whole : StepList)
     (saved : SavedData) → IsPlace position steps n → rebuilt first newest steps ≡ saved → whole ≡ steps →
-    copied ≡ newest → view ≡ undone copied (take (length whole - n) (drop n whole)) →
+    copied ≡ newest → view ≡ view_before copied (take (length whole - n) (drop n whole)) →
     EndsWith (dropped_after position saved) (last_position first (take n steps), view)
 restored position n first newest copied view steps whole saved place is same copy undone_in =
-    let before = undone newest (drop n steps) in
+    let before = view_before newest (drop n steps) in
     let last = last_position first (take n steps) in
     let view_is : view ≡ before =
-    undone_in ∙ ap (undone copied) (take_rest whole n ∙ ap (drop n) same)
-    ∙ ap (λ (v : ViewData). undone v (drop n steps)) copy in
+    undone_in ∙ ap (view_before copied) (take_rest whole n ∙ ap (drop n) same)
+    ∙ ap (λ (v : ViewData). view_before v (drop n steps)) copy in
     let kept = sym (cut position n first newest steps place) ∙ ap (dropped_after position) is in
     subst (λ (v : SavedData). EndsWith v (last, view)) kept
     (subst (λ (v : ViewData). EndsWith (rebuilt first before (take n steps)) (last, v)) (sym view_is)
@@ -84,7 +84,7 @@ pub record AreUndone (n : ℕ) (old : StepList) (newest : ViewData) (left : Step
     Type 0 where
   pub within : n ≤ length old
   pub steps : left ≡ take n old
-  pub view : before ≡ undone newest (drop n old)
+  pub view : before ≡ view_before newest (drop n old)
 
 -- what is left is what is kept up to the last position left
 pub undone_is_cut : (position n first : ℕ) (steps : StepList) (newest : ViewData) (left : StepList)
@@ -92,7 +92,7 @@ pub undone_is_cut : (position n first : ℕ) (steps : StepList) (newest : ViewDa
     rebuilt first view left ≡ dropped_after position (rebuilt first newest steps)
 undone_is_cut position n first steps newest left view place undone_to =
     ap (λ (v : ViewData). rebuilt first v left) undone_to.view
-    ∙ ap (rebuilt first (undone newest (drop n steps))) undone_to.steps
+    ∙ ap (rebuilt first (view_before newest (drop n steps))) undone_to.steps
     ∙ sym (cut position n first newest steps place)
 
 -- none is undone yet
@@ -101,7 +101,7 @@ pub none_undone : (n : ℕ) (steps : StepList) (newest : ViewData) → n ≡ len
 none_undone n steps newest all = record {
   within = omega arith;
   steps = sym (take_all n steps (omega arith));
-  view = sym (ap (undone newest) (drop_all n steps (omega arith)));
+  view = sym (ap (view_before newest) (drop_all n steps (omega arith)));
 }
 
 -- the last of those that are left is undone too

@@ -7,7 +7,7 @@ use Rattle.region_view.specs.declared.action.Placed.{Placed}
 use Rattle.region_view.specs.Views.{ViewData}
 use Rattle.region_view.specs.Setting.{RowList, get_over}
 use Rattle.region_view.proofs.Puts.{set_rows_are_put_over}
-use Rattle.saved_states.specs.Steps.{StepList, undone}
+use Rattle.saved_states.specs.Steps.{StepList, view_before}
 
 -- ---- one row more
 over_joined : (xs : RowList) (row : ℕ × Option Placed) (i : ℕ) (before : Option Placed) →
@@ -52,8 +52,8 @@ step_off steps k step lt is =
 
 -- before a step there is what its rows set, over what is there after it
 pub undone_step : (view : ViewData) (steps : StepList) (k : ℕ) (step : ℕ × RowList) (i : ℕ) →
-    k < length steps → step ≡ get_or steps k step → map.get (undone view (drop k steps)) i
-    ≡ get_over step.1 i (map.get (undone view (drop (k + 1) steps)) i)
+    k < length steps → step ≡ get_or steps k step → map.get (view_before view (drop k steps)) i
+    ≡ get_over step.1 i (map.get (view_before view (drop (k + 1) steps)) i)
 undone_step view steps k step i lt is =
-    ap (λ (s : StepList). map.get (undone view s) i) (step_off steps k step lt is)
-    ∙ set_rows_are_put_over (undone view (drop (k + 1) steps)) step.1 i
+    ap (λ (s : StepList). map.get (view_before view s) i) (step_off steps k step lt is)
+    ∙ set_rows_are_put_over (view_before view (drop (k + 1) steps)) step.1 i

@@ -24,23 +24,23 @@ first_position [] = 0
 first_position (pair ∷ pairs) = pair.0
 
 -- the first view; of no pairs, one without rows
-abbrev pub first_view : SavedData → ViewData
-first_view [] = map.empty
-first_view (pair ∷ pairs) = pair.1
+abbrev pub first_saved : SavedData → ViewData
+first_saved [] = map.empty
+first_saved (pair ∷ pairs) = pair.1
 
-abbrev pub last_of : ℕ × ViewData → SavedData → ℕ × ViewData
-last_of pair [] = pair
-last_of pair (next ∷ pairs) = last_of next pairs
+abbrev pub last_pair : ℕ × ViewData → SavedData → ℕ × ViewData
+last_pair pair [] = pair
+last_pair pair (next ∷ pairs) = last_pair next pairs
 
 -- the last pair is this one
 abbrev pub EndsWith : SavedData → ℕ × ViewData → Type 0
 EndsWith [] pair = ⊥
-EndsWith (first ∷ pairs) pair = pair ≡ last_of first pairs
+EndsWith (first ∷ pairs) pair = pair ≡ last_pair first pairs
 
 -- a position is after the last one
 abbrev pub IsAfterLast : SavedData → ℕ → Type 0
 IsAfterLast [] position = ⊤
-IsAfterLast (first ∷ pairs) position = (last_of first pairs).0 < position
+IsAfterLast (first ∷ pairs) position = (last_pair first pairs).0 < position
 
 -- one pair more: at this position, the last view with the rows set
 abbrev pub Appends : SavedData → SavedData → ℕ → RowList → Type 0

@@ -19,15 +19,15 @@ last_position first [] = first
 last_position first (step ∷ steps) = last_position step.0 steps
 
 -- the view before the steps that led to this one
-abbrev pub undone : ViewData → StepList → ViewData
-undone view [] = view
-undone view (step ∷ steps) = set_rows (undone view steps) step.1
+abbrev pub view_before : ViewData → StepList → ViewData
+view_before view [] = view
+view_before view (step ∷ steps) = set_rows (view_before view steps) step.1
 
 -- the view after each step
-abbrev pub later : ViewData → StepList → SavedData
-later view [] = []
-later view (step ∷ steps) = (step.0, undone view steps) ∷ later view steps
+abbrev pub views_after : ViewData → StepList → SavedData
+views_after view [] = []
+views_after view (step ∷ steps) = (step.0, view_before view steps) ∷ views_after view steps
 
 -- the first view, before all steps, and those after it
 abbrev pub rebuilt : ℕ → ViewData → StepList → SavedData
-rebuilt first view steps = (first, undone view steps) ∷ later view steps
+rebuilt first view steps = (first, view_before view steps) ∷ views_after view steps

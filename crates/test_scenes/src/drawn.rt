@@ -2,12 +2,12 @@
 
 ghost use Rattle.std.specs.Prelude.{◌<◌};
 
-use crate::numbers::Numbers;
+use crate::numbers::DrawnNumbers;
 use crate::texts::scene;
 use std::alloc::{AllocError, Global};
 
 /// The text of a scene of up to five disks in a box of up to eight columns and five rows, with sizes.
-pub fn generated(alloc: Global, numbers: &mut Numbers) -> Result<String, AllocError> {
+pub fn generated(alloc: Global, numbers: &mut DrawnNumbers) -> Result<String, AllocError> {
     let width = numbers.next(20, 60);
     let height = numbers.next(8, 40);
     let speed = numbers.next(2, 3);
@@ -21,7 +21,7 @@ pub fn generated(alloc: Global, numbers: &mut Numbers) -> Result<String, AllocEr
 
 fn generated_rows(
     alloc: Global,
-    numbers: &mut Numbers,
+    numbers: &mut DrawnNumbers,
     width: i64,
     height: i64,
 ) -> Result<String, AllocError> {
@@ -37,7 +37,7 @@ fn generated_rows(
 
 fn generated_row(
     alloc: Global,
-    numbers: &mut Numbers,
+    numbers: &mut DrawnNumbers,
     width: i64,
     height: i64,
 ) -> Result<String, AllocError> {
@@ -48,13 +48,13 @@ fn generated_row(
 }
 
 // A coordinate at which a disk of the greatest size is inside.
-fn across(numbers: &mut Numbers, length: i64) -> i64 {
+fn across(numbers: &mut DrawnNumbers, length: i64) -> i64 {
     let part = numbers.next(0, 1024);
     (part.wrapping_mul(length.wrapping_sub(3)) / 1024).wrapping_add(2)
 }
 
 /// The text of a scene of eight disks side by side in a box of ten columns or more; none is refused.
-pub fn wide(alloc: Global, numbers: &mut Numbers) -> Result<String, AllocError> {
+pub fn wide(alloc: Global, numbers: &mut DrawnNumbers) -> Result<String, AllocError> {
     let width = numbers.next(200, 20);
     let height = numbers.next(20, 21);
     let rows = field_rows(alloc, numbers, 8, 17)?;
@@ -63,7 +63,7 @@ pub fn wide(alloc: Global, numbers: &mut Numbers) -> Result<String, AllocError> 
 }
 
 /// The text of a scene of three rows of 24 disks in a box of 30 columns, up to tick 400; none is refused.
-pub fn crowd(alloc: Global, numbers: &mut Numbers) -> Result<String, AllocError> {
+pub fn crowd(alloc: Global, numbers: &mut DrawnNumbers) -> Result<String, AllocError> {
     let rows = field_rows(alloc, numbers, 72, 15)?;
     scene(
         alloc,
@@ -77,7 +77,7 @@ pub fn crowd(alloc: Global, numbers: &mut Numbers) -> Result<String, AllocError>
 // Rows of disks, each of which has a field of its own, 25 units wide.
 fn field_rows(
     alloc: Global,
-    numbers: &mut Numbers,
+    numbers: &mut DrawnNumbers,
     places: u32,
     heights: u64,
 ) -> Result<String, AllocError>
@@ -94,7 +94,7 @@ fn field_rows(
 // the disk is at one of so many heights.
 fn field_row(
     alloc: Global,
-    numbers: &mut Numbers,
+    numbers: &mut DrawnNumbers,
     place: u32,
     heights: u64,
 ) -> Result<String, AllocError>

@@ -8,7 +8,7 @@ mod numbers;
 mod texts;
 
 pub use drawn::{crowd, generated, wide};
-pub use numbers::Numbers;
+pub use numbers::DrawnNumbers;
 pub use texts::{
     BOUNCING, FOUR_IN_A_ROW, LONG, MISLED, ROLLED_BACK, SLOW_CROSSING, USUAL, scene, scene_of,
 };

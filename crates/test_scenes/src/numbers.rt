@@ -4,12 +4,12 @@ ghost use Rattle.std.specs.Prelude.{◌<◌};
 
 /// A linear congruential generator, of which the high bits are good enough for test data.
 #[derive(Drop)]
-pub struct Numbers {
+pub struct DrawnNumbers {
     /// The last state; any number begins a sequence.
     pub state: u64,
 }
 
-impl Numbers {
+impl DrawnNumbers {
     /// One of the `count` numbers from `least` on.
     pub fn next(&mut self, least: i64, count: u64) -> i64
         requires { 0 < count }

@@ -9,12 +9,12 @@ use std::marker::Model;
 
 /// The bytes of one line of text, in a buffer of 256 bytes.
 #[derive(Drop)]
-pub struct Line {
+pub struct TextLine {
     bytes: [u8; 256],
     len: usize,
 }
 
-impl Model for Line {
+impl Model for TextLine {
     ghost use Rattle.std.specs.Prelude.{List, ℕ, take, ◌≤◌};
 
     ghost Value = { List ℕ };
@@ -24,12 +24,12 @@ impl Model for Line {
     ghost invariant = { λ l. l.len ≤ 256 };
 }
 
-impl Line {
+impl TextLine {
     /// A line with no bytes.
-    pub fn new() -> Line
+    pub fn new() -> TextLine
         ensures { result ≡ [] }
     {
-        Line {
+        TextLine {
             bytes: [0; 256],
             len: 0,
         }

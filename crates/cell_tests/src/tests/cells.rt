@@ -7,7 +7,7 @@ use cell_lists::{Gathered, Lists, block_around};
 use event_stamps::Stamp;
 use fixed_motion::{Disk, Rules};
 use std::alloc::{AllocError, Global};
-use test_scenes::Numbers;
+use test_scenes::DrawnNumbers;
 
 // A box of 20 columns of 20 units, and of one row.
 const LONG: Rules = Rules {
@@ -175,7 +175,7 @@ const TICKS: u64 = 80;
 
 #[test]
 fn finds_what_trying_each_tick_finds(rt: HostRuntime) {
-    let mut numbers = Numbers { state: 1 };
+    let mut numbers = DrawnNumbers { state: 1 };
     let mut crossings: u32 = 0;
     for number in 0..DISKS {
         let (rules, disk) = generated(&mut numbers);
@@ -191,7 +191,7 @@ fn finds_what_trying_each_tick_finds(rt: HostRuntime) {
 }
 
 // Rules with some end of the run, and a disk of mark 0.
-fn generated(numbers: &mut Numbers) -> (Rules, Disk) {
+fn generated(numbers: &mut DrawnNumbers) -> (Rules, Disk) {
     let rules = Rules {
         end: numbers.next(0, 60).unsigned_abs(),
         ..BLOCK

@@ -11,7 +11,7 @@ use fixed_motion::Scene;
 use region_view::Action;
 use std::alloc::{AllocError, Global};
 use std::test::Fail;
-use test_scenes::{Numbers, scene_of, wide};
+use test_scenes::{DrawnNumbers, scene_of, wide};
 
 // From which number on a scene and its calls are drawn, and how many regions are asked for: the last are more than
 // the columns of a scene.
@@ -66,7 +66,7 @@ type Seen = (usize, Option<Other>);
 
 // The commits of the scene that is drawn from a number on; none where it is refused.
 fn commits_of(alloc: Global, seed: u64, asked: u32) -> Result<Option<Seen>, AllocError> {
-    let mut numbers = Numbers { state: seed };
+    let mut numbers = DrawnNumbers { state: seed };
     let text = wide(alloc, &mut numbers)?;
     match scene_of(alloc, text.as_str())? {
         Some(scene) if (1..=MAX_REGIONS).contains(&asked) => {
@@ -80,7 +80,7 @@ fn commits_in(
     alloc: Global,
     scene: &Scene,
     asked: u32,
-    numbers: &mut Numbers,
+    numbers: &mut DrawnNumbers,
 ) -> Result<Seen, AllocError>
     requires { IsAsked asked }
 {
@@ -93,7 +93,7 @@ fn commits_beside(
     alloc: Global,
     sequence: &mut CellState,
     committed: &mut Committed,
-    numbers: &mut Numbers,
+    numbers: &mut DrawnNumbers,
 ) -> Result<Seen, AllocError> {
     let mut commits = Commits {
         same: 0,
@@ -110,7 +110,7 @@ fn commits_beside(
 fn batch_drawn(
     alloc: Global,
     committed: &mut Committed,
-    numbers: &mut Numbers,
+    numbers: &mut DrawnNumbers,
 ) -> Result<Batch, AllocError> {
     let calls = drawn(alloc, numbers, committed.state().grid().regions() as usize)?;
     let mut regions = regions_after(alloc, committed, &calls)?;
@@ -118,7 +118,11 @@ fn batch_drawn(
 }
 
 // Steps and hearings of regions near each other, in an order of no meaning; two of three calls are steps.
-fn drawn(alloc: Global, numbers: &mut Numbers, regions: usize) -> Result<Vec<Call>, AllocError> {
+fn drawn(
+    alloc: Global,
+    numbers: &mut DrawnNumbers,
+    regions: usize,
+) -> Result<Vec<Call>, AllocError> {
     let mut calls = Vec::new(alloc);
     for _ in 0..CALLS {
         calls.push(drawn_call(numbers, regions))?;
@@ -126,7 +130,7 @@ fn drawn(alloc: Global, numbers: &mut Numbers, regions: usize) -> Result<Vec<Cal
     Ok(calls)
 }
 
-fn drawn_call(numbers: &mut Numbers, regions: usize) -> Call {
+fn drawn_call(numbers: &mut DrawnNumbers, regions: usize) -> Call {
     let place = place_below(numbers, regions);
     let from = place
         .saturating_add(place_below(numbers, 5))
@@ -136,7 +140,7 @@ fn drawn_call(numbers: &mut Numbers, regions: usize) -> Call {
 }
 
 // One of so many places; 0 where there is none.
-fn place_below(numbers: &mut Numbers, count: usize) -> usize {
+fn place_below(numbers: &mut DrawnNumbers, count: usize) -> usize {
     let number = numbers.next(0, 1_024).unsigned_abs() as usize;
     number.checked_rem(count).unwrap_or(0)
 }

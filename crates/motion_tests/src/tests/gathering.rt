@@ -1,7 +1,7 @@
 //! Pieces that are gathered over a sink of which one call fails: what is answered, and what is written.
 
 use super::rows::expect;
-use gathered_sink::Gathered;
+use gathered_sink::GatheringSink;
 use report_ports::{Given, MemorySink, Sink};
 use std::alloc::{AllocError, Global};
 use std::process::Abort;
@@ -61,7 +61,7 @@ fn expect_row(
     written: usize,
 ) -> Result<(), AllocError> {
     let below = MemorySink::new(alloc, &[failing], 64)?;
-    let mut sink = Gathered::new(alloc, below, room);
+    let mut sink = GatheringSink::new(alloc, below, room);
     let mut found = Vec::new(alloc);
     for piece in PIECES {
         let answer = sink.give(piece);

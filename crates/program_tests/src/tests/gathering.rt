@@ -3,7 +3,7 @@
 use super::helpers::{
     AMPLE_ROOM, BOTH_ENGINES, MEETING, MEETING_REPORT, PLAIN, StandingClock, expect, first_lines,
 };
-use gathered_sink::Gathered;
+use gathered_sink::GatheringSink;
 use hard_disks::{Status, Timely, run_streams, top_gathered};
 use region_core::OpenGate;
 use report_ports::{Given, MemorySink, MemorySource, Sink};
@@ -201,7 +201,7 @@ fn first_wrong(alloc: Global) -> Result<Option<TimeRow>, AllocError> {
 fn given_until(alloc: Global, last: usize) -> Result<usize, AllocError> {
     let clock = StandingClock::new();
     let below = MemorySink::new(alloc, &[], AMPLE_ROOM)?;
-    let mut sink = Timely::new(&clock, Gathered::new(alloc, below, ROOM));
+    let mut sink = Timely::new(&clock, GatheringSink::new(alloc, below, ROOM));
     for (number, &(now, _)) in TIMES.iter().enumerate() {
         clock.micros.store(now, Ordering::SeqCst);
         if number <= last && sink.give(b"five\n") == Given::Failed {

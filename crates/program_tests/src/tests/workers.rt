@@ -88,11 +88,11 @@ fn two_workers_work_at_once(rt: HostRuntime) -> Result<(), Fail> {
 
 // Counts the turns.
 #[derive(Drop)]
-struct Counting {
+struct TurnCounter {
     turns: AtomicU64,
 }
 
-impl Gate for Counting {
+impl Gate for TurnCounter {
     fn turn(&self, _worker: u32, _turn: u32) {
         self.turns.fetch_add(1, Ordering::SeqCst);
     }
@@ -120,7 +120,7 @@ fn turns_with(
     alloc: Global,
     steps: &str,
 ) -> Result<u64, AllocError> {
-    let gate = Counting {
+    let gate = TurnCounter {
         turns: AtomicU64::new(0),
     };
     let words = ["--regions=1", "--workers=1", "--turns=1", "--steps", steps];

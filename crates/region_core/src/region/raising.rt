@@ -3,7 +3,7 @@
 ghost use Rattle.std.specs.Prelude.{◌≡◌, IfSome, OnOk, OnErr};
 ghost use Rattle.event_stamps.specs.Order.{Before, end_stamp};
 ghost use Rattle.local_run.specs.Opening.{spent};
-ghost use Rattle.local_run.specs.Raising.{raised, HasNoneWaitingBelow};
+ghost use Rattle.local_run.specs.Raising.{raised_region, HasNoneWaitingBelow};
 ghost use Rattle.local_run.specs.Entries.{entries_below};
 ghost use Rattle.local_run.specs.Keeping.{entries_of};
 ghost use Rattle.event_log.specs.Logged.{entries_in};
@@ -24,7 +24,7 @@ impl Region {
         requires not_lowered { ¬ Before to self.old.floor }
         requires in_time { ¬ Before (end_stamp self.old.home.rules.end) to }
         requires none_waiting { IfSome self.old.run (HasNoneWaitingBelow to) }
-        ensures raised { OnOk result (self.new ≡ raised to self.old) }
+        ensures raised { OnOk result (self.new ≡ raised_region to self.old) }
         ensures spent { OnErr result (self.new ≡ spent self.old) }
     {
         let _alloc = alloc;
@@ -45,7 +45,7 @@ impl Region {
         requires not_lowered { ¬ Before to self.old.floor }
         requires in_time { ¬ Before (end_stamp self.old.home.rules.end) to }
         requires none_waiting { IfSome self.old.run (HasNoneWaitingBelow to) }
-        ensures raised { OnOk result (self.new ≡ raised to self.old) }
+        ensures raised { OnOk result (self.new ≡ raised_region to self.old) }
         ensures spent { OnErr result (self.new ≡ spent self.old) }
         ensures cut { OnOk result (entries_in into.new ≡ entries_below to (entries_of self.old)) }
     {

@@ -7,7 +7,7 @@ use crate::held::Held;
 use crate::origin::Origin;
 use crate::pause::Pause;
 use crate::post::Post;
-use crate::progress::Progress;
+use crate::progress::RegionProgress;
 use event_stamps::Stamp;
 use std::alloc::{AllocError, Global};
 use std::sync::atomic::Ordering;
@@ -31,7 +31,7 @@ impl<O: Origin> Locks<O> {
         region: u32,
         steps: u32,
         bound: Stamp,
-    ) -> Result<Progress, AllocError>
+    ) -> Result<RegionProgress, AllocError>
         requires region { region < self.now }
         requires steps { 0 < steps }
     {
@@ -39,7 +39,7 @@ impl<O: Origin> Locks<O> {
         let heard_news = self.hear_posts(rt, alloc, region, &mut held)?;
         let progress = held.run_before(alloc, steps, bound)?;
         self.post_all(rt, region, &mut held)?;
-        Ok(Progress {
+        Ok(RegionProgress {
             heard_news,
             ..progress
         })

@@ -9,7 +9,7 @@ use region_messages::Trail;
 use region_view::Message;
 use std::alloc::{AllocError, Global};
 use std::test::Fail;
-use test_scenes::{Numbers, crowd, scene_of};
+use test_scenes::{DrawnNumbers, crowd, scene_of};
 
 const SCENES: u64 = 10;
 
@@ -39,28 +39,34 @@ struct Seen {
 
 // The regions of a scene, with the state that they begin with.
 #[derive(Drop)]
-struct Scene {
+struct OpenedScene {
     state: CellState,
     regions: Vec<Region>,
 }
 
 // The scene that is drawn from a number on; none where it is refused.
-fn scene_from(alloc: Global, numbers: &mut Numbers) -> Result<Option<Scene>, AllocError> {
+fn scene_from(
+    alloc: Global,
+    numbers: &mut DrawnNumbers,
+) -> Result<Option<OpenedScene>, AllocError> {
     match drawn(alloc, numbers)? {
         Some(scene) => Ok(Some(opened(alloc, &scene)?)),
         None => Ok(None),
     }
 }
 
-fn drawn(alloc: Global, numbers: &mut Numbers) -> Result<Option<fixed_motion::Scene>, AllocError> {
+fn drawn(
+    alloc: Global,
+    numbers: &mut DrawnNumbers,
+) -> Result<Option<fixed_motion::Scene>, AllocError> {
     let text = crowd(alloc, numbers)?;
     scene_of(alloc, text.as_str())
 }
 
-fn opened(alloc: Global, scene: &fixed_motion::Scene) -> Result<Scene, AllocError> {
+fn opened(alloc: Global, scene: &fixed_motion::Scene) -> Result<OpenedScene, AllocError> {
     let state = CellState::open(alloc, scene, REGIONS)?;
     let regions = regions_of(alloc, &state)?;
-    Ok(Scene { state, regions })
+    Ok(OpenedScene { state, regions })
 }
 
 fn regions_of(alloc: Global, state: &CellState) -> Result<Vec<Region>, AllocError> {
@@ -154,7 +160,7 @@ fn is_before(clock: Stamp, message: Option<&Message>) -> bool {
 }
 
 // Compares the region at a place with one that hears the same at the start and then makes as many steps.
-fn compare(alloc: Global, scene: &Scene, place: usize) -> Result<Option<bool>, AllocError> {
+fn compare(alloc: Global, scene: &OpenedScene, place: usize) -> Result<Option<bool>, AllocError> {
     match scene.regions.get(place) {
         Some(region) if has_heard_all_of(region, &scene.regions) => {
             compare_with_first(alloc, scene, region)
@@ -165,7 +171,7 @@ fn compare(alloc: Global, scene: &Scene, place: usize) -> Result<Option<bool>, A
 
 fn compare_with_first(
     alloc: Global,
-    scene: &Scene,
+    scene: &OpenedScene,
     region: &Region,
 ) -> Result<Option<bool>, AllocError> {
     let Some(mut first) = region_in(alloc, &scene.state, region.number(), false)? else {
@@ -256,8 +262,8 @@ fn sent_the_same(region: &Region, other: &Region) -> bool {
 // Lets all regions of a scene run, and then each catch up with all others.
 fn turn(
     alloc: Global,
-    scene: &mut Scene,
-    numbers: &mut Numbers,
+    scene: &mut OpenedScene,
+    numbers: &mut DrawnNumbers,
     seed: u64,
     seen: &mut Seen,
 ) -> Result<(), AllocError> {
@@ -284,7 +290,7 @@ fn note(alike: Option<bool>, seed: u64, place: usize, seen: &mut Seen) {
 }
 
 fn see(alloc: Global, seed: u64, seen: &mut Seen) -> Result<(), AllocError> {
-    let mut numbers = Numbers { state: seed };
+    let mut numbers = DrawnNumbers { state: seed };
     match scene_from(alloc, &mut numbers)? {
         Some(mut scene) => make_turns(alloc, &mut scene, &mut numbers, seed, seen),
         None => Ok(()),
@@ -293,8 +299,8 @@ fn see(alloc: Global, seed: u64, seen: &mut Seen) -> Result<(), AllocError> {
 
 fn make_turns(
     alloc: Global,
-    scene: &mut Scene,
-    numbers: &mut Numbers,
+    scene: &mut OpenedScene,
+    numbers: &mut DrawnNumbers,
     seed: u64,
     seen: &mut Seen,
 ) -> Result<(), AllocError> {

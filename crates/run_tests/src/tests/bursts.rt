@@ -22,7 +22,7 @@ use std::sync::Wait;
 use std::test::Fail;
 use std::thread::Threads;
 use test_scenes::{
-    BOUNCING, FOUR_IN_A_ROW, LONG, MISLED, Numbers, ROLLED_BACK, USUAL, generated, scene_of,
+    BOUNCING, DrawnNumbers, FOUR_IN_A_ROW, LONG, MISLED, ROLLED_BACK, USUAL, generated, scene_of,
 };
 
 // What is done to the regions in a burst. What names a place where there is no region does nothing.
@@ -480,7 +480,7 @@ const MOST_TRIED: u32 = 100;
 
 #[test]
 fn hostile_bursts_tell_the_plain_run(rt: HostRuntime) -> Result<(), Fail> {
-    let mut numbers = Numbers { state: 5 };
+    let mut numbers = DrawnNumbers { state: 5 };
     let mut found: u64 = 0;
     for _ in 0..MOST_TRIED {
         if found < GENERATED && is_run(&rt, rt.alloc(), &mut numbers, found)? {
@@ -495,7 +495,7 @@ fn hostile_bursts_tell_the_plain_run(rt: HostRuntime) -> Result<(), Fail> {
 fn is_run(
     rt: &(impl Threads + Wait + Sync + Abort),
     alloc: Global,
-    numbers: &mut Numbers,
+    numbers: &mut DrawnNumbers,
     found: u64,
 ) -> Result<bool, AllocError> {
     let text = generated(alloc, numbers)?;

@@ -141,11 +141,11 @@ fn what_is_final_is_told_beside_the_next_burst(rt: HostRuntime) -> Result<(), Fa
 
 // Lets the only region step until nothing is due, and counts how often it was called.
 #[derive(Drop)]
-struct Counting {
+struct CallCounter {
     calls: u32,
 }
 
-impl<S: Beside<W>, W> Burst<S, W> for Counting {
+impl<S: Beside<W>, W> Burst<S, W> for CallCounter {
     fn burst<R: Threads + Wait + Sync>(
         &mut self,
         _rt: &R,
@@ -171,7 +171,7 @@ fn counted(
     let scene = valid_scene(rt, alloc, LONG, 8, 40, FOUR_IN_A_ROW)?;
     let told = AtomicU64::new(0);
     let mut ear = Ear::new(&told, None);
-    let mut burst = Counting { calls: 0 };
+    let mut burst = CallCounter { calls: 0 };
     let is_done = simulate(rt, alloc, &scene, 1, &mut burst, &mut ear).is_ok();
     Ok((is_done, burst.calls, told.load(Ordering::SeqCst)))
 }

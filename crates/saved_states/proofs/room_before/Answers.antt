@@ -1,6 +1,6 @@
 use Rattle.std.proofs.Common.{◌+◌, ◌≤◌, ◌∙◌, drop, arith}
 use Rattle.std.specs.FinMap as map
-use Rattle.saved_states.specs.Steps.{undone}
+use Rattle.saved_states.specs.Steps.{view_before}
 use Rattle.saved_states.proofs.First.{undone_step}
 use Rattle.saved_states.proofs.room_before.Goals as goal
 
@@ -12,6 +12,6 @@ loop-step-preserved c = λ i le.
       λ none. before.0 (undone_step c.args.view.now c.args.steps.now c.loop-step.step-index
           c.step-item.result i c.loop-step-test.true c.step-item.is
           ∙ c.room_set.ensures i past
-          (map.get (undone c.args.view.now (drop (c.loop-step.step-index + 1) c.args.steps.now)) i) ∙ none),
+          (map.get (view_before c.args.view.now (drop (c.loop-step.step-index + 1) c.args.steps.now)) i) ∙ none),
       before.1,
     )

@@ -1,14 +1,14 @@
 use Rattle.std.proofs.Common.{◌≡◌, ◌∙◌, ℕ, drop, sym, ap, subst, length, arith}
 use Rattle.std.proofs.lemmas.List.{drop_all}
 use Rattle.region_view.specs.Setting.{RowList, set_rows}
-use Rattle.saved_states.specs.Steps.{undone}
+use Rattle.saved_states.specs.Steps.{view_before}
 use Rattle.saved_states.proofs.Rebuilt.{undone_more}
 use Rattle.saved_states.proofs.undo.Goals as goal
 
 pub returns : goal.returns
 returns c =
     let all : c.loop-i.i ≡ 0 = omega arith in
-    subst (λ (n : ℕ). c.loop-i.view ≡ undone c.args.view.now (drop n c.args.steps.now)) all c.loop-i.invariant
+    subst (λ (n : ℕ). c.loop-i.view ≡ view_before c.args.view.now (drop n c.args.steps.now)) all c.loop-i.invariant
 
 pub loop-i-preserved : goal.loop-i-preserved
 loop-i-preserved c =
@@ -18,4 +18,4 @@ loop-i-preserved c =
 
 pub loop-i-init : goal.loop-i-init
 loop-i-init c =
-    sym (ap (undone c.args.view.now) (drop_all (length c.args.steps.now) c.args.steps.now (omega arith)))
+    sym (ap (view_before c.args.view.now) (drop_all (length c.args.steps.now) c.args.steps.now (omega arith)))

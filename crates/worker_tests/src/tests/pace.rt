@@ -3,7 +3,7 @@
 use super::cases::expect;
 use super::regions::{RULES, empty_scene, opened};
 use event_stamps::{Kind, Stamp};
-use region_locks::Progress;
+use region_locks::RegionProgress;
 use region_workers::pace::{Pace, Slice};
 use region_workers::rendezvous::Rendezvous;
 use region_workers::roll::{Roll, Share};
@@ -125,8 +125,8 @@ fn parts_are_in_the_order_of_stamps(rt: HostRuntime) {
 }
 
 // A region that made so many steps, where what is due was at a tick, and is at another then.
-fn progress(steps: u32, began: u64, due: u64) -> Progress {
-    Progress {
+fn progress(steps: u32, began: u64, due: u64) -> RegionProgress {
+    RegionProgress {
         heard_news: false,
         began: Stamp::end_of(began),
         steps,

@@ -3,7 +3,7 @@ use Rattle.std.proofs.lemmas.Result.{err_from_is_err_and, IfOk-weaker, IfErr-wea
 use Rattle.fixed_motion.specs.Scene.{SceneData, IsValidScene}
 use Rattle.event_rules.specs.Run.{IsValidState}
 use Rattle.event_rules.proofs.Ranges.{starts_valid}
-use Rattle.event_rules.specs.Tellings.{AwaitsRun, RunDone, StepsCutShort, scene_of}
+use Rattle.event_rules.specs.Tellings.{AwaitsRun, RunDone, StepsCutShort, bare_scene}
 use Rattle.event_rules.proofs.Telling.{told_none}
 use Rattle.event_rules.specs.declared.outcome.RunFault.TheVariants.{NoMemory}
 use Rattle.event_rules.proofs.RunsTold.{run_told, cut_short}
@@ -29,9 +29,9 @@ pub run-requires-clause-awaited : goal.run-requires-clause-awaited
 run-requires-clause-awaited g c =
     let L = g.L.Listener in
     let scene = c.args.scene.now in
-    let same : scene_of c.scene.inside.rules c.in_ok-disks.disks.items ≡ scene_of scene.rules scene.disks =
-    ap (scene_of c.scene.inside.rules) (c.in_ok-disks.ensures.items ∙ c.deref.ensures.value)
-    ∙ ap (λ (v : SceneData). scene_of v.rules v.disks) c.scene.view_is in
+    let same : bare_scene c.scene.inside.rules c.in_ok-disks.disks.items ≡ bare_scene scene.rules scene.disks =
+    ap (bare_scene c.scene.inside.rules) (c.in_ok-disks.ensures.items ∙ c.deref.ensures.value)
+    ∙ ap (λ (v : SceneData). bare_scene v.rules v.disks) c.scene.view_is in
     subst (λ (v : SceneData). AwaitsRun L.after L.awaits v (L.meaning c.args.listener.now)) (sym same)
     c.requires.awaited
 
@@ -41,9 +41,9 @@ returns-clause-run g c =
     let scene = c.args.scene.now in
     let old = L.meaning c.args.listener.now in
     let new = L.meaning c.run.new.listener in
-    let same : scene_of c.scene.inside.rules c.in_ok-disks.disks.items ≡ scene_of scene.rules scene.disks =
-    ap (scene_of c.scene.inside.rules) (c.in_ok-disks.ensures.items ∙ c.deref.ensures.value)
-    ∙ ap (λ (v : SceneData). scene_of v.rules v.disks) c.scene.view_is in
+    let same : bare_scene c.scene.inside.rules c.in_ok-disks.disks.items ≡ bare_scene scene.rules scene.disks =
+    ap (bare_scene c.scene.inside.rules) (c.in_ok-disks.ensures.items ∙ c.deref.ensures.value)
+    ∙ ap (λ (v : SceneData). bare_scene v.rules v.disks) c.scene.view_is in
     let valid = subst IsValidScene c.scene.view_is c.scene.invariant in
     IfOk-weaker c.run.result _ _
     (λ outcome h. run_told L.after scene outcome old new valid
@@ -55,9 +55,9 @@ returns-clause-cut_short g c =
     let scene = c.args.scene.now in
     let old = L.meaning c.args.listener.now in
     let new = L.meaning c.run.new.listener in
-    let same : scene_of c.scene.inside.rules c.in_ok-disks.disks.items ≡ scene_of scene.rules scene.disks =
-    ap (scene_of c.scene.inside.rules) (c.in_ok-disks.ensures.items ∙ c.deref.ensures.value)
-    ∙ ap (λ (v : SceneData). scene_of v.rules v.disks) c.scene.view_is in
+    let same : bare_scene c.scene.inside.rules c.in_ok-disks.disks.items ≡ bare_scene scene.rules scene.disks =
+    ap (bare_scene c.scene.inside.rules) (c.in_ok-disks.ensures.items ∙ c.deref.ensures.value)
+    ∙ ap (λ (v : SceneData). bare_scene v.rules v.disks) c.scene.view_is in
     let valid = subst IsValidScene c.scene.view_is c.scene.invariant in
     IfErr-weaker c.run.result _ _
     (λ fault h. cut_short L.after L.torn scene fault old new valid

@@ -2,7 +2,7 @@ use Rattle.std.proofs.Common.{get_or, sym, subst}
 use Rattle.event_stamps.specs.Least.{IsLeastOf}
 use Rattle.region_view.proofs.Seen.{no_row, row_at}
 use Rattle.cell_sequence.specs.Run.{IsStateCandidate}
-use Rattle.cell_sequence.specs.Search.{IsFirstOf}
+use Rattle.cell_sequence.specs.Search.{IsOfFirstDisk}
 use Rattle.cell_sequence.proofs.Found.{own_events}
 use Rattle.cell_sequence.proofs.search.first_of.Goals as goal
 
@@ -18,7 +18,7 @@ pub returns : goal.returns
 returns c =
     let placed = c.args.placed.now in
     let at = row_at placed c.args.i c.requires.within in
-    subst (IsLeastOf (IsFirstOf
+    subst (IsLeastOf (IsOfFirstDisk
     (IsStateCandidate c.args.rules.now c.args.grid.now placed) c.args.i))
     (sym c.earlier.ensures)
     (own_events c.args.rules.now c.args.grid.now placed c.args.i

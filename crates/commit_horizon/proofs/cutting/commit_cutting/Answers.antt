@@ -4,7 +4,7 @@ use Rattle.event_stamps.specs.declared.Stamp.{Stamp}
 use Rattle.region_view.specs.declared.action.Action.{Action}
 use Rattle.local_run.specs.declared.entry.Entry.{Entry}
 use Rattle.event_log.specs.Logged.{entries_in}
-use Rattle.commit_horizon.specs.Bounds.{HoldsUpTo, IsWithin}
+use Rattle.commit_horizon.specs.Bounds.{HoldsUpTo, IsUpToAll}
 use Rattle.commit_horizon.specs.Untold.{actions_in, CanBeTellings}
 use Rattle.commit_horizon.specs.Cutting.{AllRise, SomeHasStamp, IsLatest}
 use Rattle.commit_horizon.proofs.Tellings.{may_be_raised}
@@ -15,7 +15,7 @@ use Rattle.commit_horizon.proofs.cutting.commit_cutting.Goals as goal
 pub cut_floors-requires-clause-may : goal.cut_floors-requires-clause-may
 cut_floors-requires-clause-may c =
     let regions = c.args.regions.now in
-    let bound = subst (λ (s : Stamp). HoldsUpTo (IsWithin s regions) (Some c.least_bound-floor.result))
+    let bound = subst (λ (s : Stamp). HoldsUpTo (IsUpToAll s regions) (Some c.least_bound-floor.result))
     c.end_of.ensures c.least_bound-floor.ensures.bound in
     may_be_raised c.args.rules.now regions c.least_bound-floor.result bound c.least_bound-floor.ensures.kept
     c.requires.stand.0 c.requires.stand.1
@@ -32,7 +32,7 @@ last_of_all-last-requires c =
 pub begin-requires : goal.begin-requires
 begin-requires c =
     let regions = c.args.regions.now in
-    let bound = subst (λ (s : Stamp). HoldsUpTo (IsWithin s regions) (Some c.least_bound-floor.result))
+    let bound = subst (λ (s : Stamp). HoldsUpTo (IsUpToAll s regions) (Some c.least_bound-floor.result))
     c.end_of.ensures c.least_bound-floor.ensures.bound in
     let size : length c.cut_floors.new.logs ≡ vec_len c.fit.new.logs
     = omega (arith, c.cut_floors.auto.logs, c.deref_mut.ensures.len) in
@@ -46,7 +46,7 @@ pub returns : goal.returns
 returns c =
     let regions = c.args.regions.now in
     let last = c.last_of_all-last.result in
-    let bound = subst (λ (s : Stamp). HoldsUpTo (IsWithin s regions) (Some c.least_bound-floor.result))
+    let bound = subst (λ (s : Stamp). HoldsUpTo (IsUpToAll s regions) (Some c.least_bound-floor.result))
     c.end_of.ensures c.least_bound-floor.ensures.bound in
     let size : length c.cut_floors.new.logs ≡ vec_len c.fit.new.logs
     = omega (arith, c.cut_floors.auto.logs, c.deref_mut.ensures.len) in

@@ -1,6 +1,6 @@
 use Rattle.std.proofs.Common.{◌≤◌, ◌∙◌, length, map, sym, ap, arith}
 use Rattle.std.proofs.lemmas.List.{take_all, length-set}
-use Rattle.local_run.specs.Raising.{raised}
+use Rattle.local_run.specs.Raising.{raised_region}
 use Rattle.event_log.specs.Logged.{entries_in}
 use Rattle.commit_horizon.specs.Cutting.{logs_below}
 use Rattle.region_parts.proofs.Lists.{one_more}
@@ -38,9 +38,9 @@ loop-k-preserved c =
     let d = c.index-regions-k.result in
     let so_far = c.loop-k.invariant in
     record {
-      raised = one_more (raised c.args.to) regions items k d c.cut_floor.new.self c.loop-k-test.true so_far.raised
+      raised = one_more (raised_region c.args.to) regions items k d c.cut_floor.new.self c.loop-k-test.true so_far.raised
           c.in_ok-cut_floor.ensures.raised;
-      cut = one_more_cut (raised c.args.to) c.args.to regions items logs k d c.cut_floor.new.into c.loop-k-test.true
+      cut = one_more_cut (raised_region c.args.to) c.args.to regions items logs k d c.cut_floor.new.into c.loop-k-test.true
           so_far.count so_far.raised so_far.cut c.in_ok-cut_floor.ensures.cut;
       count = length-set logs k c.cut_floor.new.into ∙ so_far.count;
     }

@@ -1,6 +1,6 @@
 use Rattle.std.proofs.Common.{None, Some, sym, subst, ◌∙◌}
 use Rattle.std.proofs.lemmas.Bool.{false≢true}
-use Rattle.region_parts.specs.Inbox.{IsFirstOf, IsLeastHead}
+use Rattle.region_parts.specs.Inbox.{IsHeadOf, IsLeastHead}
 use Rattle.region_core.specs.Live.{now_in}
 use Rattle.region_core.proofs.NextMove.{none_at, least_waiting}
 use Rattle.region_core.proofs.moves.sender_at.Goals as goal
@@ -13,7 +13,7 @@ returns-in-None c = λ place live is head due.
 pub returns-then-is_same : goal.returns-then-is_same
 returns-then-is_same c = λ place live is head due.
     let least = subst (IsLeastHead live.inbox) c.in-Some.is head in
-    subst (IsFirstOf live.inbox c.in-Some.from) (c.is_same.ensures.0 c.if-is_same.true) least.0
+    subst (IsHeadOf live.inbox c.in-Some.from) (c.is_same.ensures.0 c.if-is_same.true) least.0
 
 pub returns-else-is_same : goal.returns-else-is_same
 returns-else-is_same c = λ place live is head due.

@@ -4,7 +4,7 @@ use Rattle.std.proofs.lemmas.Bool.{false≢true}
 use Rattle.std.proofs.lemmas.List.{get_or_read}
 use Rattle.region_view.specs.Views.{rows_in}
 use Rattle.region_view.specs.declared.rows.Message.{Message}
-use Rattle.local_run.specs.LocalRun.{trail_of, told}
+use Rattle.local_run.specs.LocalRun.{trail_of, prepended}
 use Rattle.local_run.proofs.Sending.{none_sent_yet, all_below_end, one_skipped, one_sent, comes_after_sent}
 use Rattle.region_parts.proofs.sending.send.Goals as goal
 
@@ -39,9 +39,9 @@ loop-to-preserved c =
     one_sent c.args.home.now (rows_in c.args.before.now) c.args.action.now to old new
     c.send_one.new.trail within
     (c.in_ok-send_one.ensures
-    ∙ ap (λ (ms : List Message). ms ++ told c.message_for-message.result [])
+    ∙ ap (λ (ms : List Message). ms ++ prepended c.message_for-message.result [])
     (get_or_read new to c.index_mut.result.now within c.index_mut.ensures.value [])
-    ∙ ap (λ (o : Option Message). trail_of new to ++ told o []) c.message_for-message.ensures)
+    ∙ ap (λ (o : Option Message). trail_of new to ++ prepended o []) c.message_for-message.ensures)
     c.loop-to.invariant
 
 pub returns-clause-told : goal.returns-clause-told

@@ -6,8 +6,8 @@ use native.Mathlib.Decide.{ℕ_discrete}
 use lib.ListN.{get_elem?}
 use Rattle.std.specs.Slots.{slots_items, slots_filled, slots_len, slots_counts, IsFull}
 use Rattle.local_run.specs.Opening.{RegionData}
-use Rattle.region_table.specs.Rule.{Content, IsHome}
-use Rattle.region_table.specs.Tables.{ComesOf}
+use Rattle.region_table.specs.Rule.{Content, IsHomeWord}
+use Rattle.region_table.specs.Tables.{ComesOfSlot}
 use Rattle.region_table.proofs.Ends.{pushed_get}
 use Rattle.region_table.proofs.closing.gather.Goals as goal
 
@@ -37,10 +37,10 @@ loop-k-preserved c =
     let in_row : k < length filled = let size = c.slot_count-k-end.ensures in omega (arith, test, size, lens, wide) in
     let words = slots_items c.args.closed.words in
     let contents = slots_items c.args.closed.slots in
-    let here : ComesOf words contents c.args.rules.now c.args.grid.now c.args.floor k c.region_of-region.result = λ word content ew ec.
+    let here : ComesOfSlot words contents c.args.rules.now c.args.grid.now c.args.floor k c.region_of-region.result = λ word content ew ec.
     let w : c.word-word.result ≡ word = some-injective _ _ (sym c.word-word.ensures ∙ (ap (λ z. get_elem? (slots_items z) k) i.1 ∙ ew)) in
     let x : c.take-content.result ≡ content = some-injective _ _ (sym t.value ∙ (ap (λ z. get_elem? z k) i.0 ∙ ec)) in
-    subst {A = ℕ × Content} (λ z. (IsHome z.0 → Rattle.std.specs.Prelude.IfSome z.1 (λ (found : RegionData). c.region_of-region.result ≡ found)) × ((¬ IsHome z.0) → c.region_of-region.result ≡ record { home = record { number = k; rules = c.args.rules.now; grid = c.args.grid.now }; floor = c.args.floor; run = Rattle.std.specs.Prelude.None }))
+    subst {A = ℕ × Content} (λ z. (IsHomeWord z.0 → Rattle.std.specs.Prelude.IfSome z.1 (λ (found : RegionData). c.region_of-region.result ≡ found)) × ((¬ IsHomeWord z.0) → c.region_of-region.result ≡ record { home = record { number = k; rules = c.args.rules.now; grid = c.args.grid.now }; floor = c.args.floor; run = Rattle.std.specs.Prelude.None }))
     (λ j. (w j, x j)) (c.region_of-region.ensures.home, c.region_of-region.ensures.out) in (
       t.others.0 ∙ i.0,
       t.others.3 ∙ i.1,
@@ -53,6 +53,6 @@ loop-k-preserved c =
       omega (arith, c.push.ensures.capacity, i.6),
       (λ j region e. ⊎_elim
           (λ old. i.7 j region old)
-          (λ new. subst {A = ℕ × RegionData} (λ z. ComesOf words contents c.args.rules.now c.args.grid.now c.args.floor z.0 z.1) (λ q. ((sym i.5 ∙ sym new.0) q, new.1 q)) here)
+          (λ new. subst {A = ℕ × RegionData} (λ z. ComesOfSlot words contents c.args.rules.now c.args.grid.now c.args.floor z.0 z.1) (λ q. ((sym i.5 ∙ sym new.0) q, new.1 q)) here)
           (pushed_get c.loop-k.regions.items c.region_of-region.result j region (ap (λ z. slice_get z j) (sym c.in-Ok.ensures.items) ∙ e))),
     )

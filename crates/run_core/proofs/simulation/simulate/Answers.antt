@@ -5,7 +5,7 @@ use Rattle.fixed_motion.specs.Scene.{IsValidScene}
 use Rattle.cell_sequence.specs.State.{CellStateData}
 use Rattle.run_core.proofs.SoFar.{at_start, awaits_now, all_so_far, cut_so_far, rest_told, told_on}
 use Rattle.run_core.proofs.SoFar.{ends, fails, cell_at_start, cell_after, less_left, none_left, next_fails}
-use Rattle.run_core.specs.declared.answers.Course.{Course}
+use Rattle.run_core.specs.declared.answers.AdvanceKind.{AdvanceKind}
 use Rattle.run_core.specs.AdvancesUntold.{answer_with}
 use Rattle.event_rules.specs.declared.outcome.Outcome.{Outcome}
 use Rattle.event_rules.specs.declared.outcome.RunFault.{RunFault}
@@ -81,7 +81,7 @@ returns-in_err-course-clause-counts g c =
     let fault = err_from_is_err_and r c.from_residual-in_err-course.ensures.1 in
     at_fault (CountsRun {T = Outcome} (L.faults c.args.listener.now) new) r fault.0 c.in_err-course.field-0.0
     fault.1 fault.2 (subst (λ (old : ℕ). CountsRun {T = Outcome} old new (Err c.in_err-course.field-0.0))
-    c.bursts.invariant.count (counts_of_err (Course × CellStateData) Outcome mid new
+    c.bursts.invariant.count (counts_of_err (AdvanceKind × CellStateData) Outcome mid new
     c.in_err-course.field-0.0 c.in_err-course.ensures.counts))
 
 pub tell_rest-requires : goal.tell_rest-requires
@@ -219,7 +219,7 @@ returns-in-End-clause-run g c =
     let rest = first_all L.after L.torn batch [] (L.meaning c.work.new.listener) new (L.faults c.work.new.listener)
     (L.faults c.tell_rest.new.listener) whole refl in
     ends L.torn c.args.regions valid c.requires.asked told new rest c.in_ok-spots-in-End.spots
-    (none_left c.in_ok-course.ensures.advances (ap (λ (v : Course). answer_with v batch) c.in-End.is))
+    (none_left c.in_ok-course.ensures.advances (ap (λ (v : AdvanceKind). answer_with v batch) c.in-End.is))
     c.in_ok-spots-in-End.ensures
 
 pub returns-in-Limit-clause-run : goal.returns-in-Limit-clause-run
@@ -237,11 +237,11 @@ returns-in-Limit-clause-run g c =
     let rest = first_all L.after L.torn batch [] (L.meaning c.work.new.listener) new (L.faults c.work.new.listener)
     (L.faults c.tell_rest-in-Limit.new.listener) whole refl in
     fails L.torn c.args.regions valid c.requires.asked told new rest c.in-Limit.limit
-    (next_fails c.in_ok-course.ensures.advances (ap (λ (v : Course). answer_with v batch) c.in-Limit.is))
+    (next_fails c.in_ok-course.ensures.advances (ap (λ (v : AdvanceKind). answer_with v batch) c.in-Limit.is))
 
 pub bursts-smaller : goal.bursts-smaller
 bursts-smaller g c = less_left c.bursts.invariant.cell c.in_ok-course.ensures.advances
-    (ap (λ (v : Course). answer_with v c.work.new.telling.untold) c.in-Raised.is)
+    (ap (λ (v : AdvanceKind). answer_with v c.work.new.telling.untold) c.in-Raised.is)
 
 pub bursts-preserved : goal.bursts-preserved
 bursts-preserved g c =

@@ -6,7 +6,7 @@ use Rattle.event_rules.specs.declared.outcome.RunFault.TheVariants.{Listener, No
 use Rattle.cell_sequence.specs.State.{CellStateData}
 use Rattle.commit_horizon.specs.Telling.{HitsCutShort}
 use Rattle.commit_horizon.proofs.Goes.{still_awaited, tells_further, torn_prefix}
-use Rattle.run_core.specs.declared.answers.Course.{Course}
+use Rattle.run_core.specs.declared.answers.AdvanceKind.{AdvanceKind}
 use Rattle.run_core.proofs.ToldOn.{fits_unheard, first_all, first_cut, first_on, torn_on}
 use Rattle.run_core.proofs.Untold.{at_fault}
 use Rattle.run_core.proofs.simulation.work.Goals as goal
@@ -29,7 +29,7 @@ returns-in_err-tell_rest-in-Ok-clause-cut_short g c =
     c.in_err-tell_rest-in-Ok.ensures.refused in
     let r = c.from_residual.result in
     let fault = err_from_is_err_and r c.from_residual.ensures.1 in
-    at_fault (λ (v : Result (Course × CellStateData) RunFault). IfErr v (λ e. HitsCutShort L.after L.torn untold e
+    at_fault (λ (v : Result (AdvanceKind × CellStateData) RunFault). IfErr v (λ e. HitsCutShort L.after L.torn untold e
     old new)) r fault.0 Listener fault.1 fault.2 (torn_prefix L.after L.torn untold old new f h
     (torn_on L.after L.torn untold _ _ _ old new f h on c.requires.heard _ refl))
 
@@ -45,7 +45,7 @@ returns-in_err-advanced-in-Ok-clause-cut_short g c =
     c.in_ok-tell_rest-in-Ok.ensures.told in
     let r = c.from_residual-in_err-advanced-in-Ok.result in
     let fault = err_from_is_err_and r c.from_residual-in_err-advanced-in-Ok.ensures.1 in
-    at_fault (λ (v : Result (Course × CellStateData) RunFault). IfErr v (λ e. HitsCutShort L.after L.torn untold e
+    at_fault (λ (v : Result (AdvanceKind × CellStateData) RunFault). IfErr v (λ e. HitsCutShort L.after L.torn untold e
     old new)) r fault.0 NoMemory fault.1 fault.2 (first_cut L.after L.torn untold [] old new f h
     (first_on L.after L.torn untold [] _ None old new f h on c.requires.heard refl))
 

@@ -10,7 +10,7 @@ use Rattle.scene_reader.specs.declared.fault.SceneFault.{SceneFault}
 use Rattle.scene_reader.specs.declared.fault.SceneFault.TheVariants.{NoMemory}
 use Rattle.scene_reader.specs.Steps.{◌>>◌}
 use Rattle.scene_reader.specs.Numbers.{Parts, rules_of, every_of}
-use Rattle.scene_reader.specs.Rows.{disks_of}
+use Rattle.scene_reader.specs.Rows.{disks_of_rows}
 use Rattle.scene_reader.specs.Disks.{disks_pass}
 use Rattle.scene_reader.specs.Says.{scene_of}
 use Rattle.scene_reader.specs.Seen.{parts_seen}
@@ -30,17 +30,17 @@ passes rules disks given r e h passed = ap (disks_pass rules) (sym e) ∙ sym (h
 
 -- the scene, where all but the disks' tests is known
 with_tests : (parts : Parts) (rules : Rules) (every : Option ℕ) (disks : List Disk) (tests : Result ⊤ SceneFault) → rules_of parts.numbers ≡ Ok rules → every_of parts.every ≡ Ok every
-    → disks_of rules.diameter parts.rows ≡ Ok disks → disks_pass rules disks ≡ tests → scene_of parts ≡ (tests >> Ok (record { rules = rules; disks = disks; every = every }))
+    → disks_of_rows rules.diameter parts.rows ≡ Ok disks → disks_pass rules disks ≡ tests → scene_of parts ≡ (tests >> Ok (record { rules = rules; disks = disks; every = every }))
 with_tests parts rules every disks tests e f g h = rw (e, f, g, h)
 
 scene_made : (parts : Parts) (rules : Rules) (every : Option ℕ) (disks given : List Disk) (r : Result ⊤ SceneFault) (scene : SceneData) → rules_of parts.numbers ≡ Ok rules → every_of parts.every ≡ Ok every
-    → disks_of rules.diameter parts.rows ≡ Ok disks → given ≡ disks → (r ≢ Err NoMemory → r ≡ disks_pass rules given) → r ≡ Ok tt → scene ≡ record { rules = rules; disks = disks; every = every }
+    → disks_of_rows rules.diameter parts.rows ≡ Ok disks → given ≡ disks → (r ≢ Err NoMemory → r ≡ disks_pass rules given) → r ≡ Ok tt → scene ≡ record { rules = rules; disks = disks; every = every }
     → Ok scene ≡ scene_of parts
 scene_made parts rules every disks given r scene e f g same h passed made =
     rw made (sym (with_tests parts rules every disks (Ok tt) e f g (passes rules disks given r same h passed)))
 
 scene_refused : (parts : Parts) (rules : Rules) (every : Option ℕ) (disks given : List Disk) (fault : SceneFault) → rules_of parts.numbers ≡ Ok rules → every_of parts.every ≡ Ok every
-    → disks_of rules.diameter parts.rows ≡ Ok disks → given ≡ disks → (◌≢◌ {A = Result ⊤ SceneFault} (Err fault) (Err NoMemory) → Err fault ≡ disks_pass rules given)
+    → disks_of_rows rules.diameter parts.rows ≡ Ok disks → given ≡ disks → (◌≢◌ {A = Result ⊤ SceneFault} (Err fault) (Err NoMemory) → Err fault ≡ disks_pass rules given)
     → ◌≢◌ {A = Result SceneData SceneFault} (Err fault) (Err NoMemory) → Err fault ≡ scene_of parts
 scene_refused parts rules every disks given fault e f g same h other =
     sym (with_tests parts rules every disks (Err fault) e f g (ap (disks_pass rules) (sym same) ∙ sym (h (λ m. other (cc)))))

@@ -6,7 +6,7 @@ use Rattle.std.proofs.lemmas.Bool.Decides.{nat_tests}
 use Rattle.std.proofs.lemmas.Result.{err_from_is_err_and}
 use Rattle.fixed_motion.specs.declared.rules.Rules.{Rules}
 use Rattle.fixed_motion.specs.declared.rules.RuleFault.{RuleFault}
-use Rattle.fixed_motion.specs.Rules.{Numbers, numbers_of, is_in, round_limits, ends, rule_fault}
+use Rattle.fixed_motion.specs.Rules.{Numbers, six_numbers, is_in, round_limits, ends, rule_fault}
 use Rattle.scene_reader.specs.declared.fault.SceneFault.TheVariants.{Rules as BadRules}
 use Rattle.scene_reader.specs.Clamped.{rounds_of, end_of, clamped}
 use Rattle.scene_reader.specs.Seen.{numbers_seen}
@@ -26,12 +26,12 @@ end_tested : (n : ℤ) → is_in ends (pos (end_of n)) ≡ is_in ends n
 end_tested (pos n) = refl
 end_tested (negsuc n) = refl
 
-fault_clamped : (n : Numbers) → rule_fault (numbers_of (clamped n)) ≡ rule_fault n
+fault_clamped : (n : Numbers) → rule_fault (six_numbers (clamped n)) ≡ rule_fault n
 fault_clamped n = rw (rounds_tested n.round_limit, end_tested n.end)
 
-refused : (n : Numbers) (rules : Rules) (fault : RuleFault) → rules ≡ clamped n → rule_fault (numbers_of rules) ≡ Some fault → rules_of n ≡ Err (BadRules fault)
+refused : (n : Numbers) (rules : Rules) (fault : RuleFault) → rules ≡ clamped n → rule_fault (six_numbers rules) ≡ Some fault → rules_of n ≡ Err (BadRules fault)
 refused n rules fault e h =
-    let found : rule_fault n ≡ Some fault = sym (fault_clamped n) ∙ ap (λ r. rule_fault (numbers_of r)) (sym e) ∙ h in
+    let found : rule_fault n ≡ Some fault = sym (fault_clamped n) ∙ ap (λ r. rule_fault (six_numbers r)) (sym e) ∙ h in
     λ i. none_found BadRules (found i) >> Ok (rules_with n)
 
 pub returns-in_err-check : goal.returns-in_err-check

@@ -1,6 +1,6 @@
 use Rattle.std.proofs.Common.{◌≡◌, w64, FitsSigned, rules}
 use Rattle.plane_vectors.proofs.Sizes.{sent, sent_same}
-use Rattle.cell_grid.specs.Leaving.{IsWithin}
+use Rattle.cell_grid.specs.Leaving.{IsWithinBounds}
 use Rattle.std.proofs.lemmas.Bool.{both_ways}
 use Rattle.cell_grid.proofs.room.Room.holds.Goals as goal
 
@@ -12,7 +12,7 @@ returns-then-holds c =
     let fits_y : FitsSigned w64 place.y = search rules in
     let x : sent place.x ≡ place.x = sent_same place.x fits_x in
     let y : sent place.y ≡ place.y = sent_same place.y fits_y in
-    let across : IsWithin room.across place.x = rw x at (c.holds.ensures.0 c.if-holds.true) in
+    let across : IsWithinBounds room.across place.x = rw x at (c.holds.ensures.0 c.if-holds.true) in
     let upwards = c.holds-then-holds.ensures in
     (λ h. (across, rw y at (upwards.0 h)), λ h. upwards.1 (rw y h.1))
 

@@ -1,7 +1,7 @@
 use Rattle.std.proofs.Common.{◌≡◌, ◌^◌, ◌≤◌, ℤ, nat_abs, arith}
 use Rattle.plane_vectors.proofs.Sizes.{sent}
 use Rattle.contact_predictor.specs.Contact.{coordinate_after}
-use Rattle.cell_grid.specs.Leaving.{IsWithin, EndsAt}
+use Rattle.cell_grid.specs.Leaving.{IsWithinBounds, EndsAt}
 use Rattle.cell_grid.proofs.Courses.{small_sent}
 use Rattle.cell_grid.proofs.Ends.{both_end, lesser_within}
 use Rattle.cell_grid.proofs.room.Room.ticks_until_past.Goals as goal
@@ -19,11 +19,11 @@ returns-clause-ends c =
     let y : sent a.y ≡ a.y = small_sent a.y near.y in
     let vx : sent a.vx ≡ a.vx = slow_sent a.vx slow.x in
     let vy : sent a.vy ≡ a.vy = slow_sent a.vy slow.y in
-    let across : EndsAt (λ n. IsWithin room.across (coordinate_after a.x a.vx n)) c.ticks_until_past.result =
+    let across : EndsAt (λ n. IsWithinBounds room.across (coordinate_after a.x a.vx n)) c.ticks_until_past.result =
     rw (x, vx) at c.ticks_until_past.ensures.ends in
-    let upwards : EndsAt (λ n. IsWithin room.upwards (coordinate_after a.y a.vy n)) c.ticks_until_past-2.result =
+    let upwards : EndsAt (λ n. IsWithinBounds room.upwards (coordinate_after a.y a.vy n)) c.ticks_until_past-2.result =
     rw (y, vy) at c.ticks_until_past-2.ensures.ends in
-    both_end (λ n. IsWithin room.across (coordinate_after a.x a.vx n)) (λ n. IsWithin room.upwards (coordinate_after a.y a.vy n))
+    both_end (λ n. IsWithinBounds room.across (coordinate_after a.x a.vx n)) (λ n. IsWithinBounds room.upwards (coordinate_after a.y a.vy n))
     c.ticks_until_past.result c.ticks_until_past-2.result c.lesser.result c.lesser.ensures.none c.lesser.ensures.least across upwards
 
 pub returns-clause-near : goal.returns-clause-near

@@ -3,8 +3,8 @@ use Rattle.std.proofs.Common.{List, take, drop, sym, subst}
 use Rattle.std.specs.Prelude.{ℕ}
 use native.Mathlib.Nat.{lt_of_lt_of_le}
 use Rattle.std.proofs.lemmas.Bool.{false≢true}
-use Rattle.cell_lists.specs.Nearby.{IsWithin}
-use Rattle.cell_lists.specs.Gathering.{AreListed, AreFollowed, AreGatheredIn}
+use Rattle.cell_lists.specs.Nearby.{IsWithinBlock}
+use Rattle.cell_lists.specs.Gathering.{AreAllListed, AreFollowed, AreGatheredIn}
 use Rattle.cell_lists.proofs.Walks.{starts_behind, gathered_in, all_taken}
 use Rattle.cell_lists.proofs.chains.Chains.gather.Goals as goal
 
@@ -12,9 +12,9 @@ pub gather_nexts-requires-clause-listed : goal.gather_nexts-requires-clause-list
 gather_nexts-requires-clause-listed c =
     let cells = c.args.self.now.cells in
     let heads = take c.in-Some.heads.count c.gather_heads.new.disks in
-    subst (λ (n : ℕ). AreListed cells (drop n heads))
+    subst (λ (n : ℕ). AreAllListed cells (drop n heads))
     (all_taken c.gathered.inside.count c.gathered.inside.disks c.gathered.invariant c.gathered.told)
-    (starts_behind cells (IsWithin c.args.grid.now c.args.block) (take c.gathered.inside.count c.gathered.inside.disks) heads c.in-Some.ensures.added)
+    (starts_behind cells (IsWithinBlock c.args.grid.now c.args.block) (take c.gathered.inside.count c.gathered.inside.disks) heads c.in-Some.ensures.added)
 
 pub returns : goal.returns
 returns c = λ yes.

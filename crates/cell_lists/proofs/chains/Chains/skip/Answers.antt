@@ -4,7 +4,7 @@ use Rattle.std.specs.Prelude.{ℕ, Option}
 use Rattle.cell_lists.specs.Firsts.{IsFirstOf}
 use Rattle.cell_lists.proofs.Firsts.{ascent}
 use Rattle.cell_lists.specs.Pointer.{disk_of}
-use Rattle.cell_lists.specs.Chain.{IsFirst, IsIn}
+use Rattle.cell_lists.specs.Chain.{IsFirst, IsCellOf}
 use Rattle.cell_lists.specs.Nodes.{pointers_of, cells_of}
 use Rattle.cell_lists.proofs.Chaining.{within, cell_is_read, is_that, is_other, seen, next_leads, next_falls, passed_more, passed_all, passed_one}
 use Rattle.cell_lists.proofs.Nodes.{next_read, cell_read, node_there}
@@ -51,7 +51,7 @@ returns-then-eq c =
 
 pub returns-in_default : goal.returns-in_default
 returns-in_default c =
-    subst (λ (o : Option ℕ). IsFirstOf (IsIn c.args.self.now.cells c.args.cell) c.args.from o) (sym c.in_default.is)
+    subst (λ (o : Option ℕ). IsFirstOf (IsCellOf c.args.self.now.cells c.args.cell) c.args.from o) (sym c.in_default.is)
     (passed_all c.args.self.now.cells c.args.self.now.buckets c.args.cell c.args.from c.loop-next.invariant.0
     (subst (λ (o : Option ℕ). IsFirst c.args.self.now.cells c.args.self.now.buckets (c.args.cell % c.args.self.now.buckets) c.loop-next.invariant.0 o) c.in_default.is c.loop-next.invariant.3)
     c.loop-next.invariant.2)

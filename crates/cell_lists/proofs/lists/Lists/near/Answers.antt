@@ -5,7 +5,7 @@ use Rattle.std.proofs.lemmas.List.{append-nil}
 use Rattle.cell_grid.specs.Grid.{GridData, IsCell, IsAdjacent}
 use Rattle.cell_lists.specs.Firsts.{IsFirstOf, AreAllFrom}
 use Rattle.cell_lists.specs.Listing.{ListsData}
-use Rattle.cell_lists.specs.Nearby.{IsBlock, IsWithin, IsListedWithin, IsListedNear}
+use Rattle.cell_lists.specs.Nearby.{IsBlock, IsWithinBlock, IsListedWithin, IsListedNear}
 use Rattle.cell_lists.proofs.Firsts.{GoesOn, ascent, all_same, falls, goes_on_from_none, goes_on_from_next}
 use Rattle.cell_lists.proofs.Listed.{cells_seen}
 use Rattle.cell_lists.proofs.lists.Lists.near.Goals as goal
@@ -60,8 +60,8 @@ returns c =
     let whole : AreAllFrom Within 0 c.loop-next.disks.items =
     subst (AreAllFrom Within 0) (append-nil c.loop-next.disks.items)
     (kept.2 [] (subst (IsFirstOf Within kept.0) c.in_default.is kept.1)) in
-    let around : (other : ℕ) → IsCell lists.grid other → (IsAdjacent lists.grid c.args.cell other ↔ IsWithin lists.grid block other) =
-    subst (λ (g : GridData). (other : ℕ) → IsCell g other → (IsAdjacent g c.args.cell other ↔ IsWithin g block other))
+    let around : (other : ℕ) → IsCell lists.grid other → (IsAdjacent lists.grid c.args.cell other ↔ IsWithinBlock lists.grid block other) =
+    subst (λ (g : GridData). (other : ℕ) → IsCell g other → (IsAdjacent g c.args.cell other ↔ IsWithinBlock g block other))
     (ap (λ (l : ListsData). l.grid) c.self.view_is) c.block_around-block.ensures.around in
     let cells = cells_seen c.self.inside.grid c.self.inside.chains.cells lists c.self.view_is c.self.invariant in
     all_same Within (IsListedNear lists c.args.cell) 0 c.loop-next.disks.items

@@ -1,6 +1,6 @@
 use Rattle.std.proofs.Common.{Some, Ok, sym, ap, subst, ◌∙◌}
 use Rattle.region_view.specs.Acting.{stamp_of}
-use Rattle.cell_sequence.specs.State.{CellStateData, IsCellState, IsNextOf, ComesTo, followed}
+use Rattle.cell_sequence.specs.State.{CellStateData, IsCellState, IsNextOf, ComesToInState, followed}
 use Rattle.cell_sequence.proofs.Followed.{followed_is, has_rows}
 use Rattle.cell_sequence.specs.contracts.state.CellState.{the_view}
 use Rattle.cell_sequence.proofs.state.CellState.follow.Goals as goal
@@ -11,7 +11,7 @@ put-requires c =
     has_rows (the_view c.self.inside) x c.self.invariant
     (subst (λ (state : CellStateData). IsNextOf state (stamp_of x))
     (sym c.self.view_is) c.requires.next)
-    (subst (λ (state : CellStateData). ComesTo state (stamp_of x) (Ok x))
+    (subst (λ (state : CellStateData). ComesToInState state (stamp_of x) (Ok x))
     (sym c.self.view_is) c.requires.comes)
 
 pub invariant_of-self : goal.invariant_of-self
@@ -29,7 +29,7 @@ invariant_of-self c =
     (followed_is (the_view c.self.inside) x c.self.invariant
     (subst (λ (state : CellStateData). IsNextOf state (stamp_of x))
     (sym c.self.view_is) c.requires.next)
-    (subst (λ (state : CellStateData). ComesTo state (stamp_of x) (Ok x))
+    (subst (λ (state : CellStateData). ComesToInState state (stamp_of x) (Ok x))
     (sym c.self.view_is) c.requires.comes))
 
 pub returns : goal.returns

@@ -1,7 +1,7 @@
 use Rattle.std.proofs.Common.{None, ap, ◌∙◌, sym, subst}
 use Rattle.fixed_motion.specs.Scene.{SceneData}
 use Rattle.cell_sequence.specs.Run.{opened}
-use Rattle.cell_sequence.specs.State.{IsCellState, AreInBox, start_of}
+use Rattle.cell_sequence.specs.State.{IsCellState, AreInBox, opening_state}
 use Rattle.cell_sequence.proofs.Followed.{start_is, disks_in_box}
 use Rattle.cell_sequence.proofs.state.CellState.open.Goals as goal
 
@@ -37,4 +37,4 @@ returns c =
       placed = placed i;
       floor = c.first_of_all.ensures i;
     })
-    ∙ ap (λ (v : SceneData). start_of v c.args.regions) c.scene.view_is
+    ∙ ap (λ (v : SceneData). opening_state v c.args.regions) c.scene.view_is

@@ -1,7 +1,7 @@
 use Rattle.std.proofs.Common.{Ok, refl, subst}
 use Rattle.std.proofs.lemmas.Result.{err_from_is_err_and}
 use Rattle.event_stamps.specs.declared.Stamp.{Stamp}
-use Rattle.cell_sequence.specs.State.{IsNextOf, ComesTo}
+use Rattle.cell_sequence.specs.State.{IsNextOf, ComesToInState}
 use Rattle.cell_sequence.proofs.Followed.{some_found, own_stamp}
 use Rattle.cell_sequence.proofs.state.CellState.run_next.Goals as goal
 
@@ -22,7 +22,7 @@ follow-requires-clause-comes c =
     let s = c.unwrap-stamp.result in
     let x = c.in_ok-action.action in
     let next : IsNextOf state s = rw c.unwrap-stamp.ensures at c.next.ensures.found in
-    subst (λ (t : Stamp). ComesTo state t (Ok x))
+    subst (λ (t : Stamp). ComesToInState state t (Ok x))
     (own_stamp state s x c.next.ensures.kept next c.in_ok-action.ensures) c.in_ok-action.ensures
 
 pub returns : goal.returns
@@ -33,7 +33,7 @@ returns c =
     let next : IsNextOf state s = rw c.unwrap-stamp.ensures at c.next.ensures.found in
     let own = own_stamp state s x c.next.ensures.kept next c.in_ok-action.ensures in (
       subst (IsNextOf state) own next,
-      subst (λ (t : Stamp). ComesTo state t (Ok x)) own c.in_ok-action.ensures,
+      subst (λ (t : Stamp). ComesToInState state t (Ok x)) own c.in_ok-action.ensures,
       c.follow.ensures,
     )
 

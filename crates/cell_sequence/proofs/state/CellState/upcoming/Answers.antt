@@ -1,7 +1,7 @@
 use Rattle.std.proofs.Common.{ℕ, ◌<◌, sym, subst}
 use Rattle.std.proofs.lemmas.Option.{none-some, same_Some}
 use Rattle.fixed_motion.specs.Motion.{IsValidDisk}
-use Rattle.cell_sequence.specs.State.{CellStateData, IsNextOf, ComesTo}
+use Rattle.cell_sequence.specs.State.{CellStateData, IsNextOf, ComesToInState}
 use Rattle.cell_sequence.proofs.Followed.{row_read, first_there, second_there, pair_by, alone_by}
 use Rattle.cell_sequence.proofs.Followed.{pair_comes, alone_comes}
 use Rattle.cell_sequence.proofs.Orderly.{cell_states_are_orderly}
@@ -64,7 +64,7 @@ returns-in-Pair c =
     let rows = c.self.inside.placed.items in
     let next = subst (λ (state : CellStateData). IsNextOf state s)
     (sym c.self.view_is) c.requires in
-    subst (λ (state : CellStateData). ComesTo state s c.act.result) c.self.view_is
+    subst (λ (state : CellStateData). ComesToInState state s c.act.result) c.self.view_is
     (pair_comes (the_view c.self.inside) s c.index-row.result.now c.index-other.result.now
     c.act.result c.in-Pair.is
     (row_read rows s.first c.index-row.result.now
@@ -78,7 +78,7 @@ returns-in_default c =
     let s = c.args.stamp.now in
     let next = subst (λ (state : CellStateData). IsNextOf state s)
     (sym c.self.view_is) c.requires in
-    subst (λ (state : CellStateData). ComesTo state s c.act-in_default.result) c.self.view_is
+    subst (λ (state : CellStateData). ComesToInState state s c.act-in_default.result) c.self.view_is
     (alone_comes (the_view c.self.inside) s c.index-row.result.now c.act-in_default.result
     c.in_default.not-Pair
     (row_read c.self.inside.placed.items s.first c.index-row.result.now

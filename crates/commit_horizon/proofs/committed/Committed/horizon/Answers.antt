@@ -3,7 +3,7 @@ use Rattle.fixed_motion.specs.declared.rules.Rules.{Rules}
 use Rattle.event_stamps.specs.declared.Stamp.{Stamp}
 use Rattle.event_stamps.specs.Order.{end_stamp}
 use Rattle.cell_sequence.specs.State.{CellStateData, IsCellState}
-use Rattle.commit_horizon.specs.Bounds.{HoldsUpTo, IsWithin}
+use Rattle.commit_horizon.specs.Bounds.{HoldsUpTo, IsUpToAll}
 use Rattle.commit_horizon.proofs.Standing.{horizon_is}
 use Rattle.commit_horizon.proofs.committed.Committed.horizon.Goals as goal
 
@@ -15,4 +15,4 @@ returns-clause-value c =
     (c.rules.ensures.value ∙ ap (λ (state : CellStateData). state.rules) c.self.view_is) in
     horizon_is c.args.self.now regions h (subst IsCellState c.self.view_is c.rules.ensures.kept) c.requires
     c.least_bound.ensures.kept
-    (subst (λ (s : Stamp). HoldsUpTo (IsWithin s regions) (Some h)) end c.least_bound.ensures.bound)
+    (subst (λ (s : Stamp). HoldsUpTo (IsUpToAll s regions) (Some h)) end c.least_bound.ensures.bound)

@@ -5,7 +5,7 @@ use Rattle.local_run.specs.declared.entry.TheConstants.{MAX_ENTRIES}
 use Rattle.event_log.specs.declared.heads.Head.{Head}
 use Rattle.event_log.specs.declared.heads.Form.TheVariants.{Whole}
 use Rattle.event_log.specs.Logged.{Logged}
-use Rattle.event_log.specs.Heads.{edge_of, row_place, whole_place, whole_size, raised, log_of, AreLaid}
+use Rattle.event_log.specs.Heads.{edge_of, row_place, whole_place, whole_size, raised_head, log_of, AreLaid}
 use Rattle.event_log.proofs.Cuts.{edge_within}
 use Rattle.event_log.proofs.Laid.{inserted_log, inserted_laid, length_raised, with_whole, still_laid}
 use Rattle.event_log.proofs.Read.{row_edge_fits, whole_edge_fits, place_fits, count_is}
@@ -60,7 +60,7 @@ invariant_of-self-2 c =
     let before = c.deref_mut.ensures.value ∙ c.in_ok-reserve.ensures.items in
     let raised_heads = with_items_is c.reserve.new.self c.raise_from.new.heads
     (ap length c.raise_from.ensures ∙ length_raised c.args.at c.deref_mut.result.now ∙ c.deref_mut.ensures.len)
-    ∙ c.raise_from.ensures ∙ ap (λ (hs : List Head). take c.args.at hs ++ map raised (drop c.args.at hs)) before in
+    ∙ c.raise_from.ensures ∙ ap (λ (hs : List Head). take c.args.at hs ++ map raised_head (drop c.args.at hs)) before in
     let heads : c.insert-2.new.self.items
     ≡ with_whole a.rows.items a.wholes.items a.heads.items c.args.at c.stamp.result =
     rw (c.insert-2.ensures.items, c.unwrap.ensures) (λ i. insert (raised_heads i) c.args.at (record {
@@ -90,7 +90,7 @@ returns-clause-inserted c =
     let before = c.deref_mut.ensures.value ∙ c.in_ok-reserve.ensures.items in
     let raised_heads = with_items_is c.reserve.new.self c.raise_from.new.heads
     (ap length c.raise_from.ensures ∙ length_raised c.args.at c.deref_mut.result.now ∙ c.deref_mut.ensures.len)
-    ∙ c.raise_from.ensures ∙ ap (λ (hs : List Head). take c.args.at hs ++ map raised (drop c.args.at hs)) before in
+    ∙ c.raise_from.ensures ∙ ap (λ (hs : List Head). take c.args.at hs ++ map raised_head (drop c.args.at hs)) before in
     let heads : c.insert-2.new.self.items
     ≡ with_whole a.rows.items a.wholes.items a.heads.items c.args.at c.stamp.result =
     rw (c.insert-2.ensures.items, c.unwrap.ensures) (λ i. insert (raised_heads i) c.args.at (record {

@@ -1,19 +1,19 @@
 -- All entries begin blank, and those of the disks are copied one by one.
 use Rattle.std.proofs.Common.{◌<◌, ◌+◌, ◌*◌, ◌/◌, ◌∙◌, length, arith, inl, inr}
-use Rattle.event_tree.specs.declared.narrow.Entry.{Entry}
+use Rattle.event_tree.specs.declared.narrow.NarrowEntry.{NarrowEntry}
 use Rattle.event_tree.proofs.Trees.{below_or_not}
 use Rattle.event_tree.proofs.Groups.{blank_led, blank_room, blank_entries, within, entry_of_disk, entered_more, entered_free, no_entry}
 use Rattle.event_tree.proofs.narrow.Narrow.with_room.Goals as goal
 
 pub invariant_of-wider : goal.invariant_of-wider
 invariant_of-wider c =
-    let blank : Entry = record { key = c.none.result; bound = c.none-2.result } in
+    let blank : NarrowEntry = record { key = c.none.result; bound = c.none-2.result } in
     blank_led c.in_ok-vec.field-0.items c.in_ok-with_room.field-0 ((c.args.room + 3) / 4) blank (omega (arith, c.requires.most))
     (c.in_ok-vec.ensures.items_if_clones_equal (λ y e. e)) c.none.ensures c.in_ok-with_room.ensures
 
 pub loop-disk-init : goal.loop-disk-init
 loop-disk-init c =
-    let blank : Entry = record { key = c.none.result; bound = c.none-2.result } in
+    let blank : NarrowEntry = record { key = c.none.result; bound = c.none-2.result } in
     let entries = c.in_ok-vec.field-0.items in
     let many = 4 * ((c.args.room + 3) / 4) in
     let is = c.in_ok-vec.ensures.items_if_clones_equal (λ y e. e) in

@@ -6,7 +6,7 @@ use Rattle.region_view.specs.Setting.{IsInOrder, after_action}
 use Rattle.region_view.specs.Views.{ViewData, rows_in}
 use Rattle.local_run.specs.declared.entry.Entry.TheVariants.{Native}
 use Rattle.region_view.specs.Naming.{IsSameBut}
-use Rattle.event_log.specs.Running.{acted, collision}
+use Rattle.event_log.specs.Running.{logged_action, collision}
 use Rattle.local_run.proofs.Aside.{here_first, later_still}
 use Rattle.region_queue.specs.Finding.{KeepCells}
 use Rattle.region_core.proofs.Told.{hit_leaves, hit_keeps_cells}
@@ -56,7 +56,7 @@ returns-clause-live c =
           record {
             inbox = refl;
             log = c.in_ok-collide.ensures.log
-                ∙ ap (λ (x : Change). live.log ++ acted live.view (Hit x) ∷ []) (sym c.requires.change);
+                ∙ ap (λ (x : Change). live.log ++ logged_action live.view (Hit x) ∷ []) (sym c.requires.change);
             view = c.in_ok-collide.ensures.view
                 ∙ ap (λ (x : Change). after_action live.view (Hit x)) (sym c.requires.change);
             queue = c.struck.ensures.same;
@@ -78,7 +78,7 @@ returns-clause-run c =
     further_run c.args.place.now.floor live (record live { view = c.collide.new.view; log = c.collide.new.self })
     (Native (Hit c.args.change.now)) c.requires.live.body.traced refl
     (c.in_ok-collide.ensures.log
-    ∙ ap (λ (x : Change). live.log ++ acted live.view (Hit x) ∷ []) (sym c.requires.change))
+    ∙ ap (λ (x : Change). live.log ++ logged_action live.view (Hit x) ∷ []) (sym c.requires.change))
     (c.in_ok-collide.ensures.view ∙ ap (λ (x : Change). after_action live.view (Hit x)) (sym c.requires.change))
 
 pub collide-requires-clause-room : goal.collide-requires-clause-room

@@ -6,7 +6,7 @@ use Rattle.region_view.specs.declared.action.Action.{Action}
 use Rattle.event_rules.specs.declared.change.Limit.{Limit}
 use Rattle.region_view.specs.Placing.{IsValidPlacing}
 use Rattle.region_view.specs.Views.{ViewData, rows_in}
-use Rattle.local_run.specs.LocalRun.{IsOwn, ComesTo}
+use Rattle.local_run.specs.LocalRun.{IsOwn, ComesToInView}
 use Rattle.local_run.proofs.Valid.{valid_now}
 use Rattle.region_core.specs.Live.{run_in, now_in}
 use Rattle.region_core.proofs.Traced.{now_is}
@@ -41,6 +41,6 @@ returns c =
     let fails = c.requires.fails in
     let same = fails_once home live c.args.due.now c.outcome.result c.requires.live.body.traced fails c.outcome.ensures in
     halted_is home (run_in c.args.place.now.floor live) c.args.due.now c.unwrap.result c.requires.turn
-    (subst (λ (limit : Limit). ComesTo home (now_in live).view c.args.due.now (Err limit))
+    (subst (λ (limit : Limit). ComesToInView home (now_in live).view c.args.due.now (Err limit))
     (same_Some fails.0 c.unwrap.result
     (sym (c.err.ensures.value ∙ ap (λ (r : Result Action Limit). result_err r) same) ∙ c.unwrap.ensures)) fails.1)

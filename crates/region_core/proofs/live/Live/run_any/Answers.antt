@@ -1,7 +1,7 @@
 use Rattle.std.proofs.Common.{Ok, Err, sym, subst, refl}
 use Rattle.region_view.specs.Placing.{IsValidPlacing}
 use Rattle.region_view.specs.Views.{ViewData, rows_in}
-use Rattle.local_run.specs.LocalRun.{IsOwn, ComesTo}
+use Rattle.local_run.specs.LocalRun.{IsOwn, ComesToInView}
 use Rattle.local_run.proofs.Valid.{valid_now}
 use Rattle.region_core.specs.Live.{run_in}
 use Rattle.region_core.proofs.Traced.{now_is}
@@ -27,7 +27,7 @@ run-requires-clause-fits c =
     let home = c.args.place.now.home in
     let live = c.args.self.now in
     turn_fits home c.args.place.now.floor live c.args.due.now c.in-Ok.action c.requires.live.place.home c.requires.live.body c.requires.turn
-    (subst (λ (v : ViewData). ComesTo home v c.args.due.now (Ok c.in-Ok.action))
+    (subst (λ (v : ViewData). ComesToInView home v c.args.due.now (Ok c.in-Ok.action))
     (sym (now_is live c.requires.live.body.traced)) c.in-Ok.ensures)
 
 pub returns-in_ok-run-in-Ok-clause-steps : goal.returns-in_ok-run-in-Ok-clause-steps
@@ -36,7 +36,7 @@ returns-in_ok-run-in-Ok-clause-steps c =
     let live = c.args.self.now in
     turn_ran home c.args.place.now.floor live c.args.due.now c.in-Ok.action (run_in c.args.place.now.floor c.run.new.self)
     c.requires.live.place.home c.requires.live.body c.requires.turn
-    (subst (λ (v : ViewData). ComesTo home v c.args.due.now (Ok c.in-Ok.action))
+    (subst (λ (v : ViewData). ComesToInView home v c.args.due.now (Ok c.in-Ok.action))
     (sym (now_is live c.requires.live.body.traced)) c.in-Ok.ensures)
     c.in_ok-run-in-Ok.ensures.run
 
@@ -47,7 +47,7 @@ returns-in-Err-clause-steps c =
       refl,
       (
         c.in-Err.field-0,
-        subst (λ (v : ViewData). ComesTo home v c.args.due.now (Err c.in-Err.field-0))
+        subst (λ (v : ViewData). ComesToInView home v c.args.due.now (Err c.in-Err.field-0))
             (sym (now_is live c.requires.live.body.traced)) c.in-Err.ensures,
       ),
     )

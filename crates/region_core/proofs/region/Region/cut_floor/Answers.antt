@@ -2,7 +2,7 @@ use Rattle.std.proofs.Common.{Some, sym, subst, ap, ◌∙◌, Option}
 use Rattle.std.specs.Prelude.{IfSome}
 use Rattle.event_stamps.specs.Order.{Before, end_stamp}
 use Rattle.local_run.specs.Opening.{RegionData, spent}
-use Rattle.local_run.specs.Raising.{raised, HasNoneWaitingBelow}
+use Rattle.local_run.specs.Raising.{raised_region, HasNoneWaitingBelow}
 use Rattle.local_run.specs.Entries.{entries_below}
 use Rattle.local_run.specs.Keeping.{entries_of}
 use Rattle.event_log.specs.Logged.{entries_in}
@@ -44,7 +44,7 @@ pub returns-in_default-clause-raised : goal.returns-in_default-clause-raised
 returns-in_default-clause-raised c =
     let home = c.self.inside.place.home in
     ap (seen_as home c.args.to) c.in_default.is
-    ∙ ap (raised c.args.to) (ap (seen_as home c.self.inside.place.floor) (sym c.in_default.is) ∙ c.self.view_is)
+    ∙ ap (raised_region c.args.to) (ap (seen_as home c.self.inside.place.floor) (sym c.in_default.is) ∙ c.self.view_is)
 
 pub returns-in_default-clause-cut : goal.returns-in_default-clause-cut
 returns-in_default-clause-cut c =
@@ -64,7 +64,7 @@ returns-in-Ok-clause-raised c =
     let floor = c.self.inside.place.floor in
     ap (λ (place : Place). seen_as place.home place.floor (Some c.cut_floor.new.self)) c.in-Ok.ensures.place
     ∙ (λ i. record { home = home; floor = c.args.to; run = Some (c.in-Ok.ensures.run i) })
-    ∙ ap (raised c.args.to) (ap (seen_as home floor) (sym c.in-Some.is) ∙ c.self.view_is)
+    ∙ ap (raised_region c.args.to) (ap (seen_as home floor) (sym c.in-Some.is) ∙ c.self.view_is)
 
 pub returns-in-Ok-clause-cut : goal.returns-in-Ok-clause-cut
 returns-in-Ok-clause-cut c =

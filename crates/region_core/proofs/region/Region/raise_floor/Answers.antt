@@ -1,7 +1,7 @@
 use Rattle.std.proofs.Common.{Some, sym, subst, ap, ◌∙◌, Option}
 use Rattle.event_stamps.specs.Order.{Before, end_stamp}
 use Rattle.local_run.specs.Opening.{RegionData}
-use Rattle.local_run.specs.Raising.{raised, HasNoneWaitingBelow}
+use Rattle.local_run.specs.Raising.{raised_region, HasNoneWaitingBelow}
 use Rattle.region_core.proofs.Kept.{body_is}
 use Rattle.region_core.proofs.Shown.{seen_as}
 use Rattle.std.specs.Prelude.{IfSome}
@@ -17,7 +17,7 @@ returns-clause-raised c =
     let floor = c.self.inside.place.floor in
     ap (λ (place : Place). seen_as place.home place.floor (Some c.raise_floor.new.self)) c.raise_floor.ensures.place
     ∙ (λ i. record { home = home; floor = c.args.to; run = Some (c.raise_floor.ensures.run i) })
-    ∙ ap (raised c.args.to) (ap (seen_as home floor) (sym c.in-Some.is) ∙ c.self.view_is)
+    ∙ ap (raised_region c.args.to) (ap (seen_as home floor) (sym c.in-Some.is) ∙ c.self.view_is)
 
 pub invariant_of-self-2 : goal.invariant_of-self-2
 invariant_of-self-2 c = record {
@@ -49,7 +49,7 @@ pub returns-in_default-clause-raised : goal.returns-in_default-clause-raised
 returns-in_default-clause-raised c =
     let home = c.self.inside.place.home in
     ap (seen_as home c.args.to) c.in_default.is
-    ∙ ap (raised c.args.to) (ap (seen_as home c.self.inside.place.floor) (sym c.in_default.is) ∙ c.self.view_is)
+    ∙ ap (raised_region c.args.to) (ap (seen_as home c.self.inside.place.floor) (sym c.in_default.is) ∙ c.self.view_is)
 
 pub raise_floor-requires-clause-none_waiting : goal.raise_floor-requires-clause-none_waiting
 raise_floor-requires-clause-none_waiting c =

@@ -2,7 +2,7 @@ use Rattle.std.proofs.Common.{◌≡◌, Option, sym, subst, ap, ◌∙◌, Some
 use Rattle.std.specs.Prelude.{option_map, MatchOption}
 use Rattle.local_run.specs.Opening.{RegionData, spent}
 use Rattle.local_run.specs.Running.{IsDueBefore, IsDueLater}
-use Rattle.local_run.specs.Steps.{Steps}
+use Rattle.local_run.specs.Steps.{RegionSteps}
 use Rattle.region_core.specs.declared.live.Live.{Live}
 use Rattle.region_core.specs.Live.{run_in, region_in}
 use Rattle.region_core.proofs.Bounded.{bounded_step, as_none, as_some, spent_before, spent_later}
@@ -20,7 +20,7 @@ returns-in-Ok-clause-step c =
     let bound = c.args.bound.now in
     let new = region_in c.self.inside.place c.step.new.self in
     let Made : RegionData → Type 0 = λ old. MatchOption c.in-Ok.last (IsDueLater bound old × (new ≡ old))
-    (λ answer. IsDueBefore bound old × Steps old answer new) in
+    (λ answer. IsDueBefore bound old × RegionSteps old answer new) in
     subst Made c.self.view_is
     (subst (λ (o : Option Live). Made (record { home = home; floor = floor; run = option_map (run_in floor) o }))
     (sym c.in-Some.is)

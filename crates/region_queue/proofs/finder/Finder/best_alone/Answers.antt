@@ -4,7 +4,7 @@ use Rattle.std.specs.Prelude.{Option, Some}
 use Rattle.std.proofs.lemmas.Bool.{both_ways}
 use Rattle.event_stamps.specs.declared.Stamp.{Stamp}
 use Rattle.event_stamps.specs.Least.{IsLeastOf}
-use Rattle.cell_grid.specs.Later.{later_stamp}
+use Rattle.cell_grid.specs.Later.{later_crossing}
 use Rattle.region_view.proofs.First.{crossing_is_first}
 use Rattle.region_queue.specs.Finding.{IsAloneAt}
 use Rattle.region_queue.proofs.Candidates.{alone_owned}
@@ -26,7 +26,7 @@ leaving-requires-clause-cell c = c.requires.ready.valid.cell c.args.disk c.args.
 pub new-requires-in-At : goal.new-requires-in-At
 new-requires-in-At c =
     let valid = c.requires.ready.valid.disk c.args.disk c.args.placed.now c.requires.placed in
-    alone_in_range c.args.self.now.rules c.args.self.now.grid c.args.disk c.args.placed.now (Some (later_stamp c.args.disk c.in-At.tick))
+    alone_in_range c.args.self.now.rules c.args.self.now.grid c.args.disk c.args.placed.now (Some (later_crossing c.args.disk c.in-At.tick))
     c.requires.ready.checked valid
     (c.requires.ready.valid.number c.args.disk c.args.placed.now c.requires.placed)
     (crossing_is_first c.args.self.now.rules c.args.self.now.grid c.args.disk c.args.placed.now _ valid (c.in-At.ensures c.args.disk))
@@ -38,7 +38,7 @@ pub returns-in-At : goal.returns-in-At
 returns-in-At c =
     let valid = c.requires.ready.valid.disk c.args.disk c.args.placed.now c.requires.placed in
     subst (λ (o : Option Stamp). IsLeastOf (IsAloneAt c.args.self.now c.args.disk c.args.placed.now) o) (sym c.new-in-At.ensures)
-    (alone_owned c.args.self.now c.args.disk c.args.placed.now (Some (later_stamp c.args.disk c.in-At.tick)) (c.requires.own.0 c.if-not-own.false)
+    (alone_owned c.args.self.now c.args.disk c.args.placed.now (Some (later_crossing c.args.disk c.in-At.tick)) (c.requires.own.0 c.if-not-own.false)
     (crossing_is_first c.args.self.now.rules c.args.self.now.grid c.args.disk c.args.placed.now _ valid (c.in-At.ensures c.args.disk)))
 
 pub returns-in-Never : goal.returns-in-Never

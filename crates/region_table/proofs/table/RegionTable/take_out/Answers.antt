@@ -5,7 +5,7 @@ use Rattle.atomic_table.specs.Table.{rest}
 use Rattle.local_run.specs.Opening.{RegionData}
 use Rattle.region_table.specs.declared.take_out.TakeOut.TheVariants.{Out, Away, Worn}
 use Rattle.region_table.specs.Bases.{MayLieIn}
-use Rattle.region_table.specs.Rule.{version_of, last_version, is_held, IsFound}
+use Rattle.region_table.specs.Rule.{version_of, last_version, is_held, IsFoundAtHome}
 use Rattle.region_table.specs.Tables.{SeatData, TakesOut, IsKeptSeat}
 use Rattle.region_table.proofs.Moves.{take_allowed, undo_allowed}
 use Rattle.region_table.proofs.Calls.{undone, keeps_out, keeps_seeing, has_room, front_of, value_next}
@@ -143,6 +143,6 @@ returns c =
         home,
         young c.fetch_or-word.result t.fits home c.if-word.false,
         λ i. record { table = table i; view = view i },
-        subst (λ (region : RegionData). IsFound c.seat.inside.token.me.0 c.args.region c.fetch_or-word.result region) found out.2,
+        subst (λ (region : RegionData). IsFoundAtHome c.seat.inside.token.me.0 c.args.region c.fetch_or-word.result region) found out.2,
       );
     }

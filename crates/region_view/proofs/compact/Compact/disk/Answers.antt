@@ -4,11 +4,11 @@ use Rattle.std.specs.Prelude.{Option, Some, None, IfSome}
 use Rattle.fixed_motion.specs.declared.disk.Disk.{Disk}
 use Rattle.region_view.specs.declared.action.Placed.{Placed}
 use Rattle.region_view.specs.declared.compact.Compact.TheInside.{Inside}
-use Rattle.region_view.specs.Compact.{row_of, unpacked}
+use Rattle.region_view.specs.Compact.{row_inside, unpacked}
 use Rattle.region_view.proofs.CompactRows.{is_row_of, widened}
 use Rattle.region_view.proofs.compact.Compact.disk.Goals as goal
 
-of_row : (a : Inside) (o : Option Placed) (d : Disk) → unpacked a ≡ o → d ≡ (row_of a).disk → IfSome o (λ row. d ≡ row.disk)
+of_row : (a : Inside) (o : Option Placed) (d : Disk) → unpacked a ≡ o → d ≡ (row_inside a).disk → IfSome o (λ row. d ≡ row.disk)
 of_row a None d view same = tt
 of_row a (Some p) d view same = same ∙ ap (λ (row : Placed). row.disk) (is_row_of a p view).1
 

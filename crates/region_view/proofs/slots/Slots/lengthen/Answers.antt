@@ -1,5 +1,5 @@
 use Rattle.std.proofs.Common.{◌≡◌, ◌+◌, ◌<◌, ◌≤◌, ◌^◌, length, ap, ◌∙◌, arith}
-use Rattle.region_view.specs.Slots.{SlotsData, slots_in, at}
+use Rattle.region_view.specs.Slots.{SlotsData, slots_in, slot_at}
 use Rattle.region_view.proofs.Added.{few_more, same_more, no_fewer, room_for}
 use Rattle.region_view.proofs.slots.Slots.lengthen.Goals as goal
 
@@ -16,7 +16,7 @@ returns-clause-same c = λ i.
     let past : length rows ≤ c.args.number + 1 = rw c.self.view_is (omega arith) in
     same_more c.add_slots.result rows (slots_in c.add_slots.new.form).rows (c.args.number + 1) i c.add_slots.ensures.rows
     c.add_slots.ensures.unchanged past
-    ∙ ap (λ (slots : SlotsData). at slots i) c.self.view_is
+    ∙ ap (λ (slots : SlotsData). slot_at slots i) c.self.view_is
 
 pub returns-clause-more : goal.returns-clause-more
 returns-clause-more c =

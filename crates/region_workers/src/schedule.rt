@@ -1,0 +1,115 @@
+//! In which slices the turns of a burst are made.
+
+ghost use Rattle.std.specs.Prelude.{◌<◌};
+
+use crate::pace::{Pace, Slice};
+use std::sync::atomic::{AtomicU64, Ordering};
+
+/// In how many slices the regions settle at most.
+pub(crate) const SETTLING_SLICES: u32 = 12;
+
+// How many steps a burst has at least before it ends early.
+const SHORT_STEPS: u64 = 256;
+
+// What part of its turns a burst that ends early makes at least, as those that are left still pass the gate.
+const SHORT_PART: u64 = 16;
+
+/// The slices of a burst, one after another. All regions run each, whoever runs them. A slice may go over the end of a
+/// turn. Before the last half of the last turn the regions begin to settle, each slice with as many steps as that half:
+/// they only run to where any was to run, so that hardly anything is left of which they disagree.
+#[derive(Drop)]
+pub(crate) struct Schedule {
+    // How many steps a turn has.
+    steps: u32,
+    // How many steps there are before the regions settle, and how many of them come after the present slice.
+    all: u64,
+    left: AtomicU64,
+    // The turn in which the present slice begins.
+    turn: AtomicU64,
+    // In how many slices the regions have settled.
+    settled: AtomicU64,
+    // The slice: its steps and its bound.
+    slice_steps: AtomicU64,
+    slice_bound: AtomicU64,
+    ghost some_steps: { 0 < steps },
+}
+
+impl Schedule {
+    /// So many turns of so many steps, at the first slice.
+    pub(crate) fn new(turns: u32, steps: u32, pace: &Pace) -> Schedule
+        requires { 0 < steps }
+    {
+        let all = steps_of(turns, steps, pace).saturating_sub(u64::from(steps / 2));
+        let schedule = Schedule {
+            steps,
+            all,
+            left: AtomicU64::new(all),
+            turn: AtomicU64::new(0),
+            settled: AtomicU64::new(0),
+            slice_steps: AtomicU64::new(0),
+            slice_bound: AtomicU64::new(0),
+        };
+        schedule.go_on(pace);
+        schedule
+    }
+
+    /// The turn that they are at.
+    pub(crate) fn turn(&self) -> u64 {
+        self.turn.load(Ordering::SeqCst)
+    }
+
+    /// Whether less than half of the steps before the regions settle is still to be made.
+    pub(crate) fn is_half_made(&self) -> bool {
+        self.left.load(Ordering::SeqCst) < self.all / 2
+    }
+
+    /// The slice that they are at.
+    pub(crate) fn slice(&self) -> Slice
+        ensures { 0 < result.steps }
+    {
+        let steps = self.slice_steps.load(Ordering::SeqCst);
+        Slice {
+            steps: steps.clamp(1, u64::from(u32::MAX)) as u32,
+            bound: self.slice_bound.load(Ordering::SeqCst),
+        }
+    }
+
+    /// Goes on to the next slice, and says whether there is one. Called by one worker alone, while no region runs.
+    pub(crate) fn go_on(&self, pace: &Pace) -> bool {
+        let left = self.left.load(Ordering::SeqCst);
+        let slice = if left > 0 {
+            self.go_ahead(pace, left)
+        } else if self.settled.fetch_add(1, Ordering::SeqCst) < u64::from(SETTLING_SLICES) {
+            pace.settling_slice(self.steps - self.steps / 2)
+        } else {
+            return false;
+        };
+        self.slice_steps
+            .store(u64::from(slice.steps), Ordering::SeqCst);
+        self.slice_bound.store(slice.bound, Ordering::SeqCst);
+        true
+    }
+
+    // The next slice where so many steps are left before the regions settle.
+    fn go_ahead(&self, pace: &Pace, left: u64) -> Slice
+        requires { 0 < left }
+    {
+        let slice = pace.next_slice(left.min(u64::from(u32::MAX)) as u32);
+        let turn = self.all.saturating_sub(left) / u64::from(self.steps);
+        self.turn.store(turn, Ordering::SeqCst);
+        self.left
+            .store(left - u64::from(slice.steps), Ordering::SeqCst);
+        slice
+    }
+}
+
+// How many steps a burst of so many turns has. One region alone has nobody to wait for; if it has so many disks that the
+// cache doesn't hold them, what it does is told while it is still there.
+fn steps_of(turns: u32, steps: u32, pace: &Pace) -> u64 {
+    let planned = u64::from(turns) * u64::from(steps);
+    if pace.is_alone_with_many() {
+        planned.min(SHORT_STEPS.max(planned / SHORT_PART))
+    } else {
+        planned
+    }
+}

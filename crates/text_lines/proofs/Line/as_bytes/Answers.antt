@@ -1,4 +1,0 @@
-use Rattle.text_lines.proofs.Line.as_bytes.Goals as goal
-
-pub returns : goal.returns
-returns c = c.self.view_is

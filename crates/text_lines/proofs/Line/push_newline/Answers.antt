@@ -1,7 +1,0 @@
-use Rattle.text_lines.proofs.Line.push_newline.Goals as goal
-
-pub returns-clause-after : goal.returns-clause-after
-returns-clause-after c = c.push_byte.ensures.after
-
-pub returns-clause-len : goal.returns-clause-len
-returns-clause-len c = c.push_byte.ensures.len
