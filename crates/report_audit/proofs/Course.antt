@@ -1,12 +1,10 @@
 -- How a comparison goes on with a piece.
-use Rattle.std.proofs.Common.{◌≡◌, ◌⊎◌, inl, inr, ℕ, ◌<◌, List, arith, [], ◌∷◌, ◌++◌, append-nil, append_assoc, sym, ap, ◌∙◌, subst, refl, Option, Some, None}
-use Rattle.std.specs.Prelude.{⊤}
-use Rattle.report_ports.specs.Ports.{AppendsPrefix}
+use Rattle.std.proofs.Common.{◌≡◌, ℕ, ◌<◌, List, arith, [], ◌∷◌, ◌++◌, append_assoc, sym, ap, ◌∙◌, subst, refl, Option, Some, None}
 use Rattle.std.specs.Io.KnownBytes.{Consumes}
 use Rattle.report_audit.specs.declared.agreeing.Course.{Course}
 use Rattle.report_audit.specs.declared.agreeing.Course.TheVariants.{Agrees, Differs, Wrong, Failed}
 use Rattle.report_audit.specs.Place.{PlaceData, place_of, place_in, in_line}
-use Rattle.report_audit.specs.Comparing.{Differ, IsCourse, GoesOn, CountsCourse, Grows, Advances, IsLine}
+use Rattle.report_audit.specs.Comparing.{Differ, IsCourse, GoesOn, CountsCourse, IsLine}
 use Rattle.report_audit.proofs.Placed.{placed, in_line_of, in_line_first}
 use Rattle.report_audit.proofs.Newlines.{newlines_none, newlines_second}
 
@@ -64,37 +62,6 @@ course_differs Wrong other rest left none is h =
     subst (λ (l : List ℕ). IsCourse Wrong (l ++ rest) left) (sym none) (h, is)
 course_differs Failed other rest left none is h = absurd is
 
-behind_none : (agreed other same : List ℕ) → other ≡ [] → (agreed ++ same) ++ other ≡ (agreed ++ other) ++ same
-behind_none agreed other same none =
-    ap (λ (l : List ℕ). (agreed ++ same) ++ l) none ∙ append-nil (agreed ++ same)
-    ∙ ap (λ (l : List ℕ). l ++ same) (sym (append-nil agreed) ∙ ap (λ (l : List ℕ). agreed ++ l) (sym none))
-
-pub grows_further : (course : Course) (agreed other piece same rest : List ℕ) (left : Option (List ℕ)) → other ≡ [] →
-    piece ≡ same ++ rest → (course ≡ Differs → ⊥) → GoesOn course rest left →
-    Grows course (agreed ++ other) ((agreed ++ same) ++ other) piece
-grows_further Agrees agreed other piece same rest left none whole not h =
-    let all : piece ≡ same = whole ∙ ap (λ (l : List ℕ). same ++ l) h ∙ append-nil same in
-    behind_none agreed other same none ∙ ap (λ (l : List ℕ). (agreed ++ other) ++ l) (sym all)
-grows_further Differs agreed other piece same rest left none whole not h = absurd (not refl)
-grows_further Wrong agreed other piece same rest left none whole not h = absurd h
-grows_further Failed agreed other piece same rest left none whole not h =
-    (same, rest, whole, behind_none agreed other same none)
-
-pub grows_differs : (course : Course) (agreed other piece same rest : List ℕ) → other ≡ [] → piece ≡ same ++ rest →
-    IsLine rest course → Grows course (agreed ++ other) ((agreed ++ same) ++ (other ++ rest)) piece
-grows_differs course agreed other piece same rest none whole is = by_course course is
-  where
-    all : (agreed ++ same) ++ (other ++ rest) ≡ (agreed ++ other) ++ piece
-    all = sym (append_assoc (agreed ++ same) other rest)
-        ∙ ap (λ (l : List ℕ). l ++ rest) (behind_none agreed other same none)
-        ∙ append_assoc (agreed ++ other) same rest ∙ ap (λ (l : List ℕ). (agreed ++ other) ++ l) (sym whole)
-
-    by_course : (k : Course) → IsLine rest k → Grows k (agreed ++ other) ((agreed ++ same) ++ (other ++ rest)) piece
-    by_course Agrees is = absurd is
-    by_course Differs is = all
-    by_course Wrong is = all
-    by_course Failed is = absurd is
-
 -- ---- in a line that differs
 differ_more : (other more : List ℕ) (left : Option (List ℕ)) → Differ other left → Differ (other ++ more) left
 differ_more [] more None h = absurd (let some : 0 < 0 = h in omega arith)
@@ -114,48 +81,3 @@ pub place_line : (agreed other more : List ℕ) (old new : PlaceData) (left : Op
     old ≡ place_in agreed other → new ≡ in_line old more → new ≡ place_in agreed (other ++ more)
 place_line agreed other more old new left h is e =
     e ∙ ap (λ (p : PlaceData). in_line p more) is ∙ in_line_of agreed other more h.1
-
-pub grows_line : (course : Course) (agreed other more : List ℕ) → IsLine more course →
-    Grows course (agreed ++ other) (agreed ++ (other ++ more)) more
-grows_line Agrees agreed other more is = absurd is
-grows_line Differs agreed other more is = sym (append_assoc agreed other more)
-grows_line Wrong agreed other more is = sym (append_assoc agreed other more)
-grows_line Failed agreed other more is = absurd is
-
--- ---- what a give answers
--- a line is wrong, or the source failed
-abbrev pub HasEnded : Course → Type 0
-HasEnded Agrees = ⊥
-HasEnded Differs = ⊥
-HasEnded Wrong = ⊤
-HasEnded Failed = ⊤
-
-goes_on : (course : Course) → (course ≡ Agrees) ⊎ (course ≡ Differs) → HasEnded course → ⊥
-goes_on course (inl is) h = subst HasEnded is h
-goes_on course (inr is) h = subst HasEnded is h
-
-pub all_taken : (old : Course) (before after piece : List ℕ) (course : Course) → (course ≡ Agrees) ⊎ (course ≡ Differs) →
-    Advances old course before after piece → after ≡ before ++ piece
-all_taken Agrees before after piece Agrees is h = h
-all_taken Agrees before after piece Differs is h = h
-all_taken Agrees before after piece Wrong is h = absurd (goes_on Wrong is tt)
-all_taken Agrees before after piece Failed is h = absurd (goes_on Failed is tt)
-all_taken Differs before after piece Agrees is h = h
-all_taken Differs before after piece Differs is h = h
-all_taken Differs before after piece Wrong is h = absurd (goes_on Wrong is tt)
-all_taken Differs before after piece Failed is h = absurd (goes_on Failed is tt)
-all_taken Wrong before after piece course is h = absurd (goes_on course is (subst HasEnded (sym h.0) tt))
-all_taken Failed before after piece course is h = absurd (goes_on course is (subst HasEnded (sym h.0) tt))
-
-pub front_taken : (old : Course) (before after piece : List ℕ) (course : Course) → HasEnded course →
-    Advances old course before after piece → AppendsPrefix (Some before) (Some after) piece
-front_taken Agrees before after piece Agrees is h = absurd is
-front_taken Agrees before after piece Differs is h = absurd is
-front_taken Agrees before after piece Wrong is h = (piece, [], sym (append-nil piece), h)
-front_taken Agrees before after piece Failed is h = h
-front_taken Differs before after piece Agrees is h = absurd is
-front_taken Differs before after piece Differs is h = absurd is
-front_taken Differs before after piece Wrong is h = (piece, [], sym (append-nil piece), h)
-front_taken Differs before after piece Failed is h = h
-front_taken Wrong before after piece course is h = ([], piece, refl, h.1 ∙ sym (append-nil before))
-front_taken Failed before after piece course is h = ([], piece, refl, h.1 ∙ sym (append-nil before))
