@@ -245,7 +245,7 @@ pub record HasActed (home : Home) (live new : Live) (x : Action) : Type 0 where
   pub queue : IsOf new.queue live.queue.rules live.queue.grid live.queue.region
   pub stands : StandsFor new.queue new.view
   pub size : length new.sent.items ≡ length live.sent.items
-  pub prepended : (to : ℕ) → SendsTo home to → trail_of new.sent.items to ≡ trail_of live.sent.items to
+  pub told : (to : ℕ) → SendsTo home to → trail_of new.sent.items to ≡ trail_of live.sent.items to
       ++ prepended (message_of home.grid to (rows_in live.view) x) []
 
 pub acted_is_live : (home : Home) (floor : Stamp) (live new : Live) (x : Action) → IsBodyOf home floor live →

@@ -68,9 +68,9 @@ pub record IsBodyOf (home : Home) (floor : Stamp) (live : Live) : Type 0 where
   pub stands : StandsFor live.queue (now_in live).view
 
 -- the body of a region that has this place
-pub record IsLive (place : Place) (live : Live) : Type 0 where
-  pub place : IsPlace place
-  pub body : IsBodyOf place.home place.floor live
+pub record IsLive (p : Place) (live : Live) : Type 0 where
+  pub place : IsPlace p
+  pub body : IsBodyOf p.home p.floor live
 
 -- what is due, or the end stamp where nothing is, is before a bound
 abbrev pub HasDueBefore : Home → Stamp → Live → Type 0
@@ -93,11 +93,11 @@ pub record IsPartOf (home : Home) (floor : Stamp) (live : Live) : Type 0 where
   pub stands : StandsFor live.queue (now_in live).view
 
 -- so much is known while entries are taken back
-pub record IsAlong (place : Place) (live : Live) : Type 0 where
-  pub place : IsPlace place
-  pub body : IsPartOf place.home place.floor live
+pub record IsAlong (p : Place) (live : Live) : Type 0 where
+  pub place : IsPlace p
+  pub body : IsPartOf p.home p.floor live
 
 -- what each region keeps
-pub record IsSound (place : Place) (live : Option Live) : Type 0 where
-  pub place : IsPlace place
-  pub alive : IfSome live (IsLive place)
+pub record IsSound (p : Place) (live : Option Live) : Type 0 where
+  pub place : IsPlace p
+  pub alive : IfSome live (IsLive p)

@@ -9,6 +9,7 @@ use Rattle.region_core.specs.Live.{run_in}
 use Rattle.local_run.proofs.Raised.{raised_right}
 use Rattle.region_core.proofs.Traced.{entries_taken}
 use Rattle.region_core.proofs.LetGo.{gone_taken, raised_run_is, base_let_go, log_let_go, raised_is}
+use Rattle.region_core.proofs.RunningOn.{on_err}
 use Rattle.region_core.proofs.live.Live.cut_floor.Goals as goal
 
 pub drop_before-requires-clause-taken : goal.drop_before-requires-clause-taken
@@ -67,3 +68,9 @@ returns-clause-cut c =
     ap entries_in c.in_ok-cut_first.ensures.cut
     ∙ sym (entries_taken c.count_before-gone.result c.args.self.now.log)
     ∙ c.count_before-gone.ensures.before
+
+pub returns-clause-place : goal.returns-clause-place
+returns-clause-place c = refl
+
+pub returns-in_err-cut_first-clause-spent : goal.returns-in_err-cut_first-clause-spent
+returns-in_err-cut_first-clause-spent c = on_err c.from_residual.result _ refl

@@ -12,3 +12,6 @@ returns-then-hears_of c =
 
 pub returns-else-hears_of : goal.returns-else-hears_of
 returns-else-hears_of c = λ hears. absurd (false≢true (sym c.if-hears_of.false ∙ c.hears_of.ensures.1 hears))
+
+pub hears_of-requires : goal.hears_of-requires
+hears_of-requires c = c.requires.place.home.number

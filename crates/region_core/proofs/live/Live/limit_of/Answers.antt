@@ -44,3 +44,6 @@ returns c =
     (subst (λ (limit : Limit). ComesToInView home (now_in live).view c.args.due.now (Err limit))
     (same_Some fails.0 c.unwrap.result
     (sym (c.err.ensures.value ∙ ap (λ (r : Result Action Limit). result_err r) same) ∙ c.unwrap.ensures)) fails.1)
+
+pub outcome-requires-clause-place : goal.outcome-requires-clause-place
+outcome-requires-clause-place c = c.requires.live.place

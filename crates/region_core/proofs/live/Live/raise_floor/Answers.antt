@@ -60,3 +60,6 @@ count_before-gone-requires c = (c.args.place.now.floor, c.requires.live.body.rig
 
 pub drop_first-requires : goal.drop_first-requires
 drop_first-requires c = record { place = c.count_before-gone.ensures.within }
+
+pub returns-clause-place : goal.returns-clause-place
+returns-clause-place c = refl

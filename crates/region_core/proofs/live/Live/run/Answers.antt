@@ -71,3 +71,6 @@ returns-clause-run c =
     let live = c.args.self.now in
     further_run c.args.place.now.floor live (record live { view = c.act.new.view; log = c.act.new.self }) (Native c.args.action)
     c.requires.live.body.traced refl c.in_ok-act.ensures.log c.in_ok-act.ensures.view
+
+pub is_untold-is_untold-requires-clause-place : goal.is_untold-is_untold-requires-clause-place
+is_untold-is_untold-requires-clause-place c = c.requires.live.place

@@ -60,3 +60,6 @@ returns-in-Err-clause-live c = c.requires.live
 
 pub run-requires-clause-live : goal.run-requires-clause-live
 run-requires-clause-live c = c.requires.live
+
+pub outcome-requires-clause-place : goal.outcome-requires-clause-place
+outcome-requires-clause-place c = c.requires.live.place

@@ -106,3 +106,6 @@ run_any-requires-clause-live c = c.requires.live
 
 pub run_any-requires-clause-turn : goal.run_any-requires-clause-turn
 run_any-requires-clause-turn c = c.requires.turn
+
+pub are_far-is_untold-requires-clause-place : goal.are_far-is_untold-requires-clause-place
+are_far-is_untold-requires-clause-place c = c.requires.live.place

@@ -146,3 +146,6 @@ returns-clause-ran c =
           (one_follows c.args.place.now bound limit due c.loop-ran.ran given.answer (answer_after given.answer c.loop-ran.last)
           first old new c.limit-limit.ensures.bound ran next)
     ])
+
+pub room-requires : goal.room-requires
+room-requires c = let few = c.requires.live.body.right.few in let many = as_many c.args.self.now.log in omega arith

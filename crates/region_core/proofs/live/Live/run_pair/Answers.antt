@@ -202,3 +202,6 @@ rows_of_hit-one-requires-clause-some c = subst (λ (o : Option Placed). IsTrue (
 
 pub rows_of_hit-other-requires-clause-some : goal.rows_of_hit-other-requires-clause-some
 rows_of_hit-other-requires-clause-some c = subst (λ (o : Option Placed). IsTrue (is_some o)) (sym c.unwrap-second.ensures ∙ c.get-2.ensures) refl
+
+pub are_far-is_untold-requires-clause-place : goal.are_far-is_untold-requires-clause-place
+are_far-is_untold-requires-clause-place c = c.requires.live.place

@@ -24,3 +24,6 @@ returns-then-sends_to c =
 
 pub returns-else-sends_to : goal.returns-else-sends_to
 returns-else-sends_to c = λ sends. absurd (false≢true (sym c.if-sends_to.false ∙ c.sends_to.ensures.1 sends))
+
+pub sends_to-requires : goal.sends_to-requires
+sends_to-requires c = c.requires.place.home.number

@@ -2,6 +2,7 @@ use Rattle.std.proofs.Common.{◌++◌, ◌∷◌, Some, None, take, drop, ◌�
 use Rattle.region_view.specs.Setting.{RowList}
 use Rattle.region_view.specs.Views.{ViewData}
 use Rattle.local_run.specs.declared.entry.Entry.TheVariants.{Heard}
+use Rattle.region_core.specs.declared.live.Live.{Live}
 use Rattle.region_core.specs.Live.{run_in, now_in}
 use Rattle.region_core.proofs.Traced.{now_is, stands_newest, last_stamp_is}
 use Rattle.region_core.proofs.WeavingLive.{IsParted, put_live, may_be_woven, set_valid, same_live, of_again, set_is, all_later, few_taken}
@@ -55,7 +56,13 @@ returns c =
     let may = may_be_woven home c.args.place.now.floor live c.args.from c.args.kept m c.in-Some.last
     c.requires.live.body parted c.requires.tried c.requires.aside
     (sym c.in-Some.is ∙ c.last_stamp.ensures ∙ last_stamp_is live.log) later in
-    let woven = put_live home c.args.place.now.floor c.args.from c.args.kept m live _ c.requires.region c.requires.live.body
+    let new : Live = record live {
+      view = c.set_late.new.view;
+      log = c.insert.new.self;
+      queue = c.set_late.new.queue;
+      inbox = c.weave.new.self;
+    } in
+    let woven = put_live home c.args.place.now.floor c.args.from c.args.kept m live new c.requires.region c.requires.live.body
     parted c.requires.tried may c.requires.hearable (record {
       heard = c.in_ok-weave.ensures.heard;
       taken = c.in_ok-weave.ensures.taken;

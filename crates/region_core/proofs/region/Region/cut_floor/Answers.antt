@@ -74,10 +74,10 @@ returns-in-Ok-clause-cut c =
 
 pub invariant_of-self-in-Err : goal.invariant_of-self-in-Err
 invariant_of-self-in-Err c =
-    subst (λ (place : Place). IsSound place c.let_go.new.live) (sym c.in-Err.ensures)
+    subst (λ (place : Place). IsSound place c.let_go.new.live) (sym c.in-Err.ensures.spent)
     (spent_sound c.self.inside.place c.self.inside.live c.let_go.new.live c.self.invariant c.let_go.ensures)
 
 pub returns-in-Err-clause-spent : goal.returns-in-Err-clause-spent
 returns-in-Err-clause-spent c =
-    ap (λ (place : Place). seen_as place.home place.floor c.let_go.new.live) c.in-Err.ensures
+    ap (λ (place : Place). seen_as place.home place.floor c.let_go.new.live) c.in-Err.ensures.spent
     ∙ ap (seen_as c.self.inside.place.home c.self.inside.place.floor) c.let_go.ensures ∙ ap spent c.self.view_is

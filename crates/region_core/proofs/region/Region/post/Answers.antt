@@ -23,3 +23,6 @@ returns-clause-posted c =
     c.self.view_is c.self.invariant.place.home
     (body_is c.self.inside.place c.self.inside.live c.in-Some.live c.self.invariant c.in-Some.is).body
     (c.sends_to.ensures.0 c.if-not-sends_to.false) c.post.ensures.rises c.post.ensures.among
+
+pub sends_to-requires : goal.sends_to-requires
+sends_to-requires c = c.self.invariant.place.home.number

@@ -9,9 +9,10 @@ use Rattle.region_core.proofs.region.Region.run_on.Goals as goal
 pub returns-in_default-clause-ran : goal.returns-in_default-clause-ran
 returns-in_default-clause-ran c = (0, (omega arith), (refl, c.self.view_is))
 
-pub run_on-requires-clause-live : goal.run_on-requires-clause-live
-run_on-requires-clause-live c = body_is c.self.inside.place c.self.inside.live c.in-Some.live
-    c.self.invariant c.in-Some.is
+pub run_on-requires : goal.run_on-requires
+run_on-requires c = record {
+  live = body_is c.self.inside.place c.self.inside.live c.in-Some.live c.self.invariant c.in-Some.is;
+}
 
 pub invariant_of-self-in-Ok : goal.invariant_of-self-in-Ok
 invariant_of-self-in-Ok c = still_sound c.self.inside.place c.self.inside.live

@@ -24,9 +24,10 @@ returns-in-Ok-Some-clause-step c =
           (sym c.in-Some.is) (left, (of_some _ _ _ _ c.in-Ok-Some.field-0-is c.in-Ok-Some.ensures.steps).1, refl));
     }
 
-pub step-requires-clause-live : goal.step-requires-clause-live
-step-requires-clause-live c =
-    body_is c.self.inside.place c.self.inside.live c.in-Some.live c.self.invariant c.in-Some.is
+pub step-requires : goal.step-requires
+step-requires c = record {
+  live = body_is c.self.inside.place c.self.inside.live c.in-Some.live c.self.invariant c.in-Some.is;
+}
 
 pub invariant_of-self-in-Err : goal.invariant_of-self-in-Err
 invariant_of-self-in-Err c =

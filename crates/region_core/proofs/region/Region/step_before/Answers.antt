@@ -26,9 +26,10 @@ returns-in-Ok-clause-step c =
     (sym c.in-Some.is)
     (bounded_step c.self.inside.place bound c.in-Some.live c.step.new.self c.in-Ok.last c.in-Ok.ensures.steps))
 
-pub step-requires-clause-live : goal.step-requires-clause-live
-step-requires-clause-live c =
-    body_is c.self.inside.place c.self.inside.live c.in-Some.live c.self.invariant c.in-Some.is
+pub step-requires : goal.step-requires
+step-requires c = record {
+  live = body_is c.self.inside.place c.self.inside.live c.in-Some.live c.self.invariant c.in-Some.is;
+}
 
 pub invariant_of-self-in-Err : goal.invariant_of-self-in-Err
 invariant_of-self-in-Err c =
