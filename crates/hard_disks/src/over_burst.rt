@@ -38,19 +38,19 @@ impl<S: Beside<W>, W, B: Burst<Idle, ()>> Burst<S, W> for OverBurst<'_, B> {
     }
 }
 
-/// Stands for a caller's burst where there is none: no value is of this type.
+/// Stands for a caller's burst where there is none. It does nothing.
 #[derive(Drop)]
-pub enum NoBurst {}
+pub struct NoBurst;
 
 impl Burst<Idle, ()> for NoBurst {
     fn burst<R: Threads + Wait + Sync>(
         &mut self,
         _rt: &R,
         _alloc: Global,
-        _regions: Vec<Region>,
+        regions: Vec<Region>,
         _beside: &mut Idle,
         _lent: &mut (),
     ) -> Result<Vec<Region>, AllocError> {
-        match *self {}
+        Ok(regions)
     }
 }
