@@ -48,6 +48,21 @@ class Reading(unittest.TestCase):
         with self.assertRaisesRegex(Refused, "read already"):
             list(run.frames())
 
+    def test_states_do_without_collisions(self):
+        whole = (SCENES / "states.report").read_text()
+        states = "".join(it for it in whole.splitlines(True) if not it[0].isdigit())
+        scene = read_scene(SCENES / "states.toml")
+        frames = [[(it.tick, it.rows.tolist()) for it in read_text(text, scene).frames()] for text in (whole, states)]
+        self.assertEqual(*frames)
+        with self.assertRaisesRegex(Refused, "lacks collisions"):
+            list(read_text(states, scene).events())
+
+    def test_some_missing_collisions_are_refused_for_states_too(self):
+        scene = read_scene(SCENES / "row.toml")
+        report = (SCENES / "row.report").read_text().split("\n", 1)[1]
+        with self.assertRaisesRegex(Refused, "lacks collisions"):
+            list(read_text(report, scene).frames())
+
     def test_what_is_no_report_of_the_scene_is_refused(self):
         states, pair = [(SCENES / f"{it}.report").read_text() for it in ("states", "gas")]
         scene = read_scene(SCENES / "states.toml")
@@ -187,7 +202,7 @@ class Commands(unittest.TestCase):
         return status, out.getvalue(), error.getvalue()
 
     def test_each_command_has_help(self):
-        for words in [[], ["scene"], ["continue"], ["measure"], ["measure", "gr"], ["draw"], ["convert"], ["check"], ["equation"]]:
+        for words in [[], ["scene"], ["rest"], ["continue"], ["measure"], ["measure", "gr"], ["draw"], ["convert"], ["check"], ["equation"]]:
             status, out, _ = self.command(*words, "--help")
             self.assertEqual((status, out.startswith("usage: hard_disks")), (0, True), words)
 

@@ -5,9 +5,11 @@
 
 Fluids are run by the built program, or by the one that the environment variable HARD_DISKS names. What can't be tested,
 without numpy or a program, is said."""
+import io
 import math
 import subprocess
 import unittest
+from dataclasses import replace
 
 from physics_scenes import column, end_of, fluid, main, noted, np, read_text, scene_of, value
 
@@ -15,6 +17,7 @@ from hard_disks import theory
 from hard_disks.dynamics import displacement, speeds, velocity_correlation
 from hard_disks.pressure import pressure, rate
 from hard_disks.program import find_program
+from hard_disks.rests import rest
 from hard_disks.sampling import block_error, sampling
 from hard_disks.scenes import Refused, parse_scene
 from hard_disks.structure import bond_order, pair_distribution, structure_factor
@@ -160,6 +163,14 @@ class Fluids(unittest.TestCase):
         self.assertNotIn("Z_Henderson", table.columns)
         # Its Z is a little below that of one size, since ⟨σ⟩² / ⟨σ²⟩ is 0.97.
         self.assertAlmostEqual(value(table, "Z") / theory.henderson(value(table, "phi")), 0.98, delta=0.05)
+
+    def test_a_rest_by_the_report_is_what_cut_leaves(self):
+        scene, report = fluid(200, 0.4, 1.0, 0.25)
+        program = find_program()
+        for tick in (scene.every, 3 * scene.every, scene.end):
+            words = [program, "--mode", "cut", "--at", str(tick)]
+            cut = subprocess.run(words, input=scene.text(), capture_output=True, text=True).stdout
+            self.assertEqual(replace(rest(scene, io.StringIO(report), tick), every=None).text(), cut)
 
     def test_a_cut_run_goes_on_as_the_whole_one(self):
         scene, report = fluid(200, 0.4, 1.0, None)

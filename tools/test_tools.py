@@ -3,6 +3,7 @@
 What needs numpy is tested by test_physics.py.
 
     python3 tools/test_tools.py"""
+import dataclasses
 import io
 import os
 import re
@@ -167,6 +168,23 @@ class Commands(unittest.TestCase):
         status, out, _ = self.command("check", scene_file("row"), text=report_of("row"))
         self.assertEqual((status, out), (0, "walls 1  pairs 3  energy 64 changed by 0, at most 84\n"))
 
+    def test_a_report_leaves_a_rest(self):
+        text, scene = report_of("states"), read_scene(scene_file("states"))
+        at_2, at_4, at_5 = (
+            dataclasses.replace(scene, end=end, disks=rows)
+            for end, rows in [
+                (3, ((12, 10, 1, 0, 4), (18, 10, -1, 0, 4))), (1, ((12, 10, -1, 0, 4), (18, 10, 1, 0, 4))),
+                (0, ((11, 10, -1, 0, 4), (19, 10, 1, 0, 4))),
+            ]
+        )
+        within_4 = text.index("disk 1", text.index("state 4"))
+        for words, report, left in [
+            ([], text, at_5), (["--tick", "2"], text, at_2), (["--tick", "4"], text, at_4),
+            ([], text[:within_4], at_2), ([], text[: within_4 + 7], at_2), ([], text[: text.index("done")], at_4),
+        ]:
+            with self.subTest((words, report)):
+                self.assertEqual(self.command("rest", scene_file("states"), *words, text=report), (0, left.text(), ""))
+
     def test_a_rest_goes_on(self):
         status, out, _ = self.command("continue", scene_file("gas"), "--time", "3", "--every", "0.5")
         before, after = read_scene(scene_file("gas")), parse_scene(out)
@@ -181,6 +199,10 @@ class Commands(unittest.TestCase):
             (["check"], "", "wants a scene's file"),
             (["check", os.path.join(SCENES, "row.report")], "", "no TOML"),
             (["frob"], "", "invalid choice"),
+            (["rest", scene_file("states"), "--tick", "3"], report_of("states"), "no whole state of tick 3"),
+            (["rest", scene_file("states")], "", "no whole state"),
+            (["rest", scene_file("fluid")], report_of("states"), "is it the report of this scene"),
+            (["rest", scene_file("states")], "no report\n", "no line of a report"),
             (["continue", scene_file("gas"), "--time", "1e30"], "", "ticks"),
         ]:
             with self.subTest(words):

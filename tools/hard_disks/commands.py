@@ -58,6 +58,7 @@ def parser():
     words = Words(prog="hard_disks", description=ABOUT)
     commands = words.add_subparsers(dest="command", required=True, metavar="COMMAND", parser_class=Words)
     add_scene(commands)
+    add_rest(commands)
     add_continue(commands)
     add_measure(commands)
     add_draw(commands)
@@ -103,9 +104,22 @@ def scene(asked):
     sys.stdout.write(made.text())
 
 
+def add_rest(commands):
+    words = add_command(commands, "rest", left, "writes what is left of a scene after a state in its report, as a scene",
+                        "The report may break off, as that of a run that was stopped.")
+    add_report(words)
+    words.add_argument("--tick", type=int, help="the tick of the state (the last whole one)")
+
+
+def left(asked):
+    from .rests import rest
+
+    sys.stdout.write(rest(read_scene(asked.scene), sys.stdin, asked.tick).text())
+
+
 def add_continue(commands):
-    words = add_command(commands, "continue", go_on, "writes a scene that goes on from a rest",
-                        "The rest is what the program writes with --mode cut --at TICK.")
+    words = add_command(commands, "continue", go_on, "writes a scene that goes on from a rest, for a time of its own",
+                        "A rest is what the command rest writes, or the program with --mode cut --at TICK.")
     words.add_argument("rest", metavar="REST", help="the rest's file")
     add_times(words, 40.0)
 

@@ -22,6 +22,11 @@ DISK = rf"disk {WHOLE} {SIGNED} {SIGNED} {SIGNED} {SIGNED}\n"
 # As many like lines as follow each other; a line that is neither stands alone.
 SECTION = re.compile(rf"(?P<collisions>(?:{COLLISION})++)|(?P<disks>(?:{DISK})++)|(?P<line>.*\n)")
 WALL = re.compile(r" wall (\d+) (\d) (.*)")
+BROKEN = "the report breaks off before its end"
+
+
+class BreaksOff(Refused):
+    """A report that ends before its end, as that of a run that was stopped."""
 
 
 class Collision(NamedTuple):
@@ -134,7 +139,7 @@ class Sections:
     def next(self) -> tuple[str, str]:
         section, self.held = self.held or next(self.found, None), None
         if section is None:
-            raise Refused("the report breaks off before its end")
+            raise BreaksOff(BROKEN)
         return section
 
     def numbers(self, word: str, count: int) -> tuple[int, ...]:
@@ -169,4 +174,4 @@ def sections(stream: TextIO) -> Iterator[tuple[str, str]]:
             yield section.lastgroup, section[0]
         rest = rest[whole:]
     if rest:
-        raise Refused("the report breaks off before its end")
+        raise BreaksOff(BROKEN)

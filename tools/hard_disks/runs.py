@@ -32,7 +32,7 @@ class Run:
 
     def frames(self, since: int = 0) -> Iterator[Frame]:
         """The states from a tick on, the last of which is the end."""
-        for item in self.items():
+        for item in self.items(is_about_states=True):
             if isinstance(item, State) and item.tick >= since:
                 yield Frame(item.tick, item.numbers.reshape(-1, 5)[:, 1:])
 
@@ -63,8 +63,10 @@ class Run:
                     yield Frame(waiting[0], motion.at(waiting.popleft()))
         yield from (Frame(tick, motion.at(tick)) for tick in waiting)
 
-    def items(self) -> Iterator[Collisions | State | Sums]:
-        """What the report says, which has to be of this scene and to come to its end."""
+    def items(self, is_about_states: bool = False) -> Iterator[Collisions | State | Sums]:
+        """What the report says, which has to be of this scene and to come to its end.
+
+        If only its states are asked for, all lines of collisions may have been left out."""
         counted = 0
         with Progress(self.scene.end, self.shows_progress) as progress, self.opened() as stream:
             for item in read_report(stream):
@@ -77,7 +79,8 @@ class Run:
                     counted += len(item.numbers) // FIELDS
                     self.check_collisions(item.numbers.reshape(-1, FIELDS))
                     progress.show(int(item.numbers[-FIELDS]))
-                if isinstance(item, Sums) and item.walls + item.pairs > counted:
+                lacks_some = isinstance(item, Sums) and item.walls + item.pairs > counted
+                if lacks_some and (counted or not is_about_states):
                     raise Refused("the report lacks collisions that it counts: it is a summary, or broken")
                 yield item
 
