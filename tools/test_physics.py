@@ -90,9 +90,23 @@ class ByHand(unittest.TestCase):
         found = of(velocity_correlation, most)
         np.testing.assert_allclose(column(found, "C"), [1, 1])
         np.testing.assert_allclose(column(found, "D"), [scene.speed * t / scene.sigma for t in (5, 10)])
+        # v = 2.5, so σ / v is 40 ticks; by Enskog's theory C falls within some thousand.
+        self.assertTrue(any("times are too short" in it for it in of(displacement, most).notes))
+        self.assertFalse(any("walls" in it and "CAUTION" in it for it in of(displacement, most).notes))
         # v = 2.5, so the speeds are 1.2 and 1.6.
         table = of(speeds, 3.0, 0.25)
         np.testing.assert_allclose(column(table, "speed")[column(table, "density") > 0], [1.125, 1.625])
+
+    def test_diffusion_near_walls_is_cautioned(self):
+        # In 10 ticks it goes 0.3 diameters along x, and in a diffusion as far along y.
+        scene = scene_of([(400, 500, 3, 0)], end=20, every=5)
+        states = "".join(f"state {t}\ndisk 0 {400 + 3 * t} 500 3 0\n" for t in (5, 10, 15))
+        last = "done 20\nwalls 0\npairs 0\nmomentum 3 0\nenergy 9 9\ndisk 0 460 500 3 0\n"
+        for margin, is_near in [(0.41, True), (0.43, False)]:
+            for measure in (displacement, velocity_correlation):
+                with self.subTest((margin, measure)):
+                    table = measure(read_text(states + last, scene), sampling(scene, 0, margin, 2), 10 / scene.time)
+                    self.assertEqual(any("meet walls" in it for it in table.notes), is_near)
 
     def test_errors_of_blocks(self):
         # Of 1, 2 and 3 the standard deviation is 1.
@@ -101,6 +115,12 @@ class ByHand(unittest.TestCase):
 
 
 class Theory(unittest.TestCase):
+    def test_diffusion_of_a_thin_gas(self):
+        # √(T / π m) / (2 ρ σ), where g at contact is 1 + 25 π ρ σ² / 64 to the first order.
+        for density in (1e-4, 1e-3):
+            found = theory.diffusion(math.pi / 4 * density) * 2 * density * math.sqrt(math.pi)
+            self.assertAlmostEqual(found, 1 - 25 / 64 * math.pi * density, delta=1e-6 + density**2)
+
     def test_the_virial_series_meets_published_runs(self):
         # Erpenbeck and Luban, Physical Review A 32, 2920 (1985), by the area over that of the closest packing.
         for area, published in [(3, 2.0771), (2, 3.4243), (1.8, 4.1715), (1.6, 5.4963), (1.5, 6.6074)]:

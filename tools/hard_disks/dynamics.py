@@ -8,6 +8,10 @@ from .runs import Run
 from .sampling import Sampling, Table, bin_edges, block_error, ratio
 from .scenes import Refused
 from .structure import frames_inside
+from .theory import diffusion as enskog_diffusion
+
+# Below so many times Enskog's time C(t) is still well above 0, and D well below what it comes to.
+LEAST_TIMES = 5
 
 
 def lagged(run: Run, sampling: Sampling, most: float) -> Iterator[tuple[int, int, np.ndarray, np.ndarray]]:
@@ -51,7 +55,28 @@ def displacement(run: Run, sampling: Sampling, most: float = 10.0) -> Table:
     with np.errstate(invalid="ignore"):
         slopes = [slope(times, row) for row in squares / weights]
     notes = [f"D = {slope(times, mean) / 4:.5g} +/- {block_error(slopes) / 4:.2g} sigma v, by the slope over the second half"]
+    notes += cautions(sampling, times, mean)
     return Table(["time", "msd", "msd_error"], list(zip(times, mean, errors)), [*notes, *sampling.notes()])
+
+
+def cautions(sampling: Sampling, times: np.ndarray, squares: np.ndarray) -> list[str]:
+    """Enskog's D where disks have one size, and what makes D too small beyond its error: walls, or too short a time.
+
+    Walls show once disks go half the margin along an axis, by the root mean square: then the squares are about a percent
+    too small, in the least of boxes."""
+    notes = []
+    if sampling.scene.has_one_size:
+        wanted = enskog_diffusion(sampling.scene.phi)
+        notes.append(f"Enskog D = {wanted:.4g} sigma v at phi = {sampling.scene.phi:.4g}, that of the whole box")
+        if times[-1] < LEAST_TIMES * wanted:
+            notes.append(f"CAUTION: D is too small, as the times are too short: take --most {LEAST_TIMES * wanted:.2g} or more")
+    is_held = 2 * squares * sampling.scene.sigma**2 > sampling.margin**2
+    if is_held.any():
+        notes.append(
+            f"CAUTION: from {times[is_held][0]:.4g} sigma/v on disks meet walls, so D is too small: take a greater --margin,"
+            " a larger box, or a smaller --most"
+        )
+    return notes
 
 
 def slope(times: np.ndarray, values: np.ndarray) -> float:
@@ -66,14 +91,16 @@ def velocity_correlation(run: Run, sampling: Sampling, most: float = 10.0) -> Ta
     """C(t) = ⟨v(0) · v(t)⟩ / ⟨v²⟩, and D(t), its integral from 0 to t in σ v.
 
     The integral of v(0) · v(t) is v(0) · (r(t) - r(0)), so it is exact however far apart the frames are."""
-    times, (products, integrals), weights = lag_sums(run, sampling, most, [
+    times, (products, integrals, squares), weights = lag_sums(run, sampling, most, [
         lambda before, after: (before[:, 2:] * after[:, 2:]).sum(),
         lambda before, after: (before[:, 2:] * (after[:, :2] - before[:, :2])).sum(),
+        lambda before, after: ((after[:, :2] - before[:, :2]) ** 2).sum(),
     ])
     scene = run.scene
     correlation, errors = ratio(products / (2 * scene.speed**2), weights)
     diffusion, diffusion_errors = ratio(integrals / (2 * scene.speed * scene.sigma), weights)
     notes = [f"D = {diffusion[-1]:.5g} +/- {diffusion_errors[-1]:.2g} sigma v, by the integral up to {times[-1]:.4g} sigma/v"]
+    notes += cautions(sampling, times, ratio(squares / scene.sigma**2, weights)[0])
     rows = list(zip(times, correlation, errors, diffusion, diffusion_errors))
     return Table(["time", "C", "C_error", "D", "D_error"], rows, [*notes, *sampling.notes()])
 

@@ -29,6 +29,12 @@ def contact(factor: float, phi: float) -> float:
     return (factor - 1) / (2 * phi)
 
 
+def diffusion(phi: float) -> float:
+    """D in σ v by Enskog's theory in its first approximation, 1 / (2 √π ρ σ² g) with Henderson's g; v² = T is 1, so it is
+    also the time in σ / v in which C(t) falls."""
+    return math.sqrt(math.pi) / (8 * phi * contact(henderson(phi), phi))
+
+
 def collision_rate(phi: float) -> float:
     """Collisions of a disk in the time σ / v, by Enskog's 2 √π ρ σ² g with Henderson's g."""
     return 8 * phi * contact(henderson(phi), phi) / math.sqrt(math.pi)
