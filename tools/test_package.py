@@ -202,7 +202,7 @@ class Commands(unittest.TestCase):
         return status, out.getvalue(), error.getvalue()
 
     def test_each_command_has_help(self):
-        for words in [[], ["scene"], ["rest"], ["continue"], ["measure"], ["measure", "gr"], ["draw"], ["convert"], ["check"], ["equation"]]:
+        for words in [[], ["scene"], ["explain"], ["rest"], ["continue"], ["measure"], ["measure", "gr"], ["draw"], ["convert"], ["check"], ["equation"]]:
             status, out, _ = self.command(*words, "--help")
             self.assertEqual((status, out.startswith("usage: hard_disks")), (0, True), words)
 

@@ -17,6 +17,7 @@ from unittest import mock
 import check_docs
 from hard_disks import reports
 from hard_disks.conservation import check, check_drawn, draw
+from hard_disks.explaining import explain
 from hard_disks.program import find_program
 from hard_disks.reports import Collision, Collisions, Limit, State, Sums, read_report
 from hard_disks.scenes import Refused, parse_scene, read_scene
@@ -128,6 +129,53 @@ class Scenes(unittest.TestCase):
                 parse_scene(text.replace(old, new))
 
 
+class Explained(unittest.TestCase):
+    """What is said of the scene pair with one thing changed, and whether the program refuses it too."""
+
+    CHANGES = [
+        ("width = 40", "width =", "no TOML: .* line"), ("width = 40", "# \xff", "isn't UTF-8: line"),
+        ("width = 40", "width = 40\nwidth = 40", "no TOML"), ("width = 40\n", "", "key width is missing"),
+        ("end = 5", "end = 5\nstep = 1", "a key 'step'"), ("end = 5", "end = 5.0", "isn't an integer"),
+        ("end = 5", "end = true", "isn't an integer"), ("end = 5", "end = -1", "end = -1 isn't from 0"),
+        ("end = 5", "end = 5\nevery = 0", "every = 0 isn't from 1"), ("width = 40", "width = 9999999999", "isn't from 2"),
+        ("diameter = 4", "diameter = 5", "isn't even"), ("diameter = 4", "diameter = 22", "greater than"),
+        ("[10, 10, 1, 0]", "[10, 10, 1]", r"disk 0: \[10, 10, 1\] isn't x"), ("[10, 10, 1, 0]", "[10, 10, 1.0, 0]", "disk 0: "),
+        ("[10, 10, 1, 0]", "[10, 10, 1, 0, 3]", "diameter 3 isn't even"), ("[10, 10, 1, 0]", "[10, 10, 1, 0, 6]", "from 2 to 4"),
+        ("[20, 10,", "[39, 10,", "disk 1: x = 39 isn't from 2 to 38"), ("[20, 10,", "[20, 1,", "disk 1: y = 1 isn't"),
+        ("-1, 0]", "-1, -9]", "disk 1: the velocity .* above the speed_limit 8"),
+        ("[20, 10,", "[13, 8,", "disks 0 and 1 overlap: their centres are 3.60555 apart, and have to be 4"),
+    ]
+
+    def test_each_fault_is_said_and_refused(self):
+        text = Path(scene_file("pair")).read_text()
+        for old, new, said in self.CHANGES:
+            with self.subTest(new):
+                changed = text.replace(old, new, 1).encode("latin-1")
+                found = explain(changed)
+                self.assertEqual(len(found), 1, found)
+                self.assertRegex(found[0], said)
+                self.assertTrue(self.is_refused(changed))
+
+    def test_of_a_valid_scene_nothing_is_said(self):
+        for name in NAMES:
+            self.assertEqual(explain(Path(scene_file(name)).read_bytes()), [])
+        # Two that touch, also across cells, and a byte order mark.
+        text = Path(scene_file("pair")).read_text().replace("[20, 10,", "[14, 10,")
+        self.assertEqual(explain(b"\xef\xbb\xbf" + text.encode()), [])
+
+    def test_of_many_faults_some_are_said(self):
+        text = Path(scene_file("pair")).read_text().replace("disks = [", "disks = [" + "[10, 10, 9, 0], " * 9)
+        self.assertEqual(explain(text.encode())[5:6], [".. and 4 more too fast"])
+
+    @staticmethod
+    def is_refused(text):
+        try:
+            program = find_program()
+        except Refused:
+            return True
+        return subprocess.run([program, "--mode", "check"], input=text, capture_output=True).returncode == 3
+
+
 def rows(items):
     """The collisions and the states' disks of a report, as lists of numbers."""
     found = []
@@ -168,6 +216,11 @@ class Commands(unittest.TestCase):
         status, out, _ = self.command("check", scene_file("row"), text=report_of("row"))
         self.assertEqual((status, out), (0, "walls 1  pairs 3  energy 64 changed by 0, at most 84\n"))
 
+    def test_a_scene_is_explained(self):
+        self.assertEqual(self.command("explain", scene_file("row")), (0, "nothing is wrong with this scene\n", ""))
+        status, out, error = self.command("explain", os.path.join(SCENES, "row.report"))
+        self.assertEqual((status, out, error.count("\n")), (1, "", 1))
+
     def test_a_report_leaves_a_rest(self):
         text, scene = report_of("states"), read_scene(scene_file("states"))
         at_2, at_4, at_5 = (
@@ -199,6 +252,7 @@ class Commands(unittest.TestCase):
             (["check"], "", "wants a scene's file"),
             (["check", os.path.join(SCENES, "row.report")], "", "no TOML"),
             (["frob"], "", "invalid choice"),
+            (["explain", scene_file("gone")], "", "No such file"),
             (["rest", scene_file("states"), "--tick", "3"], report_of("states"), "no whole state of tick 3"),
             (["rest", scene_file("states")], "", "no whole state"),
             (["rest", scene_file("fluid")], report_of("states"), "is it the report of this scene"),

@@ -58,6 +58,7 @@ def parser():
     words = Words(prog="hard_disks", description=ABOUT)
     commands = words.add_subparsers(dest="command", required=True, metavar="COMMAND", parser_class=Words)
     add_scene(commands)
+    add_explain(commands)
     add_rest(commands)
     add_continue(commands)
     add_measure(commands)
@@ -102,6 +103,22 @@ def scene(asked):
         raise Refused("a seed is 0 or more")
     made = make(asked.disks, asked.phi, asked.sizes, asked.seed, asked.lattice, asked.time, asked.every)
     sys.stdout.write(made.text())
+
+
+def add_explain(commands):
+    words = add_command(commands, "explain", explain, "says in words what is wrong with a scene that the program refuses",
+                        "The status is 1 if something is.")
+    words.add_argument("scene", metavar="SCENE", help="the scene's file")
+
+
+def explain(asked):
+    from .explaining import explain as explained
+
+    with open(asked.scene, "rb") as file:
+        found = explained(file.read())
+    if found:
+        sys.exit("\n".join(found))
+    print("nothing is wrong with this scene")
 
 
 def add_rest(commands):
