@@ -41,9 +41,9 @@ class Script(unittest.TestCase):
         write(f"{self.top}/scenes/pair.toml", "width = 40\n")
         write(f"{self.top}/bin/rt", PROVER)
 
-    def run_script(self):
+    def run_script(self, words=WORDS):
         path = f"{self.top}/bin:{os.environ['PATH']}"
-        return subprocess.run([f"{self.top}/hard_disks", *WORDS], env={**os.environ, "PATH": path}, input=b"a scene", capture_output=True)
+        return subprocess.run([f"{self.top}/hard_disks", *words], env={**os.environ, "PATH": path}, input=b"a scene", capture_output=True)
 
     def assert_ran(self, ran):
         self.assertEqual(ran.stdout.decode(), "".join(f"<{it}>" for it in WORDS) + "a scene")
@@ -61,6 +61,16 @@ class Script(unittest.TestCase):
         ran = self.run_script()
         self.assert_ran(ran)
         self.assertEqual(ran.stderr, b"")
+
+    def test_help_tells_the_options_and_builds_nothing(self):
+        shutil.copy(os.path.join(TOP, "README.md"), self.top)
+        for word in ("--help", "-h"):
+            ran = self.run_script([word])
+            self.assertEqual((ran.returncode, ran.stderr), (0, b""))
+            for told in ("<SCENE", "`--mode`", "`--burst`", "| 9 | Wrong |", "explain scene.toml"):
+                self.assertIn(told, ran.stdout.decode())
+            self.assertNotIn("## ", ran.stdout.decode())
+        self.assertFalse(os.path.exists(f"{self.top}/crates/hard_disks_program/out"))
 
     def test_changed_sources_are_built_anew(self):
         self.run_script()
