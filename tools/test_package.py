@@ -155,6 +155,8 @@ class Ase(unittest.TestCase):
                         wanted = scene.reduced(frame.rows)
                         np.testing.assert_allclose(atoms.positions[:, :2], wanted[:, :2], atol=1e-7)
                         np.testing.assert_allclose(atoms.get_velocities()[:, :2], wanted[:, 2:], atol=1e-7)
+                        sizes = sorted({it[4] for it in scene.disks})
+                        self.assertEqual(atoms.get_tags().tolist(), [sizes.index(it[4]) for it in scene.disks])
                     if form == "xyz":
                         sizes = back[-1].arrays["radius"] * 2 * scene.sigma
                         np.testing.assert_allclose(sizes, [it[4] for it in scene.disks], rtol=1e-6)

@@ -115,6 +115,12 @@ class ByHand(unittest.TestCase):
 
 
 class Theory(unittest.TestCase):
+    def test_a_mixture_has_its_second_virial_coefficient(self):
+        # Each two collide at a distance D; with π D² / 2 each, Z is 1 + φ (1 + ⟨σ⟩² / ⟨σ²⟩) to the first order.
+        sizes = [1.0] * 7 + [1.4] * 3
+        self.assertAlmostEqual((theory.mixture(1e-5, sizes) - 1) / 1e-5, 1 + 1.12**2 / 1.288, delta=1e-3)
+        self.assertEqual(theory.mixture(0.4, [2.0, 2.0]), theory.virial(0.4))
+
     def test_diffusion_of_a_thin_gas(self):
         # √(T / π m) / (2 ρ σ), where g at contact is 1 + 25 π ρ σ² / 64 to the first order.
         for density in (1e-4, 1e-3):
@@ -177,12 +183,11 @@ class Fluids(unittest.TestCase):
         slope = (theory.virial(phi + 1e-4) * (phi + 1e-4) - theory.virial(phi - 1e-4) * (phi - 1e-4)) / 2e-4
         self.assertAlmostEqual(column(table, "S")[1] * slope, 1, delta=0.25)
 
-    def test_a_mixture_has_a_pressure_and_no_theory(self):
+    def test_a_mixture_has_the_pressure_that_is_published(self):
         scene, report = fluid(400, 0.4, 8.0, None, ((1.0, 0.7), (1.4, 0.3)))
         table = pressure(read_text(report, scene), sampling(scene))
         self.assertNotIn("Z_Henderson", table.columns)
-        # Its Z is a little below that of one size, since ⟨σ⟩² / ⟨σ²⟩ is 0.97.
-        self.assertAlmostEqual(value(table, "Z") / theory.henderson(value(table, "phi")), 0.98, delta=0.05)
+        self.agree((value(table, "Z"), value(table, "Z_error")), (value(table, "Z_mixture"), 0))
 
     def test_a_rest_by_the_report_is_what_cut_leaves(self):
         scene, report = fluid(200, 0.4, 1.0, 0.25)

@@ -10,16 +10,16 @@ from .scenes import Refused
 def atoms(run: Run) -> Iterator:
     """Each frame as ASE's Atoms, in σ and v, in the plane z = 0 and a box that doesn't repeat.
 
-    Disks are of ASE's element X, which has the mass 1."""
+    Disks are of ASE's element X, which has the mass 1. Their tags number the sizes, the least by 0."""
     from ase import Atoms
 
     scene = run.scene
     radii = np.array([row[4] for row in scene.disks]) / (2 * scene.sigma)
-    flat = np.zeros((len(radii), 1))
+    tags, flat = np.unique(radii, return_inverse=True)[1], np.zeros((len(radii), 1))
     for frame in run.frames():
         places, velocities = np.hsplit(scene.reduced(frame.rows), 2)
         found = Atoms(
-            numbers=np.zeros(len(radii), int), positions=np.hstack([places, flat]),
+            numbers=np.zeros(len(radii), int), tags=tags, positions=np.hstack([places, flat]),
             cell=[scene.width / scene.sigma, scene.height / scene.sigma, 1.0], pbc=False,
             info={"time": frame.tick / scene.time, "tick": frame.tick},
         )

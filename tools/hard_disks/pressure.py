@@ -16,7 +16,7 @@ import numpy as np
 from .motion import Followed
 from .runs import Frame, Run
 from .sampling import Sampling, Table, block_error
-from .theory import collision_rate, henderson, virial
+from .theory import collision_rate, henderson, mixture, virial
 
 # At how many ticks of each block the disks inside are counted.
 SAMPLES = 50
@@ -115,7 +115,7 @@ def block_times(sampling: Sampling) -> np.ndarray:
 
 
 def pressure(run: Run, sampling: Sampling, series: bool = False) -> Table:
-    """Z by the virial and by the walls, beside what is published where disks have one size."""
+    """Z by the virial and by the walls, beside what is published."""
     counts = count(run, sampling)
     if series:
         table = values(counts, sampling)[:3]
@@ -125,6 +125,8 @@ def pressure(run: Run, sampling: Sampling, series: bool = False) -> Table:
     names = ["phi", "phi_error", "collisions", "Z", "Z_error", "Z_wall", "Z_wall_error"]
     if run.scene.has_one_size:
         names, row = [*names, "Z_Henderson", "Z_virial"], [*row, henderson(phi), virial(phi)]
+    else:
+        names, row = [*names, "Z_mixture"], [*row, mixture(phi, [disk[4] for disk in run.scene.disks])]
     notes = ["Z = P A / (N T): by the virial of collisions inside, and by the walls away from corners; phi is that inside"]
     early = counts.virial.sum() / counts.touching.sum() - 1 if counts.collisions.any() else 0
     notes.append(f"collisions come early, as if disks were larger by {early:.2g} of their diameter, so Z is of disks that large")

@@ -1,7 +1,9 @@
 """Equations of state of a fluid of hard disks of one size, by the packing fraction φ. Published:
 
 D. Henderson, Molecular Physics 30, 971 (1975), and with a correction 34, 301 (1977);
-N. Clisby and B. M. McCoy, Journal of Statistical Physics 122, 15 (2006): the virial coefficients up to the tenth."""
+N. Clisby and B. M. McCoy, Journal of Statistical Physics 122, 15 (2006): the virial coefficients up to the tenth.
+
+And of one of several sizes: A. Santos, S. B. Yuste and M. López de Haro, Molecular Physics 96, 1 (1999)."""
 import math
 
 from numpy.polynomial import Polynomial
@@ -22,6 +24,12 @@ def henderson(phi: float) -> float:
 def virial(phi: float) -> float:
     """Z by ten virial coefficients, as (1 - φ)⁻² times a polynomial."""
     return SMOOTH(phi) / (1 - phi) ** 2
+
+
+def mixture(phi: float, sizes) -> float:
+    """Z where disks have these diameters, by that of one size: exact up to the second virial coefficient."""
+    share = sum(sizes) ** 2 / (len(sizes) * sum(size**2 for size in sizes))
+    return (1 - share) / (1 - phi) + share * virial(phi)
 
 
 def contact(factor: float, phi: float) -> float:
