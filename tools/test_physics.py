@@ -17,6 +17,7 @@ from hard_disks import theory
 from hard_disks.dynamics import displacement, speeds, velocity_correlation
 from hard_disks.pressure import pressure, rate
 from hard_disks.program import find_program
+from hard_disks.reports import read_report
 from hard_disks.rests import rest
 from hard_disks.sampling import block_error, sampling
 from hard_disks.scenes import Refused, parse_scene
@@ -176,6 +177,14 @@ class Fluids(unittest.TestCase):
         far = np.abs(density - wanted) > 4 * np.maximum(errors, 2e-3)
         self.assertLess(far.sum(), 3)
         self.agree(noted(table, "^2"), (2, 0), 0.02)
+
+    def test_energy_walks_as_its_roundings_do(self):
+        # Each component of an impulse is off by up to half a unit, so a collision changes the squares by √2 v, and 1/3 more.
+        scene, report = fluid(900, 0.45, 24.0, 0.5)
+        *_, sums = read_report(io.StringIO(report))
+        change = sums.energies[1] - sums.energies[0] - sums.pairs / 3
+        self.assertLess(abs(change), 4 * math.sqrt(2 * sums.pairs) * scene.speed)
+        self.assertGreater(sums.pairs, 50_000)
 
     def test_the_structure_factor_begins_at_the_compressibility(self):
         table = self.measured(structure_factor, 0.45, 0.5, 3.0)
