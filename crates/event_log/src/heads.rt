@@ -70,15 +70,7 @@ fn is_earlier(heads: &[Head], place: usize, at: Stamp) -> bool
     requires within { place < length heads.now }
     ensures { (h : Head) → result ≡ is_before (get_or heads.now place h).stamp at }
 {
-    is_before(&heads[place].stamp, &at)
-}
-
-// Whether a stamp is before another.
-#[inline(always)]
-fn is_before(stamp: &Stamp, at: &Stamp) -> bool
-    ensures { result ≡ is_before stamp.now at.now }
-{
-    stamp < at
+    heads[place].stamp < at
 }
 
 /// One entry more is kept whole before those from a place on.

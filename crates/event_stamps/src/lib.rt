@@ -4,8 +4,8 @@
 //! that orders all events totally (Jefferson, Virtual Time, 1985).
 #![tactic(auto)]
 
-ghost use Rattle.std.specs.Prelude.{◌≡◌};
-ghost use Rattle.event_stamps.specs.Order.{stamp_cmp, first_stamp, end_stamp};
+ghost use Rattle.std.specs.Prelude.{◌≡◌, ◌↔◌, IsTrue};
+ghost use Rattle.event_stamps.specs.Order.{Before, stamp_cmp, first_stamp, end_stamp};
 ghost use Rattle.event_stamps.specs.Least.{earlier_of};
 
 use std::cmp::Ordering;
@@ -72,6 +72,13 @@ pub fn compare(a: &Stamp, b: &Stamp) -> Ordering
     ensures { result ≡ stamp_cmp a.now b.now }
 {
     a.cmp(b)
+}
+
+/// Whether a stamp is before another.
+pub fn is_before(a: &Stamp, b: &Stamp) -> bool
+    ensures { IsTrue result ↔ Before a.now b.now }
+{
+    compare(a, b) == Ordering::Less
 }
 
 /// The earlier of two stamps that are both there; else the one that is there, if any.

@@ -19,8 +19,8 @@ ghost use Rattle.local_run.specs.Moves.{ComesAfter};
 use crate::live::Live;
 use crate::{Home, MAX_ENTRIES, Step};
 use event_rules::Limit;
-use event_stamps::{Kind, Stamp, earlier};
-use region_parts::{Place, is_before};
+use event_stamps::{Kind, Stamp, earlier, is_before};
+use region_parts::Place;
 use region_view::{Action, Message, View, act};
 use std::alloc::{AllocError, Global};
 

@@ -11,9 +11,9 @@ ghost use Rattle.region_core.specs.RunsOn.{IsClear, IsOwnInTurn, RunsOn, answer_
 use crate::live::Live;
 use crate::moves::is_in_turn;
 use crate::{MAX_ENTRIES, Step};
-use event_stamps::Stamp;
+use event_stamps::{Stamp, is_before};
 use event_tree::Packed;
-use region_parts::{Place, is_before};
+use region_parts::Place;
 use std::alloc::{AllocError, Global};
 
 /// What a run of steps came to so far.

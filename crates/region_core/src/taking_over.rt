@@ -15,9 +15,9 @@ ghost use Rattle.region_core.specs.Replaced.{HearsOn, IsReplaced};
 
 use crate::Hearing;
 use crate::live::Live;
-use event_stamps::Stamp;
+use event_stamps::{Stamp, is_before};
 use region_messages::{Trail, first_news};
-use region_parts::{Place, is_before};
+use region_parts::Place;
 use std::alloc::{AllocError, Global};
 
 impl Live {

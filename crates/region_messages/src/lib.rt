@@ -291,7 +291,7 @@ fn count_below(messages: &[Message], at: Stamp) -> usize
     ensures from { drop result messages.now ≡ from at messages.now }
 {
     let mut count = messages.len();
-    while count > 0 && !is_before(messages, count - 1, at) {
+    while count > 0 && !is_earlier(messages, count - 1, at) {
         count -= 1;
     }
     count
@@ -299,7 +299,7 @@ fn count_below(messages: &[Message], at: Stamp) -> usize
 
 // Whether the message at a place is before a stamp.
 #[inline(always)]
-fn is_before(messages: &[Message], place: usize, at: Stamp) -> bool
+fn is_earlier(messages: &[Message], place: usize, at: Stamp) -> bool
     requires within { place < length messages.now }
     ensures { (m : Message) → result ≡ is_before (get_or messages.now place m).stamp at }
 {

@@ -14,9 +14,8 @@ ghost use Rattle.local_run.specs.Weaving.{IsApart, AreOthers};
 ghost use Rattle.event_log.specs.Logged.{entries_in};
 ghost use Rattle.region_parts.specs.Aside.{IsOwnTouch, TouchAfter, AllTouchAfter, IsStepAside, IsLateAside, IsOutOfWay, IsValidBack, MayStand};
 
-use crate::stamps::is_before;
 use event_log::EventLog;
-use event_stamps::{Kind, Stamp};
+use event_stamps::{Kind, Stamp, is_before};
 use local_run::{Entry, Home};
 use region_view::{Placed, Rows, near_event};
 

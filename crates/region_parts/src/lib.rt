@@ -9,7 +9,6 @@ mod border;
 mod inbox;
 mod place;
 mod sending;
-mod stamps;
 mod trails;
 
 pub use aside::first_in_way;
@@ -17,5 +16,4 @@ pub use border::Border;
 pub use inbox::Inbox;
 pub use place::Place;
 pub use sending::{send_crossing, send_hit, send_if_told};
-pub use stamps::is_before;
 pub use trails::{cut_from, drop_before, empty_trails};

@@ -11,15 +11,15 @@ pub loop-count-preserved : goal.loop-count-preserved
 loop-count-preserved c = (
   omega arith,
   none_from_less message_key c.args.at c.args.messages.now c.loop-count.count c.loop-count.invariant.1
-      (λ x. sym (c.is_before.ensures x) ∙ c.if-not-is_before.true),
+      (λ x. sym (c.is_earlier.ensures x) ∙ c.if-not-is_earlier.true),
 )
 
-pub returns-else-not-is_before : goal.returns-else-not-is_before
-returns-else-not-is_before c =
+pub returns-else-not-is_earlier : goal.returns-else-not-is_earlier
+returns-else-not-is_earlier c =
     let place : IsPlace message_key c.args.at c.args.messages.now c.loop-count.count =
     found_from_end message_key c.args.at c.args.messages.now c.loop-count.count (partitioned message_key c.args.at c.args.messages.now c.requires) c.loop-count.invariant.1 c.loop-count-test.true
     c.loop-count.invariant.0
-    (λ x. sym (c.is_before.ensures x) ∙ c.if-not-is_before.false) in record {
+    (λ x. sym (c.is_earlier.ensures x) ∙ c.if-not-is_earlier.false) in record {
       within = c.loop-count.invariant.0;
       below = counted_below message_key c.args.at c.args.messages.now c.loop-count.count place;
       from = counted_from message_key c.args.at c.args.messages.now c.loop-count.count place;
