@@ -1,13 +1,15 @@
 -- Where something holds for the last time, and when a disk leaves its cell.
 use Rattle.std.proofs.Common.{◌≡◌, ◌↔◌, ◌⊎◌, inl, inr, ℕ, zero, suc, ◌+◌, ◌-◌, ◌*◌, ◌/◌, ◌%◌, ◌<◌, ◌≤◌, refl, sym, ap, ◌∙◌, subst, arith}
-use Rattle.std.specs.Prelude.{Option, Some, None, IsNone, IfSome, unwrap_or, ℤ}
+use Rattle.std.specs.Prelude.{Option, Some, None, IfSome, unwrap_or, ℤ}
 use Rattle.std.proofs.lemmas.Bool.{cases_lt}
 use Rattle.fixed_motion.specs.declared.rules.Rules.{Rules}
 use Rattle.fixed_motion.specs.declared.disk.Disk.{Disk}
 use Rattle.plane_vectors.specs.declared.Vector.{Vector}
 use Rattle.fixed_motion.specs.Motion.{IsInside, IsValidDisk, centre_of, velocity_of, place_of}
 use Rattle.fixed_motion.specs.Rules.{IsChecked}
+use Rattle.fixed_motion.specs.Ticks.{sooner_of}
 use Rattle.fixed_motion.proofs.Sizes.{inside_in_box, in_box_size, slow_size}
+use Rattle.fixed_motion.proofs.TickNumbers.{none_sooner}
 use Rattle.event_stamps.specs.declared.Stamp.{Stamp}
 use Rattle.event_stamps.specs.Least.{HasNone, IsOnly}
 use Rattle.cell_grid.specs.Grid.{GridData, HasSizes, cell_number, column_of, row_of}
@@ -17,25 +19,30 @@ use Rattle.cell_grid.specs.Leaving.{IsFrom, EndsAt, IsWithinBounds, IsAcross, Is
 use Rattle.cell_grid.proofs.Cells.{column_at, row_at}
 use Rattle.cell_grid.proofs.Leaving.{one_leaving_tick, one_crossing}
 
+-- what is from the sooner of two numbers on is from one of them on
+from_sooner : (o p : Option ℕ) (n : ℕ) → IsFrom (sooner_of o p) n ↔ (IsFrom o n ⊎ IsFrom p n)
+from_sooner None p n = (inr, λ from. elim from [ inl f ↦ absurd f | inr f ↦ f ])
+from_sooner (Some m) None n = (inl, λ from. elim from [ inl f ↦ f | inr f ↦ absurd f ])
+from_sooner (Some m) (Some k) n = grind arith
+
 -- two facts together end where the first of them does
-pub both_end : (P Q : ℕ → Type 0) (o p r : Option ℕ) → (IsNone r ↔ (IsNone o × IsNone p)) →
-    ((n : ℕ) → IsFrom r n ↔ (IsFrom o n ⊎ IsFrom p n)) → EndsAt P o → EndsAt Q p → EndsAt (λ n. P n × Q n) r
-both_end P Q o p r none least h k = record {
-  never = λ n from both. elim ((least n).0 from) [ inl f ↦ h.never n f both.0 | inr f ↦ k.never n f both.1 ];
+pub both_end : (P Q : ℕ → Type 0) (o p : Option ℕ) → EndsAt P o → EndsAt Q p → EndsAt (λ n. P n × Q n) (sooner_of o p)
+both_end P Q o p h k = record {
+  never = λ n from both. elim ((from_sooner o p n).0 from) [ inl f ↦ h.never n f both.0 | inr f ↦ k.never n f both.1 ];
   until = λ m n le not both. (
-    h.until m n le (λ f. not ((least n).1 (inl f))) both.0,
-    k.until m n le (λ f. not ((least n).1 (inr f))) both.1,
+    h.until m n le (λ f. not ((from_sooner o p n).1 (inl f))) both.0,
+    k.until m n le (λ f. not ((from_sooner o p n).1 (inr f))) both.1,
   );
-  always = λ is m n both. (h.always (none.0 is).0 m n both.0, k.always (none.0 is).1 m n both.1);
+  always = λ is m n both.
+      let none = (none_sooner o p (sooner_of o p) refl).0 is in (h.always none.0 m n both.0, k.always none.1 m n both.1);
 }
 
--- the lesser of two numbers up to a bound is up to it
-pub lesser_within : (o p r : Option ℕ) (most : ℕ) → (IsNone r ↔ (IsNone o × IsNone p)) →
-    ((n : ℕ) → IsFrom r n ↔ (IsFrom o n ⊎ IsFrom p n)) → IfSome o (λ n. n ≤ most) → IfSome p (λ n. n ≤ most) → IfSome r (λ n. n ≤ most)
-lesser_within o p None most none least h k = tt
-lesser_within (Some m) p (Some n) most none least h k = let le : n ≤ m = (least m).1 (inl (omega arith)) in omega arith
-lesser_within None (Some m) (Some n) most none least h k = let le : n ≤ m = (least m).1 (inr (omega arith)) in omega arith
-lesser_within None None (Some n) most none least h k = let no = none.1 (refl, refl) in cc
+-- the sooner of two numbers up to a bound is up to it
+pub sooner_within : (o p : Option ℕ) (most : ℕ) → IfSome o (λ n. n ≤ most) → IfSome p (λ n. n ≤ most) →
+    IfSome (sooner_of o p) (λ n. n ≤ most)
+sooner_within None p most h k = k
+sooner_within (Some m) None most h k = h
+sooner_within (Some m) (Some n) most h k = omega arith
 
 -- the last number before the end, or any where there is no end
 abbrev pub last_of : Option ℕ → ℕ

@@ -1,9 +1,9 @@
 //! Bounds of coordinates, and when a coordinate of a disk is past them.
 
-ghost use Rattle.std.specs.Prelude.{◌≡◌, ◌↔◌, ◌⊎◌, ℕ, ℤ, pos, ◌*◌, ◌^◌, ◌<◌, ◌≤◌, ◌-ℤ◌, ◌<ℤ◌, IsTrue, IsNone, IfSome};
+ghost use Rattle.std.specs.Prelude.{◌≡◌, ◌↔◌, ℤ, pos, ◌*◌, ◌^◌, ◌<◌, ◌≤◌, ◌-ℤ◌, ◌<ℤ◌, IsTrue, IfSome};
 ghost use Rattle.fixed_motion.specs.Rules.{IsChecked};
 ghost use Rattle.fixed_motion.specs.Motion.{IsValidDisk, radius_of};
-ghost use Rattle.cell_grid.specs.Leaving.{IsFrom, EndsAt, IsWithinBounds, IsWithinAfter, AreSmall, IsSlowCourse, AreOfColumn};
+ghost use Rattle.cell_grid.specs.Leaving.{EndsAt, IsWithinBounds, IsWithinAfter, AreSmall, IsSlowCourse, AreOfColumn};
 
 use fixed_motion::{Disk, MAX_SIDE, Rules};
 
@@ -136,19 +136,5 @@ impl Bounds {
         } else {
             course.start - self.least
         }
-    }
-}
-
-// The lesser of those that there are.
-pub(crate) fn lesser(first: Option<u64>, second: Option<u64>) -> Option<u64>
-    ensures none { IsNone result ↔ (IsNone first × IsNone second) }
-    ensures least { (n : ℕ) → (IsFrom result n ↔ (IsFrom first n ⊎ IsFrom second n)) }
-{
-    match first {
-        None => second,
-        Some(m) => match second {
-            None => first,
-            Some(n) => Some(m.min(n)),
-        },
     }
 }

@@ -7,8 +7,8 @@ ghost use Rattle.cell_grid.specs.Grid.{IsGridOf, IsCell};
 ghost use Rattle.cell_grid.specs.Leaving.{EndsAt, IsWithinBounds, AreSmall, IsAcross, IsUpwards, IsInRoom, IsInRoomAfter, IsRoomOf, IsSmallRoom, IsSlowDisk};
 
 use crate::Grid;
-use crate::bounds::{Bounds, Course, lesser};
-use fixed_motion::{Disk, Rules};
+use crate::bounds::{Bounds, Course};
+use fixed_motion::{Disk, Rules, sooner};
 use plane_vectors::Vector;
 
 // The coordinates at which a disk is inside the box and in a cell.
@@ -51,7 +51,7 @@ impl Room {
             start: a.y,
             velocity: a.vy,
         };
-        lesser(
+        sooner(
             self.across.ticks_until_past(across),
             self.upwards.ticks_until_past(upwards),
         )

@@ -14,13 +14,13 @@ ghost use Rattle.event_stamps.specs.declared.Stamp.{Stamp};
 ghost use Rattle.event_stamps.specs.declared.Kind.TheVariants.{Pair};
 ghost use Rattle.event_stamps.specs.Least.{IsOnly, IsLeastOf};
 ghost use Rattle.event_rules.specs.Events.{IsWallEvent, IsWallBelow, IsPairEvent, NeverHit, IsContactTick, TouchAt, IsPast, IsLastInside, wall_stamp};
-ghost use Rattle.event_rules.specs.Predict.{IsUpTo, HaveBegun, TouchInside, IsFirstPast, IsLastTogether, IsOnlyContactTick, IsTouch, IsSeparation, FitInABox, AreOnCourse, MayHit, IsOnCollisionCourse, PathsTouchAfter, separation_of, AreInside};
+ghost use Rattle.event_rules.specs.Predict.{HaveBegun, TouchInside, IsFirstPast, IsLastTogether, IsOnlyContactTick, IsTouch, IsSeparation, FitInABox, AreOnCourse, MayHit, IsOnCollisionCourse, PathsTouchAfter, separation_of, AreInside};
 ghost use Rattle.event_rules.specs.Lanes.{Hold};
 ghost use Rattle.event_rules.specs.Small.{HaveSmallProducts, IsValidPair, IsSmallPair, FitsTheBox, DoCoursesCross, TellsByGreatest, IsApproachAt, wrapped_after, IsSmallCourse};
 
 use contact_predictor::{Approach, contact_between, is_contact, may_touch, quick_contact, stay};
 use event_stamps::{Kind, Stamp};
-use fixed_motion::{Disk, Rules};
+use fixed_motion::{Disk, Rules, sooner};
 use plane_vectors::Vector;
 use std::simd::prelude::*;
 
@@ -720,22 +720,8 @@ fn last_inside(rules: &Rules, a: &Disk) -> Option<u64>
     let radius = a.radius();
     let across = stay(radius, rules.width - radius, a.x, a.vx);
     let upwards = stay(radius, rules.height - radius, a.y, a.vy);
-    let ticks = lesser(across, upwards)?;
+    let ticks = sooner(across, upwards)?;
     Some(a.base + ticks)
-}
-
-// The lesser of those that there are.
-fn lesser(first: Option<u64>, second: Option<u64>) -> Option<u64>
-    ensures none { IsNone result ↔ (IsNone first × IsNone second) }
-    ensures least { (n : ℕ) → (IsUpTo result n ↔ (IsUpTo first n × IsUpTo second n)) }
-{
-    match first {
-        None => second,
-        Some(m) => match second {
-            None => first,
-            Some(n) => Some(m.min(n)),
-        },
-    }
 }
 
 fn is_past(rules: &Rules, a: &Disk, side: u32, place: Vector) -> bool
@@ -775,7 +761,7 @@ fn last_together(rules: &Rules, a: &Disk, b: &Disk) -> Option<u64>
     ensures { MatchOption result ((tick : ℕ) → tick < rules.now.end → IsContactTick rules.now a.now b.now tick → ⊥)
         (IsLastTogether rules.now a.now b.now) }
 {
-    let inside = lesser(last_inside(rules, a), last_inside(rules, b))?;
+    let inside = sooner(last_inside(rules, a), last_inside(rules, b))?;
     if rules.end == 0 {
         return None;
     }

@@ -1,9 +1,10 @@
-use Rattle.std.proofs.Common.{◌≡◌, ◌^◌, ◌≤◌, ℤ, nat_abs, arith}
+use Rattle.std.proofs.Common.{◌≡◌, ◌^◌, ◌≤◌, ℕ, ℤ, nat_abs, sym, subst, arith}
+use Rattle.std.specs.Prelude.{Option, IfSome}
 use Rattle.plane_vectors.proofs.Sizes.{sent}
 use Rattle.contact_predictor.specs.Contact.{coordinate_after}
-use Rattle.cell_grid.specs.Leaving.{IsWithinBounds, EndsAt}
+use Rattle.cell_grid.specs.Leaving.{IsWithinBounds, EndsAt, IsInRoomAfter}
 use Rattle.cell_grid.proofs.Courses.{small_sent}
-use Rattle.cell_grid.proofs.Ends.{both_end, lesser_within}
+use Rattle.cell_grid.proofs.Ends.{both_end, sooner_within}
 use Rattle.cell_grid.proofs.room.Room.ticks_until_past.Goals as goal
 
 slow_sent : (v : ℤ) → nat_abs v ≤ 2 ^ 20 → sent v ≡ v
@@ -23,10 +24,11 @@ returns-clause-ends c =
     rw (x, vx) at c.ticks_until_past.ensures.ends in
     let upwards : EndsAt (λ n. IsWithinBounds room.upwards (coordinate_after a.y a.vy n)) c.ticks_until_past-2.result =
     rw (y, vy) at c.ticks_until_past-2.ensures.ends in
-    both_end (λ n. IsWithinBounds room.across (coordinate_after a.x a.vx n)) (λ n. IsWithinBounds room.upwards (coordinate_after a.y a.vy n))
-    c.ticks_until_past.result c.ticks_until_past-2.result c.lesser.result c.lesser.ensures.none c.lesser.ensures.least across upwards
+    subst (EndsAt (IsInRoomAfter room a)) (sym c.sooner.ensures)
+    (both_end (λ n. IsWithinBounds room.across (coordinate_after a.x a.vx n)) (λ n. IsWithinBounds room.upwards (coordinate_after a.y a.vy n))
+    c.ticks_until_past.result c.ticks_until_past-2.result across upwards)
 
 pub returns-clause-near : goal.returns-clause-near
 returns-clause-near c =
-    lesser_within c.ticks_until_past.result c.ticks_until_past-2.result c.lesser.result _ c.lesser.ensures.none c.lesser.ensures.least
-    c.ticks_until_past.ensures.near c.ticks_until_past-2.ensures.near
+    subst (λ (o : Option ℕ). IfSome o (λ ticks. ticks ≤ 2 ^ 33)) (sym c.sooner.ensures)
+    (sooner_within c.ticks_until_past.result c.ticks_until_past-2.result _ c.ticks_until_past.ensures.near c.ticks_until_past-2.ensures.near)
