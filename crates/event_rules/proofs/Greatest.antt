@@ -5,7 +5,7 @@ use Rattle.fixed_motion.specs.declared.rules.Rules.{Rules}
 use Rattle.fixed_motion.specs.declared.disk.Disk.{Disk}
 use Rattle.contact_predictor.specs.declared.approach.Approach.{Approach}
 use Rattle.contact_predictor.specs.Approach.{IsApproachOf, FitsApproach, IsSmall, IsCourse}
-use Rattle.event_rules.specs.declared.predict.Separation.{Separation}
+use Rattle.event_rules.specs.declared.separation.Separation.{Separation}
 use Rattle.event_rules.specs.Predict.{IsSeparation}
 use Rattle.event_rules.specs.Small.{IsValidPair, FitsTheBox, TellsByGreatest}
 use Rattle.event_rules.proofs.SmallProducts.{never_near, exact_near}

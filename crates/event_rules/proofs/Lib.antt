@@ -8,7 +8,6 @@ pub mod Exists
 pub mod Fits
 mod Greatest
 mod Joins
-mod Lanes
 mod Leads
 mod Levels
 mod MayHit
@@ -19,6 +18,7 @@ pub mod Ranges
 pub mod Rise
 pub mod RunsTold
 mod Separations
+mod SideBySide
 mod Sides
 mod SmallProducts
 pub mod States

@@ -5,7 +5,7 @@ use Rattle.plane_vectors.specs.Vectors.{difference, IsWithin}
 use Rattle.fixed_motion.specs.declared.disk.Disk.{Disk}
 use Rattle.fixed_motion.specs.Motion.{place_of, velocity_of, contact_distance}
 use Rattle.contact_predictor.specs.Contact.{MayTouch}
-use Rattle.event_rules.specs.declared.predict.Separation.{Separation}
+use Rattle.event_rules.specs.declared.separation.Separation.{Separation}
 use Rattle.event_rules.specs.Predict.{IsSeparation, FitInABox, AreOnCourse, MayHit, separation_of}
 
 pub places_are : (a b : Disk) (s : Separation) → IsSeparation a b s → s.places ≡ separation_of a b

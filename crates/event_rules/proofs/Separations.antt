@@ -13,7 +13,7 @@ use Rattle.fixed_motion.specs.Motion.{IsInside, IsValidDisk, centre_of, velocity
 use Rattle.fixed_motion.proofs.Sizes.{inside_in_box, difference_size, slow_size, contact_least, contact_most}
 use Rattle.contact_predictor.specs.Contact.{coordinate_after, IsContact, IsContactAfter}
 use Rattle.plane_vectors.proofs.Products.{distributes}
-use Rattle.event_rules.specs.declared.predict.Separation.{Separation}
+use Rattle.event_rules.specs.declared.separation.Separation.{Separation}
 use Rattle.event_rules.specs.Events.{IsContactTick, TouchAt}
 use Rattle.event_rules.proofs.Courses.{inside_until}
 use Rattle.event_rules.specs.Predict.{HaveBegun, AreInside, IsLastTogether, IsTouch, IsOnlyContactTick, IsSeparation, FitInABox, PathsTouchAfter, separation_of}

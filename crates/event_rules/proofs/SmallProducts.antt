@@ -18,7 +18,7 @@ use Rattle.contact_predictor.specs.declared.approach.Approach.{Approach}
 use Rattle.contact_predictor.specs.Contact.{gap, IsCollisionCourse, MayTouch}
 use Rattle.contact_predictor.specs.Approach.{IsApproachOf, FitsApproach, IsSmall, IsCourse}
 use Rattle.contact_predictor.proofs.Approaching.{speed_not_negative, touch_from_now}
-use Rattle.event_rules.specs.declared.predict.Separation.{Separation}
+use Rattle.event_rules.specs.declared.separation.Separation.{Separation}
 use Rattle.event_rules.specs.Events.{IsContactTick}
 use Rattle.event_rules.specs.Predict.{IsSeparation, separation_of}
 use Rattle.event_rules.specs.Small.{IsSmallPair, FitsTheBox, DoCoursesCross, DoCoursesCrossAt, IsSmallApproach, IsApproachAt}

@@ -10,7 +10,7 @@ use Rattle.fixed_motion.specs.Motion.{IsValidDisk, velocity_of, contact_distance
 use Rattle.contact_predictor.specs.declared.approach.Approach.{Approach}
 use Rattle.contact_predictor.specs.Contact.{IsCollisionCourse}
 use Rattle.contact_predictor.specs.Approach.{IsApproachOf, IsSmall, IsCourse}
-use Rattle.event_rules.specs.declared.predict.Separation.{Separation}
+use Rattle.event_rules.specs.declared.separation.Separation.{Separation}
 use Rattle.event_rules.specs.Events.{NeverHit}
 use Rattle.event_rules.specs.Predict.{IsSeparation, separation_of, FitInABox}
 

@@ -1,0 +1,8 @@
+-- To wrap on the way changes nothing.
+use Rattle.std.proofs.Common.{rules}
+use Rattle.std.specs.Int.{w64}
+use Rattle.std.proofs.lemmas.Int.{wraps, wrapping_add-bits}
+use Rattle.event_rules.proofs.lanes.wrapping_way.Goals as goal
+
+pub returns : goal.returns
+returns c = search (rules, wraps, wrapping_add-bits w64)

@@ -1,0 +1,198 @@
+//! When two disks hit each other next.
+
+ghost use Rattle.std.specs.Prelude.{◌≡◌, ◌↔◌, ℕ, ◌^◌, ◌<◌, ◌≤◌, nat_abs, IsTrue, IfSome, MatchOption, max};
+ghost use Rattle.plane_vectors.specs.Vectors.{IsWithin};
+ghost use Rattle.fixed_motion.specs.Rules.{IsChecked};
+ghost use Rattle.fixed_motion.specs.Motion.{IsValidDisk, IsInside, mark_at};
+ghost use Rattle.contact_predictor.specs.Contact.{IsContact};
+ghost use Rattle.event_stamps.specs.declared.Stamp.{Stamp};
+ghost use Rattle.event_stamps.specs.declared.Kind.TheVariants.{Pair};
+ghost use Rattle.event_stamps.specs.Least.{IsOnly};
+ghost use Rattle.event_rules.specs.Events.{IsPairEvent, IsContactTick, TouchAt};
+ghost use Rattle.event_rules.specs.Predict.{HaveBegun, TouchInside, IsTouch};
+ghost use Rattle.event_rules.specs.Small.{IsSmallPair};
+
+use crate::contact_ticks::{quick_tick, touching_tick};
+use crate::separation::has_small_products;
+use contact_predictor::{Approach, is_contact};
+use event_stamps::{Kind, Stamp};
+use fixed_motion::{Disk, Rules};
+use plane_vectors::Vector;
+
+/// The stamp at which two disks next hit each other if they keep their courses, before the last tick of
+/// the run.
+///
+/// `first` and `second` are the numbers of the disks. None where they don't hit each other.
+#[inline(always)]
+pub fn pair_event(rules: &Rules, first: u32, a: &Disk, second: u32, b: &Disk) -> Option<Stamp>
+    requires checked { IsChecked rules.now }
+    requires first_valid { IsValidDisk rules.now a.now }
+    requires second_valid { IsValidDisk rules.now b.now }
+    requires order { first < second }
+    ensures { MatchOption result ((s : Stamp) → IsPairEvent rules.now first a.now second b.now s → ⊥)
+        (IsOnly (IsPairEvent rules.now first a.now second b.now)) }
+{
+    event_between(rules, first, a, second, b)
+}
+
+/// The stamp at which two different disks, whose numbers come in any order, next hit each other: that of
+/// [`pair_event`], with the lower number first.
+#[inline(always)]
+pub fn event_between(rules: &Rules, i: u32, a: &Disk, j: u32, b: &Disk) -> Option<Stamp>
+    requires checked { IsChecked rules.now }
+    requires first_valid { IsValidDisk rules.now a.now }
+    requires second_valid { IsValidDisk rules.now b.now }
+    ensures rising { i < j → MatchOption result ((s : Stamp) → IsPairEvent rules.now i a.now j b.now s → ⊥)
+        (IsOnly (IsPairEvent rules.now i a.now j b.now)) }
+    ensures falling { j < i → MatchOption result ((s : Stamp) → IsPairEvent rules.now j b.now i a.now s → ⊥)
+        (IsOnly (IsPairEvent rules.now j b.now i a.now)) }
+{
+    event_at(rules, i, a, j, b, touching_tick(rules, a, b))
+}
+
+// The event of two disks that hit each other at this tick, or never.
+#[inline(always)]
+fn event_at(rules: &Rules, i: u32, a: &Disk, j: u32, b: &Disk, found: Option<u64>) -> Option<Stamp>
+    requires { MatchOption found ((tick : ℕ) → tick < rules.now.end → IsContactTick rules.now a.now b.now tick → ⊥)
+        (IsTouch rules.now a.now b.now) }
+    ensures rising { i < j → MatchOption result ((s : Stamp) → IsPairEvent rules.now i a.now j b.now s → ⊥)
+        (IsOnly (IsPairEvent rules.now i a.now j b.now)) }
+    ensures falling { j < i → MatchOption result ((s : Stamp) → IsPairEvent rules.now j b.now i a.now s → ⊥)
+        (IsOnly (IsPairEvent rules.now j b.now i a.now)) }
+{
+    let _rules = rules;
+    // Which number is lower can't be foretold, and is asked only where they meet: that is the same in either order.
+    let tick = found?;
+    Some(Stamp {
+        tick,
+        round: round_at(a, b, tick),
+        kind: Kind::Pair,
+        first: i.min(j),
+        second: i.max(j),
+    })
+}
+
+/// What [`event_between`] tells where products are small, with all that is seldom asked left out. None says nothing:
+/// then `event_between` has to be asked.
+#[inline(always)]
+pub fn quick_event_between(
+    rules: &Rules,
+    i: u32,
+    a: &Disk,
+    j: u32,
+    b: &Disk,
+) -> Option<Option<Stamp>>
+    requires { IsSmallPair rules.now a.now b.now }
+    ensures rising { i < j → IfSome result (λ event. MatchOption event ((s : Stamp) → IsPairEvent rules.now i a.now j b.now s → ⊥)
+        (IsOnly (IsPairEvent rules.now i a.now j b.now))) }
+    ensures falling { j < i → IfSome result (λ event. MatchOption event ((s : Stamp) → IsPairEvent rules.now j b.now i a.now s → ⊥)
+        (IsOnly (IsPairEvent rules.now j b.now i a.now))) }
+{
+    let found = quick_tick(rules, a, b)?;
+    Some(event_at(rules, i, a, j, b, found))
+}
+
+// The greater of the marks of two disks, which are 0 but at the later of their base ticks.
+#[inline(always)]
+fn round_at(a: &Disk, b: &Disk, tick: u64) -> u32
+    requires { HaveBegun a.now b.now tick }
+    ensures { result ≡ max (mark_at a.now tick) (mark_at b.now tick) }
+{
+    if tick == a.base.max(b.base) {
+        a.mark_at(tick).max(b.mark_at(tick))
+    } else {
+        0
+    }
+}
+
+/// Whether a stamp of a pair is that of the next event of two disks: by what such an event is, with nothing
+/// predicted.
+///
+/// `a` and `b` are the disks of the lower and the higher of its numbers.
+#[inline(always)]
+pub fn is_pair_event(rules: &Rules, a: &Disk, b: &Disk, stamp: &Stamp) -> bool
+    requires checked { IsChecked rules.now }
+    requires first_valid { IsValidDisk rules.now a.now }
+    requires second_valid { IsValidDisk rules.now b.now }
+    requires pair { stamp.now.kind ≡ Pair }
+    ensures { IsTrue result ↔ IsPairEvent rules.now stamp.now.first a.now stamp.now.second b.now stamp.now }
+{
+    if stamp.tick >= rules.end {
+        return false;
+    }
+    let round = a.mark_at(stamp.tick).max(b.mark_at(stamp.tick));
+    stamp.round == round && is_contact_tick(rules, a, b, stamp.tick)
+}
+
+// Whether a tick before the end is the contact tick of two disks.
+#[inline(always)]
+fn is_contact_tick(rules: &Rules, a: &Disk, b: &Disk, tick: u64) -> bool
+    requires checked { IsChecked rules.now }
+    requires first_valid { IsValidDisk rules.now a.now }
+    requires second_valid { IsValidDisk rules.now b.now }
+    requires before { tick < rules.now.end }
+    ensures { IsTrue result ↔ IsContactTick rules.now a.now b.now tick }
+{
+    have_begun(a, b, tick) && touch_inside(rules, a, b, tick)
+}
+
+#[inline(always)]
+fn have_begun(a: &Disk, b: &Disk, tick: u64) -> bool
+    ensures { IsTrue result ↔ HaveBegun a.now b.now tick }
+{
+    a.base <= tick && b.base <= tick
+}
+
+// Whether two disks that have begun their courses are inside the box and in contact.
+#[inline(always)]
+fn touch_inside(rules: &Rules, a: &Disk, b: &Disk, tick: u64) -> bool
+    requires checked { IsChecked rules.now }
+    requires first_valid { IsValidDisk rules.now a.now }
+    requires second_valid { IsValidDisk rules.now b.now }
+    requires before { tick < rules.now.end }
+    requires begun { HaveBegun a.now b.now tick }
+    ensures { IsTrue result ↔ TouchInside rules.now a.now b.now tick }
+{
+    let p = a.centre_at(rules, tick);
+    let q = b.centre_at(rules, tick);
+    are_inside(rules, a, p, b, q) && touch_at(rules, a, p, b, q)
+}
+
+#[inline(always)]
+fn are_inside(rules: &Rules, a: &Disk, p: Vector, b: &Disk, q: Vector) -> bool
+    requires { IsChecked rules.now }
+    ensures { IsTrue result ↔ (IsInside rules.now a.now p × IsInside rules.now b.now q) }
+{
+    a.is_inside(rules, p) && b.is_inside(rules, q)
+}
+
+// Whether two disks that are inside the box at these places are in contact.
+#[inline(always)]
+fn touch_at(rules: &Rules, a: &Disk, p: Vector, b: &Disk, q: Vector) -> bool
+    requires checked { IsChecked rules.now }
+    requires first_valid { IsValidDisk rules.now a.now }
+    requires second_valid { IsValidDisk rules.now b.now }
+    requires first_inside { IsInside rules.now a.now p }
+    requires second_inside { IsInside rules.now b.now q }
+    ensures { IsTrue result ↔ TouchAt a.now p b.now q }
+{
+    let places = p.minus(q);
+    let velocities = a.velocity().minus(b.velocity());
+    let distance = a.contact_distance(b);
+    if has_small_products(rules) {
+        Approach::new(places, velocities, distance).is_contact()
+    } else {
+        great_contact(places, velocities, distance)
+    }
+}
+
+// Whether two disks are in contact, whatever their products. Scenes of great products are seldom, so it is kept apart.
+#[inline(never)]
+fn great_contact(places: Vector, velocities: Vector, distance: i64) -> bool
+    requires separation { IsWithin (2 ^ 30) places }
+    requires velocity { IsWithin (2 ^ 21) velocities }
+    requires distance { nat_abs distance ≤ 2 ^ 30 }
+    ensures { IsTrue result ↔ IsContact places velocities distance }
+{
+    is_contact(places, velocities, distance)
+}
