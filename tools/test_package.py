@@ -18,7 +18,7 @@ from physics_scenes import NAMES, SCENES, end_of, fluid, main, needs, np, read_t
 from hard_disks.commands import MEASURES
 from hard_disks.commands import main as command
 from hard_disks.converting import FORMATS, write_csv, write_xyz
-from hard_disks.making import make
+from hard_disks.making import fit, make
 from hard_disks.runs import Frame, read
 from hard_disks.scenes import Refused, parse_scene, read_scene
 
@@ -129,6 +129,33 @@ class Making(unittest.TestCase):
             with self.subTest(said), self.assertRaisesRegex(Refused, said):
                 make(*words)
 
+    def test_disks_of_any_units_are_fitted(self):
+        # A triangle of disks that touch each other and two walls, in units that no power of 2 divides.
+        size, unit = 0.3, 2**30 / 1.7
+        places = np.array([[size / 2, size / 2], [3 * size / 2, size / 2], [size, size / 2 + size * np.sqrt(3) / 2]])
+        disks = np.column_stack([places, [[0.1, 0], [0, -1e-3], [-0.1, 1e-3]], [size, size, size]])
+        scene = fit(1.7, 1.1, disks, time=2, every=0.5)
+        self.check_valid(np.array(scene.disks), scene)
+        found = np.array(scene.disks, float)
+        np.testing.assert_allclose(found[:, :2] / unit, places, atol=1e-8)
+        np.testing.assert_allclose(found[:, 4] / unit, size, atol=1e-8)
+        np.testing.assert_allclose(found[:, 2:4] / found[0, 2], disks[:, 2:4] / 0.1, atol=1e-4)
+        self.assertEqual((scene.width, scene.end), (2**30, 4 * scene.every))
+
+    def test_one_fast_disk_among_slow_ones_keeps_the_limit(self):
+        scene = fit(100, 100, [[i % 10 * 10 + 5, i // 10 * 10 + 5, 0, float(i == 0), 1] for i in range(100)])
+        self.assertLess(4 * scene.disks[0][3], scene.speed_limit + 4)
+        self.assertLessEqual(scene.speed_limit, 2**20)
+
+    def test_what_cannot_be_fitted_is_refused(self):
+        for words, said in [
+            ((1, 1, []), "disks, not 0"), ((1, 1, [[0.5, 0.5, 1, 0, 0]]), "above 0"), ((1, 1, [[0.5, np.nan, 1, 0, 1]]), "finite"),
+            ((0, 1, [[0.5, 0.5, 1, 0, 1]]), "above 0"), ((1, 1, [[0.5, 0.5, 0, 0, 1]]), "no disk moves"),
+            ((1, 1, [[0.5, 0.5, 1, 0, 1e-6]]), "too small"),
+        ]:
+            with self.subTest(said), self.assertRaisesRegex(Refused, said):
+                fit(*words)
+
     def test_the_program_takes_what_is_made(self):
         for sizes in (((1.0, 1.0),), ((1.0, 0.7), (1.4, 0.3))):
             scene, report = fluid(200, 0.4, 1.0, None, sizes)
@@ -204,9 +231,19 @@ class Commands(unittest.TestCase):
         return status, out.getvalue(), error.getvalue()
 
     def test_each_command_has_help(self):
-        for words in [[], ["scene"], ["explain"], ["rest"], ["continue"], ["measure"], ["measure", "gr"], ["draw"], ["convert"], ["check"], ["equation"]]:
+        for words in [[], ["scene"], ["fit"], ["explain"], ["rest"], ["continue"], ["measure"], ["measure", "gr"], ["draw"], ["convert"], ["check"], ["equation"]]:
             status, out, _ = self.command(*words, "--help")
             self.assertEqual((status, out.startswith("usage: hard_disks")), (0, True), words)
+
+    def test_a_table_is_fitted(self):
+        table = "diameter,x,y,vx,vy,note\n1,2,3,0,1.5,a\n2,7,8,-1,0,b\n"
+        status, out, error = self.command("fit", "--width", "10", "--height", "10", "--time", "1", report=table)
+        self.assertEqual((status, error), (0, ""))
+        self.assertEqual(parse_scene(out), fit(10, 10, [[2, 3, 0, 1.5, 1], [7, 8, -1, 0, 2]], time=1))
+        for text, said in [("x,y,vx\n", "no vy, diameter"), (table + "1,2,3,a,5,c\n", "line 4: .*'a'"), (table + "1,2\n", "line 4")]:
+            status, out, error = self.command("fit", "--width", "10", "--height", "10", report=text)
+            self.assertEqual((status, out), (2, ""))
+            self.assertRegex(error, said)
 
     def test_each_measure_writes_a_table(self):
         scene = SCENES / "fluid.toml"

@@ -58,6 +58,7 @@ def parser():
     words = Words(prog="hard_disks", description=ABOUT)
     commands = words.add_subparsers(dest="command", required=True, metavar="COMMAND", parser_class=Words)
     add_scene(commands)
+    add_fit(commands)
     add_explain(commands)
     add_rest(commands)
     add_continue(commands)
@@ -103,6 +104,30 @@ def scene(asked):
         raise Refused("a seed is 0 or more")
     made = make(asked.disks, asked.phi, asked.sizes, asked.seed, asked.lattice, asked.time, asked.every)
     sys.stdout.write(made.text())
+
+
+def add_fit(commands):
+    words = add_command(commands, "fit", fit, "writes a scene of your own disks, in any units",
+                        "Comma-separated values with a first line x,y,vx,vy,diameter are read from standard input.")
+    words.add_argument("--width", type=positive, required=True, help="of the box, which begins at (0, 0), in your units")
+    words.add_argument("--height", type=positive, required=True)
+    add_times(words, 40.0)
+
+
+def fit(asked):
+    import csv
+
+    from .making import fit as fitted
+
+    names = ["x", "y", "vx", "vy", "diameter"]
+    table = csv.DictReader(sys.stdin)
+    if missing := set(names) - set(table.fieldnames or []):
+        raise Refused(f"the first line has no {', '.join(it for it in names if it in missing)}")
+    try:
+        disks = [[float(row[name]) for name in names] for row in table]
+    except (TypeError, ValueError) as why:
+        raise Refused(f"line {table.line_num}: {why}") from why
+    sys.stdout.write(fitted(asked.width, asked.height, disks, asked.time, asked.every).text())
 
 
 def add_explain(commands):
