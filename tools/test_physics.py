@@ -57,6 +57,18 @@ class ByHand(unittest.TestCase):
         # Only the one in the middle is looked at; three disks lie inside, on 8 times 8 diameters.
         np.testing.assert_allclose(g[g > 0], [1 / (3 / 64 * math.pi * (b**2 - a**2)) for a, b in [(2.1, 2.2), (2.5, 2.6)]])
 
+    def test_pair_distribution_of_two_sizes(self):
+        # A great one in the middle, a small one at 210 from it and one at 250; the mean diameter is 80. All lie inside, on
+        # 10 times 10 diameters, and only that in the middle is looked at.
+        scene = scene_of([(500, 500, 1, 0, 100), (710, 500, 0, 0, 70), (500, 750, 0, 0, 70)])
+        table = pair_distribution(read_text(end_of(scene), scene), sampling(scene, 0, 1.25, 2), most=4.0, width=0.1)
+        self.assertEqual(table.columns[3:], [f"g_{it}{end}" for it in ("00", "01", "11") for end in ("", "_error")])
+        g, r = column(table, "g_01"), column(table, "r")
+        np.testing.assert_allclose(r[g > 0], [2.65, 3.15])
+        np.testing.assert_allclose(g[g > 0], [1 / (2 / 100 * math.pi * (b**2 - a**2)) for a, b in [(2.6, 2.7), (3.1, 3.2)]])
+        self.assertTrue((column(table, "g_11")[r > 1] == 0).all())
+        self.assertTrue(any("sizes: 0 has 0.875 sigma, 1 has 1.25 sigma" in it for it in table.notes))
+
     def test_structure_factor_of_two_disks(self):
         # At the same distance from the middle both count alike: S = 1 + cos k_x d, whose mean over directions is 1 + J0(k d).
         from scipy.special import j0
@@ -177,6 +189,18 @@ class Fluids(unittest.TestCase):
         far = np.abs(density - wanted) > 4 * np.maximum(errors, 2e-3)
         self.assertLess(far.sum(), 3)
         self.agree(noted(table, "^2"), (2, 0), 0.02)
+
+    def test_pairs_of_sizes_add_up_to_all(self):
+        scene, report = fluid(400, 0.4, 8.0, 0.5, ((1.0, 0.7), (1.4, 0.3)))
+        table = pair_distribution(read_text(report, scene), sampling(scene), most=3.0)
+        whole, parts = column(table, "g"), [column(table, f"g_{it}") for it in ("00", "01", "11")]
+        r = column(table, "r")
+        # By their shares, which are those inside to a few percent.
+        np.testing.assert_allclose((0.49 * parts[0] + 0.42 * parts[1] + 0.09 * parts[2])[r > 1.5], whole[r > 1.5], rtol=0.05)
+        # None are nearer than they touch: at 1, 1.2 and 1.4 of the small diameter, where the mean is 1.12.
+        for part, touching in zip(parts, (1, 1.2, 1.4)):
+            self.assertEqual(part[r < touching / 1.12 - 0.02].sum(), 0)
+            self.assertGreater(part[r > touching / 1.12][:3].max(), 1.5)
 
     def test_energy_walks_as_its_roundings_do(self):
         # Each component of an impulse is off by up to half a unit, so a collision changes the squares by √2 v, and 1/3 more.

@@ -6,7 +6,7 @@ from numpy.polynomial import Polynomial
 
 from .runs import Frame, Run
 from .sampling import Sampling, Table, bin_edges, block_error, ratio
-from .scenes import Refused
+from .scenes import Refused, Scene
 from .theory import contact, henderson
 
 # Up to which distance, in diameters, g is fitted to find it at contact.
@@ -24,35 +24,81 @@ def frames_inside(run: Run, sampling: Sampling) -> Iterator[tuple[int, Frame]]:
 
 
 def pair_distribution(run: Run, sampling: Sampling, most: float = 5.0, width: float = 0.02) -> Table:
-    """g(r) up to `most` in bins of a width, both in σ.
+    """g(r) up to `most` in bins of a width, both in σ, and of two or three sizes that of each two of them.
 
     Disks inside, and at least `most` away from the walls, are looked at, with all neighbours in reach."""
     from scipy.spatial import cKDTree
 
     sigma, scene = run.scene.sigma, run.scene
+    partial = Partial(scene)
     if min(scene.width, scene.height) / 2 <= most * sigma:
         raise Refused(f"the box is too small for distances up to {most} sigma")
     # Just below the round numbers, so that disks that touch are in the bin from 1 on.
     edges = bin_edges(most, width) - 1e-9
     pairs, looked_at = np.zeros((sampling.blocks, len(edges) - 1)), np.zeros(sampling.blocks)
+    partial.begin(pairs.shape)
     inside, frames = 0, 0
     for block, frame in frames_inside(run, sampling):
         places = frame.rows[:, :2]
-        chosen = places[sampling.inside(places, max(most * sigma - sampling.margin, 0))]
-        inside, frames = inside + sampling.inside(places).sum(), frames + 1
+        is_chosen, is_inside = sampling.inside(places, max(most * sigma - sampling.margin, 0)), sampling.inside(places)
+        chosen = places[is_chosen]
+        inside, frames = inside + is_inside.sum(), frames + 1
         looked_at[block] += len(chosen)
+        partial.look_at(block, is_chosen, is_inside)
         if len(chosen):
             near = cKDTree(chosen / sigma).sparse_distance_matrix(cKDTree(places / sigma), most, output_type="ndarray")
             # A disk is no neighbour of itself.
-            pairs[block] += np.histogram(near["v"][near["v"] > 0], edges)[0]
+            near = near[near["v"] > 0]
+            pairs[block] += np.histogram(near["v"], edges)[0]
+            partial.add(block, np.flatnonzero(is_chosen)[near["i"]], near["j"], near["v"], edges)
     density = inside / frames / sampling.area() * sigma**2
     shells = np.pi * np.diff(edges.clip(0) ** 2)
     g, errors = ratio(pairs, looked_at[:, None] * density * shells)
-    rows = list(zip(edges[:-1] + width / 2, g, errors))
+    names, columns = partial.columns(frames * sampling.area() / sigma**2, shells)
+    rows = list(zip(edges[:-1] + width / 2, g, errors, *columns))
     notes = [f"{frames} frames; g of the disks inside and {most:.4g} sigma from the walls; density {density:.6g} per sigma^2"]
     if scene.has_one_size and most > FIT:
         notes += contact_notes(pairs, looked_at[:, None] * density * shells, edges, density)
-    return Table(["r", "g", "g_error"], rows, [*notes, *sampling.notes()])
+    return Table(["r", "g", "g_error", *names], rows, [*notes, *partial.notes(), *sampling.notes()])
+
+
+class Partial:
+    """g(r) of each two sizes, if a scene has two or three; of more, or of one, there is none."""
+
+    def __init__(self, scene: Scene):
+        self.sizes, self.size = np.unique([row[4] / scene.sigma for row in scene.disks], return_inverse=True)
+        count = len(self.sizes)
+        self.both = [(a, b) for a in range(count) for b in range(a, count)] if 2 <= count <= 3 else []
+
+    def begin(self, shape: tuple[int, int]) -> None:
+        """With nothing counted: `shape` is of blocks and bins."""
+        self.pairs = np.zeros((len(self.both), *shape))
+        self.looked_at, self.inside = np.zeros((shape[0], len(self.sizes))), np.zeros(len(self.sizes))
+
+    def look_at(self, block: int, is_chosen: np.ndarray, is_inside: np.ndarray) -> None:
+        self.looked_at[block] += np.bincount(self.size[is_chosen], minlength=len(self.sizes))
+        self.inside += np.bincount(self.size[is_inside], minlength=len(self.sizes))
+
+    def add(self, block: int, first: np.ndarray, second: np.ndarray, distance: np.ndarray, edges: np.ndarray) -> None:
+        """Pairs of a disk that is looked at and one near it."""
+        low, high = np.sort([self.size[first], self.size[second]], axis=0)
+        for place, (a, b) in enumerate(self.both):
+            self.pairs[place, block] += np.histogram(distance[(low == a) & (high == b)], edges)[0]
+
+    def columns(self, area: float, shells: np.ndarray) -> tuple[list[str], list]:
+        """The columns and their names; `area` is that inside, over all frames."""
+        names, columns, density = [], [], self.inside / area
+        for pairs, (a, b) in zip(self.pairs, self.both):
+            # A pair of two sizes is looked at from either.
+            near = self.looked_at[:, a] * density[b] + (self.looked_at[:, b] * density[a] if a < b else 0)
+            names += [f"g_{a}{b}", f"g_{a}{b}_error"]
+            columns += ratio(pairs, near[:, None] * shells)
+        return names, columns
+
+    def notes(self) -> list[str]:
+        if not self.both:
+            return []
+        return ["sizes: " + ", ".join(f"{number} has {size:.6g} sigma" for number, size in enumerate(self.sizes))]
 
 
 def contact_value(pairs: np.ndarray, ideal: np.ndarray, edges: np.ndarray) -> float:
