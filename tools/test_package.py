@@ -233,7 +233,7 @@ class Commands(unittest.TestCase):
     def test_each_command_has_help(self):
         for words in [[], ["scene"], ["fit"], ["explain"], ["rest"], ["continue"], ["measure"], ["measure", "gr"], ["draw"], ["convert"], ["check"], ["equation"]]:
             status, out, _ = self.command(*words, "--help")
-            self.assertEqual((status, out.startswith("usage: hard_disks")), (0, True), words)
+            self.assertEqual((status, out.startswith("usage: python3 -m hard_disks")), (0, True), words)
 
     def test_a_table_is_fitted(self):
         table = "diameter,x,y,vx,vy,note\n1,2,3,0,1.5,a\n2,7,8,-1,0,b\n"

@@ -7,7 +7,7 @@ from .scenes import Refused, read_scene
 
 ABOUT = "From a packing fraction to a figure: scenes for the program hard_disks, and what its reports say."
 TIMES = "times are in sigma/v, with sigma the mean diameter and v the root mean square of a velocity component"
-# For each measure its module, its function, and the most and the width of a bin that it takes as options.
+# For each measure its module, its function, and what it is.
 MEASURES = {
     "pressure": ("pressure", "pressure", "Z = P A / (N T) by the virial and by the walls"),
     "rate": ("pressure", "rate", "how often a disk collides, and its mean free path"),
@@ -18,7 +18,12 @@ MEASURES = {
     "vacf": ("dynamics", "velocity_correlation", "the velocity correlation, and D by its integral"),
     "speeds": ("dynamics", "speeds", "the distribution of speeds beside Maxwell's"),
 }
-WITH_SERIES, WITH_MOST, WITH_WIDTH = {"pressure", "rate", "psi6"}, {"gr", "sk", "msd", "vacf", "speeds"}, {"gr", "sk", "speeds"}
+WITH_SERIES, WITH_WIDTH = {"pressure", "rate", "psi6"}, {"gr", "sk", "speeds"}
+# What the option --most bounds, and how far that goes without it.
+WITH_MOST = {
+    "gr": "r, in sigma (5)", "sk": "k, in 1/sigma (15)", "msd": "time between two states (10)",
+    "vacf": "time between two states (10)", "speeds": "speed, in v (5)",
+}
 
 
 class Words(argparse.ArgumentParser):
@@ -55,7 +60,7 @@ def fractions(text):
 
 
 def parser():
-    words = Words(prog="hard_disks", description=ABOUT)
+    words = Words(prog="python3 -m hard_disks", description=ABOUT)
     commands = words.add_subparsers(dest="command", required=True, metavar="COMMAND", parser_class=Words)
     add_scene(commands)
     add_fit(commands)
@@ -78,7 +83,7 @@ def add_command(commands, name, call, about, more=""):
 
 def add_times(words, time):
     words.add_argument("--time", type=not_negative, default=time, help=f"how long the run is; {TIMES} (%(default)s)")
-    words.add_argument("--every", type=positive, help="after which time each a state is written (only the end is)")
+    words.add_argument("--every", type=positive, help="the time between two written states (only the end is written)")
 
 
 def add_report(words):
@@ -184,9 +189,9 @@ def add_measure(commands):
         if name in WITH_SERIES:
             own.add_argument("--series", action="store_true", help="a row for each block or frame in place of means")
         if name in WITH_MOST:
-            own.add_argument("--most", type=positive, help="up to which distance, wave number, time or speed")
+            own.add_argument("--most", type=positive, help=f"the greatest {WITH_MOST[name]}")
         if name in WITH_WIDTH:
-            own.add_argument("--width", type=positive, help="of a bin")
+            own.add_argument("--width", type=positive, help="the width of a bin")
 
 
 def measure(asked):
