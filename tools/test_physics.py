@@ -19,6 +19,7 @@ from hard_disks.pressure import pressure, rate
 from hard_disks.program import find_program
 from hard_disks.reports import read_report
 from hard_disks.rests import rest
+from hard_disks.runs import Run
 from hard_disks.sampling import block_error, sampling
 from hard_disks.scenes import Refused, parse_scene
 from hard_disks.structure import bond_order, pair_distribution, structure_factor
@@ -189,6 +190,23 @@ class Fluids(unittest.TestCase):
         far = np.abs(density - wanted) > 4 * np.maximum(errors, 2e-3)
         self.assertLess(far.sum(), 3)
         self.agree(noted(table, "^2"), (2, 0), 0.02)
+
+    def test_a_part_of_a_run_is_measured_as_a_shorter_run(self):
+        scene, report = fluid(200, 0.4, 4.0, 0.25)
+        shorter, whole = fluid(200, 0.4, 2.0, 0.25)
+        # The report breaks off within the second line after the state at the end of the part.
+        lines = report.splitlines(True)
+        end = lines.index(f"state {shorter.end}\n") + 1 + len(scene.disks)
+        broken = "".join(lines[: end + 1]) + lines[end + 1][:5]
+        for measure, more in [(pressure, ()), (pair_distribution, (2.0,)), (displacement, (0.5,)), (speeds, ())]:
+            rows = [
+                measure(it, sampling(shorter, blocks=4), *more).rows
+                for it in (read_text(whole, shorter), Run(scene, io.StringIO(broken), until=shorter.end))
+            ]
+            np.testing.assert_array_equal(*rows)
+        for tick in (0, scene.end):
+            with self.assertRaisesRegex(Refused, "no part"):
+                Run(scene, io.StringIO(report), until=tick)
 
     def test_pairs_of_sizes_add_up_to_all(self):
         scene, report = fluid(400, 0.4, 8.0, 0.5, ((1.0, 0.7), (1.4, 0.3)))

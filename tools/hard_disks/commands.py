@@ -182,6 +182,7 @@ def add_measure(commands):
         own = add_command(measures, name, measure, about, f"The table is of comma-separated values in reduced units; {TIMES}.")
         add_report(own)
         own.add_argument("--from", dest="start", type=not_negative, help="when the measure begins (a fifth of the run)")
+        own.add_argument("--until", type=positive, help="when it ends, as if the run did: the report may break off after that")
         own.add_argument(
             "--margin", type=not_negative, help="how much along the walls is left out, in sigma (10, or a quarter of the box)"
         )
@@ -204,8 +205,8 @@ def measure(asked):
     call = getattr(import_module(f".{module}", __package__), function)
     found = read_scene(asked.scene)
     options = {name: value for name in ("series", "most", "width") if (value := getattr(asked, name, None)) is not None}
-    run = Run(found, sys.stdin, shows_progress=True)
-    call(run, sampling(found, asked.start, asked.margin, asked.blocks), **options).write(sys.stdout)
+    run = Run(found, sys.stdin, True, None if asked.until is None else found.ticks(asked.until))
+    call(run, sampling(run.scene, asked.start, asked.margin, asked.blocks), **options).write(sys.stdout)
 
 
 def add_draw(commands):

@@ -1,6 +1,7 @@
 """A run as numpy sees it: frames, collisions, and the disks' places between collisions, streaming and in one pass."""
 from collections import deque
 from contextlib import nullcontext
+from dataclasses import replace
 from itertools import takewhile
 from pathlib import Path
 from typing import Iterator, NamedTuple
@@ -24,10 +25,15 @@ class Frame(NamedTuple):
 
 
 class Run:
-    """A scene and the report of its run, a path or a stream of text. Each call reads it whole; a stream is read once."""
+    """A scene and the report of its run, a path or a stream of text. Each call reads it whole; a stream is read once.
 
-    def __init__(self, scene: Scene, report, shows_progress: bool = False):
-        self.scene, self.shows_progress = scene, shows_progress
+    With `until`, a tick before the scene's end, it is the run up to that tick, whatever the report says of later ones."""
+
+    def __init__(self, scene: Scene, report, shows_progress: bool = False, until: int | None = None):
+        if until is not None and not 0 < until < scene.end:
+            raise Refused(f"a run until tick {until} is no part of one that ends at tick {scene.end}")
+        self.scene = scene if until is None else replace(scene, end=until)
+        self.shows_progress, self.is_part = shows_progress, until is not None
         self.report = report
 
     def frames(self, since: int = 0) -> Iterator[Frame]:
@@ -69,7 +75,7 @@ class Run:
         If only its states are asked for, all lines of collisions may have been left out."""
         counted = 0
         with Progress(self.scene.end, self.shows_progress) as progress, self.opened() as stream:
-            for item in read_report(stream):
+            for item in self.first_part(read_report(stream)) if self.is_part else read_report(stream):
                 if isinstance(item, Limit):
                     raise Refused(f"the run ends at a limit of {item.name} at tick {item.tick}, before its end")
                 if isinstance(item, State):
@@ -83,6 +89,21 @@ class Run:
                 if lacks_some and (counted or not is_about_states):
                     raise Refused("the report lacks collisions that it counts: it is a summary, or broken")
                 yield item
+
+    def first_part(self, items: Iterator) -> Iterator[Collisions | State]:
+        """What comes before the end, and the state at the end if there is one."""
+        for item in items:
+            if isinstance(item, Collisions):
+                early = item.numbers.reshape(-1, FIELDS)
+                early = early[early[:, 0] < self.scene.end]
+                if len(early):
+                    yield Collisions(early.ravel())
+                if len(early) * FIELDS < len(item.numbers):
+                    return
+            elif isinstance(item, State) and item.tick <= self.scene.end:
+                yield item
+            else:
+                return
 
     def opened(self):
         """The report as a stream, which is closed afterwards where it is a file's."""
