@@ -43,7 +43,7 @@ pub fn burst_in_table<R: Threads + Wait + Sync, G: Gate>(
         return Ok(regions);
     };
     let grid = *first.grid();
-    let jobs = workers.workers.min(grid.regions());
+    let jobs = workers.threads(grid.regions());
     let pace = TablePace::new(alloc, &regions)?;
     let (table, mut seat) = RegionTable::open(alloc, regions)?;
     run_jobs(workers, rt, alloc, &table, &grid, &pace, jobs, &mut seat)?;
@@ -55,7 +55,7 @@ pub fn burst_in_table<R: Threads + Wait + Sync, G: Gate>(
     Ok(worked)
 }
 
-// Runs so many jobs side by side. Each takes a seat along that is split off this one, and brings it back.
+// Runs the given number of jobs side by side. Each takes a seat along that is split off this one, and brings it back.
 fn run_jobs<R: Threads + Wait + Sync, G: Gate>(
     workers: &Workers<'_, G>,
     rt: &R,
@@ -99,7 +99,7 @@ fn run_jobs<R: Threads + Wait + Sync, G: Gate>(
     Ok(())
 }
 
-// Whether one of them is spent.
+// Whether any region is spent.
 fn has_spent(regions: &[Region]) -> bool
     ensures { IsFalse result → AreAlive regions.now }
 {
