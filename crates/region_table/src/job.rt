@@ -27,6 +27,7 @@ pub(crate) struct TableJob<'a, G: Gate> {
     pub worker: u32,
     /// How many workers there are.
     pub workers: u32,
+    /// How many steps a turn has, at least 1.
     pub steps: u32,
     ghost each: { length table.now.opened ≡ grid.now.regions },
     ghost some_steps: { 0 < steps },
