@@ -18,7 +18,7 @@ impl Changes {
         }
     }
 
-    /// Counts a change, if it is one, of a region that is out: so whoever takes the region next finds it counted.
+    /// Counts a change, if it is one, of a region that is out: so the worker that takes it next finds it counted.
     pub(crate) fn note(&self, is_change: bool) {
         if is_change {
             self.count.fetch_add(1, Ordering::SeqCst);
@@ -46,7 +46,7 @@ pub(crate) struct Calm<'c> {
     changes: &'c Changes,
     // How many changes there were when the present round began.
     count: u64,
-    // A bit for each region.
+    // A bit for each region that was found calm; there are 64 regions at most.
     regions: u64,
     // The most steps that a region made in the round.
     steps: u32,
@@ -89,7 +89,7 @@ impl<'c> Calm<'c> {
         self.steps.max(1)
     }
 
-    /// Whether so many regions, all that there are, are calm.
+    /// Whether all regions are calm, by how many there are.
     pub(crate) fn is_of_all(&self, regions: u32) -> bool {
         self.regions.count_ones() >= regions && self.changes.count() == self.count
     }

@@ -2,8 +2,8 @@
 
 ghost use Rattle.region_table.specs.Laws.{HomesStillStand, TakenStillStand};
 
-/// Where the regions with which a table was opened stand on a state, what is at home in a slot stands on it
-/// still, unless it is spent, whatever the seats did.
+/// If the regions with which a table was opened stand on a state, what is at home in a slot still stands on it, unless
+/// it is spent, whatever the seats did.
 pub fn homes_still_stand()
     ensures { HomesStillStand }
 {}

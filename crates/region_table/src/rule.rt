@@ -42,6 +42,7 @@ pub struct TableView {
     pub parts: u128,
 }
 
+/// What holds of the regions in a table, and what its first seat knows.
 pub struct Law;
 
 impl TableRule<Option<Region>, TableView, Snapshot<Vec<Region>>> for Law {
@@ -50,24 +51,28 @@ impl TableRule<Option<Region>, TableView, Snapshot<Vec<Region>>> for Law {
     ghost first = { λ key. first_view key.value.items };
 }
 
+/// The step that marks a slot as out.
 pub struct Takes;
 
 impl Play<Option<Region>, TableView> for Takes {
     ghost then = { Taken };
 }
 
+/// The step that marks it as at home again, at the next version.
 pub struct Puts;
 
 impl Play<Option<Region>, TableView> for Puts {
     ghost then = { Put };
 }
 
+/// The step that takes the mark back, if the slot has no more versions.
 pub struct Undoes;
 
 impl Play<Option<Region>, TableView> for Undoes {
     ghost then = { Undone };
 }
 
+/// What two seats know that one is split into.
 pub struct Copies;
 
 impl Split<TableView> for Copies {
@@ -76,6 +81,7 @@ impl Split<TableView> for Copies {
     ghost right = { copied };
 }
 
+/// What a seat knows that two are joined to.
 pub struct Joins;
 
 impl Join<TableView> for Joins {
@@ -84,6 +90,8 @@ impl Join<TableView> for Joins {
     ghost spent = { no_view };
 }
 
+/// The slots with the regions.
 pub type Slots = Table<Option<Region>, TableView, Snapshot<Vec<Region>>, Law, Global>;
 
+/// What gives access to the slots: one for each seat.
 pub type Token = Seat<Option<Region>, TableView>;

@@ -46,8 +46,11 @@ use region_core::Region;
 use std::alloc::{AllocError, Global};
 use std::snapshot::Snapshot;
 
-// The word of a slot at home at the last version, and the mask that clears the bit of one that is out.
-const HOME: u64 = u64::MAX - 1;
+// The word of a slot at home at the last version: each put counts on, and the lowest bit says that it is out.
+const LAST_HOME: u64 = u64::MAX - 1;
+
+// The mask that clears that bit.
+const AT_HOME: u64 = u64::MAX - 1;
 
 impl RegionTable {
     /// Puts regions into slots, which are numbered from 0 on in the order of the regions, and gives the first seat.
@@ -115,8 +118,8 @@ impl RegionTable {
         if word % 2 == 1 {
             return TakeOut::Away;
         }
-        if word == HOME {
-            shared.fetch_and::<Undoes>(&mut seat.token, slot, HOME);
+        if word == LAST_HOME {
+            shared.fetch_and::<Undoes>(&mut seat.token, slot, AT_HOME);
             return TakeOut::Worn;
         }
         let Some(taken) = shared.exchange(&mut seat.token, slot, None) else {
@@ -147,7 +150,7 @@ impl RegionTable {
     }
 
     /// Ends the table: gives as many regions as it was opened with, a spent one in the place of one that is out.
-    /// Where every seat that was split off was joined again, none is out, and each is as it was put back last.
+    /// If every seat that was split off was joined again, none is out, and each is as it was put back last.
     ///
     /// # Errors
     /// Out of memory.

@@ -1,13 +1,16 @@
 //! A burst by a call.
 
 use crate::call::Call;
-use region_core::Beside;
+use region_core::{Beside, Burst, Region};
+use std::alloc::{AllocError, Global};
 use std::marker::{Model, PhantomData};
+use std::sync::Wait;
+use std::thread::Threads;
 
 /// A burst that hands the regions to a call, which gives back each at its place, run on, with what is done beside.
 ///
 /// What a trait's method sends to another thread has to be known to allow that, and of a gate that the method
-/// doesn't name it isn't known. So whoever knows the gate makes the call, and this makes a burst of it.
+/// doesn't name it isn't known. So the call is made where the gate is known, and this makes a burst of it.
 #[derive(Drop)]
 pub struct ByCall<S: Beside<W>, W, C: Call<S, W>> {
     call: C,
@@ -25,13 +28,8 @@ impl<S: Beside<W>, W, C: Call<S, W>> Model for ByCall<S, W, C> {
     ghost invariant = { λ s. C.keeping s.call };
 }
 
-use region_core::{Burst, Region};
-use std::alloc::{AllocError, Global};
-use std::sync::Wait;
-use std::thread::Threads;
-
 impl<S: Beside<W>, W, C: Call<S, W>> ByCall<S, W, C> {
-    /// The burst by this call.
+    /// A burst by this call.
     pub fn new(call: C) -> ByCall<S, W, C>
         requires { C.keeping call }
     {

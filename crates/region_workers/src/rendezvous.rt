@@ -4,9 +4,9 @@
 //! isn't there, or that has no processor: the others do its work, and if need be one does all. Only those are waited
 //! for that are at work on a region.
 //!
-//! A worker that waits looks for a while, since where each has a processor of its own the others mostly come soon, and
-//! to be woken would take longer than a slice: whoever sleeps comes late, so that others sleep, and so on. Then it sleeps
-//! until it is woken. It never gives way to other threads: where other programs want the processors too, it would get
+//! A worker that waits looks for a while, since if each has a processor of its own the others mostly come soon, and
+//! to be woken would take longer than a slice: a worker that sleeps comes late, so that others sleep, and so on. Then it
+//! sleeps until it is woken. It never gives way to other threads: if other programs want the processors too, it would get
 //! none back for some milliseconds.
 
 use crate::roll::{Roll, Share};
@@ -34,7 +34,7 @@ pub struct Rendezvous {
 }
 
 impl Rendezvous {
-    /// A rendezvous to which nobody has come, of so many regions.
+    /// A rendezvous of this many regions, to which nobody has come.
     pub fn new(alloc: Global, regions: usize) -> Result<Rendezvous, AllocError> {
         let mut untaken = Vec::with_capacity(alloc, regions)?;
         for _ in 0..regions {
@@ -65,8 +65,8 @@ impl Rendezvous {
                 .is_ok()
     }
 
-    /// Notes a worker's share of the phase's work. The roll where that was the last of it: then the worker is to begin
-    /// the next phase.
+    /// Notes a worker's share of the phase's work. The roll, if that was the last of it: then the worker is to begin the
+    /// next phase.
     pub fn note(&self, share: &Share) -> Option<Roll> {
         if share.regions == 0 {
             return None;
@@ -107,7 +107,7 @@ impl Rendezvous {
         self.wake();
     }
 
-    // Wakes whoever sleeps.
+    // Wakes the workers that sleep.
     fn wake(&self) {
         if self.sleepers.load(Ordering::SeqCst) > 0 {
             self.roll.wake_all();
@@ -119,7 +119,7 @@ impl Rendezvous {
         self.roll().phase != phase
     }
 
-    /// Looks for the end of a phase so many times, and says whether it came.
+    /// Looks for the end of a phase the given number of times at most, and says whether it came.
     pub(crate) fn is_seen_to_pass(&self, phase: u32, looks: u32) -> bool {
         let mut pause = Pause::new();
         for _ in 0..looks {
@@ -143,7 +143,7 @@ impl Rendezvous {
         }
     }
 
-    // Sleeps for a while at most, where the phase wasn't past before.
+    // Sleeps for a while at most, unless the phase is past already.
     fn sleep<R: Wait>(&self, rt: &R, phase: u32) {
         self.sleepers.fetch_add(1, Ordering::SeqCst);
         if !self.is_past(phase) {

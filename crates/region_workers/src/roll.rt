@@ -1,4 +1,4 @@
-//! Where a burst stands, in one word, so that whoever changes it changes all of it at once.
+//! Where a burst stands, in one word, so that all of it changes at once.
 
 ghost use Rattle.std.specs.Prelude.{◌<◌};
 
@@ -8,9 +8,11 @@ const PHASES: u64 = 1 << 32;
 // The count of regions has seven bits, enough for the most that a grid has.
 const COUNTS: u64 = 1 << 7;
 
-const DONE: u32 = 32;
+// The lowest bit of the count.
+const DONE_BIT: u32 = 32;
 
-const MOVED: u32 = 39;
+// The bit that says whether anything moved.
+const MOVED_BIT: u32 = 39;
 
 // The phase of a burst that is over: more than any burst has.
 const OVER: u32 = u32::MAX;
@@ -56,14 +58,16 @@ impl Roll {
     pub fn of(word: u64) -> Roll {
         Roll {
             phase: (word % PHASES) as u32,
-            done: ((word >> DONE) % COUNTS) as u32,
-            moved: flag_at(word, MOVED),
+            done: ((word >> DONE_BIT) % COUNTS) as u32,
+            moved: flag_at(word, MOVED_BIT),
         }
     }
 
     /// The word that keeps the roll.
     pub fn word(&self) -> u64 {
-        u64::from(self.phase) | u64::from(self.done) << DONE | u64::from(self.moved) << MOVED
+        u64::from(self.phase)
+            | u64::from(self.done) << DONE_BIT
+            | u64::from(self.moved) << MOVED_BIT
     }
 
     /// Whether nothing is to be done any more in this burst.
@@ -83,7 +87,7 @@ impl Roll {
         }
     }
 
-    /// The next phase, where this one is done of all regions. If none heard anything new nor could go on, the burst is
+    /// The phase after this one, which is done of all regions. If none heard anything new nor could go on, the burst is
     /// over: nothing would ever change, as all had heard what the others did before, and none did anything since. In
     /// the first phase there is nothing to hear yet. (It doesn't count whether there may be news: a message that was
     /// taken back, and that its hearer keeps until the sender is past it, may be news for ever.)
@@ -108,6 +112,7 @@ impl Roll {
     }
 }
 
+// Whether a bit of a word is set.
 fn flag_at(word: u64, at: u32) -> bool
     requires { at < 64 }
 {

@@ -11,12 +11,12 @@ pub(crate) const SETTLING_SLICES: u32 = 12;
 // How many steps a burst has at least before it ends early.
 const SHORT_STEPS: u64 = 256;
 
-// What part of its turns a burst that ends early makes at least, as those that are left still pass the gate.
+// One in how many of its steps a burst that ends early makes at least, since the turns that are left still pass the gate.
 const SHORT_PART: u64 = 16;
 
 /// The slices of a burst, one after another. All regions run each, whoever runs them. A slice may go over the end of a
 /// turn. Before the last half of the last turn the regions begin to settle, each slice with as many steps as that half:
-/// they only run to where any was to run, so that hardly anything is left of which they disagree.
+/// they only run to the farthest bound so far, so that hardly anything is left of which they disagree.
 #[derive(Drop)]
 pub(crate) struct Schedule {
     // How many steps a turn has.
@@ -35,11 +35,11 @@ pub(crate) struct Schedule {
 }
 
 impl Schedule {
-    /// So many turns of so many steps, at the first slice.
+    /// The slices of a burst, by how many turns it has and how many steps a turn has, at the first one.
     pub(crate) fn new(turns: u32, steps: u32, pace: &Pace) -> Schedule
         requires { 0 < steps }
     {
-        let all = steps_of(turns, steps, pace).saturating_sub(u64::from(steps / 2));
+        let all = steps_of_burst(turns, steps, pace).saturating_sub(u64::from(steps / 2));
         let schedule = Schedule {
             steps,
             all,
@@ -90,7 +90,7 @@ impl Schedule {
         true
     }
 
-    // The next slice where so many steps are left before the regions settle.
+    // The next slice, by how many steps are left before the regions settle.
     fn go_ahead(&self, pace: &Pace, left: u64) -> Slice
         requires { 0 < left }
     {
@@ -103,9 +103,10 @@ impl Schedule {
     }
 }
 
-// How many steps a burst of so many turns has. One region alone has nobody to wait for; if it has so many disks that the
-// cache doesn't hold them, what it does is told while it is still there.
-fn steps_of(turns: u32, steps: u32, pace: &Pace) -> u64 {
+// How many steps a burst makes in its turns, by how many there are and how many steps each has. One region alone has no
+// other to wait for; if it has too many disks for the cache, the burst ends early, so that what was done is told while
+// the cache still has it.
+fn steps_of_burst(turns: u32, steps: u32, pace: &Pace) -> u64 {
     let planned = u64::from(turns) * u64::from(steps);
     if pace.is_alone_with_many() {
         planned.min(SHORT_STEPS.max(planned / SHORT_PART))

@@ -13,7 +13,7 @@ use region_locks::{Locks, Origin};
 use std::alloc::{AllocError, Global};
 use std::sync::Wait;
 
-/// What the workers of a burst share. Whoever comes once the burst is over finds nothing to do.
+/// What the workers of a burst share. A worker that comes once the burst is over finds nothing to do.
 #[derive(Drop)]
 pub(crate) struct Shared<'g, G: Gate, O: Origin> {
     pub alloc: Global,
@@ -30,7 +30,7 @@ pub(crate) struct Shared<'g, G: Gate, O: Origin> {
 }
 
 impl<'g, G: Gate, O: Origin> Shared<'g, G, O> {
-    /// Makes the turns of the first worker, who goes on with what is beside where it would wait, and those that nobody
+    /// Makes the turns of the first worker, which goes on with what is beside when it would wait, and those that nobody
     /// has begun by then, and takes the regions back.
     ///
     /// # Errors
@@ -52,7 +52,7 @@ impl<'g, G: Gate, O: Origin> Shared<'g, G, O> {
         self.locks.take_back(rt, self.alloc)
     }
 
-    /// Makes the turns of a worker, who goes on with what is beside where it would wait.
+    /// Makes the turns of a worker, which goes on with what is beside when it would wait.
     ///
     /// # Errors
     /// Out of memory: a region is spent.

@@ -5,8 +5,8 @@ use region_core::Gate;
 use std::alloc::{AllocError, Global};
 use std::sync::{Mutex, Wait};
 
-/// Which turns of each worker have begun. Whoever begins one passes the gate for it: its own worker or, once the burst
-/// is over, the first one. So each turn is begun once, and a thread that hasn't come by then isn't waited for.
+/// Which turns of each worker have begun. A turn is begun, and the gate passed for it, by its own worker or, once the
+/// burst is over, by the first one. So each turn is begun once, and a thread that hasn't come by then isn't waited for.
 #[derive(Drop)]
 pub(crate) struct Turns<'g, G: Gate> {
     gate: &'g G,
@@ -18,7 +18,7 @@ pub(crate) struct Turns<'g, G: Gate> {
 }
 
 impl<'g, G: Gate> Turns<'g, G> {
-    /// So many turns of so many workers, none of which has begun.
+    /// As many turns of each worker, none of which has begun.
     ///
     /// # Errors
     /// Out of memory.

@@ -6,11 +6,13 @@
 
 use event_stamps::{Kind, Stamp};
 
+// How many parts a tick has.
 const PARTS: u64 = 1 << 17;
 
+// The part of walls in a tick.
 const HALF: u64 = PARTS / 2;
 
-/// The part of a stamp, where there are so many disks.
+/// The part of a stamp, counted from time 0 on, if there are this many disks.
 pub fn to_parts(stamp: &Stamp, disks: u64) -> u64 {
     let start = stamp.tick.saturating_mul(PARTS);
     if stamp.round > 0 {
@@ -24,7 +26,7 @@ pub fn to_parts(stamp: &Stamp, disks: u64) -> u64 {
     })
 }
 
-/// The first stamp of a part, where there are so many disks: stamps of the parts before it are before it.
+/// The first stamp of a part, if there are this many disks: stamps of the parts before it are before it.
 pub fn from_parts(parts: u64, disks: u64) -> Stamp {
     let part = parts % PARTS;
     let (kind, place) = if part < HALF {
