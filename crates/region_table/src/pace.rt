@@ -14,7 +14,7 @@ use region_core::Region;
 use region_workers::marks::{Growth, LEAST_STEPS, Marks, UNKNOWN};
 use std::alloc::{AllocError, Global};
 
-// As how many leads what a slice covered counts at most: a region that ran out of events tells of no rate.
+// What a slice covered counts as at most this many leads: a region that ran out of events tells of no rate.
 const MOST_GROWTH: u64 = 4;
 
 // A region without steps tells of no rate either.

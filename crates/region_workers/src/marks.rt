@@ -1,8 +1,8 @@
 //! How far the regions of a burst came in their last slices.
 //!
-//! By it the workers under locks ([`crate::pace`]) and those on a table (`region_table`) find how far to run next. Each
-//! region has a mark: what is due there, and its *lead*, the virtual time that a slice's steps covered there lately, less
-//! an eighth, so that slices are seldom cut by their number of steps.
+//! Workers under locks ([`crate::pace`]) and those on a table (`region_table`) go by it to say how far regions run next.
+//! Each region has a mark: what is due there, and its *lead*. That is the virtual time that a slice's steps covered there
+//! lately, less an eighth, so that slices are seldom cut by their number of steps.
 //!
 //! Nothing is claimed of it: the regions stay right, however far they run.
 
@@ -25,7 +25,7 @@ pub const LEAST_STEPS: u32 = 16;
 // How many it has at most.
 const MOST_STEPS: u32 = 128;
 
-/// In place of a lead that isn't known yet, or of a bound that comes of such leads.
+/// Stands for a lead that isn't known yet, and for a bound that comes of no other leads.
 pub const UNKNOWN: u64 = u64::MAX;
 
 /// The marks of a burst's regions.
@@ -55,7 +55,7 @@ pub struct Growth {
     /// How many times as long it gets if the region makes no step.
     pub idle: u64,
     /// If the region makes steps, its lead becomes the mean of itself and of what a slice of as fast steps would cover,
-    /// which counts as at most this many leads; none if that has no limit.
+    /// which counts as at most this many leads. `None`: it has no limit.
     pub most: Option<u64>,
 }
 
@@ -69,7 +69,7 @@ pub struct Least {
 }
 
 impl Growth {
-    // What a slice of as fast steps would cover, as it counts by a lead.
+    // What a slice of as fast steps would cover, limited by the lead before.
     #[inline(always)]
     fn limited(self, found: u64, lead: u64) -> u64 {
         match self.most {
@@ -152,6 +152,7 @@ impl Marks {
     }
 
     /// Takes in that a region made some steps: what was due there before, what is due now, and how its lead grows.
+    // Inlined, since the growth is a constant at each of its two calls.
     #[inline(always)]
     pub fn ran(&self, region: u32, began: Stamp, due: Stamp, steps: u32, growth: Growth) {
         let Some(mark) = self.marks.get(region as usize) else {

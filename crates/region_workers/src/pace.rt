@@ -1,8 +1,8 @@
 //! How far regions under locks run before they hear each other.
 //!
 //! What a region runs on old news is done again or put right later, so no region should run far ahead of the last one.
-//! But each slice costs a wait. So in a slice all regions run to the same bound. It lies a *lead* beyond the earliest
-//! stamp still due anywhere: that of the slowest region ([`crate::marks`]). It counts from what is due and not from what
+//! But each slice costs a wait. So in a slice all regions run to the same bound. It lies a lead ([`crate::marks`]),
+//! that of the slowest region, beyond the earliest stamp still due anywhere. It counts from what is due and not from what
 //! was done last, since a region without events would hold up all others.
 //!
 //! Nothing is claimed of it: the locks keep the regions right, however far they run.

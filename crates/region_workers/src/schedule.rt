@@ -11,12 +11,12 @@ pub(crate) const SETTLING_SLICES: u32 = 12;
 // How many steps a burst has at least before it ends early.
 const SHORT_STEPS: u64 = 256;
 
-// One in how many of its steps a burst that ends early makes at least, since the turns that are left still pass the gate.
+// A burst that ends early makes at least one in this many of its steps: the turns that are left still pass the gate.
 const SHORT_PART: u64 = 16;
 
-/// The slices of a burst, one after another. All regions run each, whoever runs them. A slice may go over the end of a
-/// turn. Before the last half of the last turn the regions begin to settle, each slice with as many steps as that half:
-/// they only run to the farthest bound so far, so that hardly anything is left of which they disagree.
+/// The slices of a burst, one after another. Each is run by all regions, and may go over the end of a turn. Before the
+/// last half of the last turn the regions begin to settle, each slice with as many steps as that half: they only run to
+/// the farthest bound so far, so that hardly anything is left of which they disagree.
 #[derive(Drop)]
 pub(crate) struct Schedule {
     // How many steps a turn has.
