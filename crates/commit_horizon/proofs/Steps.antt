@@ -257,12 +257,12 @@ module _ (state : CellStateData) (h : Stamp) (runs : LocalRuns) (laws : CellLaws
         sees_after a q (after_action (runs q).base a) next.0
         (laws.view_home q (runs q).base a next.0 next.1 (all.each q within).base)
     first_view q within (Heard p m) es is now =
-        let prepended = heard_now q within p m es is now in
-        let a = prepended.2.0 in
-        let next = prepended.2.1 in
+        let told = heard_now q within p m es is now in
+        let a = told.2.0 in
+        let next = told.2.1 in
         sees_after a q (set_rows (runs q).base m.rows) next.0
-        (laws.view_told p q (runs p).base (runs q).base a m next.0 next.1 (all.each p prepended.0).base
-        (all.each q within).base prepended.2.2)
+        (laws.view_told p q (runs p).base (runs q).base a m next.0 next.1 (all.each p told.0).base
+        (all.each q within).base told.2.2)
 
     -- what isn't before h, or h isn't after the floor, isn't before it: the floor of the next state is
     due_after : (s : Stamp) → (¬ Before s h) ⊎ (¬ Before state.floor h) → (¬ Before s h) ⊎ (¬ Before Now h)
@@ -447,12 +447,12 @@ module _ (state : CellStateData) (h : Stamp) (runs : LocalRuns) (laws : CellLaws
         by_sent (inl sent) (inl heard) =
             ap (below h) sent ∙ all.agree x y within_x within_y linked ∙ sym (ap (below h) heard)
         by_sent (inl sent) (inr heard) =
-            let prepended = heard_now y within_y x heard.0 heard.1 heard.2 heard.3 in
-            let a = prepended.2.0 in
-            let next = prepended.2.1 in
+            let told = heard_now y within_y x heard.0 heard.1 heard.2 heard.3 in
+            let a = told.2.0 in
+            let next = told.2.1 in
             let now : stamp_of a ≡ Now
-            = sym (message_stamp state.grid y (rows_in (runs x).base) a heard.0 prepended.2.2) ∙ heard.3 in
-            agree_rest x y within_x within_y linked a next.2.0 next.2.1 now heard.0 prepended.2.2
+            = sym (message_stamp state.grid y (rows_in (runs x).base) a heard.0 told.2.2) ∙ heard.3 in
+            agree_rest x y within_x within_y linked a next.2.0 next.2.1 now heard.0 told.2.2
 
     step : IsNextAction state b × IsHomeOf state (stamp_of b) k
         × AllGoOn (followed state b) h (λ q. past Now (runs q))
