@@ -16,7 +16,7 @@ use Rattle.commit_horizon.specs.declared.leading.PackedHead.{PackedHead}
 use Rattle.commit_horizon.specs.declared.leading.Leader.{Leader}
 use Rattle.commit_horizon.specs.Merging.{Head, Heads, head_of, head_in, heads_in, head_at, IsLeadingHead}
 use Rattle.commit_horizon.proofs.Merging.{nearer_of}
-use Rattle.commit_horizon.specs.Leading.{NoOtherBefore, IsLeader, IsNearer, head_with}
+use Rattle.commit_horizon.specs.Leading.{NoOtherBefore, IsLeader, IsLeaderWith, head_with}
 use Rattle.commit_horizon.proofs.Heads.{IsLeastOfFirst, nearer_is, least_of_all, below_or_last, head_within}
 
 -- ---- packed heads
@@ -74,7 +74,7 @@ leads_none heads first none = record {
 
 -- one head more is compared
 pub leads_on : (heads : Heads) (n : ℕ) (first : Leader) (head : PackedHead) (new : Leader) → n < length heads →
-    head_at heads n ≡ head_in head → LeadsOfFirst heads n first → IsNearer first n head new →
+    head_at heads n ≡ head_in head → LeadsOfFirst heads n first → IsLeaderWith first n head new →
     LeadsOfFirst heads (n + 1) new
 leads_on heads n first head new lt at so_far is = elim (key_before_decides head.stamp first.stamp) [
   | inl before ↦ subst (LeadsOfFirst heads (n + 1)) (sym (is.leads before)) (leads before)

@@ -22,7 +22,7 @@ pub record IsLeader (heads : Heads) (leader : Leader) : Type 0 where
 
 -- of two heads the lesser leads, the first one where they share a stamp; the other is the second, or what was the
 -- second where that is before it
-pub record IsNearer (first : Leader) (k : ℕ) (head : PackedHead) (new : Leader) : Type 0 where
+pub record IsLeaderWith (first : Leader) (k : ℕ) (head : PackedHead) (new : Leader) : Type 0 where
   pub leads : IsKeyBefore head.stamp first.stamp →
       new ≡ record { number = k; stamp = head.stamp; place = head.place; second = first.stamp }
   pub follows : ¬ IsKeyBefore head.stamp first.stamp →

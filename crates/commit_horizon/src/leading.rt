@@ -2,7 +2,7 @@
 
 ghost use Rattle.std.specs.Prelude.{◌≡◌, ◌<◌, length, None};
 ghost use Rattle.commit_horizon.specs.Merging.{head_in, heads_in};
-ghost use Rattle.commit_horizon.specs.Leading.{NoOtherBefore, IsLeader, IsNearer};
+ghost use Rattle.commit_horizon.specs.Leading.{NoOtherBefore, IsLeader, IsLeaderWith};
 
 use event_tree::Packed;
 
@@ -41,15 +41,15 @@ pub(crate) fn find_leader(heads: &[PackedHead]) -> Leader
         second: Packed::new(None),
     };
     for k in 0..heads.len() {
-        first = nearer(first, k, heads[k]);
+        first = leader_with(first, k, heads[k]);
     }
     first
 }
 
-// The leader, where one head more is compared.
+// The leader of the heads that one leads, and of one more.
 #[inline(always)]
-fn nearer(first: Leader, k: usize, head: PackedHead) -> Leader
-    ensures { IsNearer first k head result }
+fn leader_with(first: Leader, k: usize, head: PackedHead) -> Leader
+    ensures { IsLeaderWith first k head result }
 {
     if head.stamp.is_before(first.stamp) {
         Leader {

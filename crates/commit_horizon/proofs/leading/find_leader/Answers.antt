@@ -11,9 +11,9 @@ pub loop-k-preserved : goal.loop-k-preserved
 loop-k-preserved c =
     let packed = c.args.heads.now in
     let k = c.loop-k.k in
-    leads_on (heads_in packed) k c.loop-k.first _ c.nearer-first.result
+    leads_on (heads_in packed) k c.loop-k.first _ c.leader_with-first.result
     (subst (λ (n : ℕ). k < n) (sym (length-map packed head_in)) c.loop-k-test.true)
-    (packed_at packed k c.index-heads-k.result c.loop-k-test.true c.index-heads-k.is) c.loop-k.invariant c.nearer-first.ensures
+    (packed_at packed k c.index-heads-k.result c.loop-k-test.true c.index-heads-k.is) c.loop-k.invariant c.leader_with-first.ensures
 
 pub returns : goal.returns
 returns c =
