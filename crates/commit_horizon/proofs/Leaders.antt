@@ -1,7 +1,7 @@
 -- The least of some heads, and the second of them.
 use Rattle.std.proofs.Common.{◌≡◌, ◌≢◌, ◌⊎◌, inl, inr, ℕ, ◌+◌, ◌<◌, ◌≤◌, length, sym, ap, ◌∙◌, subst, refl, arith}
 use Rattle.std.proofs.Common.{Some, None, List, get_or, set, get_or-set_other}
-use Rattle.std.specs.Prelude.{option_map}
+use Rattle.std.specs.Prelude.{option_map, false, IsTrue}
 use Rattle.std.proofs.lemmas.List.{get_or-map, map-set}
 use Rattle.std.proofs.lemmas.Option.{none-some, same_Some}
 use Rattle.event_stamps.specs.declared.Stamp.{Stamp}
@@ -133,6 +133,11 @@ pub none_leads : (heads : Heads) (first : Leader) → IsLeader heads first → N
     IsLeadingHead heads None
 none_leads heads first leads is = subst (λ (key : Key). IsLeadingHead heads
     (option_map (λ head. (first.number, head)) (head_of key first.place))) (sym is) leads.least
+
+-- it has one, unless there is no head
+pub stamp_there : (key : Key) → (key ≡ None → IsTrue false) → (s : Stamp) × (Some s ≡ key)
+stamp_there None not = let wrong = not refl in cc
+stamp_there (Some s) not = (s, refl)
 
 -- ---- a region that runs on
 -- its next head leads, where it is before the second

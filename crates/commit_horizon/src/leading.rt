@@ -1,6 +1,6 @@
 //! The head that is merged next, and how far its region leads the others.
 
-ghost use Rattle.std.specs.Prelude.{◌≡◌, ◌<◌, length, None};
+ghost use Rattle.std.specs.Prelude.{◌≡◌, ◌↔◌, ◌<◌, length, None, IsTrue};
 ghost use Rattle.commit_horizon.specs.Merging.{head_in, heads_in};
 ghost use Rattle.commit_horizon.specs.Leading.{NoOtherBefore, IsLeader, IsLeaderWith};
 
@@ -28,6 +28,16 @@ pub(crate) struct Leader {
     pub(crate) place: usize,
     /// A stamp that no other head is before; none where there is no other head.
     pub(crate) second: Packed,
+}
+
+impl Leader {
+    /// Whether no region has a head.
+    #[inline(always)]
+    pub(crate) fn is_none(&self) -> bool
+        ensures { IsTrue result ↔ (self.now.stamp ≡ None) }
+    {
+        self.stamp.key().is_none()
+    }
 }
 
 /// The leader of some heads.

@@ -94,9 +94,9 @@ impl Untold {
         ensures none { result ≡ None → self.old ≡ [] }
     {
         let first = self.first;
-        let Some(_stamp) = first.stamp.key() else {
+        if first.is_none() {
             return None;
-        };
+        }
         let log = &self.logs[first.number];
         let action = action_in(log, first.place);
         self.heads[first.number] = head_after(log, first.place);
@@ -119,10 +119,9 @@ impl Untold {
             (L.faults listener.old) (L.meaning listener.new) (L.faults listener.new)) }
     {
         for _ in 0..most {
-            match self.tell_one(listener) {
-                Ok(true) => {}
-                Ok(false) => return Ok(false),
-                Err(deaf) => return Err(deaf),
+            let more = self.tell_one(listener)?;
+            if !more {
+                return Ok(false);
             }
         }
         Ok(true)
@@ -141,10 +140,9 @@ impl Untold {
             (L.faults listener.old) (L.meaning listener.new) (L.faults listener.new)) }
     {
         'actions: loop {
-            match self.tell_hit(listener) {
-                Ok(true) => {}
-                Ok(false) => return Ok(()),
-                Err(deaf) => return Err(deaf),
+            let more = self.tell_hit(listener)?;
+            if !more {
+                return Ok(());
             }
         }
     }
@@ -161,14 +159,11 @@ impl Untold {
             (L.faults listener.old) (L.meaning listener.new) (L.faults listener.new)) }
     {
         let first = self.first;
-        let Some(_stamp) = first.stamp.key() else {
+        if first.is_none() {
             return Ok(false);
-        };
-        let log = &self.logs[first.number];
-        match tell_in(log, first.place, listener) {
-            Ok(()) => {}
-            Err(deaf) => return Err(deaf),
         }
+        let log = &self.logs[first.number];
+        tell_in(log, first.place, listener)?;
         self.heads[first.number] = head_after(log, first.place);
         self.first = leader_after(&self.heads, &first);
         Ok(true)
@@ -187,14 +182,11 @@ impl Untold {
             (L.faults listener.old) (L.meaning listener.new) (L.faults listener.new)) }
     {
         let first = self.first;
-        let Some(_stamp) = first.stamp.key() else {
+        if first.is_none() {
             return Ok(false);
-        };
-        let log = &self.logs[first.number];
-        match tell_in(log, first.place, listener) {
-            Ok(()) => {}
-            Err(deaf) => return Err(deaf),
         }
+        let log = &self.logs[first.number];
+        tell_in(log, first.place, listener)?;
         self.heads[first.number] = hit_after(log, first.place);
         self.first = leader_after(&self.heads, &first);
         Ok(true)

@@ -1,19 +1,19 @@
-use Rattle.std.proofs.Common.{◌∷◌, ℕ, ◌<◌, map, set, sym, subst, ap, ◌∙◌}
+use Rattle.std.proofs.Common.{◌∷◌, ℕ, ◌<◌, map, set, sym, subst, ap, ◌∙◌, refl}
 use Rattle.std.proofs.lemmas.List.{length-map}
 use Rattle.std.proofs.lemmas.Option.{same_Some}
 use Rattle.event_log.specs.Logged.{entries_in}
 use Rattle.commit_horizon.specs.Merging.{Heads, head_in, heads_in}
 use Rattle.commit_horizon.specs.Leading.{IsLeader, NoOtherBefore}
 use Rattle.commit_horizon.specs.Untold.{lefts, merged_of, AreUntold}
-use Rattle.commit_horizon.proofs.Leaders.{set_in, others_stay}
+use Rattle.commit_horizon.proofs.Leaders.{set_in, others_stay, stamp_there}
 use Rattle.commit_horizon.proofs.Lefts.{first_log, none_untold, is_there, action_there, place_within, next_in_range, one_goes, still_untold}
 use Rattle.commit_horizon.proofs.untold.Untold.take_next.Goals as goal
 
-pub returns-in_default-clause-none : goal.returns-in_default-clause-none
-returns-in_default-clause-none c = λ done.
+pub returns-then-is_none-clause-none : goal.returns-then-is_none-clause-none
+returns-then-is_none-clause-none c = λ done.
     sym c.self.view_is
     ∙ none_untold (map entries_in c.self.inside.logs.items) (heads_in c.self.inside.heads.items) c.self.inside.first
-    c.self.invariant c.in_default.ensures.value
+    c.self.invariant (sym (c.if-is_none.ensures.0 refl))
 
 pub action_in-action-requires : goal.action_in-action-requires
 action_in-action-requires c =
@@ -22,9 +22,10 @@ action_in-action-requires c =
     let packed = c.self.inside.heads.items in
     let heads = heads_in packed in
     let first = c.self.inside.first in
-    let s = c.in-Some._stamp in
+    let there = stamp_there first.stamp c.if-is_none.ensures.1 in
+    let s = there.0 in
     let untold = c.self.invariant in
-    let leads = c.in-Some.ensures.value in
+    let leads = there.1 in
     let log = entries_in c.index-log.result.now in
     let in_log = first_log items heads first untold s leads c.index-log.result.now c.index-log.ensures in
     is_there logs heads first untold s leads log in_log
@@ -36,9 +37,10 @@ head_after-requires-clause-within c =
     let packed = c.self.inside.heads.items in
     let heads = heads_in packed in
     let first = c.self.inside.first in
-    let s = c.in-Some._stamp in
+    let there = stamp_there first.stamp c.if-is_none.ensures.1 in
+    let s = there.0 in
     let untold = c.self.invariant in
-    let leads = c.in-Some.ensures.value in
+    let leads = there.1 in
     let log = entries_in c.index-log.result.now in
     let in_log = first_log items heads first untold s leads c.index-log.result.now c.index-log.ensures in
     subst (λ (n : ℕ). first.place < n) (length-map c.index-log.result.now (λ l. l.0))
@@ -51,9 +53,10 @@ head_after-requires-clause-range c =
     let packed = c.self.inside.heads.items in
     let heads = heads_in packed in
     let first = c.self.inside.first in
-    let s = c.in-Some._stamp in
+    let there = stamp_there first.stamp c.if-is_none.ensures.1 in
+    let s = there.0 in
     let untold = c.self.invariant in
-    let leads = c.in-Some.ensures.value in
+    let leads = there.1 in
     let log = entries_in c.index-log.result.now in
     let in_log = first_log items heads first untold s leads c.index-log.result.now c.index-log.ensures in
     let x = action_there logs heads first untold s leads log in_log in
@@ -66,9 +69,10 @@ leader_after-self-inside-requires-clause-others c =
     let packed = c.self.inside.heads.items in
     let heads = heads_in packed in
     let first = c.self.inside.first in
-    let s = c.in-Some._stamp in
+    let there = stamp_there first.stamp c.if-is_none.ensures.1 in
+    let s = there.0 in
     let untold = c.self.invariant in
-    let leads = c.in-Some.ensures.value in
+    let leads = there.1 in
     let log = entries_in c.index-log.result.now in
     let in_log = first_log items heads first untold s leads c.index-log.result.now c.index-log.ensures in
     subst (λ v. NoOtherBefore (heads_in v) first.number first.second) (sym c.deref.ensures.value)
@@ -81,9 +85,10 @@ invariant_of-self c =
     let packed = c.self.inside.heads.items in
     let heads = heads_in packed in
     let first = c.self.inside.first in
-    let s = c.in-Some._stamp in
+    let there = stamp_there first.stamp c.if-is_none.ensures.1 in
+    let s = there.0 in
     let untold = c.self.invariant in
-    let leads = c.in-Some.ensures.value in
+    let leads = there.1 in
     let log = entries_in c.index-log.result.now in
     let in_log = first_log items heads first untold s leads c.index-log.result.now c.index-log.ensures in
     let x = action_there logs heads first untold s leads log in_log in
@@ -102,9 +107,10 @@ returns-clause-next c =
     let packed = c.self.inside.heads.items in
     let heads = heads_in packed in
     let first = c.self.inside.first in
-    let s = c.in-Some._stamp in
+    let there = stamp_there first.stamp c.if-is_none.ensures.1 in
+    let s = there.0 in
     let untold = c.self.invariant in
-    let leads = c.in-Some.ensures.value in
+    let leads = there.1 in
     let log = entries_in c.index-log.result.now in
     let in_log = first_log items heads first untold s leads c.index-log.result.now c.index-log.ensures in
     let x = action_there logs heads first untold s leads log in_log in

@@ -1,5 +1,6 @@
-use Rattle.std.proofs.Common.{List, ◌∷◌, [], ◌++◌, ℕ, Option, ◌<◌, length, map, set, sym, subst, ap, ◌∙◌, arith}
+use Rattle.std.proofs.Common.{List, ◌∷◌, [], ◌++◌, ℕ, Option, ◌<◌, length, map, set, sym, subst, ap, ◌∙◌, arith, refl}
 use Rattle.std.proofs.lemmas.List.{length-map}
+use Rattle.std.proofs.lemmas.Result.{err_from_is_err_and}
 use Rattle.std.specs.Prelude.{IfSome}
 use Rattle.region_view.specs.declared.action.Action.{Action}
 use Rattle.event_rules.specs.Told.{Told}
@@ -9,16 +10,16 @@ use Rattle.commit_horizon.specs.Merging.{Heads, head_in, heads_in}
 use Rattle.commit_horizon.specs.Leading.{IsLeader, NoOtherBefore}
 use Rattle.commit_horizon.specs.Telling.{MayBeTold, IsHitAwaited, HitRefused}
 use Rattle.commit_horizon.specs.Untold.{lefts, merged_of, AreUntold}
-use Rattle.commit_horizon.proofs.Leaders.{set_in, others_stay}
+use Rattle.commit_horizon.proofs.Leaders.{set_in, others_stay, stamp_there}
 use Rattle.commit_horizon.proofs.Lefts.{first_log, none_untold, action_there, place_within, may_be_told, goes, rest_can, hits_go, fewer_left, hits_untold}
 use Rattle.commit_horizon.proofs.Goes.{one_hit_told, one_awaited, one_refused}
 use Rattle.commit_horizon.proofs.untold.Untold.tell_hit.Goals as goal
 
-pub returns-in_default-clause-rest : goal.returns-in_default-clause-rest
-returns-in_default-clause-rest g c = λ done.
+pub returns-then-is_none-clause-rest : goal.returns-then-is_none-clause-rest
+returns-then-is_none-clause-rest g c = λ done.
     sym c.self.view_is
     ∙ none_untold (map entries_in c.self.inside.logs.items) (heads_in c.self.inside.heads.items) c.self.inside.first
-    c.self.invariant c.in_default.ensures.value
+    c.self.invariant (sym (c.if-is_none.ensures.0 refl))
 
 pub tell_in-requires-clause-tellable : goal.tell_in-requires-clause-tellable
 tell_in-requires-clause-tellable g c =
@@ -27,9 +28,10 @@ tell_in-requires-clause-tellable g c =
     let packed = c.self.inside.heads.items in
     let heads = heads_in packed in
     let first = c.self.inside.first in
-    let s = c.in-Some._stamp in
+    let there = stamp_there first.stamp c.if-is_none.ensures.1 in
+    let s = there.0 in
     let untold = c.self.invariant in
-    let leads = c.in-Some.ensures.value in
+    let leads = there.1 in
     let log = entries_in c.index-log.result.now in
     let in_log = first_log items heads first untold s leads c.index-log.result.now c.index-log.ensures in
     let x = action_there logs heads first untold s leads log in_log in
@@ -44,9 +46,10 @@ tell_in-requires-clause-awaited g c =
     let packed = c.self.inside.heads.items in
     let heads = heads_in packed in
     let first = c.self.inside.first in
-    let s = c.in-Some._stamp in
+    let there = stamp_there first.stamp c.if-is_none.ensures.1 in
+    let s = there.0 in
     let untold = c.self.invariant in
-    let leads = c.in-Some.ensures.value in
+    let leads = there.1 in
     let log = entries_in c.index-log.result.now in
     let in_log = first_log items heads first untold s leads c.index-log.result.now c.index-log.ensures in
     let x = action_there logs heads first untold s leads log in_log in
@@ -54,26 +57,28 @@ tell_in-requires-clause-awaited g c =
     subst (λ (o : Option Action). IfSome o (IsHitAwaited L.awaits (L.meaning c.args.listener.now))) (sym x.1)
     (one_awaited L.after L.awaits x.0 c.args.self.now _ (L.meaning c.args.listener.now) is c.requires)
 
-pub returns-in-Err-clause-torn : goal.returns-in-Err-clause-torn
-returns-in-Err-clause-torn g c =
+pub returns-in_err-tell_in-clause-torn : goal.returns-in_err-tell_in-clause-torn
+returns-in_err-tell_in-clause-torn g c =
     let L = g.L.Listener in
     let items = c.self.inside.logs.items in
     let logs = map entries_in items in
     let packed = c.self.inside.heads.items in
     let heads = heads_in packed in
     let first = c.self.inside.first in
-    let s = c.in-Some._stamp in
+    let there = stamp_there first.stamp c.if-is_none.ensures.1 in
+    let s = there.0 in
     let untold = c.self.invariant in
-    let leads = c.in-Some.ensures.value in
+    let leads = there.1 in
     let log = entries_in c.index-log.result.now in
     let in_log = first_log items heads first untold s leads c.index-log.result.now c.index-log.ensures in
     let x = action_there logs heads first untold s leads log in_log in
     let is = sym c.self.view_is ∙ (goes logs heads first untold s leads log in_log x.0 x.1).first in
     let later = L.meaning c.tell_in.new.listener in
     let refused = subst (λ (o : Option Action). IfSome o (λ y. HitRefused L.torn (L.meaning c.args.listener.now) y later)) x.1
-    c.in-Err.ensures.refused in
-    one_refused L.after L.torn x.0 c.args.self.now _ (L.meaning c.args.listener.now) later
-    (L.faults c.args.listener.now) (L.faults c.tell_in.new.listener) c.in-Err.deaf is refused c.in-Err.ensures.counts
+    c.in_err-tell_in.ensures.refused in
+    let err = err_from_is_err_and c.from_residual.result c.from_residual.ensures.1 in
+    rw err.1 (one_refused L.after L.torn x.0 c.args.self.now _ (L.meaning c.args.listener.now) later
+    (L.faults c.args.listener.now) (L.faults c.tell_in.new.listener) c.in_err-tell_in.field-0.0 is refused c.in_err-tell_in.ensures.counts)
 
 pub hit_after-requires-clause-within : goal.hit_after-requires-clause-within
 hit_after-requires-clause-within g c =
@@ -82,9 +87,10 @@ hit_after-requires-clause-within g c =
     let packed = c.self.inside.heads.items in
     let heads = heads_in packed in
     let first = c.self.inside.first in
-    let s = c.in-Some._stamp in
+    let there = stamp_there first.stamp c.if-is_none.ensures.1 in
+    let s = there.0 in
     let untold = c.self.invariant in
-    let leads = c.in-Some.ensures.value in
+    let leads = there.1 in
     let log = entries_in c.index-log.result.now in
     let in_log = first_log items heads first untold s leads c.index-log.result.now c.index-log.ensures in
     subst (λ (n : ℕ). first.place < n) (length-map c.index-log.result.now (λ l. l.0))
@@ -97,9 +103,10 @@ hit_after-requires-clause-can g c =
     let packed = c.self.inside.heads.items in
     let heads = heads_in packed in
     let first = c.self.inside.first in
-    let s = c.in-Some._stamp in
+    let there = stamp_there first.stamp c.if-is_none.ensures.1 in
+    let s = there.0 in
     let untold = c.self.invariant in
-    let leads = c.in-Some.ensures.value in
+    let leads = there.1 in
     let log = entries_in c.index-log.result.now in
     let in_log = first_log items heads first untold s leads c.index-log.result.now c.index-log.ensures in
     let x = action_there logs heads first untold s leads log in_log in
@@ -112,9 +119,10 @@ leader_after-self-inside-requires-clause-others g c =
     let packed = c.self.inside.heads.items in
     let heads = heads_in packed in
     let first = c.self.inside.first in
-    let s = c.in-Some._stamp in
+    let there = stamp_there first.stamp c.if-is_none.ensures.1 in
+    let s = there.0 in
     let untold = c.self.invariant in
-    let leads = c.in-Some.ensures.value in
+    let leads = there.1 in
     let log = entries_in c.index-log.result.now in
     let in_log = first_log items heads first untold s leads c.index-log.result.now c.index-log.ensures in
     subst (λ v. NoOtherBefore (heads_in v) first.number first.second) (sym c.deref.ensures.value)
@@ -127,9 +135,10 @@ invariant_of-self g c =
     let packed = c.self.inside.heads.items in
     let heads = heads_in packed in
     let first = c.self.inside.first in
-    let s = c.in-Some._stamp in
+    let there = stamp_there first.stamp c.if-is_none.ensures.1 in
+    let s = there.0 in
     let untold = c.self.invariant in
-    let leads = c.in-Some.ensures.value in
+    let leads = there.1 in
     let log = entries_in c.index-log.result.now in
     let in_log = first_log items heads first untold s leads c.index-log.result.now c.index-log.ensures in
     let x = action_there logs heads first untold s leads log in_log in
@@ -149,9 +158,10 @@ returns-clause-told g c =
     let packed = c.self.inside.heads.items in
     let heads = heads_in packed in
     let first = c.self.inside.first in
-    let s = c.in-Some._stamp in
+    let there = stamp_there first.stamp c.if-is_none.ensures.1 in
+    let s = there.0 in
     let untold = c.self.invariant in
-    let leads = c.in-Some.ensures.value in
+    let leads = there.1 in
     let log = entries_in c.index-log.result.now in
     let in_log = first_log items heads first untold s leads c.index-log.result.now c.index-log.ensures in
     let x = action_there logs heads first untold s leads log in_log in
@@ -162,9 +172,9 @@ returns-clause-told g c =
     ∙ ap (λ (v : Heads). hits (x.0 ∷ []) ++ hits (merged_of (lefts logs v))) (sym set_is) in
     let later = L.meaning c.tell_in.new.listener in
     let told = subst (λ (o : Option Action). IfSome o (λ y. Told L.after (L.meaning c.args.listener.now) (hits (y ∷ [])) later)) x.1
-    c.in-Ok.ensures.told in
+    c.in_ok-tell_in.ensures.told in
     one_hit_told L.after x.0 c.args.self.now (merged_of (lefts logs (heads_in (set packed first.number new)))) (L.meaning c.args.listener.now) later
-    (L.faults c.args.listener.now) (L.faults c.tell_in.new.listener) is told c.in-Ok.ensures.counts
+    (L.faults c.args.listener.now) (L.faults c.tell_in.new.listener) is told c.in_ok-tell_in.ensures.counts
 
 pub returns-clause-fewer : goal.returns-clause-fewer
 returns-clause-fewer g c =
@@ -173,9 +183,10 @@ returns-clause-fewer g c =
     let packed = c.self.inside.heads.items in
     let heads = heads_in packed in
     let first = c.self.inside.first in
-    let s = c.in-Some._stamp in
+    let there = stamp_there first.stamp c.if-is_none.ensures.1 in
+    let s = there.0 in
     let untold = c.self.invariant in
-    let leads = c.in-Some.ensures.value in
+    let leads = there.1 in
     let log = entries_in c.index-log.result.now in
     let in_log = first_log items heads first untold s leads c.index-log.result.now c.index-log.ensures in
     let x = action_there logs heads first untold s leads log in_log in
