@@ -59,12 +59,12 @@ impl Committed {
         })
     }
 
-    /// The committed state.
+    /// The committed state, whose grid has a region at least.
     pub fn state(&self) -> &CellState
         ensures value { result.now ≡ self.now }
         ensures kept { IsCellState self.now }
     {
-        let _floor = self.state.floor();
+        prove!(self.state.grid().regions() > 0);
         &self.state
     }
 

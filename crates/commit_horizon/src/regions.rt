@@ -61,15 +61,14 @@ impl Committed {
         Ok(regions)
     }
 
-    // Opens each region again that doesn't stand on the committed state with its place as its number.
+    // Opens each region again that doesn't stand on the committed state by its number.
     fn renew_all(&self, alloc: Global, regions: &mut [Region]) -> Result<(), AllocError>
         requires { length regions.old ≡ self.now.grid.regions }
         ensures adopted { OnOk result (AllAdopted self.now regions.old regions.new) }
         ensures stand { OnOk result (AllStand self.now regions.new) }
     {
-        let _state = self.state();
-        for place in 0..regions.len() {
-            self.renew(alloc, place as u32, &mut regions[place])?;
+        for number in 0..self.state.grid().regions() {
+            self.renew(alloc, number, &mut regions[number as usize])?;
         }
         Ok(())
     }
