@@ -4,7 +4,7 @@ use Rattle.local_run.specs.Raising.{raised_region}
 use Rattle.event_log.specs.Logged.{entries_in}
 use Rattle.commit_horizon.specs.Cutting.{logs_below}
 use Rattle.region_parts.proofs.Lists.{one_more}
-use Rattle.commit_horizon.proofs.Raises.{may_rise_next, all_raised}
+use Rattle.commit_horizon.proofs.Raises.{may_rise_next, all_changed}
 use Rattle.commit_horizon.proofs.CutLogs.{one_more_cut}
 use Rattle.commit_horizon.proofs.cutting.cut_floors.Goals as goal
 
@@ -20,7 +20,7 @@ cut_floor-requires c =
 
 pub returns-clause-raised : goal.returns-clause-raised
 returns-clause-raised c = c.loop-k.invariant.raised
-    ∙ all_raised c.args.to c.args.regions.now c.loop-k.k (omega (arith, c.loop-k-test.false))
+    ∙ all_changed (raised_region c.args.to) c.args.regions.now c.loop-k.k (omega (arith, c.loop-k-test.false))
 
 pub returns-clause-cut : goal.returns-clause-cut
 returns-clause-cut c =
