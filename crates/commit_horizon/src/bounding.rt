@@ -8,7 +8,7 @@ use event_stamps::{Stamp, earlier};
 use region_core::Region;
 use region_messages::first_disagreement;
 
-/// The least of the end, of what each region has due (of its floor, where that is before it), and of the first
+/// The least of the end, of what each region has due (or of its floor, if that is later), and of the first
 /// disagreement of what each sent and each linked one heard of it.
 pub(crate) fn least_bound(end: Stamp, regions: &[Region]) -> Stamp
     ensures bound { HoldsUpTo (IsUpToAll end regions.now) (Some result) }
@@ -30,7 +30,7 @@ fn least_due(regions: &[Region]) -> Option<Stamp>
     least
 }
 
-// What a region has due, or its floor where that is later.
+// What a region has due, or its floor, if that is later.
 fn due_bound(region: &Region) -> Stamp
     ensures due { HoldsUpTo (IsUpToDue region.now) (Some result) }
     ensures kept { IsKept region.now }
@@ -62,7 +62,7 @@ fn first_apart_from(sender: &Region, regions: &[Region]) -> Option<Stamp>
     first
 }
 
-// The first disagreement of what the one sent and the other heard of it; none where the two aren't linked.
+// The first disagreement of what the one sent and the other heard of it; none if the two aren't linked.
 fn first_apart(sender: &Region, hearer: &Region) -> Option<Stamp>
     ensures { HoldsUpTo (AgreeOn sender.now hearer.now) result }
 {

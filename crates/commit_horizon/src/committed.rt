@@ -45,7 +45,7 @@ use region_view::Placed;
 use std::alloc::{AllocError, Global};
 
 impl Committed {
-    /// The state with which the cell run of a scene begins, on a grid for so many regions, 1 to
+    /// The state with which the cell run of a scene begins, on a grid for this many regions, 1 to
     /// [`MAX_REGIONS`](cell_grid::MAX_REGIONS).
     ///
     /// # Errors
@@ -68,8 +68,8 @@ impl Committed {
         &self.state
     }
 
-    /// A region for a number: the given one exactly where it stands on the committed state with this number,
-    /// whoever made it; else one that is opened again.
+    /// A region for a number: the given one if it stands on the committed state with this number, whoever made it;
+    /// else one that is opened again.
     ///
     /// # Errors
     /// Out of memory.
@@ -86,7 +86,7 @@ impl Committed {
     }
 
     /// The commit horizon of regions that stand on the committed state, by number: the least of the end, of
-    /// what each region has due (of the floor, where that is before it), and of the first disagreement of
+    /// what each region has due (or of the floor, if that is later), and of the first disagreement of
     /// what each sent and what each linked one heard from it.
     pub fn horizon(&self, regions: &[Region]) -> Stamp
         requires { AllStand self.now regions.now }
@@ -97,7 +97,7 @@ impl Committed {
     }
 
     /// Becomes a later state of the same run: one with these rows and this floor, by actions of which the last
-    /// has the stamp `last`; none where there was no action.
+    /// has the stamp `last`; none if there was no action.
     pub fn go_on_to(&mut self, placed: Vec<Placed>, last: Option<Stamp>, floor: Stamp)
         requires { IsCellState (later self.old placed.items last floor) }
         ensures { self.new ≡ later self.old placed.items last floor }

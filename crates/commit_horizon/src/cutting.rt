@@ -21,7 +21,7 @@ use std::alloc::{AllocError, Global};
 /// What a commit makes of the state on which the regions stand. The rows are not in it: the regions have them.
 #[derive(Clone, Copy)]
 pub struct Final {
-    /// The stamp of the last action of its batch; none where the batch is empty.
+    /// The stamp of the last action of its batch; none if the batch is empty.
     pub last: Option<Stamp>,
     /// The floor: the horizon.
     pub floor: Stamp,
@@ -53,7 +53,7 @@ pub fn commit_cutting(
     Ok(Final { last, floor })
 }
 
-// Makes so many logs of some, whatever is in them.
+// Drops or adds logs until there are `count`. What is in them doesn't matter.
 fn fit(alloc: Global, logs: &mut Vec<EventLog>, count: usize) -> Result<(), AllocError>
     ensures { OnOk result (length logs.new.items ≡ count) }
 {
@@ -77,7 +77,7 @@ fn cut_floors(regions: &mut [Region], to: Stamp, logs: &mut [EventLog]) -> Resul
     Ok(())
 }
 
-// The stamp of the last action of all logs; none where there is no action.
+// The stamp of the last action of all logs; none if there is no action.
 fn last_of_all(logs: &[EventLog]) -> Option<Stamp>
     requires { AllRise (map entries_in logs.now) }
     ensures { IsLatest (SomeHasStamp (map entries_in logs.now)) result }
@@ -89,7 +89,7 @@ fn last_of_all(logs: &[EventLog]) -> Option<Stamp>
     last
 }
 
-// The stamp of the last action of a log; none where it has no action.
+// The stamp of the last action of a log; none if it has no action.
 fn last_of(log: &EventLog) -> Option<Stamp>
     requires { KeysRise entry_stamp (entries_in log.now) }
     ensures { IsLatest (HasActionAt (entries_in log.now)) result }

@@ -10,7 +10,7 @@ use event_tree::Packed;
 /// again, so they are small, and their stamps are packed.
 #[derive(Clone, Copy)]
 pub(crate) struct PackedHead {
-    /// The stamp of the action; none where no action is left.
+    /// The stamp of the action; none if no action is left.
     pub(crate) stamp: Packed,
     /// Its place in the region's log, from 0 on.
     pub(crate) place: usize,
@@ -22,11 +22,11 @@ pub(crate) struct PackedHead {
 pub(crate) struct Leader {
     /// The number of the region.
     pub(crate) number: usize,
-    /// The stamp of the head; none where no region has one.
+    /// The stamp of the head; none if no region has one.
     pub(crate) stamp: Packed,
     /// The place of the head.
     pub(crate) place: usize,
-    /// A stamp that no other head is before; none where there is no other head.
+    /// A stamp that no other head is before; none if there is no other head.
     pub(crate) second: Packed,
 }
 

@@ -26,7 +26,7 @@ impl Committed {
         Ok(regions)
     }
 
-    /// The same, each opened in a thread of its own where one can be started. One alone is opened in the caller's.
+    /// The same, each opened in a thread of its own if one can be started. One alone is opened in the caller's.
     ///
     /// # Errors
     /// Out of memory.
@@ -88,7 +88,7 @@ impl Committed {
     }
 }
 
-// All regions that were opened, where each was.
+// All regions that were opened, or the first failure.
 fn all_or_none(
     alloc: Global,
     opened: Vec<Result<Region, AllocError>>,

@@ -88,7 +88,7 @@ impl Untold {
         Ok(())
     }
 
-    /// Takes the next action out, where any is left.
+    /// Takes the next action out, if any is left.
     pub(crate) fn take_next(&mut self) -> Option<Action>
         ensures next { IfSome result (λ action. self.old ≡ action ∷ self.new) }
         ensures none { result ≡ None → self.old ≡ [] }
@@ -104,7 +104,7 @@ impl Untold {
         Some(action)
     }
 
-    /// Tells the collisions among the next actions, so many of these at most. Whether any action is left.
+    /// Tells the collisions among the next actions, of which it passes `most` at most. Whether more may be left.
     ///
     /// # Errors
     /// The listener refused a collision, and its count of refusals rose.
@@ -193,7 +193,7 @@ impl Untold {
     }
 }
 
-// Tells the collision at a place of a log, where there is one: a crossing isn't even read.
+// Tells the collision at a place of a log, if there is one: a crossing isn't even read.
 #[inline(always)]
 fn tell_in<L: Listener>(log: &EventLog, place: usize, listener: &mut L) -> Result<(), Deaf>
     requires tellable { IfSome (native_at log.now place) MayBeTold }
