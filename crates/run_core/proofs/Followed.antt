@@ -43,19 +43,19 @@ not_before_floor [] state floor kept after = kept
 not_before_floor (x ∷ xs) state floor kept after =
     subst (λ (last : Option Stamp). IsNotBefore last floor) (floor_is_last x xs state) after
 
-module _ (old : CellStateData) (given : List RegionData) (course : AdvanceKind) (batch : List Action) (made : Final)
-    (left : List RegionData) (advance : AdvanceMade old given course batch made left) where
+module _ (old : CellStateData) (given : List RegionData) (kind : AdvanceKind) (batch : List Action) (made : Final)
+    (left : List RegionData) (advance : AdvanceMade old given kind batch made left) where
   -- the state may go on by the batch
   pub may_follow : MayFollow old batch made.floor
   may_follow =
-      let leads = leads_of old advance.new (runs_of given) (answer_with course batch) advance.is in
+      let leads = leads_of old advance.new (runs_of given) (answer_with kind batch) advance.is in
       let there = subst IsCellState advance.state leads.cell in record {
         steps = subst (λ (v : CellStateData). CellSteps old.rules old.grid old.placed batch v.placed) advance.state
             (subst (λ (xs : List Action). CellSteps old.rules old.grid old.placed xs advance.new.placed)
-            (sym (batch_in course batch)) leads.steps);
+            (sym (batch_in kind batch)) leads.steps);
         not_lowered = not_before_floor batch old made.floor
             (subst (λ (v : CellStateData). ¬ Before v.floor old.floor) advance.state
-            (never_lowered old advance.new (runs_of given) (answer_with course batch) left advance.works))
+            (never_lowered old advance.new (runs_of given) (answer_with kind batch) left advance.works))
             there.after_last;
         in_time = subst (λ (rules : Rules). ¬ Before (end_stamp rules.end) made.floor) (rules_after batch old)
             there.before_end;
@@ -64,21 +64,21 @@ module _ (old : CellStateData) (given : List RegionData) (course : AdvanceKind) 
 
   -- once it has, it has advanced
   module _ (told : List Action) (same : told ≡ batch) (new : CellStateData)
-      (is : new ≡ raised made.floor (followed_by old batch)) (answer : Advance) (says : answer ≡ answer_with course told) where
+      (is : new ≡ raised made.floor (followed_by old batch)) (answer : Advance) (says : answer ≡ answer_with kind told) where
     there : new ≡ advance.new
     there = is ∙ sym advance.state
 
-    answers : answer ≡ answer_with course batch
-    answers = says ∙ ap (answer_with course) same
+    answers : answer ≡ answer_with kind batch
+    answers = says ∙ ap (answer_with kind) same
 
     pub works_so : Works old (runs_of given) answer new left
     works_so = subst (λ (v : Advance). Works old (runs_of given) v new left) (sym answers)
-        (subst (λ (v : CellStateData). Works old (runs_of given) (answer_with course batch) v left) (sym there)
+        (subst (λ (v : CellStateData). Works old (runs_of given) (answer_with kind batch) v left) (sym there)
         advance.works)
 
     pub answers_so : IsAdvance old (runs_of given) answer new
     answers_so = subst (λ (v : Advance). IsAdvance old (runs_of given) v new) (sym answers)
-        (subst (IsAdvance old (runs_of given) (answer_with course batch)) (sym there) advance.is)
+        (subst (IsAdvance old (runs_of given) (answer_with kind batch)) (sym there) advance.is)
 
     pub stands_so : AllStand new left
     stands_so = subst (λ (v : CellStateData). AllStand v left) (sym there) advance.stand

@@ -36,7 +36,7 @@ use Rattle.run_core.proofs.Homes.{event_ran, event_halted, event_idled}
 use Rattle.run_core.proofs.Parts.{in_first, in_second, answers_well}
 
 -- ---- one answer and another
-pub batch_in : (course : AdvanceKind) (batch : List Action) → batch ≡ batch_of (answer_with course batch)
+pub batch_in : (kind : AdvanceKind) (batch : List Action) → batch ≡ batch_of (answer_with kind batch)
 batch_in GoesOn batch = refl
 batch_in Ends batch = refl
 batch_in (Fails limit) batch = refl
@@ -176,10 +176,10 @@ module _ (old : CellStateData) (given heard : List RegionData) (is : IsCellState
       stand = final.commits.stand;
     }
 
-    pub second_made : (course : AdvanceKind) (more : List Action) (then : Final) (last : List RegionData) →
-        EventMade final.new left course more then last → AdvanceMade old given course more then last
-    second_made course more then last event =
-        let answer = answer_with course more in
+    pub second_made : (kind : AdvanceKind) (more : List Action) (then : Final) (last : List RegionData) →
+        EventMade final.new left kind more then last → AdvanceMade old given kind more then last
+    second_made kind more then last event =
+        let answer = answer_with kind more in
         let works = in_second old final.new given heard left batch agrees final.commits event.new last answer none_made
         event.is in record {
           new = event.new;
@@ -194,18 +194,18 @@ module _ (old : CellStateData) (given heard : List RegionData) (is : IsCellState
 
 -- ---- regions with their state
 module _ (earlier : CellStateData) (last : Option Stamp) (floor : Stamp) (given : List RegionData)
-    (old : CellStateData) (goes : GoesOnTo earlier last floor given old) (left : List RegionData) (course : AdvanceKind)
-    (batch : List Action) (made : Final) (advance : AdvanceMade old given course batch made left) where
+    (old : CellStateData) (goes : GoesOnTo earlier last floor given old) (left : List RegionData) (kind : AdvanceKind)
+    (batch : List Action) (made : Final) (advance : AdvanceMade old given kind batch made left) where
   pub goes_to : GoesOnTo earlier (option_or made.last last) made.floor left advance.new
   goes_to = goes_on_by earlier last floor given old goes batch made.last made.floor left advance.new
-      (leads_of old advance.new (runs_of given) (answer_with course batch) advance.is).cell advance.stand
+      (leads_of old advance.new (runs_of given) (answer_with kind batch) advance.is).cell advance.stand
       advance.state advance.is_last
 
-  pub advances_to : (new : CellStateData) → new ≡ advance.new → Advances old (answer_with course batch) new
+  pub advances_to : (new : CellStateData) → new ≡ advance.new → Advances old (answer_with kind batch) new
   advances_to new same = record {
     runs = runs_of given;
     left = left;
-    is = subst (IsAdvance old (runs_of given) (answer_with course batch)) (sym same) advance.is;
-    works = subst (λ (v : CellStateData). Works old (runs_of given) (answer_with course batch) v left) (sym same)
+    is = subst (IsAdvance old (runs_of given) (answer_with kind batch)) (sym same) advance.is;
+    works = subst (λ (v : CellStateData). Works old (runs_of given) (answer_with kind batch) v left) (sym same)
         advance.works;
   }

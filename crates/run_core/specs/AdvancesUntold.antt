@@ -19,20 +19,20 @@ answer_with Ends batch = End batch
 answer_with (Fails limit) batch = Limit batch limit
 
 -- the second part of an advance, with this batch, and what is answered of the state that comes of it
-pub record EventMade (old : CellStateData) (regions : List RegionData) (course : AdvanceKind) (batch : List Action)
+pub record EventMade (old : CellStateData) (regions : List RegionData) (kind : AdvanceKind) (batch : List Action)
     (made : Final) (left : List RegionData) : Type 0 where
   pub new : CellStateData
-  pub is : MakesNext old regions (answer_with course batch) new left
+  pub is : MakesNext old regions (answer_with kind batch) new left
   pub state : new ≡ raised made.floor (followed_by old batch)
   pub is_last : made.last ≡ last_stamp batch
   pub stand : AllStand new left
 
 -- an advance with this batch, and what is answered of the state that comes of it
-pub record AdvanceMade (old : CellStateData) (regions : List RegionData) (course : AdvanceKind) (batch : List Action)
+pub record AdvanceMade (old : CellStateData) (regions : List RegionData) (kind : AdvanceKind) (batch : List Action)
     (made : Final) (left : List RegionData) : Type 0 where
   pub new : CellStateData
-  pub works : Works old (runs_of regions) (answer_with course batch) new left
-  pub is : IsAdvance old (runs_of regions) (answer_with course batch) new
+  pub works : Works old (runs_of regions) (answer_with kind batch) new left
+  pub is : IsAdvance old (runs_of regions) (answer_with kind batch) new
   pub state : new ≡ raised made.floor (followed_by old batch)
   pub is_last : made.last ≡ last_stamp batch
   pub stand : AllStand new left

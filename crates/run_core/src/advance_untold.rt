@@ -35,9 +35,9 @@ pub(crate) fn advance_untold(
         floor: _,
         mut regions,
     } = standing;
-    let (course, made) = make_final(alloc, earlier.state(), &mut regions, untold)?;
+    let (kind, made) = make_final(alloc, earlier.state(), &mut regions, untold)?;
     let standing = Standing::after(earlier, made.last.or(last), made.floor, regions);
-    Ok((course, standing))
+    Ok((kind, standing))
 }
 
 /// The same of the regions themselves, which stand on a state with the rules and the grid of an earlier one.

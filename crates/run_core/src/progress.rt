@@ -30,7 +30,7 @@ pub fn advance(
     ensures stand { OnOk result (AllStand committed.new regions.new) }
 {
     let mut untold = Untold::new(alloc);
-    let (course, made) = make_final(alloc, committed.state(), regions, &mut untold)?;
+    let (kind, made) = make_final(alloc, committed.state(), regions, &mut untold)?;
     let batch = committed.follow(alloc, untold, made.floor)?;
-    Ok(course.answer_with(batch))
+    Ok(kind.answer_with(batch))
 }

@@ -47,8 +47,8 @@ pub fn simulate<B: Burst<Telling, L>, R: Threads + Wait + Sync, L: Listener>(
     let mut standing = Standing::open(rt, alloc, scene, regions)?;
     let mut telling = Telling::new(alloc);
     'bursts: loop {
-        let (course, left) = work(rt, alloc, standing, burst, &mut telling, listener)?;
-        match course {
+        let (kind, left) = work(rt, alloc, standing, burst, &mut telling, listener)?;
+        match kind {
             AdvanceKind::Raised => standing = left,
             AdvanceKind::End => {
                 telling.tell_rest(listener)?;

@@ -27,8 +27,8 @@ after-standing-requires c =
     let goes = subst (λ (v : List RegionData). GoesOnTo earlier last floor v state) (sym c.deref_mut.ensures.value)
     (subst (GoesOnTo earlier last floor items) c.standing.view_is c.standing.invariant) in
     let left = c.make_final.new.regions in
-    let made = c.in_ok-course.made in
-    let advance = c.in_ok-course.ensures state
+    let made = c.in_ok-kind.made in
+    let advance = c.in_ok-kind.ensures state
     (comes_of earlier c.state.result.now last floor given state c.state.ensures.value goes) in
     let back = written_back left items c.standing.inside.regions.len
     (c.make_final.auto.regions ∙ c.deref_mut.ensures.len)
@@ -36,7 +36,7 @@ after-standing-requires c =
       advance.new,
       subst (λ (v : List RegionData). GoesOnTo earlier c.or.result made.floor v advance.new) back
           (subst (λ (v : Option Stamp). GoesOnTo earlier v made.floor left advance.new) (sym c.or.ensures)
-          (goes_to earlier last floor given state goes left c.in_ok-course.course c.make_final.new.untold made
+          (goes_to earlier last floor given state goes left c.in_ok-kind.kind c.make_final.new.untold made
           advance)),
     )
 
@@ -51,15 +51,15 @@ returns c =
     let goes = subst (λ (v : List RegionData). GoesOnTo earlier last floor v state) (sym c.deref_mut.ensures.value)
     (subst (GoesOnTo earlier last floor items) c.standing.view_is c.standing.invariant) in
     let left = c.make_final.new.regions in
-    let made = c.in_ok-course.made in
+    let made = c.in_ok-kind.made in
     let batch = c.make_final.new.untold in
-    let advance = c.in_ok-course.ensures state
+    let advance = c.in_ok-kind.ensures state
     (comes_of earlier c.state.result.now last floor given state c.state.ensures.value goes) in
     let back = written_back left items c.standing.inside.regions.len
     (c.make_final.auto.regions ∙ c.deref_mut.ensures.len)
     (ap length (sym c.deref_mut.ensures.value) ∙ c.deref_mut.ensures.len) in
     let to = subst (λ (v : List RegionData). GoesOnTo earlier c.or.result made.floor v advance.new) back
     (subst (λ (v : Option Stamp). GoesOnTo earlier v made.floor left advance.new) (sym c.or.ensures)
-    (goes_to earlier last floor given state goes left c.in_ok-course.course batch made advance)) in
-    advances_to earlier last floor given state goes left c.in_ok-course.course batch made advance
+    (goes_to earlier last floor given state goes left c.in_ok-kind.kind batch made advance)) in
+    advances_to earlier last floor given state goes left c.in_ok-kind.kind batch made advance
     c.after-standing.result (c.after-standing.ensures advance.new to)

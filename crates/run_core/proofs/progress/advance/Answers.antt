@@ -12,16 +12,16 @@ pub follow-requires : goal.follow-requires
 follow-requires c =
     let old = c.args.committed.now in
     let given = c.args.regions.now in
-    may_follow old given c.in_ok-course.course c.make_final.new.untold c.in_ok-course.made c.make_final.new.regions
-    (c.in_ok-course.ensures old (comes_of_itself old c.state.result.now given c.state.ensures.value
+    may_follow old given c.in_ok-kind.kind c.make_final.new.untold c.in_ok-kind.made c.make_final.new.regions
+    (c.in_ok-kind.ensures old (comes_of_itself old c.state.result.now given c.state.ensures.value
     c.state.ensures.kept c.requires))
 
 pub returns-clause-answer : goal.returns-clause-answer
 returns-clause-answer c =
     let old = c.args.committed.now in
     let given = c.args.regions.now in
-    answers_so old given c.in_ok-course.course c.make_final.new.untold c.in_ok-course.made c.make_final.new.regions
-    (c.in_ok-course.ensures old (comes_of_itself old c.state.result.now given c.state.ensures.value
+    answers_so old given c.in_ok-kind.kind c.make_final.new.untold c.in_ok-kind.made c.make_final.new.regions
+    (c.in_ok-kind.ensures old (comes_of_itself old c.state.result.now given c.state.ensures.value
     c.state.ensures.kept c.requires))
     c.in_ok-batch.batch c.in_ok-batch.ensures.batch c.follow.new.self c.in_ok-batch.ensures.state c.answer_with.result
     c.answer_with.ensures
@@ -30,8 +30,8 @@ pub returns-clause-works : goal.returns-clause-works
 returns-clause-works c =
     let old = c.args.committed.now in
     let given = c.args.regions.now in
-    works_so old given c.in_ok-course.course c.make_final.new.untold c.in_ok-course.made c.make_final.new.regions
-    (c.in_ok-course.ensures old (comes_of_itself old c.state.result.now given c.state.ensures.value
+    works_so old given c.in_ok-kind.kind c.make_final.new.untold c.in_ok-kind.made c.make_final.new.regions
+    (c.in_ok-kind.ensures old (comes_of_itself old c.state.result.now given c.state.ensures.value
     c.state.ensures.kept c.requires))
     c.in_ok-batch.batch c.in_ok-batch.ensures.batch c.follow.new.self c.in_ok-batch.ensures.state c.answer_with.result
     c.answer_with.ensures
@@ -40,8 +40,8 @@ pub returns-clause-stand : goal.returns-clause-stand
 returns-clause-stand c =
     let old = c.args.committed.now in
     let given = c.args.regions.now in
-    stands_so old given c.in_ok-course.course c.make_final.new.untold c.in_ok-course.made c.make_final.new.regions
-    (c.in_ok-course.ensures old (comes_of_itself old c.state.result.now given c.state.ensures.value
+    stands_so old given c.in_ok-kind.kind c.make_final.new.untold c.in_ok-kind.made c.make_final.new.regions
+    (c.in_ok-kind.ensures old (comes_of_itself old c.state.result.now given c.state.ensures.value
     c.state.ensures.kept c.requires))
     c.in_ok-batch.batch c.in_ok-batch.ensures.batch c.follow.new.self c.in_ok-batch.ensures.state c.answer_with.result
     c.answer_with.ensures

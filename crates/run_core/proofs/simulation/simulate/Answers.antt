@@ -60,29 +60,29 @@ work-requires g c =
       ),
     )
 
-pub returns-in_err-course-clause-cut_short : goal.returns-in_err-course-clause-cut_short
-returns-in_err-course-clause-cut_short g c =
+pub returns-in_err-kind-clause-cut_short : goal.returns-in_err-kind-clause-cut_short
+returns-in_err-kind-clause-cut_short g c =
     let L = g.L.Listener in
     let valid = subst IsValidScene c.scene.view_is c.scene.invariant in
     let new = L.meaning c.work.new.listener in
-    let r = c.from_residual-in_err-course.result in
-    let fault = err_from_is_err_and r c.from_residual-in_err-course.ensures.1 in
+    let r = c.from_residual-in_err-kind.result in
+    let fault = err_from_is_err_and r c.from_residual-in_err-kind.ensures.1 in
     at_fault (λ (v : Result Outcome RunFault). IfErr v (λ e. RunCutShort L.after L.torn c.args.scene.now e
-    (L.meaning c.args.listener.now) new)) r fault.0 c.in_err-course.field-0.0 fault.1 fault.2
+    (L.meaning c.args.listener.now) new)) r fault.0 c.in_err-kind.field-0.0 fault.1 fault.2
     (cut_so_far L.torn c.args.regions valid c.requires.asked c.bursts.invariant.told new
-    c.in_err-course.field-0.0 c.in_err-course.ensures.cut_short)
+    c.in_err-kind.field-0.0 c.in_err-kind.ensures.cut_short)
 
-pub returns-in_err-course-clause-counts : goal.returns-in_err-course-clause-counts
-returns-in_err-course-clause-counts g c =
+pub returns-in_err-kind-clause-counts : goal.returns-in_err-kind-clause-counts
+returns-in_err-kind-clause-counts g c =
     let L = g.L.Listener in
     let mid = L.faults c.bursts.listener in
     let new = L.faults c.work.new.listener in
-    let r = c.from_residual-in_err-course.result in
-    let fault = err_from_is_err_and r c.from_residual-in_err-course.ensures.1 in
-    at_fault (CountsRun {T = Outcome} (L.faults c.args.listener.now) new) r fault.0 c.in_err-course.field-0.0
-    fault.1 fault.2 (subst (λ (old : ℕ). CountsRun {T = Outcome} old new (Err c.in_err-course.field-0.0))
+    let r = c.from_residual-in_err-kind.result in
+    let fault = err_from_is_err_and r c.from_residual-in_err-kind.ensures.1 in
+    at_fault (CountsRun {T = Outcome} (L.faults c.args.listener.now) new) r fault.0 c.in_err-kind.field-0.0
+    fault.1 fault.2 (subst (λ (old : ℕ). CountsRun {T = Outcome} old new (Err c.in_err-kind.field-0.0))
     c.bursts.invariant.count (counts_of_err (AdvanceKind × CellStateData) Outcome mid new
-    c.in_err-course.field-0.0 c.in_err-course.ensures.counts))
+    c.in_err-kind.field-0.0 c.in_err-kind.ensures.counts))
 
 pub tell_rest-requires : goal.tell_rest-requires
 tell_rest-requires g c =
@@ -90,10 +90,10 @@ tell_rest-requires g c =
     let valid = subst IsValidScene c.scene.view_is c.scene.invariant in
     let batch = c.work.new.telling.untold in
     let told = told_on L.torn c.args.regions valid c.requires.asked c.bursts.invariant.told
-    (L.meaning c.work.new.listener) c.in_ok-course.ensures.told c.in_ok-course.ensures.advances batch
-    (batch_in c.in_ok-course.course batch) in
+    (L.meaning c.work.new.listener) c.in_ok-kind.ensures.told c.in_ok-kind.ensures.advances batch
+    (batch_in c.in_ok-kind.kind batch) in
     fits_unheard L.after L.awaits batch c.work.new.telling.fault (L.meaning c.work.new.listener)
-    c.in_ok-course.ensures.heard
+    c.in_ok-kind.ensures.heard
     (awaits_now L.torn c.args.regions valid c.requires.asked told L.awaits c.requires.awaited)
 
 pub returns-in_err-tell_rest-in-End-clause-cut_short : goal.returns-in_err-tell_rest-in-End-clause-cut_short
@@ -102,12 +102,12 @@ returns-in_err-tell_rest-in-End-clause-cut_short g c =
     let valid = subst IsValidScene c.scene.view_is c.scene.invariant in
     let batch = c.work.new.telling.untold in
     let told = told_on L.torn c.args.regions valid c.requires.asked c.bursts.invariant.told
-    (L.meaning c.work.new.listener) c.in_ok-course.ensures.told c.in_ok-course.ensures.advances batch
-    (batch_in c.in_ok-course.course batch) in
+    (L.meaning c.work.new.listener) c.in_ok-kind.ensures.told c.in_ok-kind.ensures.advances batch
+    (batch_in c.in_ok-kind.kind batch) in
     let new = L.meaning c.tell_rest.new.listener in
     let torn = torn_on L.after L.torn batch _ c.work.new.telling.fault _ (L.meaning c.work.new.listener) new
     (L.faults c.work.new.listener) (L.faults c.tell_rest.new.listener) c.in_err-tell_rest-in-End.ensures.refused
-    c.in_ok-course.ensures.heard _ refl in
+    c.in_ok-kind.ensures.heard _ refl in
     let r = c.from_residual-in_err-tell_rest-in-End.result in
     let fault = err_from_is_err_and r c.from_residual-in_err-tell_rest-in-End.ensures.1 in
     at_fault (λ (v : Result Outcome RunFault). IfErr v (λ e. RunCutShort L.after L.torn c.args.scene.now e
@@ -123,13 +123,13 @@ returns-in_err-tell_rest-in-End-clause-counts g c =
     let new = L.meaning c.tell_rest.new.listener in
     let torn = torn_on L.after L.torn batch _ c.work.new.telling.fault _ (L.meaning c.work.new.listener) new
     (L.faults c.work.new.listener) (L.faults c.tell_rest.new.listener) c.in_err-tell_rest-in-End.ensures.refused
-    c.in_ok-course.ensures.heard _ refl in
+    c.in_ok-kind.ensures.heard _ refl in
     let r = c.from_residual-in_err-tell_rest-in-End.result in
     let fault = err_from_is_err_and r c.from_residual-in_err-tell_rest-in-End.ensures.1 in
     at_fault (CountsRun {T = Outcome} (L.faults c.args.listener.now) (L.faults c.tell_rest.new.listener)) r fault.0
     Listener fault.1 fault.2
     (subst (λ (old : ℕ). CountsRun {T = Outcome} old (L.faults c.tell_rest.new.listener) (Err Listener))
-    (c.in_ok-course.ensures.counts ∙ c.bursts.invariant.count)
+    (c.in_ok-kind.ensures.counts ∙ c.bursts.invariant.count)
     (torn_counts L.after L.torn Outcome batch (L.meaning c.work.new.listener) new (L.faults c.work.new.listener)
     (L.faults c.tell_rest.new.listener) torn))
 
@@ -139,10 +139,10 @@ tell_rest-requires-in-Limit g c =
     let valid = subst IsValidScene c.scene.view_is c.scene.invariant in
     let batch = c.work.new.telling.untold in
     let told = told_on L.torn c.args.regions valid c.requires.asked c.bursts.invariant.told
-    (L.meaning c.work.new.listener) c.in_ok-course.ensures.told c.in_ok-course.ensures.advances batch
-    (batch_in c.in_ok-course.course batch) in
+    (L.meaning c.work.new.listener) c.in_ok-kind.ensures.told c.in_ok-kind.ensures.advances batch
+    (batch_in c.in_ok-kind.kind batch) in
     fits_unheard L.after L.awaits batch c.work.new.telling.fault (L.meaning c.work.new.listener)
-    c.in_ok-course.ensures.heard
+    c.in_ok-kind.ensures.heard
     (awaits_now L.torn c.args.regions valid c.requires.asked told L.awaits c.requires.awaited)
 
 pub returns-in_err-tell_rest-in-Limit-clause-cut_short : goal.returns-in_err-tell_rest-in-Limit-clause-cut_short
@@ -151,12 +151,12 @@ returns-in_err-tell_rest-in-Limit-clause-cut_short g c =
     let valid = subst IsValidScene c.scene.view_is c.scene.invariant in
     let batch = c.work.new.telling.untold in
     let told = told_on L.torn c.args.regions valid c.requires.asked c.bursts.invariant.told
-    (L.meaning c.work.new.listener) c.in_ok-course.ensures.told c.in_ok-course.ensures.advances batch
-    (batch_in c.in_ok-course.course batch) in
+    (L.meaning c.work.new.listener) c.in_ok-kind.ensures.told c.in_ok-kind.ensures.advances batch
+    (batch_in c.in_ok-kind.kind batch) in
     let new = L.meaning c.tell_rest-in-Limit.new.listener in
     let torn = torn_on L.after L.torn batch _ c.work.new.telling.fault _ (L.meaning c.work.new.listener) new
     (L.faults c.work.new.listener) (L.faults c.tell_rest-in-Limit.new.listener) c.in_err-tell_rest-in-Limit.ensures.refused
-    c.in_ok-course.ensures.heard _ refl in
+    c.in_ok-kind.ensures.heard _ refl in
     let r = c.from_residual-in_err-tell_rest-in-Limit.result in
     let fault = err_from_is_err_and r c.from_residual-in_err-tell_rest-in-Limit.ensures.1 in
     at_fault (λ (v : Result Outcome RunFault). IfErr v (λ e. RunCutShort L.after L.torn c.args.scene.now e
@@ -172,13 +172,13 @@ returns-in_err-tell_rest-in-Limit-clause-counts g c =
     let new = L.meaning c.tell_rest-in-Limit.new.listener in
     let torn = torn_on L.after L.torn batch _ c.work.new.telling.fault _ (L.meaning c.work.new.listener) new
     (L.faults c.work.new.listener) (L.faults c.tell_rest-in-Limit.new.listener) c.in_err-tell_rest-in-Limit.ensures.refused
-    c.in_ok-course.ensures.heard _ refl in
+    c.in_ok-kind.ensures.heard _ refl in
     let r = c.from_residual-in_err-tell_rest-in-Limit.result in
     let fault = err_from_is_err_and r c.from_residual-in_err-tell_rest-in-Limit.ensures.1 in
     at_fault (CountsRun {T = Outcome} (L.faults c.args.listener.now) (L.faults c.tell_rest-in-Limit.new.listener)) r fault.0
     Listener fault.1 fault.2
     (subst (λ (old : ℕ). CountsRun {T = Outcome} old (L.faults c.tell_rest-in-Limit.new.listener) (Err Listener))
-    (c.in_ok-course.ensures.counts ∙ c.bursts.invariant.count)
+    (c.in_ok-kind.ensures.counts ∙ c.bursts.invariant.count)
     (torn_counts L.after L.torn Outcome batch (L.meaning c.work.new.listener) new (L.faults c.work.new.listener)
     (L.faults c.tell_rest-in-Limit.new.listener) torn))
 
@@ -189,12 +189,12 @@ returns-in_err-spots-in-End-clause-cut_short g c =
     let valid = subst IsValidScene c.scene.view_is c.scene.invariant in
     let batch = c.work.new.telling.untold in
     let told = told_on L.torn c.args.regions valid c.requires.asked c.bursts.invariant.told
-    (L.meaning c.work.new.listener) c.in_ok-course.ensures.told c.in_ok-course.ensures.advances batch
-    (batch_in c.in_ok-course.course batch) in
+    (L.meaning c.work.new.listener) c.in_ok-kind.ensures.told c.in_ok-kind.ensures.advances batch
+    (batch_in c.in_ok-kind.kind batch) in
     let new = L.meaning c.tell_rest.new.listener in
     let whole = first_on L.after L.torn batch [] c.work.new.telling.fault None (L.meaning c.work.new.listener) new
     (L.faults c.work.new.listener) (L.faults c.tell_rest.new.listener) c.in_ok-tell_rest-in-End.ensures.told
-    c.in_ok-course.ensures.heard refl in
+    c.in_ok-kind.ensures.heard refl in
     let rest = first_all L.after L.torn batch [] (L.meaning c.work.new.listener) new (L.faults c.work.new.listener)
     (L.faults c.tell_rest.new.listener) whole refl in
     let r = c.from_residual-in_err-spots-in-End.result in
@@ -210,16 +210,16 @@ returns-in-End-clause-run g c =
     let valid = subst IsValidScene c.scene.view_is c.scene.invariant in
     let batch = c.work.new.telling.untold in
     let told = told_on L.torn c.args.regions valid c.requires.asked c.bursts.invariant.told
-    (L.meaning c.work.new.listener) c.in_ok-course.ensures.told c.in_ok-course.ensures.advances batch
-    (batch_in c.in_ok-course.course batch) in
+    (L.meaning c.work.new.listener) c.in_ok-kind.ensures.told c.in_ok-kind.ensures.advances batch
+    (batch_in c.in_ok-kind.kind batch) in
     let new = L.meaning c.tell_rest.new.listener in
     let whole = first_on L.after L.torn batch [] c.work.new.telling.fault None (L.meaning c.work.new.listener) new
     (L.faults c.work.new.listener) (L.faults c.tell_rest.new.listener) c.in_ok-tell_rest-in-End.ensures.told
-    c.in_ok-course.ensures.heard refl in
+    c.in_ok-kind.ensures.heard refl in
     let rest = first_all L.after L.torn batch [] (L.meaning c.work.new.listener) new (L.faults c.work.new.listener)
     (L.faults c.tell_rest.new.listener) whole refl in
     ends L.torn c.args.regions valid c.requires.asked told new rest c.in_ok-spots-in-End.spots
-    (none_left c.in_ok-course.ensures.advances (ap (λ (v : AdvanceKind). answer_with v batch) c.in-End.is))
+    (none_left c.in_ok-kind.ensures.advances (ap (λ (v : AdvanceKind). answer_with v batch) c.in-End.is))
     c.in_ok-spots-in-End.ensures
 
 pub returns-in-Limit-clause-run : goal.returns-in-Limit-clause-run
@@ -228,19 +228,19 @@ returns-in-Limit-clause-run g c =
     let valid = subst IsValidScene c.scene.view_is c.scene.invariant in
     let batch = c.work.new.telling.untold in
     let told = told_on L.torn c.args.regions valid c.requires.asked c.bursts.invariant.told
-    (L.meaning c.work.new.listener) c.in_ok-course.ensures.told c.in_ok-course.ensures.advances batch
-    (batch_in c.in_ok-course.course batch) in
+    (L.meaning c.work.new.listener) c.in_ok-kind.ensures.told c.in_ok-kind.ensures.advances batch
+    (batch_in c.in_ok-kind.kind batch) in
     let new = L.meaning c.tell_rest-in-Limit.new.listener in
     let whole = first_on L.after L.torn batch [] c.work.new.telling.fault None (L.meaning c.work.new.listener) new
     (L.faults c.work.new.listener) (L.faults c.tell_rest-in-Limit.new.listener) c.in_ok-tell_rest-in-Limit.ensures.told
-    c.in_ok-course.ensures.heard refl in
+    c.in_ok-kind.ensures.heard refl in
     let rest = first_all L.after L.torn batch [] (L.meaning c.work.new.listener) new (L.faults c.work.new.listener)
     (L.faults c.tell_rest-in-Limit.new.listener) whole refl in
     fails L.torn c.args.regions valid c.requires.asked told new rest c.in-Limit.limit
-    (next_fails c.in_ok-course.ensures.advances (ap (λ (v : AdvanceKind). answer_with v batch) c.in-Limit.is))
+    (next_fails c.in_ok-kind.ensures.advances (ap (λ (v : AdvanceKind). answer_with v batch) c.in-Limit.is))
 
 pub bursts-smaller : goal.bursts-smaller
-bursts-smaller g c = less_left c.bursts.invariant.cell c.in_ok-course.ensures.advances
+bursts-smaller g c = less_left c.bursts.invariant.cell c.in_ok-kind.ensures.advances
     (ap (λ (v : AdvanceKind). answer_with v c.work.new.telling.untold) c.in-Raised.is)
 
 pub bursts-preserved : goal.bursts-preserved
@@ -249,10 +249,10 @@ bursts-preserved g c =
     let valid = subst IsValidScene c.scene.view_is c.scene.invariant in
     let batch = c.work.new.telling.untold in
     record {
-      cell = cell_after c.in_ok-course.ensures.advances;
-      heard = c.in_ok-course.ensures.heard;
+      cell = cell_after c.in_ok-kind.ensures.advances;
+      heard = c.in_ok-kind.ensures.heard;
       told = told_on L.torn c.args.regions valid c.requires.asked c.bursts.invariant.told
-          (L.meaning c.work.new.listener) c.in_ok-course.ensures.told c.in_ok-course.ensures.advances batch
-          (batch_in c.in_ok-course.course batch);
-      count = c.in_ok-course.ensures.counts ∙ c.bursts.invariant.count;
+          (L.meaning c.work.new.listener) c.in_ok-kind.ensures.told c.in_ok-kind.ensures.advances batch
+          (batch_in c.in_ok-kind.kind batch);
+      count = c.in_ok-kind.ensures.counts ∙ c.bursts.invariant.count;
     }
