@@ -1,5 +1,5 @@
 -- Regions that stand on a state, of which one steps or hears.
-use Rattle.std.proofs.Common.{◌≡◌, ◌≢◌, inl, inr, ℕ, ◌<◌, List, length, slice_get, slice_set, sym, ap, ◌∙◌, subst, refl, Some}
+use Rattle.std.proofs.Common.{◌≡◌, ◌≢◌, inl, inr, ℕ, zero, suc, ◌<◌, List, [], ◌∷◌, length, slice_get, slice_set, sym, ap, ap₂, ◌∙◌, subst, refl, Some}
 use Rattle.std.specs.Prelude.{map, option_map}
 use Rattle.std.proofs.lemmas.List.{length-set, length-map}
 use Rattle.std.proofs.lemmas.Option.{same_Some, slice_get_within, slice_get-map}
@@ -23,6 +23,7 @@ use Rattle.commit_horizon.specs.Horizon.{run_of, runs_of, AllStand}
 use Rattle.commit_horizon.proofs.Standing.{region_on, region_at}
 use Rattle.run_core.specs.Hearings.{sent_by}
 use Rattle.run_core.specs.Second.{rewound_to}
+use Rattle.run_core.specs.Taking.{at_floor}
 use Rattle.run_core.specs.Turns.{Turns, Meets}
 use Rattle.run_core.proofs.Hearing.{hears_what}
 use Rattle.run_core.proofs.Pass.{base_kept}
@@ -217,3 +218,16 @@ all_rewound state old new at stand is = (
         subst (StandsOn state k) (same_Some (region_on state k (rewound_to at (runs_of old k))) region
         (sym (there k within) ∙ here))
         (stands_with state old k (rewound_to at (runs_of old k)) stand within refl)
+
+-- to the floor of each, which is the state's
+pub all_at_floor : (state : CellStateData) (regions : List RegionData) → AllStand state regions →
+    map at_floor regions ≡ map (rewound state.floor) regions
+all_at_floor state regions stand = by_list regions (λ k region at. (stand.each k region at).floor)
+  where
+    by_list : (rest : List RegionData) →
+        ((k : ℕ) (region : RegionData) → slice_get rest k ≡ Some region → region.floor ≡ state.floor) →
+        map at_floor rest ≡ map (rewound state.floor) rest
+    by_list [] floors = refl
+    by_list (region ∷ rest) floors = ap₂ (λ (r : RegionData) (rs : List RegionData). r ∷ rs)
+        (ap (λ (at : Stamp). rewound at region) (floors zero region refl))
+        (by_list rest (λ k r at. floors (suc k) r at))

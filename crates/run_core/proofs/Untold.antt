@@ -29,7 +29,7 @@ use Rattle.run_core.specs.AdvancesUntold.{answer_with, AdvanceMade, EventMade}
 use Rattle.run_core.specs.Passing.{Agrees}
 use Rattle.run_core.specs.Simulates.{batch_of, Advances}
 use Rattle.run_core.specs.Standing.{GoesOnTo, ComesOf}
-use Rattle.run_core.specs.Taking.{StandFrom, RunsEvent}
+use Rattle.run_core.specs.Taking.{StandOnCells, RunsEvent}
 use Rattle.run_core.proofs.OneState.{goes_on_by}
 use Rattle.run_core.proofs.Simulating.{leads_of}
 use Rattle.run_core.proofs.Homes.{event_ran, event_halted, event_idled}
@@ -58,11 +58,11 @@ if_ok_goes (Err e) f p = tt
 
 -- ---- the second part
 -- regions on a state that comes of an earlier one are regions of its grid
-pub stand_from : (earlier : CellStateData) (grid : GridData) (floor : Stamp) (regions : List RegionData)
+pub stand_on_cells : (earlier : CellStateData) (grid : GridData) (floor : Stamp) (regions : List RegionData)
     (state : CellStateData) → grid ≡ earlier.grid → ComesOf earlier floor regions state →
-    StandFrom grid floor regions state
-stand_from earlier grid floor regions state grid_is of =
-    record { is = of.is; grid_is = of.grid_is ∙ sym grid_is; floor_is = of.floor_is; stand = of.stand }
+    StandOnCells grid regions state
+stand_on_cells earlier grid floor regions state grid_is of =
+    record { is = of.is; grid_is = of.grid_is ∙ sym grid_is; stand = of.stand }
 
 -- and others that stand on it have its rules
 pub state_with : (earlier : CellStateData) (rules : Rules) (floor : Stamp) (regions left : List RegionData)

@@ -8,6 +8,7 @@ use Rattle.local_run.specs.declared.answers.Step.{Step}
 use Rattle.local_run.specs.declared.answers.Step.TheVariants.{Ran}
 use Rattle.local_run.specs.LocalRun.{Local}
 use Rattle.local_run.specs.Opening.{RegionData}
+use Rattle.local_run.specs.Hearing.{rewound}
 use Rattle.local_run.specs.Keeping.{IsDueIn}
 use Rattle.commit_horizon.specs.Horizon.{LocalRuns, runs_of, AreStanding, AllStand}
 use Rattle.run_core.specs.declared.answers.Advance.{Advance}
@@ -50,13 +51,15 @@ pub record AllTookIn (state : CellStateData) (old : List RegionData) (k : ℕ) (
   pub stand : AllStand state new
 
 -- ---- one event
--- regions of this grid stand on a state with this floor
-pub record StandFrom (grid : GridData) (floor : Stamp) (regions : List RegionData) (state : CellStateData) :
-    Type 0 where
+-- regions of this grid stand on a state of the cell run
+pub record StandOnCells (grid : GridData) (regions : List RegionData) (state : CellStateData) : Type 0 where
   pub is : IsCellState state
   pub grid_is : state.grid ≡ grid
-  pub floor_is : state.floor ≡ floor
   pub stand : AllStand state regions
+
+-- a region that took back what it did since its floor
+abbrev pub at_floor : RegionData → RegionData
+at_floor region = rewound region.floor region
 
 -- regions that stand were all taken back to the floor, and heard each other
 pub record Refreshed (state : CellStateData) (regions fresh : List RegionData) : Type 0 where

@@ -2,12 +2,13 @@
 
 ghost use Rattle.std.specs.Prelude.{◌≡◌, [], IfOk};
 ghost use Rattle.cell_sequence.specs.State.{CellStateData};
+ghost use Rattle.commit_horizon.specs.Horizon.{AllStand, AllKept};
 ghost use Rattle.run_core.specs.AdvancesUntold.{AdvanceMade, EventMade, answer_with};
 ghost use Rattle.run_core.specs.Simulates.{Advances};
 ghost use Rattle.run_core.specs.Standing.{ComesOf};
 
 use crate::answers::AdvanceKind;
-use crate::one_event::{know, run_event};
+use crate::one_event::run_event;
 use crate::one_state::Standing;
 use crate::passes::agree;
 use cell_sequence::CellState;
@@ -56,13 +57,23 @@ pub(crate) fn make_final(
         ComesOf earlier.now state.floor regions.old state →
         AdvanceMade state regions.old advanced.0 untold.new advanced.1 regions.new) }
 {
-    know(regions);
+    none_is_spent(regions);
     agree(alloc, earlier.grid(), regions)?;
     let made = commit_cutting(alloc, earlier.rules(), regions, untold)?;
     if made.last.is_some() {
         return Ok((AdvanceKind::Raised, made));
     }
     make_event(alloc, earlier, made.floor, regions, untold)
+}
+
+// Asserts that none of some regions is spent, which stand on a state.
+fn none_is_spent(regions: &[Region])
+    requires { (state : CellStateData) × AllStand state regions.now }
+    ensures { AllKept regions.now }
+{
+    for region in regions {
+        prove!(!region.is_spent());
+    }
 }
 
 // Runs the next event of the state on which regions stand, and commits it. The state has the rules and the grid of an
@@ -79,7 +90,7 @@ fn make_event(
     ensures { IfOk result (λ advanced. (state : CellStateData) → ComesOf earlier.now floor regions.old state →
         EventMade state regions.old advanced.0 untold.new advanced.1 regions.new) }
 {
-    let step = run_event(alloc, earlier.grid(), floor, regions)?;
+    let step = run_event(alloc, earlier.grid(), regions)?;
     match step {
         Step::Ran(_) => {
             let made = commit_cutting(alloc, earlier.rules(), regions, untold)?;

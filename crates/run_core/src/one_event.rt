@@ -2,36 +2,33 @@
 
 ghost use Rattle.std.specs.Prelude.{◌≡◌, ◌<◌, length, map, IfOk, OnOk};
 ghost use Rattle.cell_grid.specs.Grid.{IsRegion};
-ghost use Rattle.local_run.specs.Hearing.{rewound};
 ghost use Rattle.cell_sequence.specs.State.{CellStateData};
 ghost use Rattle.commit_horizon.specs.Horizon.{AllKept};
 ghost use Rattle.run_core.specs.Passing.{StandOn};
-ghost use Rattle.run_core.specs.Taking.{IsNextHome, OneTookIn, AllTookIn, Refreshed, RunsEvent, StandFrom};
+ghost use Rattle.run_core.specs.Taking.{IsNextHome, OneTookIn, AllTookIn, at_floor, Refreshed, RunsEvent, StandOnCells};
 
 use crate::pairs::{hear_at, step_at};
 use crate::passes::pass;
 use cell_grid::Grid;
-use event_stamps::Stamp;
 use region_core::{Hearing, Region, Step};
 use std::alloc::{AllocError, Global};
 
-/// Has regions of a grid, which stand on a state with this floor, run the state's next event: the region that is
-/// its home makes a step, which is answered, and where that ran the event, those that are linked with it take in
-/// what it sent. What they did since the floor is taken back first.
+/// Has regions of a grid, which stand on a state, run the state's next event: the region that is its home makes a
+/// step, which is answered, and if that ran the event, those that are linked with it take in what it sent. What they
+/// did since the floor is taken back first.
 ///
 /// # Errors
 /// Out of memory.
 pub(crate) fn run_event(
     alloc: Global,
     grid: &Grid,
-    floor: Stamp,
     regions: &mut [Region],
 ) -> Result<Step, AllocError>
-    requires { (state : CellStateData) × StandFrom grid.now floor regions.old state }
-    ensures { IfOk result (λ step. (state : CellStateData) → StandFrom grid.now floor regions.old state →
+    requires { (state : CellStateData) × StandOnCells grid.now regions.old state }
+    ensures { IfOk result (λ step. (state : CellStateData) → StandOnCells grid.now regions.old state →
         RunsEvent state regions.old step regions.new) }
 {
-    refresh(alloc, grid, floor, regions)?;
+    refresh(alloc, grid, regions)?;
     let home = least_due(regions);
     let step = step_at(alloc, regions, home)?;
     match step {
@@ -44,37 +41,24 @@ pub(crate) fn run_event(
 }
 
 // All regions take back what they did since the floor, and hear each other.
-fn refresh(
-    alloc: Global,
-    grid: &Grid,
-    floor: Stamp,
-    regions: &mut [Region],
-) -> Result<(), AllocError>
-    requires { (state : CellStateData) × StandFrom grid.now floor regions.old state }
-    ensures { OnOk result ((state : CellStateData) → StandFrom grid.now floor regions.old state →
+fn refresh(alloc: Global, grid: &Grid, regions: &mut [Region]) -> Result<(), AllocError>
+    requires { (state : CellStateData) × StandOnCells grid.now regions.old state }
+    ensures { OnOk result ((state : CellStateData) → StandOnCells grid.now regions.old state →
         Refreshed state regions.old regions.new) }
 {
-    know(regions);
-    rewind_all(alloc, regions, floor)?;
+    rewind_all(alloc, regions)?;
     pass(alloc, grid, regions)?;
     Ok(())
 }
 
-/// Does nothing: what the type of a region keeps, its accessors say, and here of all of them.
-pub(crate) fn know(regions: &[Region])
-    ensures { AllKept regions.now }
+// Each region takes back what it did since its floor.
+fn rewind_all(alloc: Global, regions: &mut [Region]) -> Result<(), AllocError>
+    ensures rewound { OnOk result (regions.new ≡ map at_floor regions.old) }
+    ensures kept { OnOk result (AllKept regions.old) }
 {
     for region in regions {
-        let _floor = region.floor();
-    }
-}
-
-// All regions take back what they did from a stamp on.
-fn rewind_all(alloc: Global, regions: &mut [Region], at: Stamp) -> Result<(), AllocError>
-    ensures { OnOk result (regions.new ≡ map (rewound at) regions.old) }
-{
-    for region in regions {
-        region.rewind(alloc, at)?;
+        let floor = region.floor();
+        region.rewind(alloc, floor)?;
     }
     Ok(())
 }
