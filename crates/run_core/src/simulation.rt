@@ -14,7 +14,7 @@ use crate::answers::AdvanceKind;
 use crate::one_state::Standing;
 use crate::telling::Telling;
 use event_rules::{Listener, Outcome, RunFault};
-use fixed_motion::Scene;
+use fixed_motion::{MAX_DISKS, Scene};
 use region_core::Burst;
 use std::alloc::Global;
 use std::sync::Wait;
@@ -43,7 +43,7 @@ pub fn simulate<B: Burst<Telling, L>, R: Threads + Wait + Sync, L: Listener>(
         (L.meaning listener.old) (L.meaning listener.new)) }
     ensures counts { CountsRun (L.faults listener.old) (L.faults listener.new) result }
 {
-    let _rules = &scene.rules;
+    prove!(scene.disks.len() <= MAX_DISKS);
     let mut standing = Standing::open(rt, alloc, scene, regions)?;
     let mut telling = Telling::new(alloc);
     'bursts: loop {
