@@ -1,4 +1,4 @@
-//! One event of the cell run, where nothing that the regions did is final.
+//! One event of the cell run, for when nothing that the regions did is final.
 
 ghost use Rattle.std.specs.Prelude.{◌≡◌, ◌<◌, length, map, IfOk, OnOk};
 ghost use Rattle.cell_grid.specs.Grid.{IsRegion};
@@ -99,7 +99,7 @@ fn tell_all(
     Ok(())
 }
 
-// One region takes in what another sent, where they are linked: it hears it, and steps where it is new.
+// One region takes in what another sent, if they are linked: it hears it, and steps if there is news.
 fn take_in(
     alloc: Global,
     grid: &Grid,

@@ -5,13 +5,13 @@ use event_stamps::Stamp;
 use region_core::Region;
 use std::marker::Model;
 
-/// Regions that stand, by number, on one state of the cell run. Its rows are theirs, and are put together only where
+/// Regions that stand, by number, on one state of the cell run. Its rows are theirs, and are put together only if
 /// somebody asks for the state.
 #[derive(Drop)]
 pub(crate) struct Standing {
     /// An earlier state of the run.
     pub(crate) earlier: Committed,
-    /// The stamp of the last action since then; none where there was no action.
+    /// The stamp of the last action since then; none if there was no action.
     pub(crate) last: Option<Stamp>,
     /// The floor.
     pub(crate) floor: Stamp,
@@ -50,7 +50,7 @@ use std::sync::Wait;
 use std::thread::Threads;
 
 impl Standing {
-    /// The regions of the state with which the cell run of a scene begins, so many as are asked for, 1 to
+    /// The regions of the state with which the cell run of a scene begins, as many as are asked for, 1 to
     /// [`MAX_REGIONS`](cell_grid::MAX_REGIONS). They are opened side by side.
     ///
     /// # Errors
@@ -79,7 +79,7 @@ impl Standing {
     }
 
     /// Regions that stand on a state with this floor, to which the run goes on from an earlier one by actions of
-    /// which the last has the stamp `last`; none where there is no action.
+    /// which the last has the stamp `last`; none if there is no action.
     pub(crate) fn after(
         earlier: Committed,
         last: Option<Stamp>,
@@ -98,7 +98,7 @@ impl Standing {
     }
 
     /// Lets a burst work on the regions. Those that it gives back stand on the same state, or others are opened in
-    /// their place. Where it keeps them, nothing is compared.
+    /// their place. If the burst keeps them, nothing is compared.
     ///
     /// # Errors
     /// Out of memory.

@@ -62,7 +62,7 @@ fn hear_all(
     Ok(more)
 }
 
-// One region hears another, where they are linked; whether it was rewound.
+// One region hears another, if they are linked; whether it was rewound.
 fn hear_one(
     alloc: Global,
     grid: &Grid,

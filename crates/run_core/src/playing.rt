@@ -105,7 +105,7 @@ fn play_one(
     }
 }
 
-// One more answer, where there is one.
+// One more answer, if there is one.
 fn push_some(answers: &mut Vec<Answer>, answer: Option<Answer>) -> Result<(), AllocError>
     ensures { OnOk result (answers.new.items ≡ answers.old.items ++ answers_of answer) }
 {

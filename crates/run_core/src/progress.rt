@@ -11,7 +11,7 @@ use region_core::Region;
 use std::alloc::{AllocError, Global};
 
 /// Makes final what the regions did, which stand on the committed state by number: they hear each other
-/// until that takes nothing back, and what they did before the commit horizon is committed. Where that is
+/// until that takes nothing back, and what they did before the commit horizon is committed. If that is
 /// nothing, the next event of the cell run is made by its home, and committed; or there is none, or it fails
 /// a limit.
 ///

@@ -20,7 +20,7 @@ use std::alloc::Global;
 use std::sync::Wait;
 use std::thread::Threads;
 
-/// Runs a scene over so many regions, 1 to [`MAX_REGIONS`](cell_grid::MAX_REGIONS), and tells each change in
+/// Runs a scene over this many regions, 1 to [`MAX_REGIONS`](cell_grid::MAX_REGIONS), and tells each change in
 /// the order of the stamps: what a burst made final is told beside the next one, and what is left of it after that.
 /// The burst may do with the regions what it will: the run is the same.
 ///
