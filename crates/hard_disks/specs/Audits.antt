@@ -23,15 +23,15 @@ abbrev pub IsClaimedOf : Option (List ℕ) → List ℕ → Type 0
 IsClaimedOf None claimed = ⊤
 IsClaimedOf (Some bytes) claimed = claimed ≡ rest_of bytes
 
--- the text is the report of the scene's run
-abbrev pub KeepsReport : SceneData → List ℕ → Type 0
-KeepsReport scene text = (own : Status) × IsReport Lines scene text own
+-- the text is a report of the scene's run, whatever the status
+abbrev pub IsReportOf : SceneData → List ℕ → Type 0
+IsReportOf scene text = (own : Status) × IsReport Lines scene text own
 
 -- the bytes before the parting line state a scene, and the verdict is right about the report of its run and the claimed one
 abbrev pub IsAudited : Option (List ℕ) → Verdict → Type 0
 IsAudited left verdict =
     (scene : SceneData) × (text : List ℕ) × (claimed : List ℕ) × IsReadingOf (front_of_known left) (Ok scene)
-    × KeepsReport scene text × IsClaimedOf left claimed × IsVerdict text claimed verdict
+    × IsReportOf scene text × IsClaimedOf left claimed × IsVerdict text claimed verdict
 
 -- a refusal of the bytes before the parting line themselves
 abbrev pub IsRefusal : Option (List ℕ) → SceneFault → Type 0
@@ -74,7 +74,7 @@ ReadsFront left left' (Err NoMemory) = ⊤
 
 -- the verdict is right about the report of the scene's run and what a claimed source had left
 abbrev pub ComparesRun : SceneData → Option (List ℕ) → Option (List ℕ) → Verdict → Type 0
-ComparesRun scene left left' verdict = (text : List ℕ) × KeepsReport scene text × Compares text left left' verdict
+ComparesRun scene left left' verdict = (text : List ℕ) × IsReportOf scene text × Compares text left left' verdict
 
 -- no scene was refused
 abbrev pub IsUnrefused : Result Verdict AuditFault → Type 0

@@ -9,7 +9,7 @@ use Rattle.hard_disks.specs.declared.status.Status.{Status}
 use Rattle.hard_disks.specs.declared.status.Status.TheVariants.{Done, SceneRefused, Wrong}
 use Rattle.hard_disks.specs.Refusals.{refusal_line}
 use Rattle.hard_disks.specs.Reports.{Reading}
-use Rattle.hard_disks.specs.Audits.{KeepsReport}
+use Rattle.hard_disks.specs.Audits.{IsReportOf}
 
 -- the report's line there, if it has one
 abbrev pub expected_line : Option (List ℕ) → List ℕ
@@ -27,7 +27,7 @@ verdict_status (Line number expected) = Wrong
 -- what is shown of a scene and a claimed report of its run
 abbrev pub ShowsAudit : SceneData → List ℕ → List ℕ → Status → Type 0
 ShowsAudit scene claimed text status =
-    (report : List ℕ) × (verdict : Verdict) × KeepsReport scene report × IsVerdict report claimed verdict
+    (report : List ℕ) × (verdict : Verdict) × IsReportOf scene report × IsVerdict report claimed verdict
     × (text ≡ verdict_text verdict) × (status ≡ verdict_status verdict)
 
 -- the output, by what the bytes before the parting line say and the claimed report after it
