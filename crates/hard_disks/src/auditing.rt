@@ -75,7 +75,7 @@ pub fn audit_by<R: Threads + Wait + Sync, S: Source, G: Gate, B: Burst<Idle, ()>
         Ok(()) => {}
         Err(Unread) => return Err(AuditFault::ReadFault),
     }
-    // What it stands for until the comparison says more.
+    // The place of the answer: the comparison writes it, and what stands here before is never given back.
     let mut answer = Err(AuditFault::NoMemory);
     let _parted = compare_run(rt, alloc, engine, &scene, parted, &mut answer);
     answer
