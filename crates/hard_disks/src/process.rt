@@ -37,9 +37,9 @@ pub struct Terminals {
 }
 
 /// Does what the words ask for, which follow the program's name: reads standard input, and writes standard output.
-/// Where standard error is a terminal, a line there says how far the run is. Where standard output is none, the output
-/// is written in larger pieces, and no line is held for long while others follow. `terminal` is asked whether the line
-/// may be shown.
+/// If standard error is a terminal, a line there says how far the run is. If standard output is none, the output is
+/// written in larger pieces, and no line is held for long while others follow. `terminal` is asked whether the line may
+/// be shown.
 ///
 /// What is read and written is what [`top`] says.
 pub fn run_process<
@@ -48,39 +48,21 @@ pub fn run_process<
 >(rt: &R, words: &[String], terminals: Terminals, terminal: &T) -> Status
     ensures { Answers (settings_of (map string_bytes words.now)) None None None result }
 {
-    match words
+    let Ok(words) = words
         .iter()
         .map(|word| word.as_str())
         .collect::<Vec<&str>>(rt.alloc())
+    else {
+        return Status::NoMemory;
+    };
+    if terminals.errors
+        && let Ok((board, pen)) = Board::open(rt.alloc())
     {
-        Ok(words) => run_words(rt, &words, terminals, terminal),
-        Err(_) => Status::NoMemory,
+        return run_shown(rt, &words, terminals.output, terminal, &board, pen);
     }
-}
-
-fn run_words<
-    R: AllocGlobal + Input + Print + Eprint + Threads + Wait + Clock + Sync,
-    T: Terminal + Sync,
->(rt: &R, words: &[&str], terminals: Terminals, terminal: &T) -> Status
-    ensures { Answers (settings_of (map (λ w. w.now) words.now)) None None None result }
-{
-    if terminals.errors {
-        run_shown(rt, words, terminals.output, terminal)
-    } else {
-        run_unshown(rt, words, terminals.output)
-    }
-}
-
-fn run_unshown<R: AllocGlobal + Input + Print + Threads + Wait + Clock + Sync>(
-    rt: &R,
-    words: &[&str],
-    is_terminal: bool,
-) -> Status
-    ensures { Answers (settings_of (map (λ w. w.now) words.now)) None None None result }
-{
     let mut source = StdSource::new(rt.reader());
     let sink = StdSink::new(io::writer(rt));
-    let (status, _) = run_between(rt, words, &mut source, sink, is_terminal);
+    let (status, _) = run_between(rt, &words, &mut source, sink, terminals.output);
     status
 }
 
@@ -131,21 +113,20 @@ fn room_of(is_terminal: bool) -> usize {
 fn run_shown<
     R: AllocGlobal + Input + Print + Eprint + Threads + Wait + Clock + Sync,
     T: Terminal + Sync,
->(rt: &R, words: &[&str], is_shared: bool, terminal: &T) -> Status
+>(rt: &R, words: &[&str], is_shared: bool, terminal: &T, board: &Board, mut pen: Pen) -> Status
+    requires board { pen.board ≡ board.now }
+    requires unwritten { pen.list ≡ [] }
     ensures { Answers (settings_of (map (λ w. w.now) words.now)) None None None result }
 {
-    let Ok((board, mut pen)) = Board::open(rt.alloc()) else {
-        return run_unshown(rt, words, is_shared);
-    };
     let glass = board.glass(rt, &mut pen);
     let line = ProgressLine::new();
     let (_, status) = thread::join(
         rt,
-        || line.show(rt, terminal, &board, glass),
+        || line.show(rt, terminal, board, glass),
         || -> Status
-            requires { (pen.board ≡ board) × (pen.list ≡ []) }
+            requires { (pen.board ≡ board.now) × (pen.list ≡ []) }
             ensures { Answers (settings_of (map (λ w. w.now) words.entry.now)) None None None result }
-        { run_beside(rt, words, is_shared, &line, &board, pen) },
+        { run_beside(rt, words, is_shared, &line, board, pen) },
     );
     status
 }
