@@ -8,10 +8,11 @@ ghost use Rattle.hard_disks.specs.Output.{Input, IsOutput};
 ghost use Rattle.hard_disks.specs.Answers.{Answers, Decides, ReadsScene, LeavesNothing, CountsWrites};
 ghost use Rattle.hard_disks.specs.Gathers.{IsFresh, CountsReadsBelow};
 
-use crate::calls::top;
+use crate::calls::top_watched;
 use crate::status::Status;
 use crate::timely::Timely;
 use gathered_sink::GatheringSink;
+use live_progress::Board;
 use region_core::Gate;
 use report_ports::{Given, Sink, Source};
 use std::alloc::Global;
@@ -52,9 +53,21 @@ pub fn top_gathered<R: Threads + Wait + Sync, S: Source, K: Sink, G: Gate, C: Cl
     ensures reads { CountsReadsBelow (S.faults source.old) (S.faults source.new) result.0 }
     ensures writes { CountsWrites (K.faults sink) (K.faults result.1) result.0 }
 {
+    let Ok((board, mut pen)) = Board::open(alloc) else {
+        return (Status::NoMemory, sink);
+    };
     let gathered = GatheringSink::new(alloc, sink, room);
     let mut timely = Timely::new(clock, gathered);
-    let status = top(rt, alloc, words, source, &mut timely, gate);
+    let status = top_watched(
+        rt,
+        alloc,
+        words,
+        source,
+        &mut timely,
+        gate,
+        &board,
+        &mut pen,
+    );
     finish(timely.gathered, status)
 }
 
