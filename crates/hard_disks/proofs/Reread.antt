@@ -59,7 +59,8 @@ left_states : (scene : SceneData) (at : ℕ) (text : List ℕ) (changes : List C
 left_states scene at text changes (DoneOutcome spots) valid le run e status =
     let parts = parts_make_runs scene at changes spots valid le run in record {
       first = changes;
-      rest = rest_scene scene at spots;
+      spots = spots;
+      before = run;
       says = ap says e ∙ canonical_texts_say (rest_scene scene at spots) parts.0;
       runs = parts.1;
     }
