@@ -1,5 +1,5 @@
 -- What the sink below has taken of an output that was gathered.
-use Rattle.std.proofs.Common.{◌≡◌, ◌∙◌, ◌⊎◌, inl, inr, ℕ, zero, suc, ◌≤◌, List, [], ◌++◌, length, take, drop, Option, Some, None, refl, sym, ap, subst, append_assoc, arith}
+use Rattle.std.proofs.Common.{◌≡◌, ◌≢◌, ◌∙◌, ◌⊎◌, inl, inr, ℕ, zero, suc, ◌≤◌, List, [], ◌++◌, length, take, drop, Option, Some, None, refl, sym, ap, subst, append_assoc, arith}
 use Rattle.std.specs.Prelude.{⊤}
 use Rattle.std.proofs.lemmas.List.{append-nil}
 use Rattle.std.proofs.Math.Seq.{take-nil}
@@ -13,7 +13,7 @@ use Rattle.hard_disks.specs.declared.status.Status.{Status}
 use Rattle.hard_disks.specs.declared.status.Status.TheVariants.{Done, BadWords, SceneRefused, SpeedLimit, RoundLimit, ReadFault, WriteFault, NoMemory, Wrong}
 use Rattle.hard_disks.specs.Answers.{Wrote, WroteWhole, WrotePrefix, Answers, LeavesNothing, CountsReads, CountsWrites}
 use Rattle.hard_disks.specs.Output.{IsOutput}
-use Rattle.hard_disks.specs.Gathers.{IsFresh, CountsReadsBelow}
+use Rattle.hard_disks.specs.Gathers.{IsFresh, Finishes}
 
 -- the front of a prefix is a prefix
 front_prefix : (taken told below : Option (List ℕ)) (text : List ℕ) → IsFresh taken → IsFront below told → AppendsPrefix taken told text
@@ -115,7 +115,7 @@ risen n rose = elim rose [
 ]
 
 -- ---- the status after the rest was given
-pub left_nothing : (left left' : Option (List ℕ)) (status last : Status) (below : ℕ) → (last ≡ status) ⊎ ((last ≡ WriteFault) × (1 ≤ below))
+pub left_nothing : (left left' : Option (List ℕ)) (status last : Status) (below : ℕ) → Finishes status below last
     → LeavesNothing left left' status → LeavesNothing left left' last
 left_nothing left left' status last below is h = elim is [
   | inl same ↦ subst (LeavesNothing left left') (sym same) h
@@ -126,33 +126,23 @@ left_nothing left left' status last below is h = elim is [
     unsaid None left' = tt
     unsaid (Some bytes) left' = tt
 
-reads_rise : (before after : ℕ) (status : Status) → CountsReads before after status → before ≤ after
-reads_rise before after Done c = omega (arith, c)
-reads_rise before after BadWords c = omega (arith, c)
-reads_rise before after SceneRefused c = omega (arith, c)
-reads_rise before after SpeedLimit c = omega (arith, c)
-reads_rise before after RoundLimit c = omega (arith, c)
-reads_rise before after ReadFault c = c.0
-reads_rise before after WriteFault c = omega (arith, c)
-reads_rise before after NoMemory c = c
-reads_rise before after Wrong c = omega (arith, c)
+-- the source didn't fail, so nothing was counted
+none_counted : (before after : ℕ) (status : Status) → status ≢ ReadFault → CountsReads before after status → after ≡ before
+none_counted before after Done not c = c
+none_counted before after BadWords not c = c
+none_counted before after SceneRefused not c = c
+none_counted before after SpeedLimit not c = c
+none_counted before after RoundLimit not c = c
+none_counted before after ReadFault not c = absurd (not refl)
+none_counted before after WriteFault not c = c
+none_counted before after NoMemory not c = c
+none_counted before after Wrong not c = c
 
-as_below : (before after : ℕ) (status : Status) → CountsReads before after status → CountsReadsBelow before after status
-as_below before after Done c = c
-as_below before after BadWords c = c
-as_below before after SceneRefused c = c
-as_below before after SpeedLimit c = c
-as_below before after RoundLimit c = c
-as_below before after ReadFault c = c
-as_below before after WriteFault c = reads_rise before after WriteFault c
-as_below before after NoMemory c = c
-as_below before after Wrong c = c
-
-pub read_below : (before after below : ℕ) (status last : Status) → (last ≡ status) ⊎ ((last ≡ WriteFault) × (1 ≤ below))
-    → CountsReads before after status → CountsReadsBelow before after last
+pub read_below : (before after below : ℕ) (status last : Status) → Finishes status below last → CountsReads before after status
+    → CountsReads before after last
 read_below before after below status last is c = elim is [
-  | inl same ↦ subst (CountsReadsBelow before after) (sym same) (as_below before after status c)
-  | inr torn ↦ subst (CountsReadsBelow before after) (sym torn.0) (reads_rise before after status c)
+  | inl same ↦ subst (CountsReads before after) (sym same) c
+  | inr torn ↦ subst (CountsReads before after) (sym torn.0) (none_counted before after status torn.1 c)
 ]
 
 -- ---- from a sink that gathers to the one below, which had taken nothing and counted none
@@ -172,7 +162,7 @@ none_unless zero unmet = refl
 none_unless (suc n) unmet = absurd (unmet (omega arith))
 
 pub completed_below : (before above above' below : ℕ) (status last own : Status) → before ≡ 0 → above ≡ 0 → (below ≡ 0 → above' ≡ 0)
-    → (last ≡ status) ⊎ ((last ≡ WriteFault) × (1 ≤ below)) → (¬ Rose above above' → (status ≡ own) ⊎ (status ≡ NoMemory))
+    → Finishes status below last → (¬ Rose above above' → (status ≡ own) ⊎ (status ≡ NoMemory))
     → ¬ Rose before below → (last ≡ own) ⊎ (last ≡ NoMemory)
 completed_below before above above' below status last own none first whole is done still =
     let unfailed : below ≡ 0 = none_unless below (λ some. still (inl (omega (arith, some, none)))) in
@@ -183,5 +173,5 @@ completed_below before above above' below status last own none first whole is do
         | inl own_is ↦ inl (same ∙ own_is)
         | inr out ↦ inr (same ∙ out)
       ]
-      | inr torn ↦ absurd (omega (arith, unfailed, torn.1))
+      | inr torn ↦ absurd (omega (arith, unfailed, torn.2))
     ]

@@ -1,5 +1,5 @@
 -- What a watched reporter has published and written that was told a run.
-use Rattle.std.proofs.Common.{◌≡◌, ◌∙◌, inl, ℕ, List, [], Option, Some, Result, Err, ap, subst, arith}
+use Rattle.std.proofs.Common.{◌≡◌, ◌∙◌, inl, ℕ, List, [], Option, Some, Err, ap, subst}
 use Rattle.fixed_motion.specs.Scene.{SceneData, IsValidScene}
 use Rattle.event_rules.specs.declared.change.Change.{Change}
 use Rattle.event_rules.specs.declared.outcome.Outcome.{Outcome}
@@ -107,4 +107,4 @@ told_part format scene taken m n a b NoMemory told before after valid none first
 pub broken_counts : (T : Type 0) (first before after : ℕ) (fault : RunFault) → CountsRun {T = T} before after (Err fault) → before ≡ first →
     CountsWrites first after (status_of_fault fault)
 broken_counts T first before after Listener h e = failed_since first before after e h
-broken_counts T first before after NoMemory h e = let same : after ≡ first = h ∙ e in omega (arith, same)
+broken_counts T first before after NoMemory h e = h ∙ e

@@ -1,12 +1,12 @@
 //! The top call over a sink that gathers what it is given.
 
-ghost use Rattle.std.specs.Prelude.{◌≡◌, ◌⊎◌, ◌≤◌, map, Option, List, ℕ};
+ghost use Rattle.std.specs.Prelude.{◌≡◌, ◌⊎◌, map, Option, List, ℕ};
 ghost use Rattle.report_ports.specs.Ports.{Rose};
 ghost use Rattle.command_words.specs.declared.settings.Settings.{Settings};
 ghost use Rattle.command_words.specs.Words.{settings_of};
 ghost use Rattle.hard_disks.specs.Output.{Input, IsOutput};
-ghost use Rattle.hard_disks.specs.Answers.{Answers, Decides, ReadsScene, LeavesNothing, CountsWrites};
-ghost use Rattle.hard_disks.specs.Gathers.{IsFresh, CountsReadsBelow};
+ghost use Rattle.hard_disks.specs.Answers.{Answers, Decides, ReadsScene, LeavesNothing, CountsReads, CountsWrites};
+ghost use Rattle.hard_disks.specs.Gathers.{IsFresh, Finishes};
 
 use crate::calls::top_watched;
 use crate::status::Status;
@@ -50,7 +50,7 @@ pub fn top_gathered<R: Threads + Wait + Sync, S: Source, K: Sink, G: Gate, C: Cl
         ¬ Rose (S.faults source.old) (S.faults source.new) →
         ¬ Rose (K.faults sink) (K.faults result.1) →
         (result.0 ≡ own) ⊎ (result.0 ≡ Status.NoMemory) }
-    ensures reads { CountsReadsBelow (S.faults source.old) (S.faults source.new) result.0 }
+    ensures reads { CountsReads (S.faults source.old) (S.faults source.new) result.0 }
     ensures writes { CountsWrites (K.faults sink) (K.faults result.1) result.0 }
 {
     let Ok((board, mut pen)) = Board::open(alloc) else {
@@ -78,7 +78,7 @@ pub(crate) fn finish<K: Sink>(mut gathered: GatheringSink<K>, status: Status) ->
         Answers settings left taken gathered.told status →
         Answers settings left taken (K.taken result.1) result.0 }
     ensures writes { CountsWrites 0 gathered.faults status → CountsWrites 0 (K.faults result.1) result.0 }
-    ensures kept { (result.0 ≡ status) ⊎ ((result.0 ≡ Status.WriteFault) × (1 ≤ K.faults result.1)) }
+    ensures kept { Finishes status (K.faults result.1) result.0 }
     ensures whole { K.faults result.1 ≡ 0 → gathered.faults ≡ 0 }
 {
     match status {

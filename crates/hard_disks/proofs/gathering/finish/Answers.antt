@@ -20,6 +20,6 @@ returns-in-Failed g c = let K = g.K.Sink in
           answered_torn settings left taken c.args.gathered.told (K.taken below) c.args.status
           (writes c.args.status c.in_default.not-ReadFault) fresh front answers;
       writes = λ counts. counted_torn (K.faults below) torn;
-      kept = inr (refl, torn);
+      kept = inr (refl, c.in_default.not-ReadFault, torn);
       whole = λ none. absurd (omega (arith, torn, none));
     }
