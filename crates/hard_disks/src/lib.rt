@@ -35,7 +35,7 @@ pub use laws::{
     audits_accept, audits_keep_refusals, audits_refuse, checks_stay, cuts_add_up, cuts_resume,
     one_output, output_depends_on_alone,
 };
-pub use process::{Terminals, run_process, run_streams};
+pub use process::{Terminals, run_process, run_process_over, run_streams};
 pub use report_audit::{Line, Verdict};
 pub use status::Status;
 pub use time_sharing::TimeSharing;

@@ -55,19 +55,32 @@ pub fn run_process<
     else {
         return Status::NoMemory;
     };
-    if terminals.errors
-        && let Ok((board, pen)) = Board::open(rt.alloc())
-    {
-        return run_shown(rt, &words, terminals.output, terminal, &board, pen);
-    }
-    let mut source = StdSource::new(rt.reader());
+    let source = StdSource::new(rt.reader());
     let sink = StdSink::new(io::writer(rt));
-    let (status, _) = run_between(rt, &words, &mut source, sink, terminals.output);
+    let (status, _) = run_over(rt, &words, source, sink, terminals, terminal);
     status
 }
 
 /// Does over any reader and writer whose bytes are known what [`run_process`] does over standard input and output. The
-/// writer holds none yet, and is given back. `is_terminal` says whether it is a terminal.
+/// writer holds none yet, and is given back.
+pub fn run_process_over<
+    R: AllocGlobal + Eprint + Threads + Wait + Clock + Sync,
+    I: Read + Drop,
+    O: Write + Drop,
+    T: Terminal + Sync,
+>(rt: &R, words: &[&str], input: I, output: O, terminals: Terminals, terminal: &T) -> (Status, O)
+    requires known { IsSome (I.remaining input) }
+    requires empty { O.contents output ≡ Some [] }
+    ensures { Answers (settings_of (map (λ w. w.now) words.now)) (I.remaining input)
+        (O.contents output) (O.contents result.1) result.0 }
+{
+    let source = StdSource::telling(input);
+    let sink = StdSink::telling(output);
+    let (status, sink) = run_over(rt, words, source, sink, terminals, terminal);
+    (status, sink.into_writer())
+}
+
+/// Does what [`run_process_over`] does where standard error is no terminal. `is_terminal` says whether the writer is one.
 pub fn run_streams<R: AllocGlobal + Threads + Wait + Clock + Sync, I: Read + Drop, O: Write + Drop>(
     rt: &R,
     words: &[&str],
@@ -109,49 +122,89 @@ fn room_of(is_terminal: bool) -> usize {
     if is_terminal { 0 } else { ROOM }
 }
 
+// The top call as the process makes it, with the line where standard error is a terminal.
+fn run_over<
+    R: AllocGlobal + Eprint + Threads + Wait + Clock + Sync,
+    S: Source + Drop,
+    K: Sink + Drop,
+    T: Terminal + Sync,
+>(rt: &R, words: &[&str], mut source: S, sink: K, terminals: Terminals, terminal: &T) -> (Status, K)
+    requires fresh { IsFresh (K.taken sink) }
+    requires whole { K.faults sink ≡ 0 }
+    ensures { Answers (settings_of (map (λ w. w.now) words.now)) (S.left source)
+        (K.taken sink) (K.taken result.1) result.0 }
+{
+    let is_shared = terminals.output;
+    if terminals.errors
+        && let Ok((board, pen)) = Board::open(rt.alloc())
+    {
+        return run_shown(rt, words, source, sink, is_shared, terminal, &board, pen);
+    }
+    run_between(rt, words, &mut source, sink, is_shared)
+}
+
 // Another thread shows the line while the run goes on.
 fn run_shown<
-    R: AllocGlobal + Input + Print + Eprint + Threads + Wait + Clock + Sync,
+    R: AllocGlobal + Eprint + Threads + Wait + Clock + Sync,
+    S: Source + Drop,
+    K: Sink + Drop,
     T: Terminal + Sync,
->(rt: &R, words: &[&str], is_shared: bool, terminal: &T, board: &Board, mut pen: Pen) -> Status
+>(
+    rt: &R,
+    words: &[&str],
+    source: S,
+    sink: K,
+    is_shared: bool,
+    terminal: &T,
+    board: &Board,
+    mut pen: Pen,
+) -> (Status, K)
+    requires fresh { IsFresh (K.taken sink) }
+    requires whole { K.faults sink ≡ 0 }
     requires board { pen.board ≡ board.now }
     requires unwritten { pen.list ≡ [] }
-    ensures { Answers (settings_of (map (λ w. w.now) words.now)) None None None result }
+    ensures { Answers (settings_of (map (λ w. w.now) words.now)) (S.left source)
+        (K.taken sink) (K.taken result.1) result.0 }
 {
     let glass = board.glass(rt, &mut pen);
     let line = ProgressLine::new();
-    let (_, status) = thread::join(
+    let (_, ended) = thread::join(
         rt,
         || line.show(rt, terminal, board, glass),
-        || -> Status
-            requires { (pen.board ≡ board.now) × (pen.list ≡ []) }
-            ensures { Answers (settings_of (map (λ w. w.now) words.entry.now)) None None None result }
-        { run_beside(rt, words, is_shared, &line, board, pen) },
+        || -> (Status, K)
+            requires { IsFresh (K.taken sink) × (K.faults sink ≡ 0) × (pen.board ≡ board.now) × (pen.list ≡ []) }
+            ensures { Answers (settings_of (map (λ w. w.now) words.entry.now)) (S.left source)
+                (K.taken sink) (K.taken result.1) result.0 }
+        { run_beside(rt, words, source, sink, is_shared, &line, board, pen) },
     );
-    status
+    ended
 }
 
 // Runs, and then ends the line.
-fn run_beside<R: AllocGlobal + Input + Print + Eprint + Threads + Wait + Clock + Sync>(
+fn run_beside<R: AllocGlobal + Eprint + Threads + Wait + Clock + Sync, S: Source + Drop, K: Sink>(
     rt: &R,
     words: &[&str],
+    mut source: S,
+    sink: K,
     is_shared: bool,
     line: &ProgressLine,
     board: &Board,
     mut pen: Pen,
-) -> Status
+) -> (Status, K)
+    requires fresh { IsFresh (K.taken sink) }
+    requires whole { K.faults sink ≡ 0 }
     requires board { pen.board ≡ board.now }
     requires unwritten { pen.list ≡ [] }
-    ensures { Answers (settings_of (map (λ w. w.now) words.now)) None None None result }
+    ensures { Answers (settings_of (map (λ w. w.now) words.now)) (S.left source)
+        (K.taken sink) (K.taken result.1) result.0 }
 {
-    let mut source = StdSource::new(rt.reader());
     let beside = BesideLine {
         rt,
         line,
         is_shared,
-        sink: StdSink::new(io::writer(rt)),
+        sink,
     };
-    let mut sink = Timely::new(
+    let mut timely = Timely::new(
         rt,
         GatheringSink::new(rt.alloc(), beside, room_of(is_shared)),
     );
@@ -161,12 +214,12 @@ fn run_beside<R: AllocGlobal + Input + Print + Eprint + Threads + Wait + Clock +
         rt.alloc(),
         words,
         &mut source,
-        &mut sink,
+        &mut timely,
         &gate,
         board,
         &mut pen,
     );
-    let (status, _) = finish(sink.gathered, status);
+    let (status, beside) = finish(timely.gathered, status);
     line.end(rt);
-    status
+    (status, beside.sink)
 }
