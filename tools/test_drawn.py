@@ -9,43 +9,9 @@ import argparse
 import random
 import resource
 import sys
-from dataclasses import dataclass
 
+import drawn
 import test_program as program
-
-
-@dataclass
-class Settings:
-    """Words that make no difference to a report."""
-
-    regions: int
-    workers: int
-    turns: int
-    steps: int
-    burst: str
-
-    def words(self):
-        """They as the program takes them."""
-        shape = f"--regions {self.regions} --workers {self.workers} --burst {self.burst}"
-        return f"{shape} --turns {self.turns} --steps {self.steps}"
-
-
-def often_greatest(chance, most):
-    """A number from 1 to the greatest; a third of the time the greatest itself, and else small as often as great."""
-    if chance.random() < 1 / 3:
-        return most
-    return min(most, int(2 ** chance.uniform(0, most.bit_length())))
-
-
-def settings(chance):
-    """Drawn settings."""
-    return Settings(
-        regions=often_greatest(chance, 64),
-        workers=often_greatest(chance, 8),
-        turns=often_greatest(chance, 65_536),
-        steps=often_greatest(chance, 4_096),
-        burst=chance.choice(["locks", "locks", "table"]),
-    )
 
 
 def processor_time():
@@ -56,7 +22,7 @@ def processor_time():
 
 def complaint(chance, scene, most):
     """What is wrong with a run of the scene by drawn settings; None where nothing is."""
-    words = settings(chance).words()
+    words = drawn.settings(chance).words()
     want = program.output("--mode plain", scene)
     start = processor_time()
     found = program.output(words, scene)
@@ -79,7 +45,7 @@ def main():
     chance = random.Random(asked.seed)
     wrong = 0
     for number in range(asked.scenes):
-        scene = program.drawn(chance)
+        scene = drawn.scene(chance).text()
         said = complaint(chance, scene, asked.seconds)
         if said is not None:
             wrong += 1

@@ -6,7 +6,6 @@ its words must not change.
 
 PROGRAM is the built one, crates/hard_disks_program/out/hard_disks_program, where none is named."""
 import contextlib
-import itertools
 import os
 import pty
 import random
@@ -19,13 +18,15 @@ import tomllib
 import unittest
 from pathlib import Path
 
+import drawn
+
 TOOLS = Path(__file__).resolve().parent
 SCENES = TOOLS.parent / "scenes"
 PROGRAM = TOOLS.parent / "crates" / "hard_disks_program" / "out" / "hard_disks_program"
 OUTPUTS = tomllib.loads((TOOLS / "outputs.toml").read_text(encoding="utf-8"))
 # How long, in seconds, a run may take, on a busy machine.
 LONG = 120
-DONE, SCENE_REFUSED, SPEED_LIMIT, ROUND_LIMIT, READ_FAULT, WRITE_FAULT, WRONG = 0, 3, 4, 5, 6, 7, 9
+DONE, SCENE_REFUSED, READ_FAULT, WRITE_FAULT, WRONG = 0, 3, 6, 7, 9
 # The most bytes that a text may have.
 MOST_BYTES = 67_108_864
 # How many bytes are read or written together.
@@ -107,45 +108,10 @@ def changed(scene, old, new):
     return scene.replace(old, new, 1)
 
 
-def drawn(chance):
-    """The text of a scene of up to five disks, with limits that its run may pass; it may be refused."""
-    width, height = chance.randint(20, 79), chance.randint(8, 47)
-    rows = []
-    for _ in range(chance.randint(1, 5)):
-        place = [chance.randint(2, width - 2), chance.randint(2, height - 2)]
-        rows.append([*place, chance.randint(-2, 2), chance.randint(-2, 2), chance.choice([2, 4])])
-    speed, rounds, last = chance.randint(2, 4), chance.randint(1, 3), chance.randint(0, 39)
-    limits = f"speed_limit = {speed}\nround_limit = {rounds}\nend = {last}\n"
-    return f"width = {width}\nheight = {height}\ndiameter = 4\n{limits}disks = {rows}\n"
-
-
 def drawn_scenes(count):
-    """So many texts of scenes that aren't refused."""
+    """The texts of so many drawn scenes, with all disks in one line, which isn't canonical."""
     chance = random.Random(3)
-    texts = (drawn(chance) for _ in range(20 * count))
-    scenes = list(itertools.islice((it for it in texts if output("--mode check", it)[1] == DONE), count))
-    if len(scenes) < count:
-        raise AssertionError(f"of {20 * count} drawn scenes {len(scenes)} aren't refused")
-    return scenes
-
-
-def later(line, by):
-    """A line of a report, in which the first number, a tick, is so much greater."""
-    words = line.split(" ")
-    at = next(i for i, word in enumerate(words) if word.isdigit())
-    return " ".join([*words[:at], str(int(words[at]) + by), *words[at + 1 :]])
-
-
-def events(report, by=0):
-    """The lines of the events of a report, so many ticks later."""
-    return [later(line, by) for line in report.splitlines() if line[0].isdigit()]
-
-
-def end(report, by=0):
-    """The lines of a report on how the run ended, so many ticks later, and on where the disks are then."""
-    lines = report.splitlines()
-    ends = [later(line, by) for line in lines if line.startswith(("done ", "limit "))]
-    return ends + [line for line in lines if line.startswith("disk ")]
+    return [drawn.scene(chance).text().replace("\n  ", " ") for _ in range(count)]
 
 
 class Outputs(unittest.TestCase):
@@ -268,24 +234,6 @@ class Outputs(unittest.TestCase):
                 text = output("--mode check", scene)[0]
                 self.assert_output("--mode check", text, DONE, text)
                 self.assertEqual(output("--mode plain", text), output("--mode plain", scene))
-
-    def test_the_reports_of_parts_are_that_of_the_run(self):
-        for scene in drawn_scenes(20):
-            last = tomllib.loads(scene)["end"]
-            for at in sorted({last // 4, last // 2, last}):
-                with self.subTest(at=at, scene=scene):
-                    self.assert_parts(scene, last, at)
-
-    def assert_parts(self, scene, last, at):
-        rest, status = output(f"--mode cut --at {at}", scene)
-        if status != DONE:
-            self.assertIn(status, (SPEED_LIMIT, ROUND_LIMIT))
-            self.assertEqual((rest, status), output("--format summary", scene))
-            return
-        whole = output("--mode run", scene)[0]
-        first = output("--mode run", changed(scene, f"end = {last}\n", f"end = {at}\n"))[0]
-        second = output("--mode run", rest)[0]
-        self.assertEqual(events(first) + events(second, at) + end(second, at), events(whole) + end(whole))
 
     def test_an_audit_ends_where_its_input_has_no_end(self):
         meeting = OUTPUTS["refusals"]["scene"]
