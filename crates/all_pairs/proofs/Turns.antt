@@ -53,7 +53,7 @@ one_spot tick disks i spots lt so_far =
         take (n + 1) xs ≡ take n xs ++ get_or xs n no_disk ∷ []
     take_one_more xs n h = grind (arith, common_steps)
 
--- where the search found no event, there is none
+-- if the search found no event, there is none
 pub none_left : (rules : Rules) (disks : List Disk) (next : Option Stamp) →
     ((s : Stamp) → ¬ (next ≡ Some s)) → IsLeastOf (IsCandidate rules disks) next →
     HasNone (IsCandidate rules disks)

@@ -12,7 +12,7 @@ use event_stamps::{Kind, Stamp};
 use fixed_motion::{Disk, Rules, Scene};
 use std::alloc::{AllocError, Global};
 
-// What the next event comes to.
+// The change of the next event, or the limit at which it fails.
 fn run_event(rules: &Rules, disks: &[Disk], stamp: &Stamp) -> Result<Change, Limit>
     requires checked { IsChecked rules.now }
     requires valid { IsValidState rules.now disks.now }
@@ -38,7 +38,7 @@ fn put(disks: &mut Vec<Disk>, change: &Change)
     }
 }
 
-// How a run ends that comes to its last tick: with where all disks are then.
+// The outcome of a run that comes to its last tick: the spots of all disks then.
 fn done(alloc: Global, rules: &Rules, disks: &[Disk]) -> Result<Outcome, AllocError>
     requires checked { IsChecked rules.now }
     requires valid { IsValidState rules.now disks.now }
@@ -78,8 +78,8 @@ pub fn simulate_plain<L: Listener>(
     run(alloc, &scene.rules, &mut disks, listener)
 }
 
-// Runs these disks, which are lent so that no way out lets go of them; what else a scene asks for has
-// no bearing on it.
+// Runs these disks. They are lent, so that no way out of the function has to drop them. Nothing else in a scene makes a
+// difference here.
 fn run<L: Listener>(
     alloc: Global,
     rules: &Rules,

@@ -132,7 +132,7 @@ valid_fits scene h =
     }
 
 -- ---- short texts
--- a text of ASCII of at most so many bytes
+-- a text of ASCII of at most this many bytes
 pub record IsShort (most : ℕ) (text : List ℕ) : Type 0 where
   pub ascii : IsAscii text
   pub short : length text ≤ most

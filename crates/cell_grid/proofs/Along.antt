@@ -3,7 +3,7 @@ use Rattle.std.proofs.Common.{◌≡◌, inl, inr, ℕ, ◌+◌, ◌-◌, ◌*�
 use Rattle.std.proofs.Math.Nat.{mul-le-mul, le-div_iff_mul-le}
 use Rattle.std.proofs.lemmas.Bool.{cases_lt}
 
--- the number of a column: how many whole sides, or the last
+-- the number of a column: the number of whole sides before it, or the last column
 abbrev pub at : ℕ → ℕ → ℕ → ℕ
 at side count n = min (n / side) (count - 1)
 

@@ -1,4 +1,4 @@
--- Grids of checked rules, the cells of places, and which disks meet.
+-- Grids of checked rules, the cells of places, and the disks that may meet.
 use Rattle.std.proofs.Common.{◌≡◌, ◌⊎◌, inl, inr, ℕ, ◌+◌, ◌-◌, ◌*◌, ◌/◌, ◌<◌, ◌≤◌, min, sym, subst, ◌∙◌, arith}
 use Rattle.std.specs.Prelude.{ℤ, pos, nat_abs, ◌-ℤ◌, ◌≤ℤ◌}
 use Rattle.std.proofs.lemmas.Int.{ints}
@@ -101,7 +101,7 @@ abbrev pub grid_with : ℕ → ℕ → ℕ → ℕ → ℕ → GridData
 grid_with columns rows side_x side_y regions =
     record { columns = columns; rows = rows; side_x = side_x; side_y = side_y; regions = regions }
 
--- what the code makes of its numbers is the grid of the rules
+-- the numbers that the code computes are those of the grid of the rules
 pub grid_made : (rules : Rules) (asked width height least columns rows regions : ℕ) → width ≡ nat_abs rules.width →
     height ≡ nat_abs rules.height →
     least ≡ least_side rules → columns ≡ cells_along width least → rows ≡ cells_along height least →

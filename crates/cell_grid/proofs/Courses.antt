@@ -60,7 +60,7 @@ ends_falling least greatest x v s down stays = record {
   always = λ none. cc;
 }
 
--- a rising coordinate isn't past the bound while it hasn't gone further than that is ahead
+-- a rising coordinate isn't past the bound as long as it hasn't gone further than the bound is ahead
 reaches_rising : (greatest x : ℤ) (k n : ℕ) → x ≤ℤ greatest → 0 < k →
     (coordinate_after x (pos k) n ≤ℤ greatest) ↔ (n ≤ nat_abs (greatest -ℤ x) / k)
 reaches_rising greatest x k n ahead some =
@@ -83,7 +83,7 @@ reaches_falling least x k s n e ahead =
     near h = omega (arith, ints, ap (λ (m : ℕ). n * m) e)
 
 -- ---- the code's numbers
--- a course that the code takes for rising doesn't fall, nor does another rise
+-- a course that the code treats as rising doesn't fall, and one that it doesn't treat so doesn't rise
 pub up_or_not : (v : ℤ) → nat_abs v ≤ 2 ^ 20 →
     (lt_z (pos 0) (sent v) ≡ true → v <ℤ pos 0 → ⊥) × (lt_z (pos 0) (sent v) ≡ false → pos 0 <ℤ v → ⊥)
 up_or_not v slow =
@@ -92,7 +92,7 @@ up_or_not v slow =
 pub small_sent : (n : ℤ) → nat_abs n ≤ 2 ^ 30 → sent n ≡ n
 small_sent n h = sent_same n (omega (arith, ints))
 
--- what the code makes of the difference of two of them
+-- the difference of two of them as the code computes it
 pub difference_sent : (m n : ℤ) → nat_abs m ≤ 2 ^ 30 → nat_abs n ≤ 2 ^ 30 → sent (sent m -ℤ sent n) ≡ m -ℤ n
 difference_sent m n hm hn =
     (difference_exact m n (omega arith) (omega arith)).value
@@ -247,7 +247,7 @@ ends_never b c still = record {
     again m n here =
         subst (IsWithinBounds b) (sym (stays c.start c.velocity n still)) (subst (IsWithinBounds b) (stays c.start c.velocity m still) here)
 
--- where it is past that already, it is never within
+-- if it is past the bound already, it is never within
 pub ends_at_once : (b : Bounds) (c : Course) (ahead : ℤ) → IsAhead b c ahead → ¬ (c.velocity ≡ pos 0) → ahead <ℤ pos 0 →
     EndsAt (IsWithinAfter b c) (Some 0)
 ends_at_once b c ahead is moves past = record {
@@ -268,7 +268,7 @@ ends_at_once b c ahead is moves past = record {
   always = λ none. cc;
 }
 
--- where it isn't past that, it ends after as many ticks as it takes to go there, and one more
+-- if it isn't past the bound, it ends after as many ticks as it takes to go there, and one more
 pub ends_ahead : (b : Bounds) (c : Course) (ahead : ℤ) → IsAhead b c ahead → ¬ (c.velocity ≡ pos 0) → pos 0 ≤ℤ ahead →
     EndsAt (IsWithinAfter b c) (Some (nat_abs ahead / nat_abs c.velocity + 1))
 ends_ahead b c ahead is moves near =
@@ -293,7 +293,7 @@ ends_ahead b c ahead is moves near =
     falling least x (pos k) n down le = absurd (omega (arith, ints))
     falling least x (negsuc k) n down le = reaches_falling least x k (nat_abs (negsuc k)) n (omega (arith, ints)) le
 
--- where a disk is between two sides of the box
+-- if a disk is between two sides of the box
 room_small : (radius r side : ℤ) → pos 1 ≤ℤ radius → (radius +ℤ radius) ≤ℤ side → side ≤ℤ pos 1073741824 →
     r ≡ radius →
     AreSmall (bounds (sent r) (sent (sent side -ℤ sent r)))
@@ -324,7 +324,7 @@ box_room rules a r side size fits most e =
       small = room_small (radius_of a) r side least (omega (arith, ints)) most e;
     }
 
--- a coordinate is within the bounds of the box and of a column exactly where it is inside and in that column
+-- a coordinate is within the bounds of the box and of a column if and only if it is inside and in that column
 pub within_axis : (radius length : ℤ) (side count index : ℕ) (outer column both : Bounds) (p : ℤ) → pos 1 ≤ℤ radius →
     length ≤ℤ pos 1073741824 →
     outer.least ≡ radius → outer.greatest ≡ length -ℤ radius → AreOfColumn side count index column →

@@ -1,4 +1,4 @@
--- Where something holds for the last time, and when a disk leaves its cell.
+-- The last time that something holds, and when a disk leaves its cell.
 use Rattle.std.proofs.Common.{◌≡◌, ◌↔◌, ◌⊎◌, inl, inr, ℕ, zero, suc, ◌+◌, ◌-◌, ◌*◌, ◌/◌, ◌%◌, ◌<◌, ◌≤◌, refl, sym, ap, ◌∙◌, subst, arith}
 use Rattle.std.specs.Prelude.{Option, Some, None, IfSome, unwrap_or, ℤ}
 use Rattle.std.proofs.lemmas.Bool.{cases_lt}
@@ -44,7 +44,7 @@ sooner_within None p most h k = k
 sooner_within (Some m) None most h k = h
 sooner_within (Some m) (Some n) most h k = omega arith
 
--- the last number before the end, or any where there is no end
+-- the last number before the end, or any number if there is no end
 abbrev pub last_of : Option ℕ → ℕ
 last_of o = unwrap_or o 0 - 1
 
@@ -95,7 +95,7 @@ slow_disk rules a checked valid = record {
 }
 
 -- ---- the two axes
--- a disk is in a cell where it is in its column and in its row
+-- a disk is in a cell if it is in its column and in its row
 in_by_axes : (rules : Rules) (grid : GridData) (a : Disk) (cell : ℕ) → HasSizes grid → (place : Vector) →
     (IsAcross rules grid a cell place.x × IsUpwards rules grid a cell place.y) ↔ IsInCell rules grid a cell place
 in_by_axes rules grid a cell sizes place = (
@@ -133,7 +133,7 @@ only_crossing rules grid disk a cell tick s leaving inside before e =
     subst (IsCrossEvent rules grid disk a cell) (sym e) (record { leaving = leaving; inside = inside }, before, refl) in
     (at, λ t h. one_crossing rules grid disk a cell s t at h)
 
--- no event where the disk isn't inside the box before the end when it leaves
+-- no event if the disk isn't inside the box before the end when it leaves
 pub no_crossing : (rules : Rules) (grid : GridData) (disk : ℕ) (a : Disk) (cell tick : ℕ) →
     IsLeavingTick rules grid a cell tick →
     (tick < rules.end → ¬ IsInside rules a (place_of a tick)) → HasNone (IsCrossEvent rules grid disk a cell)

@@ -80,7 +80,7 @@ pub left_for_good : (rules : Rules) (grid : GridData) (a : Disk) (cell tick : �
 left_for_good rules grid a cell tick checked sound size base here gone t le back =
     gone (in_between rules grid a cell tick (tick + 1) t checked sound size base (omega arith) le here back)
 
--- that is its crossing tick, where it is still inside the box
+-- that is its crossing tick, if it is still inside the box then
 pub leaves_after_last : LeavesAfterLast
 leaves_after_last rules grid a cell tick checked of valid base here gone inside = record {
   leaving = record {
@@ -111,7 +111,7 @@ one_crossing rules grid disk a cell s t h k =
     (k.2 ∙ ap (cross_stamp disk a) e) ∙ sym h.2
 
 -- ---- one tick
--- in one tick a slow disk stays in its column or comes to the next
+-- in one tick a slow disk stays in its column or goes to the next
 beside_next : (side count : ℕ) (x v : ℤ) → 1 ≤ side → 1 ≤ count → nat_abs v ≤ side ⊎ (count ≡ 1) → pos 1 ≤ℤ x →
     pos 1 ≤ℤ (x +ℤ v) →
     IsBeside (along side count x) (along side count (x +ℤ v))
@@ -133,7 +133,7 @@ beside_next side count x v some one slow hx hn = elim slow [
   ]
 ]
 
--- where there are two columns or more, the way of a tick isn't more than the side of a cell
+-- if there are two columns or more, the way of a tick isn't more than the side of a cell
 short : (rules : Rules) (count side : ℕ) (v : ℤ) → 1 ≤ count → (2 ≤ count → least_side rules ≤ side) →
     nat_abs v ≤ nat_abs rules.speed_limit →
     nat_abs v ≤ side ⊎ (count ≡ 1)

@@ -55,7 +55,8 @@ links_are_mutual grid j k = (turned j k, turned k j)
     turned : (j k : ℕ) → AreLinked grid j k → AreLinked grid k j
     turned j k h = (λ e. h.0 (sym e), (h.1.0, h.1.1, h.1.3, h.1.2))
 
--- where one region is before another, they are linked exactly where the second begins at most one column after the first ends
+-- if one region is before another, they are linked if and only if the second begins at most one column after the first
+-- ends
 linked_in_order : (grid : GridData) (j k : ℕ) → HasSizes grid → j < k → IsRegion grid k →
     AreLinked grid j k ↔ (strip_start grid k ≤ strip_start grid (j + 1) + 1)
 linked_in_order grid j k sizes order within = (

@@ -6,7 +6,7 @@ use Rattle.std.proofs.lemmas.Bool.{cases_lt}
 abbrev pub start : ℕ → ℕ → ℕ → ℕ
 start columns regions k = k * columns / regions
 
--- a column lies from a start on exactly where its product does
+-- a column is at or after the start of region k if and only if k columns < (column + 1) regions
 pub from_start : (columns regions k column : ℕ) → 1 ≤ regions → start columns regions k ≤ column →
     k * columns < (column + 1) * regions
 from_start columns regions k column some le =
@@ -22,7 +22,7 @@ before_start columns regions k column some lt =
     let q = le-div_iff_mul-le {k = regions} {x = column + 1} {y = k * columns} (omega arith) in
     q.0 (omega arith)
 
--- starts rise strictly, where there are at most as many regions as columns
+-- starts rise strictly, if there are at most as many regions as columns
 pub starts_rise : (columns regions k : ℕ) → 1 ≤ regions → regions ≤ columns →
     start columns regions k < start columns regions (k + 1)
 starts_rise columns regions k some fits =

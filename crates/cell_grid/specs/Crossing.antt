@@ -28,6 +28,7 @@ pub record IsCrossTick (rules : Rules) (grid : GridData) (a : Disk) (cell tick :
   pub leaving : IsLeavingTick rules grid a cell tick
   pub inside : IsInside rules a (place_of a tick)
 
+-- the stamp of a disk's leaving its cell at a tick
 abbrev pub cross_stamp : ℕ → Disk → ℕ → Stamp
 cross_stamp disk a tick = record { tick = tick; round = mark_at a tick; kind = Cross; first = disk; second = 0 }
 

@@ -5,7 +5,7 @@ use Rattle.fixed_motion.specs.declared.rules.Rules.{Rules}
 use Rattle.cell_grid.specs.declared.grid.Strip.{Strip}
 use Rattle.cell_grid.specs.declared.grid.TheConstants.{MAX_CELLS_ALONG, MAX_REGIONS}
 
--- what a grid is seen as; the sides are those of one cell
+-- what contracts see of a grid; the sides are those of one cell
 pub record GridData : Type 0 where
   pub columns : ℕ
   pub rows : ℕ
@@ -29,17 +29,19 @@ pub record HasSizes (grid : GridData) : Type 0 where
 abbrev pub least_side : Rules → ℕ
 least_side rules = nat_abs rules.diameter + 2 * nat_abs rules.speed_limit
 
--- how many cells of at least the least side fit along a side of the box, but 1 at least
+-- how many cells of at least the least side fit along a side of the box, but at least 1
 abbrev pub cells_along : ℕ → ℕ → ℕ
 cells_along length least = max 1 (min MAX_CELLS_ALONG (length / least))
 
+-- how many columns of cells the box has
 abbrev pub columns_of : Rules → ℕ
 columns_of rules = cells_along (nat_abs rules.width) (least_side rules)
 
+-- how many rows of cells the box has
 abbrev pub rows_of : Rules → ℕ
 rows_of rules = cells_along (nat_abs rules.height) (least_side rules)
 
--- the grid of some rules, where so many regions are asked for
+-- the grid of some rules, if this many regions are asked for
 abbrev pub grid_of : Rules → ℕ → GridData
 grid_of rules asked = record {
   columns = columns_of rules;
@@ -53,6 +55,7 @@ grid_of rules asked = record {
 abbrev pub IsAsked : ℕ → Type 0
 IsAsked asked = (1 ≤ asked) × (asked ≤ MAX_REGIONS)
 
+-- the grid is that of the rules, for some number of regions that may be asked for
 abbrev pub IsGridOf : Rules → GridData → Type 0
 IsGridOf rules grid = (asked : ℕ) × IsAsked asked × (grid ≡ grid_of rules asked)
 
@@ -61,6 +64,7 @@ IsGridOf rules grid = (asked : ℕ) × IsAsked asked × (grid ≡ grid_of rules 
 abbrev pub along : ℕ → ℕ → ℤ → ℕ
 along side count n = min (nat_abs n / side) (count - 1)
 
+-- the number of the cell in a column and a row
 abbrev pub cell_number : GridData → ℕ → ℕ → ℕ
 cell_number grid column row = row * grid.columns + column
 
@@ -68,15 +72,19 @@ cell_number grid column row = row * grid.columns + column
 abbrev pub cell_at : GridData → Vector → ℕ
 cell_at grid place = cell_number grid (along grid.side_x grid.columns place.x) (along grid.side_y grid.rows place.y)
 
+-- the grid has a cell of this number
 abbrev pub IsCell : GridData → ℕ → Type 0
 IsCell grid cell = cell < grid.rows * grid.columns
 
+-- the column of a cell
 abbrev pub column_of : GridData → ℕ → ℕ
 column_of grid cell = cell % grid.columns
 
+-- the row of a cell
 abbrev pub row_of : GridData → ℕ → ℕ
 row_of grid cell = cell / grid.columns
 
+-- two numbers differ by at most one
 abbrev pub IsBeside : ℕ → ℕ → Type 0
 IsBeside m n = (m ≤ n + 1) × (n ≤ m + 1)
 
@@ -85,10 +93,11 @@ abbrev pub IsAdjacent : GridData → ℕ → ℕ → Type 0
 IsAdjacent grid a b = IsBeside (column_of grid a) (column_of grid b) × IsBeside (row_of grid a) (row_of grid b)
 
 -- ---- strips
+-- the grid has a region of this number
 abbrev pub IsRegion : GridData → ℕ → Type 0
 IsRegion grid region = region < grid.regions
 
--- the first column of a region, or for one past the last region one past the last column
+-- the first column of a region; for the number one past the last region, one past the last column
 abbrev pub strip_start : GridData → ℕ → ℕ
 strip_start grid region = region * grid.columns / grid.regions
 

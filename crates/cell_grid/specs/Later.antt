@@ -18,7 +18,7 @@ IsLaterTick rules grid a cell tick = IsLeavingTick rules grid a cell tick × (a.
 abbrev pub LeavesEarly : Rules → GridData → Disk → ℕ → Type 0
 LeavesEarly rules grid a cell = (tick : ℕ) → IsLeavingTick rules grid a cell tick → tick ≡ a.base
 
--- of a crossing after the base tick, in round 0
+-- the stamp of a crossing after the base tick, in round 0
 abbrev pub later_crossing : ℕ → ℕ → Stamp
 later_crossing disk tick = record { tick = tick; round = 0; kind = Cross; first = disk; second = 0 }
 

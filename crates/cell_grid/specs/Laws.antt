@@ -11,6 +11,7 @@ use Rattle.event_stamps.specs.declared.Stamp.{Stamp}
 use Rattle.cell_grid.specs.Grid.{GridData, HasSizes, IsGridOf, IsCell, IsRegion, least_side, cell_at, IsAdjacent, Owns, Reaches, AreLinked}
 use Rattle.cell_grid.specs.Crossing.{IsInCell, IsCrossTick, IsCrossEvent}
 
+-- the sizes of each grid of checked rules are within their bounds
 abbrev pub GridsHaveSizes : Type 0
 GridsHaveSizes = (rules : Rules) (grid : GridData) → IsChecked rules → IsGridOf rules grid → HasSizes grid
 
@@ -20,7 +21,7 @@ abbrev pub EachCellHasOneOwner : Type 0
 EachCellHasOneOwner = (grid : GridData) (cell : ℕ) → HasSizes grid → IsCell grid cell →
     (k : ℕ) × IsRegion grid k × Owns grid k cell × ((j : ℕ) → IsRegion grid j → Owns grid j cell → j ≡ k)
 
--- a region reaches a cell exactly where the cell is beside one that it owns, or is one
+-- a region reaches a cell if and only if it owns the cell or one beside it
 abbrev pub ReachIsBesideOwn : Type 0
 ReachIsBesideOwn = (grid : GridData) (k cell : ℕ) → HasSizes grid → IsRegion grid k → IsCell grid cell →
     (Reaches grid k cell ↔ ((own : ℕ) × IsCell grid own × Owns grid k own × IsAdjacent grid own cell))
@@ -34,6 +35,7 @@ NeighboursAreInReach = (grid : GridData) (k own cell : ℕ) → Owns grid k own 
 abbrev pub OwnIsInReach : Type 0
 OwnIsInReach = (grid : GridData) (k cell : ℕ) → Owns grid k cell → Reaches grid k cell
 
+-- two regions are linked to each other, or neither is to the other
 abbrev pub LinksAreMutual : Type 0
 LinksAreMutual = (grid : GridData) (j k : ℕ) → (AreLinked grid j k ↔ AreLinked grid k j)
 
@@ -59,7 +61,7 @@ abbrev pub FarUnlessAdjacent : Type 0
 FarUnlessAdjacent = (rules : Rules) (grid : GridData) (p q : Vector) → IsChecked rules → IsGridOf rules grid →
     IsInBox p → IsInBox q → ¬ IsAdjacent grid (cell_at grid p) (cell_at grid q) → AreFarOnAnAxis rules p q
 
--- two disks that are at their last whole tick before they touch are in adjacent cells
+-- two disks that are at their last whole tick before they overlap are in adjacent cells
 abbrev pub TouchInAdjacent : Type 0
 TouchInAdjacent = (rules : Rules) (grid : GridData) (a b : Disk) (p q : Vector) → IsChecked rules → IsGridOf rules grid →
     IsValidDisk rules a → IsValidDisk rules b → IsInside rules a p → IsInside rules b q →
@@ -67,7 +69,7 @@ TouchInAdjacent = (rules : Rules) (grid : GridData) (a b : Disk) (p q : Vector) 
     IsAdjacent grid (cell_at grid p) (cell_at grid q)
 
 -- ---- crossings
--- a disk that was in a cell at a tick and isn't at the next has left it there, and not before
+-- a disk that was in a cell at a tick and isn't at the next has left it then, and not before
 abbrev pub LeavesAfterLast : Type 0
 LeavesAfterLast = (rules : Rules) (grid : GridData) (a : Disk) (cell tick : ℕ) → IsChecked rules → IsGridOf rules grid →
     IsValidDisk rules a → a.base ≤ tick → IsInCell rules grid a cell (place_of a tick) →

@@ -7,7 +7,7 @@ ghost use Rattle.cell_grid.specs.Leaving.{EndsAt, IsWithinBounds, IsWithinAfter,
 
 use fixed_motion::{Disk, MAX_SIDE, Rules};
 
-// A side of the box, cut into so many cells of one side, in units of length; the last may be longer.
+// A side of the box, cut into `count` cells, each `side` units of length long; the last may be longer.
 #[derive(Clone, Copy)]
 pub(crate) struct Division {
     pub(crate) side: u32,
@@ -102,8 +102,7 @@ impl Bounds {
         self.least <= coordinate && coordinate <= self.greatest
     }
 
-    // After how many ticks the coordinate is past the bound that it goes towards; none where it stands
-    // still.
+    // After how many ticks the coordinate is past the bound that it goes towards; none if it stands still.
     pub(crate) fn ticks_until_past(self, course: Course) -> Option<u64>
         requires small { AreSmall self }
         requires slow { IsSlowCourse course }
@@ -117,13 +116,13 @@ impl Bounds {
         if ahead < 0 {
             return Some(0);
         }
-        // Both have 32 bits, whose division is the faster one.
+        // Both have 32 bits, and a division of 32 bits is faster than one of 64.
         let ticks = ahead as u32 / course.velocity.unsigned_abs() as u32;
         Some(u64::from(ticks) + 1)
     }
 
-    // How far ahead the bound is that the coordinate goes towards, in units of length; below 0 where
-    // it is past that one.
+    // How far ahead the bound is that the coordinate goes towards, in units of length; below 0 if it is past that
+    // bound.
     #[inline(always)]
     fn length_ahead(self, course: Course) -> i64
         requires small { AreSmall self }

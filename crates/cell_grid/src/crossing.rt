@@ -12,12 +12,12 @@ use event_stamps::{Kind, Stamp};
 use fixed_motion::{Disk, Rules};
 
 impl Grid {
-    /// The stamp at which a disk that keeps its course leaves its recorded cell, inside the box and
-    /// before the last tick of the run.
+    /// The stamp at which a disk that keeps its course leaves its recorded cell, inside the box and before the last
+    /// tick of the run.
     ///
-    /// `disk` is the number of the disk. It leaves the cell at the first tick from which on it is at no
-    /// tick inside the box and in the cell, so after its last tick there, or at its base tick where it
-    /// is never there. None where it doesn't leave.
+    /// `disk` is the number of the disk. It leaves the cell at the first tick from which on it is at no tick inside the
+    /// box and in the cell: after its last tick there, or at its base tick if it is never there. None if it doesn't
+    /// leave.
     pub fn crossing(&self, rules: &Rules, disk: u32, a: &Disk, cell: u32) -> Option<Stamp>
         requires checked { IsChecked rules.now }
         requires grid { IsGridOf rules.now self.now }
@@ -40,7 +40,7 @@ impl Grid {
         }
     }
 
-    // None where the disk never leaves the cell.
+    // The tick at which a disk leaves its recorded cell; none if it never does.
     fn leaving_tick(&self, rules: &Rules, a: &Disk, cell: u32) -> Option<u64>
         requires checked { IsChecked rules.now }
         requires grid { IsGridOf rules.now self.now }

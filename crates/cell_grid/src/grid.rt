@@ -70,8 +70,8 @@ use crate::bounds::Division;
 use fixed_motion::Rules;
 
 impl Grid {
-    /// The grid of checked rules, with so many regions, 1 to [`MAX_REGIONS`], or as many as there are
-    /// columns where those are fewer.
+    /// The grid of checked rules, with `regions` regions, 1 to [`MAX_REGIONS`], or one for each column if there are
+    /// fewer columns.
     pub fn new(rules: &Rules, regions: u32) -> Grid
         requires checked { IsChecked rules.now }
         requires asked { IsAsked regions }
@@ -219,7 +219,7 @@ impl Grid {
         a != b && self.strip_start(a.max(b)) <= self.strip_start(a.min(b) + 1) + 1
     }
 
-    // The first column of a region; of one past the last, one past the last column.
+    // The first column of a region; for the number one past the last region, one past the last column.
     fn strip_start(&self, region: u32) -> u32
         requires { region ≤ self.now.regions }
         ensures value { result ≡ strip_start self.now region }

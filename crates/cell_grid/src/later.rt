@@ -1,4 +1,4 @@
-//! What a disk does that leaves its recorded cell after its base tick, as nearly all do.
+//! How a disk leaves its recorded cell if it does so after its base tick, as nearly all do.
 
 ghost use Rattle.std.specs.Prelude.{ℕ, MatchOption};
 ghost use Rattle.fixed_motion.specs.Rules.{IsChecked};
@@ -16,13 +16,13 @@ pub enum Departure {
     At(u64),
     /// After its base tick, but by no crossing: it isn't inside the box then, or the run is over.
     Never,
-    /// At no tick after its base tick. Whether it leaves by a crossing isn't told.
+    /// At no tick after its base tick. The answer doesn't tell whether it leaves by a crossing.
     Unknown,
 }
 
 impl Grid {
-    /// What [`crossing`](Grid::crossing) tells of a disk that leaves its recorded cell after its base tick. Of a
-    /// disk that is in the cell and moves it tells all, in one pass.
+    /// What [`crossing`](Grid::crossing) tells of a disk that leaves its recorded cell after its base tick. If the disk
+    /// is in the cell and moves, that is all that `crossing` tells, in one pass.
     #[inline(always)]
     pub fn leaving(&self, rules: &Rules, a: &Disk, cell: u32) -> Departure
         requires checked { IsChecked rules.now }

@@ -48,7 +48,7 @@ pub fn far_unless_adjacent()
     ensures { FarUnlessAdjacent }
 {}
 
-/// Two disks that are at their last whole tick before they touch are in adjacent cells.
+/// Two disks that are at their last whole tick before they overlap are in adjacent cells.
 pub fn touch_in_adjacent()
     ensures { TouchInAdjacent }
 {}

@@ -1,4 +1,4 @@
-//! Where a disk is inside the box and in a cell, and when it is past that.
+//! The places at which a disk is inside the box and in a cell, and when it is past them.
 
 ghost use Rattle.std.specs.Prelude.{◌↔◌, ◌^◌, ◌≤◌, ℤ, IsTrue, IfSome};
 ghost use Rattle.fixed_motion.specs.Rules.{IsChecked};
@@ -19,7 +19,7 @@ pub(crate) struct Room {
 }
 
 impl Room {
-    // At most 2^33 ticks after the base tick of the disk.
+    // Whether the disk is in the room after `ticks` ticks, at most 2^33, from its base tick on.
     pub(crate) fn holds_after(self, a: &Disk, ticks: u64) -> bool
         requires slow { IsSlowDisk a.now }
         requires ticks { ticks ≤ 2 ^ 33 }
@@ -34,8 +34,8 @@ impl Room {
         self.across.holds(place.x) && self.upwards.holds(place.y)
     }
 
-    // After how many ticks the disk is past the end of the room that it goes towards, on either
-    // axis; none where it stands still.
+    // After how many ticks the disk is past the end of the room that it goes towards, on either axis; none if it stands
+    // still.
     #[inline(always)]
     pub(crate) fn ticks_until_past(self, a: &Disk) -> Option<u64>
         requires small { IsSmallRoom self }

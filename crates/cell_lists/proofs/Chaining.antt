@@ -1,4 +1,4 @@
--- What listing a disk, or taking it off, does to the chains.
+-- The chains after a disk is listed or taken off.
 use Rattle.std.proofs.Common.{ap, ◌≡◌, ◌≢◌, ◌⊎◌, ◌↔◌, ℕ, ◌+◌, ◌%◌, ◌^◌, ◌<◌, ◌≤◌, List, length, get_or, set, arith, refl, sym, subst, ◌∙◌, inl, inr}
 use Rattle.std.specs.Option.{option_eq}
 use Rattle.std.proofs.lemmas.Bool.{cases_lt, true≢false, false≢true, eqb-true, eq-eqb}
@@ -56,7 +56,8 @@ changed_take old m b d cell lt listed is = record {
     )
     other c ne j (inr e) = stays old d None m c j e
 
--- a first in another bucket, from beyond the disk, or with another disk of the bucket before it
+-- a first disk stays so in another bucket, if the search begins beyond the disk d, or if another disk of the bucket
+-- comes before d
 pub unmoved : (old new : List (Option ℕ)) (m b d c from : ℕ) (o : Option ℕ) → Changed old new m b d →
     (c ≢ b) ⊎ ((d < from) ⊎ ((p : ℕ) × (from ≤ p) × (p < d) × InBucket old m c p)) → IsFirst old m c from o → IsFirst new m c from o
 unmoved old new m b d c from o changed (inl ne) h = first_kept (InBucket old m c) (InBucket new m c) from o (λ j le. changed.other c ne j) h
@@ -86,7 +87,7 @@ after_rest old new m b d last o changed is i c ne not_before here h =
         lower : (i p : ℕ) → i ≢ p → ¬ (p < i) → i < p
         lower i p ne never = grind arith
 
--- the heads still are the first disks, where a disk of the bucket comes before, and in other buckets always
+-- if another disk of the bucket comes before d, all heads are still the first disks
 pub head_rest : (old new : List (Option ℕ)) (m b d p c : ℕ) (o : Option ℕ) → Changed old new m b d → p < d → InBucket old m b p →
     IsFirst old m c 0 o → IsFirst new m c 0 o
 head_rest old new m b d p c o changed lt here h = elim (same_or_not c b) [
@@ -159,7 +160,7 @@ pub pointed_count : (heads nexts heads' nexts' : List Pointer) (b : ℕ) (q : Op
 pointed_count heads nexts heads' nexts' b None x h = (ap length h.0 ∙ length-set heads b x, ap length h.1)
 pointed_count heads nexts heads' nexts' b (Some p) x h = (ap length h.0, ap length h.1 ∙ length-set nexts p x)
 
--- the pointers but those at the last disk before d, at the second last, and at d are as they were
+-- the pointers are as they were, except those at the last disk before d, at the second last, and at d
 record IsRestSame (heads nexts heads' nexts' : List Pointer) (b d : ℕ) (last second : Option ℕ) : Type 0 where
   heads_count : length heads' ≡ length heads
   nexts_count : length nexts' ≡ length nexts
@@ -220,7 +221,7 @@ leads_still old new m b d last c from from' x changed is other was now = (
       (first_one (InBucket new m c) from' (disk_of x) now) other was.1,
 )
 
--- a pointer to one of which that is known
+-- a pointer to a disk for which that is known
 leads_to : (cells : List (Option ℕ)) (m c from i : ℕ) (Has : Type 0) (x : Pointer) → LeadsTo x i Has → IsFirst cells m c from (Some i) →
     (Has ↔ ((j : ℕ) × (i < j) × InBucket cells m c j)) → LeadsOn cells m c from x
 leads_to cells m c from i Has x to first has = (
@@ -232,7 +233,7 @@ leads_to cells m c from i Has x to first has = (
 leads_as : (cells : List (Option ℕ)) (m c from : ℕ) (x y : Pointer) → y ≡ x → LeadsOn cells m c from x → LeadsOn cells m c from y
 leads_as cells m c from x y e h = subst (λ (z : Pointer). LeadsOn cells m c from z) (sym e) h
 
--- chains where all but three pointers are as they were, and these lead on
+-- chains in which all but three pointers are as they were, and these lead on
 rechained : (heads nexts heads' nexts' : List Pointer) (cells new : List (Option ℕ)) (b d : ℕ) (last second : Option ℕ) → IsChained heads nexts cells →
     length new ≡ length cells → Changed cells new (length heads) b d → IsLast cells (length heads) b d last →
     IfSome last (λ p. IsLast cells (length heads) b p second) → IsRestSame heads nexts heads' nexts' b d last second →
@@ -325,7 +326,7 @@ rechained heads nexts heads' nexts' cells new b d last second chained count chan
               | inr apart ↦ still other (λ _. apart) (rest_of (Some q) is_second other apart)
             ]
 
--- ---- what a disk that is listed, or taken off, leaves of the pointers
+-- ---- the pointers after a disk is listed or taken off
 pub marked_count : (heads nexts heads' nexts' : List Pointer) (b : ℕ) (last second : Option ℕ) (more : Bool) → IsMarkedAnew heads nexts b last second more heads' nexts' →
     (length heads' ≡ length heads) × (length nexts' ≡ length nexts)
 marked_count heads nexts heads' nexts' b None second more h = (ap length h.0, ap length h.1)
@@ -352,7 +353,7 @@ pointed_head : (heads nexts heads' nexts' : List Pointer) (b : ℕ) (q : Option 
 pointed_head heads nexts heads' nexts' b None x p h e = absurd (none-some p e)
 pointed_head heads nexts heads' nexts' b (Some n) x p h e = h.0
 
--- the nexts but that of d are the same
+-- the next pointers except that of d are the same
 record AreSameBut (nexts nexts' : List Pointer) (d : ℕ) : Type 0 where
   count : length nexts' ≡ length nexts
   same : (i : ℕ) → i ≢ d → pointer_at nexts' i ≡ pointer_at nexts i
@@ -570,7 +571,7 @@ chained_none count room some few = record {
     never : (m b i : ℕ) → ¬ InBucket (none_at room) m b i
     never m b i = in_none (none_at room) m b i (at_none room i)
 
--- ---- what the chains are seen as
+-- ---- what contracts see of the chains
 pub record IsSeen (heads nexts : List Pointer) (chains : ChainsData) : Type 0 where
   pub some : 0 < chains.buckets
   pub count : length heads ≡ chains.buckets

@@ -10,7 +10,7 @@ abbrev pub after_of : Option ℕ → ℕ
 after_of None = 0
 after_of (Some i) = i + 1
 
--- whether a number is this one, where there is one
+-- whether a number is this one, if there is one
 abbrev pub IsBefore : Option ℕ → ℕ → Type 0
 IsBefore None i = ⊥
 IsBefore (Some p) i = i ≡ p
@@ -74,7 +74,7 @@ pub first_one : (P : ℕ → Type 0) (from : ℕ) (o : Option ℕ) → IsFirstOf
 first_one P from None h = tt
 first_one P from (Some i) h = h.1
 
--- there is a first after d exactly where there is one after d
+-- there is a first one after d if and only if there is one after d
 pub first_there : (P : ℕ → Type 0) (d : ℕ) (o : Option ℕ) → IsFirstOf P (d + 1) o → (IsSome o ↔ ((j : ℕ) × (d < j) × P j))
 first_there P d None h = (λ some. absurd (false≢true some), λ x. (let more = x.1 in absurd (h x.0 (omega arith) x.2)))
 first_there P d (Some i) h = (λ _. (let more : d + 1 ≤ i = h.0 in (i, omega arith, h.1)), λ _. refl)
@@ -85,7 +85,7 @@ pub first_kept : (P Q : ℕ → Type 0) (from : ℕ) (o : Option ℕ) → ((j : 
 first_kept P Q from None same h = λ j le q. h j le ((same j le).1 q)
 first_kept P Q from (Some i) same h = (h.0, (same i h.0).0 h.1, λ j le lt q. h.2 j le lt ((same j le).1 q))
 
--- they agree but at d, and P holds of one before
+-- they agree except at d, and P holds for one before
 pub first_before : (P Q : ℕ → Type 0) (d p from : ℕ) (o : Option ℕ) → ((j : ℕ) → j ≢ d → (P j ↔ Q j)) → from ≤ p → p < d → P p → IsFirstOf P from o → IsFirstOf Q from o
 first_before P Q d p from None same le lt holds h = absurd (h p le holds)
 first_before P Q d p from (Some i) same le lt holds h =

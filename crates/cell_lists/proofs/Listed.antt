@@ -1,4 +1,4 @@
--- The map of the listed disks, and what listing a disk and taking it off do to it.
+-- The map of the listed disks, and the map after a disk is listed or taken off.
 use Rattle.std.proofs.Common.{◌≡◌, ◌≢◌, ◌⊎◌, ℕ, zero, suc, ◌+◌, ◌<◌, true, false, cond, List, [], ◌∷◌, length, get_or, set, arith, refl, sym, subst, ap, ◌∙◌, inl, inr}
 use Rattle.std.specs.Prelude.{Option, Some, None, Result, Ok, Err, OnErr}
 use Rattle.std.specs.Ordering.{nat_cmp, eq_by_cmp}
@@ -85,7 +85,7 @@ listed_take xs disk lt = same_cells (set xs disk None) (map.remove (cells_in xs)
 pub listed_same : (xs ys : List (Option ℕ)) → ((i : ℕ) → at ys i ≡ at xs i) → cells_in ys ≡ cells_in xs
 listed_same xs ys same = same_cells ys (cells_in xs) (λ i. same i ∙ sym (cell_of xs i))
 
--- ---- what the lists are seen as
+-- ---- what contracts see of the lists
 pub listed_within : (xs : List (Option ℕ)) (disk cell : ℕ) → at xs disk ≡ Some cell → disk < length xs
 listed_within xs disk cell here = elim (cases_lt disk (length xs)) [
   | inl lt ↦ lt

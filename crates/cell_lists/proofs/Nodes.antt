@@ -1,4 +1,4 @@
--- Nodes that are read and written, as the two lists that they are seen as.
+-- Nodes that are read and written, as the two lists that contracts see.
 use Rattle.std.proofs.Common.{◌≡◌, ℕ, zero, suc, ◌+◌, ◌%◌, ◌^◌, ◌<◌, List, ◌∷◌, length, get_or, set, refl, sym, ap, subst, ◌∙◌, arith}
 use Rattle.std.specs.Prelude.{Bool, Option, Some, None, IfSome, IsSome, replicate}
 use Rattle.std.proofs.lemmas.List.{map-set, length-map, length-replicate, get_or_default}
@@ -24,7 +24,7 @@ pub next_at : (nodes : List Node) (i : ℕ) (node : Node) → i < length nodes �
 next_at nodes i node lt e = next_read nodes i node e
     ∙ get_or_default (pointers_of nodes) i node.next no_pointer (subst (λ (n : ℕ). i < n) (sym (length-map nodes (λ n. n.next))) lt)
 
--- where the node of a listed disk leads
+-- the disk to which the node of a listed disk leads
 pub node_leads : (cells : List (Option ℕ)) (nodes : List Node) (disk : ℕ) (d : Node) → length nodes ≡ length cells →
     ((i cell : ℕ) → IsCellOf cells cell i → LeadsIn cells cell (i + 1) (pointer_at (pointers_of nodes) i)) → (cell : ℕ) → IsCellOf cells cell disk →
     (disk < length nodes) × LeadsIn cells cell (disk + 1) (get_or nodes disk d).next
@@ -42,7 +42,7 @@ node_leads cells nodes disk d as_many leads cell here = (
 pub head_at : (heads : List Pointer) (i : ℕ) (head : Pointer) → i < length heads → head ≡ get_or heads i head → head ≡ pointer_at heads i
 head_at heads i head lt e = e ∙ get_or_default heads i head no_pointer lt
 
--- as many cells are seen as there are nodes
+-- there are as many cells as nodes
 pub count_seen : (count : ℕ) (nodes : List Node) (chains : ChainsData) → chains_of count (cells_of nodes) ≡ chains →
     length nodes ≡ length chains.cells
 count_seen count nodes chains seen = sym (length-map nodes (λ n. n.cell)) ∙ ap (λ (c : ChainsData). length c.cells) seen
@@ -104,7 +104,7 @@ pub unlinked_count : (heads nexts heads' nexts' : List Pointer) (b d : ℕ) (las
     length heads' ≡ length heads
 unlinked_count heads nexts heads' nexts' b d last h = (pointed_count heads nexts heads' nexts' b last (pointer_at nexts d) h).0
 
--- what chains are seen as with another cell of a disk
+-- what contracts see of chains with another cell of a disk
 pub seen_with_cell : (heads heads' : List Pointer) (nodes nodes' : List Node) (chains : ChainsData) (d : ℕ) (node : Node) (one o : Option ℕ) →
     chains_of (length heads) (cells_of nodes) ≡ chains → length heads' ≡ length heads → cells_of nodes' ≡ cells_of nodes → one ≡ o →
     chains_of (length heads') (cells_of (set nodes' d (record { cell = one; next = node.next }))) ≡ with_cell chains d o
@@ -113,7 +113,7 @@ seen_with_cell heads heads' nodes nodes' chains d node one o view count cells is
     ∙ ap (chains_of (length heads)) (cells_set nodes' d node one ∙ ap (λ (xs : List (Option ℕ)). set xs d one) cells ∙ ap (set (cells_of nodes) d) is)
     ∙ ap (λ (c : ChainsData). with_cell c d o) view
 
--- another cell of a disk leaves chains chains where that list of cells does
+-- after a write of another cell of a disk the chains are chains, if that list of cells has such
 pub chained_as : (heads : List Pointer) (nodes : List Node) (i : ℕ) (node : Node) (o : Option ℕ) → node ≡ get_or nodes i node →
     IsChained heads (pointers_of nodes) (set (cells_of nodes) i o) →
     IsChained heads (pointers_of (set nodes i (record { cell = o; next = node.next }))) (cells_of (set nodes i (record { cell = o; next = node.next })))
@@ -142,7 +142,7 @@ pub none_seen : (count room : ℕ) (heads : List Pointer) (nodes : List Node) �
 none_seen count room heads nodes empty none =
     rw (empty, none) (rw (cells_unlisted room, length-replicate {A = Pointer} count no_pointer) refl)
 
--- ---- a node that was asked for, where there may be none
+-- ---- a node that was asked for and may not exist
 pub cell_got : (count : ℕ) (nodes : List Node) (chains : ChainsData) (i : ℕ) (node : Node) → chains_of count (cells_of nodes) ≡ chains →
     node ≡ get_or nodes i unlisted → node.cell ≡ at chains.cells i
 cell_got count nodes chains i node seen is =

@@ -1,4 +1,4 @@
--- The disks that come to those that were gathered.
+-- The disks that are gathered after others.
 use Rattle.std.proofs.Common.{◌≡◌, ◌≢◌, ◌⊎◌, ◌↔◌, inl, inr, ℕ, zero, suc, ◌+◌, ◌-◌, ◌<◌, ◌≤◌, List, [], ◌∷◌, ◌++◌, length, take, drop, get_or, arith, refl, sym, subst, ap, ◌∙◌}
 use Rattle.std.specs.Prelude.{Option, Some, None, IsSomeAnd}
 use Rattle.std.specs.List.{Contains}
@@ -152,7 +152,7 @@ own_later chains cell from x own lt leads = says (disk_of x) leads.0 leads.1
         here : IsCellOf chains.cells cell i
         here = (own_bucket chains cell own lt i).0 first.1
 
--- where no place is held yet, none of the disks has to be looked at
+-- if no place is held yet, none of the disks has to be looked at
 pub none_pending : (cells : List (Option ℕ)) (disks : List ℕ) (places : Places) → ((p : ℕ) → ¬ Holds places p) → ArePending cells (length disks) disks places
 none_pending cells disks places none p = (λ h. absurd (none p h), λ x. (let low = x.0 in let high = x.1 in absurd (omega arith)))
 
@@ -206,7 +206,8 @@ leads_in chains cell from x own lt leads = (
 abbrev IsAfter : List (Option ℕ) → ℕ → ℕ → Type 0
 IsAfter cells start disk = (cell : ℕ) × IsCellOf cells cell start × IsCellOf cells cell disk × (start < disk)
 
--- what is gathered while disks are followed: what comes from the old ones is there, or after one at a place that is held
+-- what is gathered while disks are followed: each disk that comes from the old ones is there, or after one at a place
+-- that is held
 pub record IsFollowing (cells : List (Option ℕ)) (old : List ℕ) (first : ℕ) (new : List ℕ) (places : Places) : Type 0 where
   pub kept : take first new ≡ take first old
   pub some : first ≤ length new
@@ -375,7 +376,7 @@ following_more cells old first new before after q x following holds next says st
           | inr end ↦ inr (q, holds, from_n disk (subst (λ (m : ℕ). IsAfter cells m disk) (at_end new n p end.0) after_p))
         ]
 
--- the same of the first so many of an array
+-- the same for the first elements of an array
 pub walk_held : (cells : List (Option ℕ)) (old : List ℕ) (first count : ℕ) (disks : List ℕ) (places : Places) (q : ℕ) → count ≤ MOST_GATHERED →
     length disks ≡ MOST_GATHERED → IsFollowing cells old first (take count disks) places → Holds places q → (q < count) × HasLater cells (get_or disks q 0)
 walk_held cells old first count disks places q most long following holds =

@@ -7,15 +7,16 @@ use Rattle.cell_lists.specs.declared.pointer.Pointer.{Pointer}
 use Rattle.cell_lists.specs.Pointer.{disk_of, SaysMore, pointer_at}
 use Rattle.cell_lists.specs.Firsts.{IsFirstOf, IsLastOf}
 
--- what chains are seen as: how many buckets there are, and of each disk the cell in which it is listed, or none
+-- what contracts see of chains: how many buckets there are, and for each disk the cell in which it is listed, or none
 pub record ChainsData : Type 0 where
   pub buckets : ℕ
   pub cells : List (Option ℕ)
 
+-- the chains with this many buckets and these cells
 abbrev pub chains_of : ℕ → List (Option ℕ) → ChainsData
 chains_of buckets cells = record { buckets = buckets; cells = cells }
 
--- how many buckets there are, with so many cells and room for so many disks
+-- how many buckets there are, for this many cells and room for this many disks
 abbrev pub bucket_count : ℕ → ℕ → ℕ
 bucket_count cells room = max room (min cells (4 * room))
 
@@ -23,6 +24,7 @@ bucket_count cells room = max room (min cells (4 * room))
 abbrev pub with_cell : ChainsData → ℕ → Option ℕ → ChainsData
 with_cell chains disk o = chains_of chains.buckets (slice_set chains.cells disk o)
 
+-- what the list has at an index; none past its end
 abbrev pub at : List (Option ℕ) → ℕ → Option ℕ
 at xs i = slice_index_or xs i None
 
@@ -30,13 +32,15 @@ at xs i = slice_index_or xs i None
 abbrev pub IsCellOf : List (Option ℕ) → ℕ → ℕ → Type 0
 IsCellOf cells cell i = at cells i ≡ Some cell
 
--- the disk is listed in a cell of the bucket, of so many
+-- the disk is listed in a cell of this bucket, one of this many
 abbrev pub InBucket : List (Option ℕ) → ℕ → ℕ → ℕ → Type 0
 InBucket cells count bucket i = (cell : ℕ) × (at cells i ≡ Some cell) × (cell % count ≡ bucket)
 
+-- the first disk in a bucket from a number on; none if there is none
 abbrev pub IsFirst : List (Option ℕ) → ℕ → ℕ → ℕ → Option ℕ → Type 0
 IsFirst cells count bucket from o = IsFirstOf (InBucket cells count bucket) from o
 
+-- the last disk in a bucket below a number; none if there is none
 abbrev pub IsLast : List (Option ℕ) → ℕ → ℕ → ℕ → Option ℕ → Type 0
 IsLast cells count bucket below o = IsLastOf (InBucket cells count bucket) below o
 
@@ -63,11 +67,11 @@ abbrev pub IsPointed : List Pointer → List Pointer → ℕ → Option ℕ → 
 IsPointed heads nexts b None pointer heads' nexts' = (heads' ≡ slice_set heads b pointer) × (nexts' ≡ nexts)
 IsPointed heads nexts b (Some p) pointer heads' nexts' = (heads' ≡ heads) × (nexts' ≡ slice_set nexts p pointer)
 
--- the pointer leads to the disk, and says that it has a next one exactly where it has
+-- the pointer leads to the disk, and says that it has a next one if and only if it has
 abbrev pub LeadsTo : Pointer → ℕ → Type 0 → Type 0
 LeadsTo pointer d HasNext = (disk_of pointer ≡ Some d) × (SaysMore pointer ↔ HasNext)
 
--- what points at the last disk before one, from the second last or the head, says now whether it has a next one
+-- the pointer to the last disk before one, from the second last or the head, says now whether that has a next one
 abbrev pub IsMarkedAnew : List Pointer → List Pointer → ℕ → Option ℕ → Option ℕ → Bool → List Pointer → List Pointer → Type 0
 IsMarkedAnew heads nexts b None second has_next heads' nexts' = (heads' ≡ heads) × (nexts' ≡ nexts)
 IsMarkedAnew heads nexts b (Some p) second has_next heads' nexts' =
@@ -83,12 +87,12 @@ IsLinked heads nexts b d before heads' nexts' =
 abbrev pub IsUnlinked : List Pointer → List Pointer → ℕ → ℕ → Option ℕ → List Pointer → List Pointer → Type 0
 IsUnlinked heads nexts b d before heads' nexts' = IsPointed heads nexts b before (pointer_at nexts d) heads' nexts'
 
--- the same disks are listed, and there is room for so many
+-- the same disks are listed, and there is room for this many
 abbrev pub HasRoomFor : List (Option ℕ) → ℕ → List (Option ℕ) → Type 0
 HasRoomFor old room new = (length new ≡ room) × ((i : ℕ) → at new i ≡ at old i)
 
 -- ---- chains as a map
--- the entries of an array of cells by disk, of which the first is that of the disk n
+-- the entries of an array of cells by disk, whose first one belongs to disk n
 abbrev pub numbered_cells : ℕ → List (Option ℕ) → List (ℕ × ℕ)
 numbered_cells n [] = []
 numbered_cells n (None ∷ xs) = numbered_cells (n + 1) xs

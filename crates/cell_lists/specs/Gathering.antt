@@ -11,7 +11,7 @@ use Rattle.cell_lists.specs.Firsts.{IsFirstOf}
 use Rattle.cell_lists.specs.Chain.{ChainsData, IsCellOf}
 use Rattle.cell_lists.specs.Nearby.{IsWithinBlock}
 
--- with a number at the end, where there is one
+-- the list with a number appended, if there is one
 abbrev pub with_offered : List ℕ → Option ℕ → List ℕ
 with_offered disks None = disks
 with_offered disks (Some disk) = disks ++ (disk ∷ [])
@@ -42,7 +42,7 @@ StartsAdded cells IsSuch old new = (starts : List ℕ) × (new ≡ old ++ starts
 abbrev pub HasLater : List (Option ℕ) → ℕ → Type 0
 HasLater cells disk = (cell : ℕ) × (later : ℕ) × IsCellOf cells cell disk × IsCellOf cells cell later × (disk < later)
 
--- the pointer says that its disk has a next one exactly where a greater disk is in its cell
+-- the pointer says that its disk has a next one if and only if a greater disk is in its cell
 abbrev pub SaysLater : List (Option ℕ) → Pointer → Type 0
 SaysLater cells pointer = SaysMore pointer ↔ IsSomeAnd (disk_of pointer) (HasLater cells)
 
@@ -54,7 +54,8 @@ LeadsIn cells cell from pointer = IsFirstOf (IsCellOf cells cell) from (disk_of 
 abbrev pub ArePending : List (Option ℕ) → ℕ → List ℕ → Places → Type 0
 ArePending cells first disks places = (p : ℕ) → (Holds places p ↔ ((first ≤ p) × (p < length disks) × HasLater cells (slice_index_or disks p 0)))
 
--- the first so many disks stay, and the others are now those that are in the cell of one of the old others, and are this one or after it
+-- this many disks stay, and the others are now those that are in the cell of one of the old others, and are this one or
+-- after it
 pub record AreFollowed (cells : List (Option ℕ)) (first : ℕ) (old new : List ℕ) : Type 0 where
   pub kept : take first new ≡ take first old
   pub all : (disk : ℕ) → (Contains (drop first new) disk ↔ IsFromOneOf cells (drop first old) disk)

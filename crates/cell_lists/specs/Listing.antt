@@ -7,11 +7,12 @@ use Rattle.cell_grid.specs.contracts.grid.Grid as grid_type
 use Rattle.cell_grid.specs.Grid.{GridData, IsCell}
 use Rattle.cell_lists.specs.Firsts.{IsFirstOf}
 
--- what lists are seen as: their grid, and the cell of each listed disk
+-- what contracts see of lists: their grid, and the cell of each listed disk
 pub record ListsData : Type 0 where
   pub grid : GridData
   pub cells : map.FinMap nat_cmp ℕ
 
+-- the lists on this grid, with these cells of disks
 abbrev pub lists_of : GridData → map.FinMap nat_cmp ℕ → ListsData
 lists_of grid cells = record { grid = grid; cells = cells }
 
@@ -33,9 +34,11 @@ AreInGrid lists = (disk cell : ℕ) → IsListed lists cell disk → IsCell list
 abbrev pub IsUnlisted : ListsData → ℕ → Type 0
 IsUnlisted lists disk = map.get lists.cells disk ≡ None
 
+-- the lists with the disk in this cell, and in no other
 abbrev pub with_disk : ListsData → ℕ → ℕ → ListsData
 with_disk lists disk cell = lists_of lists.grid (map.insert lists.cells disk cell)
 
+-- the lists without the disk
 abbrev pub without_disk : ListsData → ℕ → ListsData
 without_disk lists disk = lists_of lists.grid (map.remove lists.cells disk)
 

@@ -12,6 +12,7 @@ pub record IsBlock (grid : GridData) (block : Block) : Type 0 where
   pub rows : block.low ≤ block.high
   pub most_rows : block.high ≤ grid.rows
 
+-- the cell is in the block, by its column and its row
 abbrev pub IsWithinBlock : GridData → Block → ℕ → Type 0
 IsWithinBlock grid block cell =
     ((block.left ≤ column_of grid cell) × (column_of grid cell < block.right)) × ((block.low ≤ row_of grid cell) × (row_of grid cell < block.high))
@@ -20,11 +21,11 @@ IsWithinBlock grid block cell =
 abbrev pub IsListedWithin : ListsData → Block → ℕ → Type 0
 IsListedWithin lists block disk = (cell : ℕ) × IsListed lists cell disk × IsWithinBlock lists.grid block cell
 
--- the disk is listed in a cell adjacent to this one, as it is itself
+-- the disk is listed in a cell adjacent to this one, or in this one
 abbrev pub IsListedNear : ListsData → ℕ → ℕ → Type 0
 IsListedNear lists cell disk = (other : ℕ) × IsListed lists other disk × IsAdjacent lists.grid cell other
 
--- the cells of a block in one row, in columns below one
+-- the cells of a block in one row, in the columns before one
 abbrev pub columns_to : Block → ℕ → ℕ → Block
 columns_to block row column = record { left = block.left; right = column; low = row; high = row + 1 }
 

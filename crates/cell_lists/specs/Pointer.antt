@@ -3,7 +3,7 @@ use Rattle.std.specs.Prelude.{ℕ, ◌%◌, ◌^◌, ◌≤◌, List, slice_inde
 use Rattle.cell_lists.specs.declared.pointer.Pointer.{Pointer}
 use Rattle.cell_lists.specs.Slot.{number_of}
 
--- to no disk
+-- the pointer to no disk
 abbrev pub no_pointer : Pointer
 no_pointer = record { code = 0 }
 
@@ -15,5 +15,6 @@ disk_of pointer = number_of (pointer.code % 2 ^ 31)
 abbrev pub SaysMore : Pointer → Type 0
 SaysMore pointer = 2 ^ 31 ≤ pointer.code
 
+-- the pointer at an index; past the end of the list, the one to no disk
 abbrev pub pointer_at : List Pointer → ℕ → Pointer
 pointer_at pointers i = slice_index_or pointers i no_pointer

@@ -1,35 +1,33 @@
 //! Which disks are listed in which cells, as chains through dense arrays.
 //!
-//! These are the cell lists of molecular dynamics (Hockney and Eastwood, Computer Simulation Using
-//! Particles, 8.4), with a head for each bucket of cells, and for each disk the next one of its
-//! bucket beside its cell, since a walk asks for both. The chains ascend. Where the grid has at most
-//! four times as many cells as there is room for disks, each cell has a bucket of its own; else cells
-//! share buckets, so that the empty cells of a great grid take no memory.
+//! These are the cell lists of molecular dynamics (Hockney and Eastwood, Computer Simulation Using Particles, 8.4),
+//! with a head for each bucket of cells, and for each disk the next one of its bucket beside its cell, since a walk
+//! asks for both. The chains ascend. If the grid has at most four times as many cells as there is room for disks, each
+//! cell has a bucket of its own; else cells share buckets, so that the empty cells of a great grid take no memory.
 //!
-//! What points at a disk also says whether that disk has a next one, so that a walk ends without a read
-//! of the last disk's node. For that one pointer more is written where a disk comes behind another one,
-//! or is taken from behind it.
+//! A pointer to a disk also says whether that disk has a next one, so that a walk ends without a read of the last
+//! disk's node. In return, one pointer more is written when a disk comes behind another one, or is taken from behind
+//! it.
 
 use crate::pointer::Pointer;
 use crate::slot::Slot;
 use std::alloc::{AllocError, Global};
 use std::marker::Model;
 
-// The most disks that there is room for: one for each number of 31 bits but the greatest, which no
-// pointer holds.
+// The most disks that there is room for: one for each number of 31 bits but the greatest, which no pointer holds.
 const MOST_ROOM: usize = (1 << 31) - 1;
 
-// The most buckets for each disk that there is room for, where there are so many cells.
+// The most buckets for each disk that there is room for, if there are that many cells.
 const MOST_BUCKETS_A_DISK: usize = 4;
 
-// Of one disk: the cell in which it is listed, or none, and if it is listed, the next one of its bucket.
+// The node of one disk: the cell in which it is listed, or none, and if it is listed, the next one of its bucket.
 #[derive(Clone, Copy)]
 pub(crate) struct Node {
     cell: Slot,
     pub(crate) next: Pointer,
 }
 
-// The greatest two disks of a bucket that are less than one of it.
+// The greatest two disks of a bucket that are less than some disk.
 #[derive(Clone, Copy)]
 struct LastTwo {
     last: Option<u32>,
@@ -67,7 +65,7 @@ ghost use Rattle.cell_lists.specs.Chain.{chains_of, bucket_count, with_cell, at,
 ghost use Rattle.cell_lists.specs.Gathering.{HaveOwnBuckets, LeadsIn};
 
 impl Chains {
-    // No disk listed, with room for so many, in a grid of so many cells.
+    // No disk listed, with room for `room` disks, in a grid of `cell_count` cells.
     pub fn new(alloc: Global, cell_count: u32, room: usize) -> Result<Chains, AllocError>
         requires some { 0 < room }
         requires most { room < 2 ^ 31 }
@@ -97,7 +95,7 @@ impl Chains {
         Ok(())
     }
 
-    // Makes room for so many disks, or for twice as many as now. Seldom asked, so it is kept apart.
+    // Makes room for `least` disks, or for twice as many as now. It is seldom called, so it is kept apart.
     #[inline(never)]
     fn widen(&mut self, alloc: Global, least: usize) -> Result<(), AllocError>
         requires more { length self.old.cells < least }
@@ -110,7 +108,7 @@ impl Chains {
         Ok(())
     }
 
-    // The same disks listed, with room for so many.
+    // The same disks listed, with room for `room` disks.
     fn with_room(&self, alloc: Global, room: usize) -> Result<Chains, AllocError>
         requires some { 0 < room }
         requires most { room < 2 ^ 31 }
@@ -119,7 +117,7 @@ impl Chains {
     {
         let mut wider = Chains::new(alloc, self.cell_count, room)?;
         let mut disk = self.nodes.len();
-        // From the greatest on, so that each comes to the head of its chain.
+        // It begins with the greatest disk, so that each one comes to the head of its chain.
         while disk > 0 {
             disk -= 1;
             if let Some(cell) = self.nodes[disk].cell.get() {
@@ -179,7 +177,7 @@ impl Chains {
         self.skip(cell, disk as u64 + 1, self.nodes[disk as usize].next.get())
     }
 
-    // Whether there is a bucket for each of so many cells.
+    // Whether there is a bucket for each of `cell_count` cells.
     #[inline(always)]
     pub fn has_buckets(&self, cell_count: u32) -> bool
         ensures { IsTrue result ↔ cell_count ≤ self.now.buckets }
@@ -187,7 +185,7 @@ impl Chains {
         cell_count as usize <= self.heads.len()
     }
 
-    // What leads to the least disk of each cell, where cells have buckets of their own.
+    // The pointer to the least disk of each cell, if cells have buckets of their own.
     #[inline(always)]
     pub fn heads(&self) -> &[Pointer]
         requires own { HaveOwnBuckets self.now }
@@ -197,7 +195,7 @@ impl Chains {
         &self.heads
     }
 
-    // What leads from each listed disk to the next one in its cell, where cells have buckets of their own.
+    // The node of each listed disk, with the pointer to the next one in its cell, if cells have buckets of their own.
     #[inline(always)]
     pub(crate) fn nodes(&self) -> &[Node]
         requires own { HaveOwnBuckets self.now }
@@ -208,7 +206,7 @@ impl Chains {
         &self.nodes
     }
 
-    // The first disk of a cell, where `start` is the first of its bucket from a number on.
+    // The first disk of a cell, if `start` is the first of its bucket from a number on.
     fn skip(&self, cell: u32, from: u64, start: Option<u32>) -> Option<u32>
         requires { IsFirst self.now.cells self.now.buckets (cell % self.now.buckets) from start }
         ensures { IsFirstOf (IsCellOf self.now.cells cell) from result }
@@ -230,7 +228,7 @@ impl Chains {
         ensures in_range { result < self.now.buckets }
     {
         let count = self.heads.len();
-        // Most cells have a number that small, and a division takes far longer than this question.
+        // Most cells have a number that small, and a division takes far longer than this test.
         if (cell as usize) < count {
             cell as usize
         } else {
@@ -263,7 +261,7 @@ impl Chains {
 }
 
 impl Node {
-    // Of a disk that isn't listed.
+    // The node of a disk that isn't listed.
     fn none() -> Node
         ensures { result ≡ record { cell = None; next = no_pointer } }
     {
@@ -311,7 +309,7 @@ fn point(
     }
 }
 
-// Says of the last disk before one, where it is pointed at, whether it has a next one.
+// Records in the pointer to the last disk before one, if there is such a disk, whether it has a next one.
 fn mark(
     heads: &mut Vec<Pointer>,
     nodes: &mut Vec<Node>,

@@ -7,7 +7,7 @@ use std::marker::Model;
 /// How many disks are gathered at most.
 pub const MOST_GATHERED: usize = 32;
 
-/// Some disks, at most [`MOST_GATHERED`], so few that they need no memory of their own.
+/// Some disks, at most [`MOST_GATHERED`]: few enough to need no memory of their own.
 #[derive(Drop)]
 pub struct Gathered {
     pub(crate) disks: [u32; MOST_GATHERED],
@@ -43,7 +43,7 @@ impl Gathered {
         }
     }
 
-    /// The same disks again.
+    /// A copy.
     #[inline(always)]
     pub fn copy(&self) -> Gathered
         ensures { result ≡ self.now }
@@ -54,7 +54,7 @@ impl Gathered {
         }
     }
 
-    /// How many they are.
+    /// The number of disks.
     #[inline(always)]
     pub fn len(&self) -> usize
         ensures { result ≡ length self.now }
@@ -71,7 +71,7 @@ impl Gathered {
         self.as_slice()[place]
     }
 
-    /// Puts a disk at a place, for the one that was there.
+    /// Puts a disk at a place, replacing the one that was there.
     #[inline(always)]
     pub fn put(&mut self, place: usize, disk: u32)
         requires { place < length self.old }
@@ -81,7 +81,7 @@ impl Gathered {
         disks[place] = disk;
     }
 
-    /// Leaves so many of them, the first ones.
+    /// Keeps the first `count` of them.
     #[inline(always)]
     pub fn cut(&mut self, count: usize)
         requires { count ≤ length self.old }
@@ -99,7 +99,7 @@ impl Gathered {
     }
 }
 
-// How many disks were gathered so far, and at which places there are some whose next one wasn't.
+// How many disks were gathered so far, and the places of those whose next disk is still to be gathered.
 #[derive(Clone, Copy)]
 pub(crate) struct SoFar {
     pub(crate) count: usize,
@@ -107,8 +107,8 @@ pub(crate) struct SoFar {
 }
 
 impl SoFar {
-    // Writes a disk behind those so far, where the pointer has one. What it has can't be foretold, so it is
-    // written in any case, and counted where it is a disk. The count goes in and out by value, so that it
+    // Writes the disk of the pointer, if it has one, behind those so far. Whether it has one can't be predicted, so its
+    // number is written in any case, and counted if it is a disk. The count goes in and out by value, so that it
     // needn't be read from memory again after each write beside it.
     #[inline(always)]
     pub(crate) fn offer(self, disks: &mut [u32; MOST_GATHERED], pointer: Pointer) -> SoFar

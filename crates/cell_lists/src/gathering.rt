@@ -1,9 +1,9 @@
 //! Gathering the disks that are listed in a block of cells.
 //!
-//! Whether a cell is empty, and whether a disk has a next one, can't be foretold, and a wrong guess takes
-//! longer than some reads. So nothing asks for that: all heads of the block are read, and the processor can
-//! wait for many of them at once. What points at a disk says whether it has a next one, so then the nodes
-//! are read of those disks alone that have one.
+//! Whether a cell is empty, and whether a disk has a next one, can't be predicted, and a wrong guess takes longer than
+//! some reads. So nothing branches on that: all heads of the block are read, and the processor can wait for many of
+//! them at once. A pointer to a disk says whether the disk has a next one, so only the nodes of the disks that have one
+//! are read then.
 
 ghost use Rattle.std.specs.Prelude.{◌*◌, ℕ, ◌<◌, ◌≤◌, take, drop, IfSome, IsTrue};
 ghost use Rattle.cell_lists.specs.declared.gathered.TheConstants.{MOST_GATHERED};
@@ -19,8 +19,8 @@ use crate::places::Places;
 use cell_grid::Grid;
 
 impl Chains {
-    // Gathers the disks that are listed in a block, beside those that were gathered before. False where
-    // there is no room for them, or where cells share buckets.
+    // Gathers the disks that are listed in a block, beside those that were gathered before. False if there is no room
+    // for them, or if cells share buckets.
     #[inline(always)]
     pub fn gather(&self, grid: &Grid, block: Block, gathered: &mut Gathered) -> bool
         requires cells { AreCells grid.now self.now.cells }
@@ -45,8 +45,8 @@ impl Chains {
         true
     }
 
-    // Gathers the least disk of each cell of a block behind so many disks, and answers how many there are
-    // then, and which of these have a next one. None where there is no room for them.
+    // Gathers the least disk of each cell of a block behind those of `first`. The answer says how many there are then,
+    // and which of these have a next one. None if there is no room for them.
     #[inline(always)]
     fn gather_heads(
         &self,
@@ -75,7 +75,7 @@ impl Chains {
         Some(so_far)
     }
 
-    // Gathers the least disk of each cell from one number on, below another, in the same way.
+    // The same for the cells from the number `first` on, below `end`.
     #[inline(always)]
     fn gather_heads_of(
         &self,
@@ -96,7 +96,7 @@ impl Chains {
             ArePending self.now.cells start (take before.count disks.old) before.pending →
             ArePending self.now.cells start (take r.count disks.new) r.pending) }
     {
-        // One question for all of them, rather than for each.
+        // One test for all of them, rather than one for each.
         if (end - first) as usize > MOST_GATHERED - before.count {
             return None;
         }
@@ -108,8 +108,8 @@ impl Chains {
         Some(so_far)
     }
 
-    // Gathers the next disk after each that has one which wasn't gathered, and then after each that came so,
-    // in the same way.
+    // Gathers the next disk after each pending one, then the next after those, until none is pending. None if there is
+    // no room for them.
     #[inline(always)]
     fn gather_nexts(
         &self,

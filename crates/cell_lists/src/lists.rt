@@ -9,9 +9,9 @@ use std::marker::Model;
 
 /// Which disks are listed in which cells of a grid.
 ///
-/// A disk is listed in one cell at most. Memory is taken for as many disks as the greatest number
-/// that was ever listed, or for up to twice as many: 8 bytes for each of these disks, and 4 for each
-/// cell of the grid, but for no more cells than four times these disks, and no fewer than these.
+/// A disk is listed in one cell at most. Memory is taken for as many disks as the greatest number that was ever listed,
+/// or for up to twice as many: 8 bytes for each of these disks, and 4 for each cell of the grid, but for no more cells
+/// than four times these disks, and for no fewer than these disks.
 #[derive(Drop)]
 pub struct Lists {
     grid: Grid,
@@ -76,7 +76,7 @@ impl Lists {
         self.chains.take(disk, cell);
     }
 
-    /// The cell in which a disk is listed; none where it isn't listed.
+    /// The cell in which a disk is listed; none if it isn't listed.
     pub fn cell_of(&self, disk: u32) -> Option<u32>
         ensures value { result ≡ map.get self.now.cells disk }
         ensures cell { IfSome result (IsCell self.now.grid) }
@@ -130,7 +130,7 @@ impl Lists {
         first
     }
 
-    // The same of one row of the block.
+    // The same for one row of the block.
     fn first_in_row(&self, block: Block, row: u32, from: u64) -> Option<u32>
         requires block { IsBlock self.now.grid block }
         requires low { block.low ≤ row }
@@ -145,7 +145,7 @@ impl Lists {
         first
     }
 
-    // The same of one cell.
+    // The same for one cell.
     fn first_from(&self, cell: u32, from: u64) -> Option<u32>
         ensures { IsFirstIn self.now cell from result }
     {
@@ -159,8 +159,8 @@ impl Lists {
         next
     }
 
-    /// Gathers the disks that are listed in a block, beside those that were gathered before. False where
-    /// there is no room for them, or where cells share buckets; then nothing is said of what is gathered.
+    /// Gathers the disks that are listed in a block, beside those that were gathered before. False if there is no room
+    /// for them, or if cells share buckets; then nothing is said of what is gathered.
     #[inline(always)]
     pub fn gather(&self, block: Block, gathered: &mut Gathered) -> bool
         requires { IsBlock self.now.grid block }
@@ -170,7 +170,7 @@ impl Lists {
     }
 }
 
-// The lesser of two numbers, each of which may be there or not.
+// The lesser of two numbers, either of which may be none.
 fn lesser(a: Option<u32>, b: Option<u32>) -> Option<u32>
     ensures { result ≡ lesser_of a b }
 {

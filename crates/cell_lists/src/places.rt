@@ -32,7 +32,7 @@ impl Places {
         }
     }
 
-    // These, and one more where it is to be one.
+    // These places, and one more if `is_one`.
     #[inline(always)]
     pub fn with(self, place: usize, is_one: bool) -> Places
         requires { place < MOST_GATHERED }
@@ -43,7 +43,7 @@ impl Places {
         }
     }
 
-    // These but for one.
+    // These places without one.
     #[inline(always)]
     pub fn without(self, place: usize) -> Places
         requires { place < MOST_GATHERED }

@@ -7,7 +7,7 @@ const MORE: u32 = 1 << 31;
 // last disk of a chain needn't be read to know that it is the last.
 #[derive(Clone, Copy)]
 pub struct Pointer {
-    // One more than the disk, or 0, and `MORE` added where the chain goes on.
+    // One more than the disk, or 0; with `MORE` added if the chain goes on.
     code: u32,
 }
 
@@ -21,7 +21,7 @@ impl Pointer {
         Pointer { code: 0 }
     }
 
-    // To a disk, which has a next one or not.
+    // A pointer to a disk, which has a next one or not.
     #[inline(always)]
     pub fn to(disk: u32, has_next: bool) -> Pointer
         requires { disk + 1 < 2 ^ 31 }
@@ -49,7 +49,7 @@ impl Pointer {
         self.code % MORE != 0
     }
 
-    // The disk, with no question for whether there is one; for none, the greatest number of 32 bits.
+    // The disk, without a test for whether there is one; for none, the greatest number of 32 bits.
     #[inline(always)]
     pub fn number(self) -> u32
         ensures { MatchOption (disk_of self) (result ≡ u32.MAX) (λ n. result ≡ n) }

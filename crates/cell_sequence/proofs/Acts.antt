@@ -1,4 +1,4 @@
--- What the events of a cell state come to, and what they change.
+-- The results of the events of a cell state, and what they change.
 use Rattle.std.proofs.Common.{◌≡◌, ◌≢◌, inl, inr, ℕ, List, [], ◌∷◌, sym, ap, ◌∙◌, refl, arith}
 use Rattle.std.proofs.Common.{Option, Some, None, Result, Ok, slice_get, slice_set}
 use Rattle.std.specs.Prelude.{option_map, fold, ◌++◌}
@@ -44,14 +44,14 @@ partner_is placed Crossing i = refl
 partner_is placed Wall i = refl
 partner_is placed Pair i = disk_in_is placed i
 
--- ---- what an event comes to
+-- ---- the result of an event
 hit_is : (rules : Rules) (grid : GridData) (s : Stamp) (a : Disk) (b : Option Disk) (k : Kind) →
     ¬ (k ≡ Crossing) → action_of rules grid s a b k ≡ hit_of (applied rules s a b)
 hit_is rules grid s a b Crossing not = absurd (not refl)
 hit_is rules grid s a b Wall not = refl
 hit_is rules grid s a b Pair not = refl
 
--- an event that is no crossing comes to what it comes to in the state of the disks alone
+-- an event that isn't a crossing has the result that it has in the state of the disks alone
 pub hits_as : (rules : Rules) (grid : GridData) (placed : List Placed) (s : Stamp)
     (r : Result Action Limit) → ¬ (s.kind ≡ Crossing) →
     ActsAs rules grid (slice_get placed) s r → (q : Result Change Limit) × (r ≡ hit_of q)

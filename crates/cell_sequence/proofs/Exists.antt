@@ -290,7 +290,7 @@ acts_as rules grid placed s h =
       (row.0, row.1, refl),
     )
 
--- the action that the next event comes to has its stamp
+-- the action of the next event has its stamp
 pub action_stamp : (rules : Rules) (grid : GridData) (placed : List Placed) (s t : Stamp)
     (x : Action) → IsChecked rules → IsGridOf rules grid → IsSettled rules grid placed s →
     IsCellNext rules grid placed t → ActsAs rules grid (slice_get placed) t (Ok x) → t ≡ stamp_of x

@@ -1,4 +1,4 @@
--- Cell states that begin, and that go on by an action.
+-- Cell states at the beginning, and after an action.
 use Rattle.std.proofs.Common.{◌≡◌, ◌⊎◌, inl, inr, ℕ, suc, ◌<◌, ◌≤◌, List, [], ◌∷◌, ◌++◌}
 use Rattle.std.proofs.Common.{length, get_or, slice_get, sym, ap, ◌∙◌, subst, refl, arith}
 use Rattle.std.proofs.Common.{Option, Some, None, Result, Ok}
@@ -215,7 +215,7 @@ alone_comes state s p r not at is = (
     none Wall n = refl
     none Pair n = absurd (n refl)
 
--- the action that the next event comes to has its stamp
+-- the action of the next event has its stamp
 pub own_stamp : (state : CellStateData) (s : Stamp) (x : Action) → IsCellState state →
     IsNextOf state s → ComesToInState state s (Ok x) → s ≡ stamp_of x
 own_stamp state s x is next comes =

@@ -138,7 +138,7 @@ next_is_next rules grid placed s t checked of settled next collision = (
       (subst (AllIn rules grid placed) same here) h) before,
 )
 
--- where the cell run has no event left, the sequential run has none
+-- if the cell run has no event left, the sequential run has none
 pub none_left : (rules : Rules) (grid : GridData) (placed : List Placed) (s : Stamp) →
     IsChecked rules → IsGridOf rules grid → IsSettled rules grid placed s →
     HasNone (IsStateCandidate rules grid placed) → HasNone (IsCandidate rules (disks_of placed))

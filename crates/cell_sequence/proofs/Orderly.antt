@@ -105,7 +105,7 @@ orderly_rows : (state : CellStateData) → Known state → (i : ℕ) (p : Placed
 orderly_rows state k i p at =
     cell_of_row state.rules state.grid p k.from.tick k.sizes (k.settled.tracks i p at)
 
--- a crossing touches its disk's row alone
+-- a crossing touches only its disk's row
 cross_touches : (grid : GridData) (placed : List Placed) (t : Stamp) (cell region i : ℕ)
     (p : Placed) → slice_get placed t.first ≡ Some p → Reaches grid region p.cell →
     Reaches grid region cell →
@@ -171,7 +171,7 @@ still_there placed i j a (Some r) at p there = elim (same_number j i) [
   | inr other ↦ (p, get_other placed i j (record { disk = a; cell = r.cell }) other ∙ there)
 ]
 
--- a collision touches the rows of its disks alone, and not their cells
+-- a collision touches only the rows of its disks, and not their cells
 hit_touches : (grid : GridData) (placed : List Placed) (c : Change) (region i : ℕ) →
     ((p : Placed) → slice_get placed c.stamp.first ≡ Some p → Reaches grid region p.cell) →
     ((c.second ≡ None → ⊥) → (p : Placed) → slice_get placed c.stamp.second ≡ Some p →

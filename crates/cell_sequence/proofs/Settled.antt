@@ -145,7 +145,7 @@ up_to rules grid placed start tick checked of valid le end tracks none =
     (subst (NoneBelow rules grid placed) e none))
 
 -- ---- events of the sequential run
--- where all disks are in their cells, each event of the sequential run is one of the cell run
+-- if all disks are in their cells, each event of the sequential run is one of the cell run
 pub event_is_candidate : (rules : Rules) (grid : GridData) (placed : List Placed) (t : Stamp) →
     IsChecked rules → IsGridOf rules grid → IsValidState rules (disks_of placed) →
     AllIn rules grid placed t.tick → IsCandidate rules (disks_of placed) t →
@@ -193,7 +193,7 @@ event_is_candidate rules grid placed t checked of valid here h = elim h [
       ))
 ]
 
--- an event of the cell run that is no crossing is one of the sequential run
+-- an event of the cell run that isn't a crossing is one of the sequential run
 pub candidate_is_event : (rules : Rules) (grid : GridData) (placed : List Placed) (t : Stamp) →
     ¬ (t.kind ≡ Crossing) →
     IsStateCandidate rules grid placed t → IsCandidate rules (disks_of placed) t
@@ -212,7 +212,7 @@ candidate_is_event rules grid placed t not h = elim h [
   ]
 ]
 
--- where no event of the cell run comes before a tick, none of the sequential run does
+-- if no event of the cell run comes before a tick, none of the sequential run does
 pub none_below : (rules : Rules) (grid : GridData) (placed : List Placed) (s t : Stamp) (tick : ℕ) →
     IsChecked rules → IsGridOf rules grid → IsSettled rules grid placed s →
     NoneBelow rules grid placed tick → IsCandidate rules (disks_of placed) t → tick ≤ t.tick

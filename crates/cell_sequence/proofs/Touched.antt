@@ -26,7 +26,7 @@ abbrev pub Touches : Action → ℕ → Type 0
 Touches (Cross t cell) i = i ≡ t.first
 Touches (Hit c) i = (i ≡ c.stamp.first) ⊎ ((c.second ≢ None) × (i ≡ c.stamp.second))
 
--- the cell that it sets in place of a row
+-- the cell that it sets for a row
 abbrev pub cell_set : Action → Placed → ℕ
 cell_set (Cross t cell) p = cell
 cell_set (Hit c) p = p.cell
@@ -81,7 +81,7 @@ set_in_reach grid k at x reach = as_reach (rows_set at x) (each_set at x InReach
     as_reach [] h = tt
     as_reach (r ∷ rows) h = (h.0, as_reach rows h.1)
 
--- ---- what becomes of a state
+-- ---- the state after it
 get_set_at : (placed : List Placed) (i j : ℕ) (q : Placed) → i < length placed →
     slice_get (slice_set placed i q) j ≡ (if j == i then Some q else slice_get placed j)
 get_set_at placed i j q lt = elim (same_number j i) [

@@ -35,13 +35,13 @@ CellStepsBegin = (rules : Rules) (grid : GridData) (placed later : List Placed)
     CellSteps rules grid placed xs later → CellRuns rules grid placed ys e → (rest : List Action)
     × (ys ≡ xs ++ rest) × CellRuns rules grid later rest e
 
--- the collisions of a cell run are the changes of the scene's run, to the same outcome
+-- the collisions of a cell run are the changes of the scene's run, with the same outcome
 abbrev pub HitsAreChanges : Type 0
 HitsAreChanges = (scene : SceneData) (asked : ℕ) (actions : List Action) (outcome : Outcome) →
     IsValidScene scene → IsAsked asked →
     IsCellRun scene asked actions outcome → IsRun scene (hits actions) outcome
 
--- so are those of the first actions the first changes
+-- the collisions among the first actions are the first changes
 abbrev pub HitsAreSteps : Type 0
 HitsAreSteps = (scene : SceneData) (asked : ℕ) (actions : List Action) (later : List Placed) →
     IsValidScene scene → IsAsked asked →
@@ -49,21 +49,24 @@ HitsAreSteps = (scene : SceneData) (asked : ℕ) (actions : List Action) (later 
     (opened (grid_of scene.rules asked) scene.disks) actions later →
     Steps scene.rules scene.disks (hits actions) (disks_of later)
 
+-- the stamps of the actions rise strictly, all after this one
 abbrev pub ActionsRiseFrom : Stamp → List Action → Type 0
 ActionsRiseFrom s [] = Unit {0}
 ActionsRiseFrom s (x ∷ xs) = Before s (stamp_of x) × ActionsRiseFrom (stamp_of x) xs
 
+-- the stamps of the actions are all before this one
 abbrev pub ActionsEndBefore : Stamp → List Action → Type 0
 ActionsEndBefore s [] = Unit {0}
 ActionsEndBefore s (x ∷ xs) = Before (stamp_of x) s × ActionsEndBefore s xs
 
--- the stamps of a cell run rise strictly, crossings among them
+-- the stamps of a cell run rise strictly, those of crossings among them
 abbrev pub ActionsRise : Type 0
 ActionsRise = (scene : SceneData) (asked : ℕ) (actions : List Action) (outcome : Outcome) →
     IsValidScene scene → IsAsked asked →
     IsCellRun scene asked actions outcome → ActionsRiseFrom first_stamp actions
     × ActionsEndBefore (end_stamp scene.rules.end) actions
 
+-- each valid scene has a cell run, which ends, for any number of regions that may be asked for
 abbrev pub EachSceneCellRuns : Type 0
 EachSceneCellRuns = (scene : SceneData) (asked : ℕ) → IsValidScene scene → IsAsked asked →
     (actions : List Action) × (outcome : Outcome) × IsCellRun scene asked actions outcome
@@ -98,22 +101,25 @@ pub record IsOrderly (state : CellStateData) : Type 0 where
       (slice_get (acted state.placed x) i ≡ slice_get state.placed i)
       ⊎ IsTouched state.grid state.placed x region i
 
+-- each state of the cell run is orderly
 abbrev pub CellStatesAreOrderly : Type 0
 CellStatesAreOrderly = (state : CellStateData) → IsCellState state → IsOrderly state
 
--- steps and a run that go on from where others led
+-- if steps and a run begin where others led, they go on from these
 abbrev pub StepsJoin : Type 0
 StepsJoin = (rules : Rules) (grid : GridData) (placed mid later : List Placed)
     (xs ys : List Action) →
     CellSteps rules grid placed xs mid → CellSteps rules grid mid ys later →
     CellSteps rules grid placed (xs ++ ys) later
 
+-- steps to a state and the run from there are together a run
 abbrev pub RunsJoin : Type 0
 RunsJoin = (rules : Rules) (grid : GridData) (placed mid : List Placed) (xs ys : List Action)
     (outcome : Outcome) →
     CellSteps rules grid placed xs mid → CellRuns rules grid mid ys outcome →
     CellRuns rules grid placed (xs ++ ys) outcome
 
+-- the changes of two lists of actions, one after the other, are those of the first and then those of the second
 abbrev pub HitsJoin : Type 0
 HitsJoin = (xs ys : List Action) → hits (xs ++ ys) ≡ hits xs ++ hits ys
 
@@ -135,10 +141,10 @@ pub record IsSeen (state : CellStateData) (x : Action) : Type 0 where
   -- it leads to a state of the cell run, whose events come after it
   pub leads : IsCellState (followed state x)
   pub rises : (s : Stamp) → IsCandidateOf (followed state x) s → Before (stamp_of x) s
-  -- its home sees by itself what becomes of the disks
+  -- its home sees by itself how the disks are changed
   pub home : (k : ℕ) (view : ViewData) → IsHomeOf state (stamp_of x) k → Sees state k view →
       Sees (followed state x) k (after_action view x)
-  -- another region by the message that the home sends
+  -- another region sees it by the message that the home sends
   pub told : (k q : ℕ) (view seen : ViewData) (m : Message) → IsHomeOf state (stamp_of x) k →
       Sees state k view → Sees state q seen → message_of state.grid q (rows_in view) x ≡ Some m →
       Sees (followed state x) q (set_rows seen m.rows)
@@ -148,6 +154,7 @@ pub record IsSeen (state : CellStateData) (x : Action) : Type 0 where
       (AreLinked state.grid k q → message_of state.grid q (rows_in view) x ≡ None) →
       Sees (followed state x) q seen
 
+-- for each state of the cell run, the regions see its next action in this way
 abbrev pub NextActionsAreSeen : Type 0
 NextActionsAreSeen = (state : CellStateData) (x : Action) → IsCellState state → IsNextAction state x →
     IsSeen state x

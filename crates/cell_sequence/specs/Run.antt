@@ -21,12 +21,15 @@ use Rattle.region_view.specs.Acting.{stamp_of, ActsAs, new_rows}
 abbrev pub placed_at : GridData → Disk → Placed
 placed_at grid a = record { disk = a; cell = cell_at grid (centre_of a) }
 
+-- the disks of a scene, each in its cell at the start
 abbrev pub opened : GridData → List Disk → List Placed
 opened grid disks = map (placed_at grid) disks
 
+-- the disks without their cells
 abbrev pub disks_of : List Placed → List Disk
 disks_of placed = map (λ p. p.disk) placed
 
+-- an event that a cell state may have next
 abbrev pub IsStateCandidate : Rules → GridData → List Placed → Stamp → Type 0
 IsStateCandidate rules grid placed s = IsCellCandidate rules grid (slice_get placed) s
 
@@ -34,6 +37,7 @@ IsStateCandidate rules grid placed s = IsCellCandidate rules grid (slice_get pla
 abbrev pub IsCellNext : Rules → GridData → List Placed → Stamp → Type 0
 IsCellNext rules grid placed s = IsLeast (IsStateCandidate rules grid placed) s
 
+-- the cell state with a placed disk put at its number
 abbrev pub put_row : List Placed → ℕ × Placed → List Placed
 put_row placed row = slice_set placed row.0 row.1
 
@@ -41,7 +45,7 @@ put_row placed row = slice_set placed row.0 row.1
 abbrev pub acted : List Placed → Action → List Placed
 acted placed action = fold put_row placed (new_rows (slice_get placed) action)
 
--- from a cell state these actions, each of the next event, lead to that one
+-- these actions, each of the next event, lead from a cell state to that one
 abbrev pub CellSteps : Rules → GridData → List Placed → List Action → List Placed → Type 0
 CellSteps rules grid placed [] later = later ≡ placed
 CellSteps rules grid placed (x ∷ xs) later =
@@ -60,7 +64,7 @@ CellRuns rules grid placed (x ∷ xs) outcome =
     × ActsAs rules grid (slice_get placed) (stamp_of x) (Ok x)
     × CellRuns rules grid (acted placed x) xs outcome
 
--- the cell run of a scene, where so many regions are asked for
+-- the cell run of a scene, if this many regions are asked for
 abbrev pub IsCellRun : SceneData → ℕ → List Action → Outcome → Type 0
 IsCellRun scene asked actions outcome =
     let grid = grid_of scene.rules asked in

@@ -16,8 +16,8 @@ use Rattle.region_view.specs.declared.action.Action.TheVariants.{Cross, Hit}
 use Rattle.region_view.specs.Acting.{stamp_of, ActsAs}
 use Rattle.cell_sequence.specs.Run.{opened, acted, CellSteps, IsStateCandidate, IsCellNext}
 
--- what a cell state is seen as: the disks of the start, the stamp of the last action that was run, and
--- what has become of the disks; and a floor, a stamp before which no event is left
+-- what contracts see of a cell state: the disks of the start, the stamp of the last action that was run, and the disks
+-- as they are now; and a floor, a stamp before which no event is left
 pub record CellStateData : Type 0 where
   pub rules : Rules
   pub grid : GridData
@@ -26,17 +26,18 @@ pub record CellStateData : Type 0 where
   pub placed : List Placed
   pub floor : Stamp
 
+-- the stamp of the last action, if there is any
 abbrev pub last_stamp : List Action → Option Stamp
 last_stamp [] = None
 last_stamp (x ∷ []) = Some (stamp_of x)
 last_stamp (x ∷ y ∷ xs) = last_stamp (y ∷ xs)
 
--- the list is what the disks of the start become by the actions of the cell run, up to and
--- including the last one
+-- the list is what the disks of the start become by the actions of the cell run, up to and including the last one
 abbrev pub IsReached : Rules → GridData → List Disk → Option Stamp → List Placed → Type 0
 IsReached rules grid disks last placed = (actions : List Action)
     × CellSteps rules grid (opened grid disks) actions placed × (last ≡ last_stamp actions)
 
+-- the stamp isn't before that of the last action, if there was any
 abbrev pub IsNotBefore : Option Stamp → Stamp → Type 0
 IsNotBefore None s = ⊤
 IsNotBefore (Some last) s = ¬ Before s last
@@ -63,16 +64,19 @@ opening_state scene asked = record {
 }
 
 -- ---- the next event
+-- an event that the state may have next
 abbrev pub IsCandidateOf : CellStateData → Stamp → Type 0
 IsCandidateOf state s = IsStateCandidate state.rules state.grid state.placed s
 
+-- the next event of the state
 abbrev pub IsNextOf : CellStateData → Stamp → Type 0
 IsNextOf state s = IsCellNext state.rules state.grid state.placed s
 
+-- the state has a next event
 abbrev pub HasNext : CellStateData → Type 0
 HasNext state = (s : Stamp) × IsNextOf state s
 
--- what the event comes to in a state
+-- the result of the event in a state
 abbrev pub ComesToInState : CellStateData → Stamp → Result Action Limit → Type 0
 ComesToInState state s r = ActsAs state.rules state.grid (slice_get state.placed) s r
 
@@ -106,7 +110,7 @@ HasNoneBelow state s = (t : Stamp) → IsCandidateOf state t → ¬ Before t s
 abbrev pub raised : Stamp → CellStateData → CellStateData
 raised to state = record state { floor = to }
 
--- a later state of the same run, by actions of which the last has this stamp, where there is any
+-- a later state of the same run; the last action that led there has this stamp, if there was any
 abbrev pub later : CellStateData → List Placed → Option Stamp → Stamp → CellStateData
 later state placed last floor = record {
   rules = state.rules;

@@ -7,13 +7,13 @@ pub fn one_cell_run()
     ensures { OneCellRun }
 {}
 
-/// Whoever has done the next actions one by one has done a beginning of the cell run.
+/// Running the next actions one by one gives a beginning of the cell run.
 pub fn cell_steps_begin()
     ensures { CellStepsBegin }
 {}
 
-/// The collisions of the cell run of a scene are the changes of its run over all pairs, in order and to the
-/// same outcome.
+/// The collisions of the cell run of a scene are the changes of its run over all pairs, in order, and both runs have
+/// the same outcome.
 pub fn hits_are_changes()
     ensures { HitsAreChanges }
 {}
@@ -24,8 +24,8 @@ pub fn hits_are_steps()
     ensures { HitsAreSteps }
 {}
 
-/// The stamps of a cell run rise strictly, those of crossings among them, after the first stamp of all and
-/// before the end stamp.
+/// The stamps of a cell run rise strictly, after the first stamp of all and before the end stamp. The stamps of
+/// crossings are among them.
 pub fn actions_rise()
     ensures { ActionsRise }
 {}
@@ -41,12 +41,13 @@ pub fn cell_states_are_orderly()
     ensures { CellStatesAreOrderly }
 {}
 
-/// Actions that go on from where others led lead on from where these began.
+/// If some actions lead from one state to a second, and further actions from there to a third, then all of them lead
+/// from the first to the third.
 pub fn steps_join()
     ensures { StepsJoin }
 {}
 
-/// A run that goes on from where some actions led is with these a run from where they began.
+/// If some actions lead to a state, then they and a run from that state are a run from where they began.
 pub fn runs_join()
     ensures { RunsJoin }
 {}
@@ -57,8 +58,8 @@ pub fn hits_join()
     ensures { HitsJoin }
 {}
 
-/// The next action of a cell state leads to another one, whose events come after it. Its home sees by itself
-/// what becomes of the disks, and the other regions by the messages that it sends.
+/// The next action of a cell state leads to another cell state, whose events come after it. Its home sees by itself how
+/// the disks are changed, and the other regions see it by the messages that it sends.
 pub fn next_actions_are_seen()
     ensures { NextActionsAreSeen }
 {}

@@ -13,7 +13,7 @@ use std::marker::Model;
 pub struct CellState {
     rules: Rules,
     grid: Grid,
-    // The disks of the scene, from which all that is known of a state begins.
+    // The disks of the scene, with which the run begins.
     opening: Vec<Disk>,
     // The stamp of the last action that was run.
     last: Option<Stamp>,
@@ -61,7 +61,7 @@ use region_view::{Action, act};
 use std::alloc::{AllocError, Global};
 
 impl CellState {
-    /// The state with which the cell run of a scene begins, on a grid for so many regions, 1 to
+    /// The state with which the cell run of a scene begins, on a grid for `regions` regions, 1 to
     /// [`MAX_REGIONS`](cell_grid::MAX_REGIONS). Its floor is the first stamp of all.
     ///
     /// # Errors
@@ -115,7 +115,7 @@ impl CellState {
         &self.placed
     }
 
-    /// The stamp of the next event; none where no event is left.
+    /// The stamp of the next event; none if no event is left.
     pub fn next(&self) -> Option<Stamp>
         ensures found { IsLeastOf (IsCandidateOf self.now) result }
         ensures kept { IsCellState self.now }
@@ -123,10 +123,10 @@ impl CellState {
         search::next(&self.rules, &self.grid, &self.placed)
     }
 
-    /// Runs the next event, which there is. Its stamp becomes the floor.
+    /// Runs the next event; there has to be one. Its stamp becomes the floor.
     ///
     /// # Errors
-    /// The limit at which the event fails; the state is then what it was.
+    /// The limit at which the event fails; the state stays as it was.
     pub fn run_next(&mut self) -> Result<Action, Limit>
         requires { HasNext self.old }
         ensures { RunsNext self.old result self.new }
@@ -137,7 +137,7 @@ impl CellState {
         Ok(action)
     }
 
-    // What the next event comes to.
+    // The action of the next event, or the limit at which it fails.
     fn upcoming(&self, stamp: &Stamp) -> Result<Action, Limit>
         requires { IsNextOf self.now stamp.now }
         ensures { ComesToInState self.now stamp.now result }
@@ -152,7 +152,7 @@ impl CellState {
         }
     }
 
-    /// Goes on by an action, which the next event comes to. Its stamp becomes the floor.
+    /// Goes on by an action, which is that of the next event. Its stamp becomes the floor.
     pub fn follow(&mut self, action: &Action)
         requires next { IsNextOf self.old (stamp_of action.now) }
         requires comes { ComesToInState self.old (stamp_of action.now) (Ok action.now) }
@@ -164,8 +164,7 @@ impl CellState {
         self.floor = stamp;
     }
 
-    /// Raises the floor to a stamp, which isn't before it nor after the end, and before which no event is
-    /// left.
+    /// Raises the floor to a stamp before which no event is left. It is neither before the floor nor after the end.
     pub fn raise_floor(&mut self, to: Stamp)
         requires not_lowered { ¬ Before to self.old.floor }
         requires in_time { ¬ Before (end_stamp self.old.rules.end) to }
@@ -175,8 +174,8 @@ impl CellState {
         self.floor = to;
     }
 
-    /// Becomes a later state of the same run: one with these rows and this floor, by actions of which the last
-    /// has the stamp `last`; none where there was no action.
+    /// Becomes a later state of the same run: the one with these rows and this floor. `last` is the stamp of the last
+    /// action that led there; none if there was no action.
     pub fn go_on_to(&mut self, placed: Vec<Placed>, last: Option<Stamp>, floor: Stamp)
         requires { IsCellState (later self.old placed.items last floor) }
         ensures { self.new ≡ later self.old placed.items last floor }

@@ -1,4 +1,4 @@
--- What stands in a cell state is valid, and so is what a region sees of it.
+-- The rows of a cell state are valid, and so is what a region sees of them.
 use Rattle.std.proofs.Common.{◌≡◌, ℕ, ◌≤◌, List, length, slice_get, subst, Result, Ok, Err}
 use Rattle.std.specs.Prelude.{IfOk}
 use Rattle.std.proofs.lemmas.List.{length-map}

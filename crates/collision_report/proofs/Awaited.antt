@@ -51,7 +51,7 @@ counted_more p n changes c is =
     ∙ counted_step (p c) (count_by p changes)
     ∙ ap counted (sym (count_more p changes c))
 
--- the state to which the report has come then
+-- the state that the report has reached then
 comes_on : (every : Option ℕ) (m : ReportSoFar) (now : List Disk) (c : Change) → m.table.every ≡ every →
     IsValidState m.table.rules now → IsNext m.table.rules now c.stamp →
     ComesTo m.table.rules now c.stamp (Ok c) → HasComeTo every m now →
@@ -98,7 +98,7 @@ at_start : (format : Format) (scene : SceneData) (taken : Option (List ℕ)) (ev
 at_start format scene taken None = ([], refl, refl, refl)
 at_start format scene taken (Some every) = refl
 
--- whatever a run does from the start of the scene, a reporter that was told nothing awaits it
+-- a reporter that was told nothing awaits all that a run does from the start of the scene
 pub report_awaits : (format : Format) (scene : SceneData) (taken : Option (List ℕ)) {Loan : Type 0} (m : LentReport Loan)
     (changes : List Change) (later : List Disk) → IsValidScene scene → m.1 ≡ nothing_yet format scene taken →
     Steps scene.rules scene.disks changes later → AreAwaited told_on_loan IsAwaitedOnLoan m changes

@@ -3,24 +3,24 @@
 ghost use Rattle.collision_report.specs.Laws.{ReportsJoin, ReportsBegin, ReportsBreakOff, BlocksShowStates, BlocksStandOnce, TablesServe};
 ghost use Rattle.collision_report.specs.ShortLines.{ReportsHaveShortLines};
 
-/// What a reporter is told of a run and what it writes at the end make the report of the run.
+/// What a reporter writes while it is told a run, and what it writes at the end, make the report of the run.
 pub fn reports_join()
     ensures { ReportsJoin }
 {}
 
-/// What a reporter was told of a run that broke off is a prefix of the report of the run.
+/// If a run broke off, what a reporter wrote by then is a prefix of the report of the run.
 pub fn reports_begin()
     ensures { ReportsBegin }
 {}
 
-/// What a reporter was told of a run, with a part of what it writes at the end, is a prefix of the
+/// What a reporter writes while it is told a run, together with a part of what it writes at the end, is a prefix of the
 /// report of the run.
 pub fn reports_break_off()
     ensures { ReportsBreakOff }
 {}
 
-/// A block that stands before the first change of its tick or a later one, and after those before it,
-/// shows the state of the run at its tick.
+/// A block that comes before the first change of its tick or a later one, and after all earlier changes, shows the
+/// state of the run at its tick.
 pub fn blocks_show_states()
     ensures { BlocksShowStates }
 {}
@@ -31,12 +31,12 @@ pub fn blocks_stand_once()
     ensures { BlocksStandOnce }
 {}
 
-/// The table of a reporter that was told changes of a run is one for the scene of the run.
+/// The table of a reporter that was told some changes of a run is one for the scene of the run.
 pub fn tables_serve()
     ensures { TablesServe }
 {}
 
-/// The report of a run is made of lines of at most 128 bytes, with a newline behind each.
+/// The report of a run consists of lines of at most 128 bytes, each followed by a newline.
 pub fn reports_have_short_lines()
     ensures { ReportsHaveShortLines }
 {}

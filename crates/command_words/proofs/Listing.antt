@@ -1,4 +1,4 @@
--- The names that the program's list of options has, wherever its references point.
+-- The names that the program's list of options has, whatever its references point to.
 use Rattle.std.specs.Prelude.{List, [], ◌∷◌}
 use Rattle.clap.specs.declared.builder.value_parser.ValueParser.{ValueParser}
 use Rattle.clap.specs.declared.builder.value_parser.ValueParser.TheVariants as value_parser

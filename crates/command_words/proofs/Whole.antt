@@ -1,4 +1,4 @@
--- Where clap has matches, there are settings.
+-- If clap has matches, there are settings.
 use Rattle.std.proofs.Common.{◌∙◌, ◌≡◌, ◌≤◌, ℕ, Bool, true, false, List, [], ◌∷◌, Option, Some, ap, arith, codes, refl, subst}
 use Rattle.std.specs.Prelude.{⊤, bytes_eq, is_some, option_and_then}
 use Rattle.std.proofs.lemmas.Slice.Eq.{bytes_eq-Decides}

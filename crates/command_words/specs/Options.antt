@@ -9,6 +9,7 @@ use Rattle.clap.specs.declared.builder.value_parser.ValueParser.TheVariants as v
 abbrev pub NameList : Type 0
 NameList = Bor (List (Bor Text))
 
+-- the texts of names
 abbrev pub texts_of : NameList → List Text
 texts_of names = map (λ name. name.now) names.now
 
@@ -23,22 +24,25 @@ names_of texts = record {
 abbrev pub named_option : Text → Text → Rule
 named_option name default = record (new_rule name) { long = Some name; defaults = default ∷ [] }
 
--- where the value is one of some names
+-- an option whose value is one of some names
 abbrev pub choice_option : Text → NameList → Text → Rule
 choice_option name names default =
     record (named_option name default) { parser = Some (value_parser.Names names) }
 
--- where the value is a whole number from `least` to `most`
+-- an option whose value is a whole number from `least` to `most`
 abbrev pub number_option : Text → ℕ → ℕ → Text → Rule
 number_option name least most default =
     record (named_option name default) { parser = Some (value_parser.Unsigned least most) }
 
+-- the names of the modes
 abbrev pub mode_names : List Text
 mode_names = codes "run" ∷ codes "plain" ∷ codes "check" ∷ codes "load" ∷ codes "cut" ∷ codes "audit" ∷ []
 
+-- the names of the formats
 abbrev pub format_names : List Text
 format_names = codes "lines" ∷ codes "summary" ∷ []
 
+-- the names of the kinds of burst
 abbrev pub burst_names : List Text
 burst_names = codes "locks" ∷ codes "table" ∷ []
 
@@ -51,7 +55,7 @@ run_options =
     ∷ number_option (codes "steps") 1 4096 (codes "64")
     ∷ []
 
--- what scene is made, and where a run is cut
+-- the scene that is made, and the tick at which a run is cut
 abbrev pub scene_options : List Rule
 scene_options =
     number_option (codes "number") 0 18446744073709551615 (codes "1")
@@ -59,6 +63,7 @@ scene_options =
     ∷ number_option (codes "at") 0 1099511627776 (codes "0")
     ∷ []
 
+-- all options, with these names of modes, formats and kinds of burst
 abbrev pub options_of : NameList → NameList → NameList → List Rule
 options_of modes formats bursts =
     choice_option (codes "mode") modes (codes "run")
@@ -83,6 +88,7 @@ command_of modes formats bursts = record {
   subs = [];
 }
 
+-- the command with all options and names, behind references that point nowhere
 abbrev pub command : App
 command = command_of (names_of mode_names) (names_of format_names) (names_of burst_names)
 

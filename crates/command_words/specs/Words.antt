@@ -19,6 +19,7 @@ infixl 10 ◌>>=◌
 abbrev ◌>>=◌ : {A B : Type 0} → Option A → (A → Option B) → Option B
 value >>= next = option_and_then next value
 
+-- the mode of this name, if there is one
 abbrev pub mode_of : Text → Option Mode
 mode_of text =
     if bytes_eq text (codes "run") then Some Run
@@ -29,27 +30,30 @@ mode_of text =
     else if bytes_eq text (codes "audit") then Some Audit
     else None
 
+-- the format of this name, if there is one
 abbrev pub format_named : Text → Option OutputFormat
 format_named text =
     if bytes_eq text (codes "lines") then Some Lines
     else if bytes_eq text (codes "summary") then Some Summary
     else None
 
+-- the kind of burst of this name, if there is one
 abbrev pub burst_of : Text → Option BurstKind
 burst_of text =
     if bytes_eq text (codes "locks") then Some Locks
     else if bytes_eq text (codes "table") then Some Table
     else None
 
--- the number that a text writes, where it is at most `most`
+-- the number that a text writes, if it is at most `most`
 abbrev pub number_up_to : ℕ → Text → Option ℕ
 number_up_to most text =
     if is_unsigned_in 0 most text then Some (digits_value 10 (without_leading_plus text)) else None
 
--- a number of 32 bits, and of 64 bits
+-- the number that a text writes, if it fits 32 bits
 abbrev pub short_number : Text → Option ℕ
 short_number = number_up_to 4294967295
 
+-- the number that a text writes, if it fits 64 bits
 abbrev pub long_number : Text → Option ℕ
 long_number = number_up_to 18446744073709551615
 
@@ -79,7 +83,7 @@ settings_in rows = do
     burst = burst;
   })
 
--- the settings of the words, where clap has matches of the options for them
+-- the settings of the words, if clap has matches of the options for them
 unfoldable pub settings_of : List Text → Option Settings
 settings_of words =
     if is_empty (fault_of command words) then settings_in (matches_of command words) else None

@@ -77,7 +77,7 @@ fn long_number_in(matches: &ArgMatches<'_>, name: &str) -> Option<u64>
     matches.get_one::<u64>(name)
 }
 
-/// The settings that the matches of the options say, where they say some.
+/// The settings that the matches of the options say, if they say some.
 pub(crate) fn settings_in(matches: &ArgMatches<'_>) -> Option<Settings>
     ensures { result ≡ settings_in (rows_of (found_of matches.now)) }
 {

@@ -13,12 +13,12 @@ use std::alloc::{AllocError, Global};
 struct WordOption {
     name: &'static str,
     parser: ValueParser<'static>,
-    // The value where the words don't name it.
+    // The value if the words don't name it.
     default: &'static str,
 }
 
 static OPTIONS: [WordOption; 10] = [
-    // What is done, and in which form it is written.
+    // What is done, and the form in which it is written.
     WordOption {
         name: "mode",
         parser: ValueParser::Names(&["run", "plain", "check", "load", "cut", "audit"]),
@@ -50,7 +50,7 @@ static OPTIONS: [WordOption; 10] = [
         parser: ValueParser::Unsigned(1, 4_096),
         default: "64",
     },
-    // What scene is made.
+    // The scene that is made.
     WordOption {
         name: "number",
         parser: ValueParser::Unsigned(0, u64::MAX),
@@ -61,7 +61,7 @@ static OPTIONS: [WordOption; 10] = [
         parser: ValueParser::Unsigned(0, 65_536),
         default: "100",
     },
-    // Where a run is cut.
+    // The tick at which a run is cut.
     WordOption {
         name: "at",
         parser: ValueParser::Unsigned(0, 1_099_511_627_776),

@@ -9,7 +9,7 @@ pub enum Mode {
     Plain,
     /// Writes the canonical text of the scene.
     Check,
-    /// Makes a scene in place of reading one, runs it over regions, and writes the report.
+    /// Makes a scene instead of reading one, runs it over regions, and writes the report.
     Load,
     /// Runs the scene over regions up to a tick, and writes what is left of it as a scene.
     Cut,
@@ -42,17 +42,17 @@ pub struct Settings {
     pub mode: Mode,
     /// The form of what is written, `--format`; [`OutputFormat::Lines`] by default.
     pub format: OutputFormat,
-    /// How many regions are asked for, `--regions`, 1 to 64; 4 by default.
+    /// The number of regions that are asked for, `--regions`, 1 to 64; 4 by default.
     pub regions: u32,
-    /// How many workers there are, `--workers`, 1 to 64; 2 by default.
+    /// The number of workers, `--workers`, 1 to 64; 2 by default.
     pub workers: u32,
-    /// How many turns a worker makes between two commits, `--turns`, 1 to 65,536; 16 by default.
+    /// The number of turns that a worker makes between two commits, `--turns`, 1 to 65,536; 16 by default.
     pub turns: u32,
-    /// How many steps a region runs in a turn, `--steps`, 1 to 4,096; 64 by default.
+    /// The number of steps that a region makes in a turn, `--steps`, 1 to 4,096; 64 by default.
     pub steps: u32,
     /// The number of the scene that is made, `--number`; 1 by default.
     pub number: u64,
-    /// How many disks it has, `--disks`, 0 to 65,536; 100 by default.
+    /// The number of its disks, `--disks`, 0 to 65,536; 100 by default.
     pub disks: u32,
     /// The tick at which a run is cut, `--at`, 0 to 1,099,511,627,776; 0 by default.
     pub at: u64,

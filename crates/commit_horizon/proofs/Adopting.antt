@@ -43,7 +43,7 @@ opened_stands state k region is = record {
   base = is.run.1;
 }
 
--- the first places, so many, stand
+-- the first n places stand
 pub record StandUpTo (state : CellStateData) (n : ℕ) (regions : List RegionData) : Type 0 where
   pub count : length regions ≡ n
   pub each : (k : ℕ) (region : RegionData) → slice_get regions k ≡ Some region → StandsOn state k region
@@ -83,7 +83,7 @@ mapped_at f [] k x at = absurd (none-some x at)
 mapped_at f (y ∷ xs) zero x at = ap f (same_Some y x at)
 mapped_at f (y ∷ xs) (suc k) x at = mapped_at f xs k x at
 
--- regions of which each was opened at its place stand
+-- regions each of which was opened at its place stand
 pub opened_stand : {E : Type 0} (state : CellStateData) (n : ℕ) (regions : List RegionData)
     (opened : List (Result RegionData E)) → n ≡ state.grid.regions → length opened ≡ n → map Ok regions ≡ opened →
     ((k : ℕ) (d : Result RegionData E) → k < n → IfOk (slice_index_or opened k d) (IsOpened state k)) →
@@ -111,7 +111,7 @@ pub is_adopted_stands : (state : CellStateData) (k : ℕ) (given region : Region
 is_adopted_stands state k given region is =
     subst (StandsOn state k) (sym is.2) (adopted_stands state k given is.0 is.1)
 
--- the first places, so many, are adopted, and the others are as they were
+-- the first n places are adopted, and the others are as they were
 pub record AdoptedUpTo (state : CellStateData) (given : List RegionData) (n : ℕ)
     (regions : List RegionData) : Type 0 where
   pub count : length regions ≡ length given

@@ -1,4 +1,4 @@
--- What a commit leaves.
+-- The state and the regions after a commit.
 use Rattle.std.proofs.Common.{◌≡◌, inl, inr, ◌<◌, List, [], ◌∷◌, map, sym, ap, ◌∙◌, subst, refl}
 use Rattle.std.specs.Prelude.{Result, Ok, Err, IfOk, OnOk, option_map}
 use Rattle.std.proofs.lemmas.List.{length-map}
@@ -32,7 +32,7 @@ use Rattle.commit_horizon.specs.Telling.{IsStateOf}
 use Rattle.commit_horizon.proofs.Standing.{region_on, region_at, region_is, are_standing}
 
 -- ---- the regions
--- what waits is offered, so not before a bound, or the bound is the floor
+-- what waits is offered, so it isn't before a bound, or the bound is the floor
 pub may_rise : (state : CellStateData) (regions : List RegionData) (h : Stamp) → AllStand state regions →
     AllKept regions → IsBound state (runs_of regions) h → AllMayRise h regions
 may_rise state regions h stand kept bound k region at =
@@ -136,7 +136,7 @@ module _ (old : CellStateData) (given left : List RegionData) (made : Final) (ba
   pub may_follow_final : MayFollow old batch made.floor
   may_follow_final = may_follow old final.new given left batch made.floor final.commits horizon_is
 
-  -- whoever goes on by it has committed
+  -- a state that goes on by it has committed
   followed_commits : (told : List Action) (new : CellStateData) → told ≡ batch →
       new ≡ raised_state made.floor (followed_by old batch) → Commits old given told new left
   followed_commits told new same is = subst (λ (v : List Action). Commits old given v new left) (sym same)

@@ -74,7 +74,7 @@ pub record AreListsOf (state : CellStateData) (h : Stamp) (runs : LocalRuns) (li
 
 module _ (state : CellStateData) (h : Stamp) (runs : LocalRuns) (lists : List (List Action))
     (of : AreListsOf state h runs lists) where
-  -- what holds of no actions and of each region's holds of each list
+  -- what holds for no actions and for those of each region holds for each list
   by_region : (P : List Action → Type 0) (k : ℕ) → P [] → (IsRegion state.grid k → P (actions_below h (runs k).log)) →
       P (get_or lists k [])
   by_region P k none each = elim (cases_lt k (length lists)) [

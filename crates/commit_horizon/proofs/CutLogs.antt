@@ -26,7 +26,7 @@ use Rattle.commit_horizon.proofs.Latest.{IsStampAmong, latest_same, last_is_late
 use Rattle.commit_horizon.proofs.Standing.{region_on, region_at, region_is, are_standing}
 
 -- ---- members of a list
--- what is among mapped items comes of one of them
+-- each of some mapped items is the image of one item
 at_mapped : {A B : Type 0} (f : A → B) (xs : List A) (y : B) → IsAmong y (map f xs) →
     (k : ℕ) × (x : A) × (slice_get xs k ≡ Some x) × (y ≡ f x)
 at_mapped f [] y among = absurd among

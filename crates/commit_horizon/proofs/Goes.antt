@@ -1,4 +1,4 @@
--- Telling some of what is untold, and then some more.
+-- Telling some of the untold actions, and then some more.
 use Rattle.std.proofs.Common.{◌≡◌, ℕ, ◌≤◌, List, ◌++◌, [], ◌∷◌, Option, None, Some, Err, refl, sym, ap, ◌∙◌, arith, subst}
 use Rattle.std.proofs.lemmas.Grind.{common_steps}
 use Rattle.report_ports.specs.Ports.{Rose}
@@ -35,7 +35,7 @@ all_gone old new none = grind (arith, common_steps)
 nothing_more : (xs : List Change) → xs ++ [] ≡ xs
 nothing_more xs = grind (arith, common_steps)
 
--- where a collision is among the actions
+-- if a collision is among the actions
 split_at : (old : List Action) (before : List Change) (c : Change) (after : List Change) → hits old ≡ before ++ c ∷ after →
     (gone : List Action) × (rest : List Action) × (old ≡ gone ++ Hit c ∷ rest) × (hits gone ≡ before)
 split_at [] [] c after is = let same : [] ≡ c ∷ after = is in absurd cc
@@ -112,7 +112,7 @@ module _ {M : Type 0} (after : M → Change → M) where
   hits_awaited awaits old new m n f g (xs, s, t, e) all = awaits_rest after awaits m n xs (hits new) t
       (subst (λ (v : List Change). AwaitsAll after awaits m v) s all)
 
-  -- where nothing is left, all was told
+  -- if nothing is left, all was told
   pub all_hits_told : (old new : List Action) (m n : Option M) (f g : ℕ) → TellsHits after old m f new n g → new ≡ [] →
       TellsFirst after old m f new n g
   all_hits_told old new m n f g (xs, s, t, e) none = (
@@ -203,7 +203,7 @@ module _ {M : Type 0} (after : M → Change → M) where
     still_awaited awaits old new (Some d) None m n f g all p = absurd p
     still_awaited awaits old new (Some d) (Some k) m n f g all p = tt
 
-    -- by the refusal that is kept at the end
+    -- given the refusal that is kept at the end
     pub first_of : (old new : List Action) (fault : Option Deaf) (m n : Option M) (f g : ℕ) → fault ≡ None →
         TellsOn after torn old None m f new fault n g → TellsFirst after old m f new n g
     first_of old new fault m n f g is t = subst (λ (v : Option Deaf). TellsOn after torn old None m f new v n g) is t

@@ -25,9 +25,9 @@ use Rattle.local_run.proofs.Among.{AllRise}
 use Rattle.local_run.proofs.Logs.{AllBefore}
 use Rattle.commit_horizon.specs.Horizon.{LocalRuns}
 
--- what a state of the cell run is to its regions
+-- how a state of the cell run and its regions correspond
 pub record CellLaws (state : CellStateData) : Type 0 where
-  -- the native candidates of a view are the events whose home the region is, and come to the same
+  -- the native candidates of a view are the events whose home the region is, with the same results
   pub native : (k : ℕ) (view : ViewData) (s : Stamp) → IsRegion state.grid k → Sees state k view →
       IsOwn (home_of state k) view s → IsCandidateOf state s × IsHomeOf state s k
   pub candidate : (k : ℕ) (view : ViewData) (s : Stamp) → Sees state k view → IsCandidateOf state s →
@@ -35,7 +35,7 @@ pub record CellLaws (state : CellStateData) : Type 0 where
   pub comes : (k : ℕ) (view : ViewData) (s : Stamp) (r : Result Action Limit) → IsRegion state.grid k →
       Sees state k view → IsOwn (home_of state k) view s → ComesToIn (home_of state k) view s r →
       ComesToInState state s r
-  -- an event has one home, the next one comes to one action, and none is before the floor
+  -- an event has one home, the next one has one action, and none is before the floor
   pub homed : (s : Stamp) → IsCandidateOf state s → (k : ℕ) × IsHomeOf state s k
   pub one_home : (s : Stamp) (k q : ℕ) → IsCandidateOf state s → IsHomeOf state s k → IsHomeOf state s q →
       k ≡ q
@@ -87,7 +87,7 @@ abbrev pub past_by : Stamp → Local → List Entry → Local
 past_by t run [] = run
 past_by t run (e ∷ es) = if is_before t (entry_stamp e) then run else after_first run e es
 
--- what is left of a run, no entry of which is before t, after the entry at t, where there is one
+-- what is left of a run, no entry of which is before t, after the entry at t, if there is one
 unfoldable pub past : Stamp → Local → Local
 past t run = past_by t run run.log
 
@@ -115,15 +115,15 @@ pub record IsLeastEntry (state : CellStateData) (runs : LocalRuns) (k : ℕ) (b 
   pub among : IsAmong (Native b) (runs k).log
   pub least : NoneBefore state runs (stamp_of b)
 
--- the least native entry, where it is before h, is the next action of the cell run, and what is left of the
--- regions after it goes on from the state after it
+-- if the least native entry is before h, it is the next action of the cell run, and what is left of the regions after
+-- it goes on from the state after it
 abbrev pub CentralStep : Type 0
 CentralStep = (state : CellStateData) (h : Stamp) (runs : LocalRuns) (k : ℕ) (b : Action) → CellLaws state →
     AllGoOn state h runs → IsLeastEntry state runs k b → Before (stamp_of b) h →
     IsNextAction state b × IsHomeOf state (stamp_of b) k
     × AllGoOn (followed state b) h (λ q. past (stamp_of b) (runs q))
 
--- where no native entry is before h, no event of the state is, nor any entry
+-- if no native entry is before h, no event of the state is, nor any entry
 abbrev pub CentralEnd : Type 0
 CentralEnd = (state : CellStateData) (h : Stamp) (runs : LocalRuns) → CellLaws state → AllGoOn state h runs →
     NoneBefore state runs h → HasNoneBelow state h

@@ -148,7 +148,7 @@ head_past h log done k le so_far = record {
 }
 
 -- ---- all heads
--- the least of the heads of the first so many regions
+-- the least of the heads of the first regions, up to a number
 abbrev pub IsLeastOfFirst : Heads → ℕ → Option (ℕ × Head) → Type 0
 IsLeastOfFirst heads n None = (k : ℕ) → k < n → head_at heads k ≡ None
 IsLeastOfFirst heads n (Some least) = (least.0 < length heads) × (head_at heads least.0 ≡ Some least.1)

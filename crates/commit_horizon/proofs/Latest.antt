@@ -32,13 +32,13 @@ one_latest P None (Some t) p q = absurd (p t q.0)
 one_latest P (Some s) None p q = absurd (q s p.0)
 one_latest P (Some s) (Some t) p q = ap Some (same_stamp s t (p.1 t q.0) (q.1 s p.0))
 
--- what holds of the same stamps has the same latest
+-- two properties of the same stamps have the same latest stamp
 pub latest_same : (P Q : Stamp → Type 0) (a : Option Stamp) → ((s : Stamp) → P s → Q s) →
     ((s : Stamp) → Q s → P s) → IsLatest P a → IsLatest Q a
 latest_same P Q None to back p = λ s q. p s (back s q)
 latest_same P Q (Some s) to back p = (to s p.0, λ t q. p.1 t (back t q))
 
--- the latest of both, where R holds of exactly those of which P or Q does
+-- the latest of both, if R holds exactly for those for which P or Q does
 pub latest_joined : (P Q R : Stamp → Type 0) (a b : Option Stamp) → ((s : Stamp) → R s → P s ⊎ Q s) →
     ((s : Stamp) → P s → R s) → ((s : Stamp) → Q s → R s) → IsLatest P a → IsLatest Q b →
     IsLatest R (latest_of a b)
@@ -133,7 +133,7 @@ latest_more logs log a b so_far here =
     (λ s has. (log, among_right log logs (log ∷ []) (inl refl), has))
     so_far here
 
--- no action, where there is none at any place
+-- no action, if there is none at any place
 no_action : (es : List Entry) (y : Action) → ((k : ℕ) → native_in (slice_get es k) ≡ None) →
     ¬ IsAmong (Native y) es
 no_action [] y none among = among

@@ -38,7 +38,7 @@ not_after_earlier : (a b : Key) (t : Stamp) → IsNotAfter a (Some t) → IsNotA
 not_after_earlier a b t = not_after_trans (earlier_of a b) a (Some t) (lesser a b).first
 
 -- ---- as heads are compared
--- the leader of the first so many heads
+-- the leader of the first heads, up to a number
 pub record LeadsOfFirst (heads : Heads) (n : ℕ) (first : Leader) : Type 0 where
   pub least : IsLeastOfFirst heads n (head_with first)
   pub others : (q : ℕ) (other : Head) → q < n → q ≢ first.number → head_at heads q ≡ Some other →
@@ -140,7 +140,7 @@ stamp_there None not = let wrong = not refl in cc
 stamp_there (Some s) not = (s, refl)
 
 -- ---- a region that runs on
--- its next head leads, where it is before the second
+-- its next head leads, if it is before the second
 pub leads_still : (heads : Heads) (k : ℕ) (head : PackedHead) (second : Key) → k < length heads →
     NoOtherBefore heads k second → head_at heads k ≡ head_in head → IsKeyBefore head.stamp second →
     IsLeader heads (record { number = k; stamp = head.stamp; place = head.place; second = second })

@@ -120,7 +120,7 @@ in_range log done k s is so_far range =
     let first = begins log head is in
     subst IsInRange first.1.stamp (subst BeginsInRange (so_far ∙ first.1.left) range)
 
--- and so is that of a collision, where all can be told
+-- and so is that of a collision, if all can be told
 pub hit_in_range : (log : List Entry) (done k : ℕ) (change : Change) →
     Some change ≡ change_in (native_in (slice_get log k)) →
     PassesCrossings (actions_in (drop done log)) (actions_in (drop k log)) →
@@ -179,7 +179,7 @@ module _ (logs : List (List Entry)) (heads : Heads) (first : Leader) (untold : A
   abbrev lists : List (List Action)
   lists = lefts logs heads
 
-  -- where none leads, nothing is left
+  -- if none leads, nothing is left
   pub none_untold : None ≡ first.stamp → merged_of lists ≡ []
   none_untold none = nothing_left lists (merged_of lists) untold.told.merged each
     where
@@ -314,7 +314,7 @@ module _ (logs : List (List Entry)) (heads : Heads) (first : Leader) (untold : A
         tellings = subst (λ (v : List Action). CanBeTellings (set lists first.number v) goes.others) (sym next.left)
             others_can
 
-        -- what is left is all but the first
+        -- all but the first is left
         pub one_goes : merged_of lists ≡ x ∷ merged_of (lefts logs (set heads first.number new))
         one_goes = goes.first ∙ ap (λ (v : List Action). x ∷ v) (sym (left_is new next.stands goes.others tellings))
 

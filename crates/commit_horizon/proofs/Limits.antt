@@ -41,7 +41,7 @@ none_with : (t : Stamp) (x : Action) (es : List Entry) → NoneIn t es → ¬ Be
 none_with t x es none late = none_more t (Native x) es none
     (λ y is. subst (λ (v : Stamp). ¬ Before v t) (sym (ap entry_stamp is)) late)
 
--- none is before what is before all of them
+-- none is before a stamp that is before all of them
 none_sooner : (s t : Stamp) (es : List Entry) → NoneIn t es → Before s t → NoneIn s es
 none_sooner s t es none before x among less = none x among (before_trans (stamp_of x) s t less before)
 

@@ -1,4 +1,4 @@
--- Lists that are merged by stamps: there is one way, and the first of what is merged is the least of all.
+-- Lists that are merged by stamps: there is one way, and the first of the merged actions is the least of all.
 use Rattle.std.proofs.Common.{◌≡◌, ◌≢◌, inl, inr, ℕ, zero, suc, ◌<◌, List, [], ◌∷◌, length, set, get_or, get_or-set_same, get_or-set_other, sym, ap, ◌∙◌, subst, refl}
 use Rattle.std.proofs.lemmas.Bool.{cases_lt}
 use Rattle.std.proofs.lemmas.List.{get_or_past}
@@ -14,7 +14,7 @@ use Rattle.commit_horizon.specs.Untold.{ActionsBeginAfter, IsMergeOf, merged_wit
 not_after : (x y : Action) → Before (stamp_of x) (stamp_of y) → ¬ Before (stamp_of y) (stamp_of x)
 not_after x y before less = not_before_itself (stamp_of x) (before_trans (stamp_of x) (stamp_of y) (stamp_of x) before less)
 
--- the first of either list goes first, where it comes before the other list
+-- the first of either list goes first, if it comes before the other list
 left_first : (x : Action) (xs ys : List Action) → ActionsBeginAfter x ys →
     merged_with (x ∷ xs) ys ≡ x ∷ merged_with xs ys
 left_first x xs [] after = refl
@@ -47,7 +47,7 @@ none_merged [] none = refl
 none_merged (xs ∷ lists) none =
     ap (λ (v : List Action). merged_with v (merged_of lists)) (none zero) ∙ none_merged lists (λ k. none (suc k))
 
--- the first of one list goes first, where it comes before all others
+-- the first of one list goes first, if it comes before all others
 goes_first : (lists : List (List Action)) (k : ℕ) (x : Action) (rest : List Action) → get_or lists k [] ≡ x ∷ rest →
     ((q : ℕ) → q ≢ k → ActionsBeginAfter x (get_or lists q [])) → merged_of lists ≡ x ∷ merged_of (set lists k rest)
 unfolding merged_of
@@ -59,7 +59,7 @@ goes_first (xs ∷ lists) (suc k) x rest at others =
     ap (merged_with xs) (goes_first lists k x rest at (λ q not. others (suc q) (λ same. not cc)))
     ∙ right_first x xs (merged_of (set lists k rest)) (others zero (λ same. cc))
 
--- what they are merged to is this list
+-- they are merged to this list
 pub merge_is : (lists : List (List Action)) (xs : List Action) → IsMergeOf lists xs → merged_of lists ≡ xs
 merge_is lists [] none = none_merged lists none
 merge_is lists (x ∷ xs) (k, rest, at, others, more) =
@@ -79,7 +79,7 @@ abbrev pub NoneBeginsBefore : List (List Action) → Action → Type 0
 NoneBeginsBefore lists x = (q : ℕ) (y : Action) (ys : List Action) → get_or lists q [] ≡ y ∷ ys →
     ¬ Before (stamp_of y) (stamp_of x)
 
--- it is the first of what is merged, and what is left of the lists is merged to the others
+-- it is the first of the merged actions, and what is left of the lists is merged to the others
 pub record GoesFirst (lists : List (List Action)) (k : ℕ) (x : Action) (rest xs : List Action) : Type 0 where
   pub others : List Action
   pub first : xs ≡ x ∷ others
@@ -101,13 +101,13 @@ least_goes lists k x rest (y ∷ ys) (j, tail, there, others, more) at least = e
   | inr other ↦ absurd (least j y tail there (subst (ActionsBeginAfter y) at (others k other)))
 ]
 
--- where all lists are empty, nothing is merged
+-- if all lists are empty, nothing is merged
 pub nothing_left : (lists : List (List Action)) (xs : List Action) → IsMergeOf lists xs →
     ((k : ℕ) → get_or lists k [] ≡ []) → xs ≡ []
 nothing_left lists xs merged none = sym (merge_is lists xs merged) ∙ none_merged lists none
 
 -- ---- what can be told
--- the first of each list can be told, where all that is merged can be
+-- the first of each list can be told, if all that is merged can be
 pub first_can : (lists : List (List Action)) (xs : List Action) (k : ℕ) (x : Action) (rest : List Action) →
     CanBeTellings lists xs → get_or lists k [] ≡ x ∷ rest → CanBeTold x
 first_can lists xs k x rest can = by_list lists xs can.merged can.can

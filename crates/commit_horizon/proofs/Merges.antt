@@ -53,7 +53,7 @@ rise_joined (z ∷ xs) x rise before = (
 )
 
 -- ---- the least entry
--- of its stamp there is only this action, and only in this region
+-- only this action has its stamp, and only in this region
 pub only_least : (state : CellStateData) (h : Stamp) (runs : LocalRuns) (k : ℕ) (b : Action) → CellLaws state →
     AllGoOn state h runs → IsLeastEntry state runs k b → Before (stamp_of b) h →
     (q : ℕ) (x : Action) → IsRegion state.grid q → IsAmong (Native x) (runs q).log → stamp_of x ≡ stamp_of b →
@@ -69,7 +69,7 @@ only_least state h runs k b laws on entry before q x within among same =
       laws.one_home (stamp_of b) q k step.0.0.0 (subst (λ (s : Stamp). IsHomeOf state s q) same also.1) step.1,
     )
 
--- where no action of a run has the stamp, it has the same ones past it
+-- if no action of a run has the stamp, it has the same ones past it
 pub same_actions : (h t : Stamp) (run : Local) → HeadNotBefore t run.log →
     ((x : Action) → IsAmong (Native x) run.log → stamp_of x ≢ t) →
     actions_below h (past t run).log ≡ actions_below h run.log
@@ -213,7 +213,7 @@ module _ (old : CellStateData) (whole : LocalRuns) (h : Stamp) (heads : Heads) (
   late : (q : ℕ) → IsRegion now.grid q → HeadNotBefore (stamp_of b) (left q).log
   late = heads_late now h left k b laws merging.on entry own_among.1
 
-  -- of the same stamp there is only this action, and only here
+  -- only this action has the stamp, and only here
   only : (q : ℕ) (x : Action) → IsRegion now.grid q → IsAmong (Native x) (left q).log →
       stamp_of x ≡ stamp_of b → (x ≡ b) × (q ≡ k)
   only = only_least now h left k b laws merging.on entry own_among.1

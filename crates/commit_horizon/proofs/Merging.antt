@@ -15,7 +15,7 @@ use Rattle.commit_horizon.specs.Laws.{IsNextMerged}
 use Rattle.commit_horizon.specs.Merging.{Head, Heads, head_at}
 
 -- ---- one log
--- what a region ran before a stamp, of a log whose stamps rise
+-- what a region ran before a stamp, from a log whose stamps rise
 abbrev pub actions_below : Stamp → List Entry → List Action
 actions_below h [] = []
 actions_below h (Native x ∷ es) = if is_before (stamp_of x) h then x ∷ actions_below h es else []
@@ -33,23 +33,23 @@ abbrev pub IsLeft : Stamp → List Entry → List Action → Option Head → Typ
 IsLeft h log xs None = xs ≡ []
 IsLeft h log xs (Some head) = BeginsAt h log xs head
 
--- the head is that of the first action before the stamp after so many entries
+-- the head is that of the first action before the stamp after a number of entries
 pub record IsHeadAfter (h : Stamp) (log : List Entry) (done : ℕ) (head : Option Head) : Type 0 where
   pub actions : IsLeft h log (actions_below h (drop done log)) head
   pub place : IfSome head (λ head. done ≤ head.place)
 
--- the head of an action, where it is before the stamp
+-- the head of an action, if it is before the stamp
 abbrev pub head_before : Stamp → Stamp → ℕ → Option Head
 head_before h s place = if is_before s h then Some (record { stamp = s; place = place }) else None
 
 -- ---- all logs
--- the heads of whole logs, of the first so many regions
+-- the heads of whole logs, of the first regions up to a number
 pub record AreHeads (h : Stamp) (regions : List RegionData) (n : ℕ) (heads : Heads) : Type 0 where
   pub count : length heads ≡ n
   pub each : (k : ℕ) (region : RegionData) → k < n → slice_get regions k ≡ Some region →
       IsHeadAfter h (entries_of region) 0 (head_at heads k)
 
--- the lesser of two heads; of one stamp, the one that was there
+-- the lesser of two heads; if they have one stamp, the one that was there
 abbrev pub nearer_of : Option (ℕ × Head) → ℕ → Option Head → Option (ℕ × Head)
 nearer_of least k None = least
 nearer_of None k (Some head) = Some (k, head)

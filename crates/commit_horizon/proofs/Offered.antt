@@ -1,4 +1,4 @@
--- What a state of the cell run is to its regions.
+-- How a state of the cell run and its regions correspond.
 use Rattle.std.proofs.Common.{◌≡◌, ℕ, sym, ◌∙◌, Result}
 use Rattle.std.specs.Prelude.{slice_get}
 use Rattle.event_stamps.specs.declared.Stamp.{Stamp}

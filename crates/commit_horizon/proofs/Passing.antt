@@ -51,7 +51,7 @@ lists_still_rise lists k rest rise within here q = elim (same_or_other q k) [
   | inr other ↦ subst ActionStampsRise (sym (get_or-set_other lists k q rest [] other)) (rise q)
 ]
 
--- what is merged where a list begins later
+-- what is merged if a list begins later
 record Merged (lists : List (List Action)) (k : ℕ) (rest xs : List Action) : Type 0 where
   pub others : List Action
   pub merged : IsMergeOf (set lists k rest) others
@@ -103,7 +103,7 @@ crossing_passed lists k s cell rest (y ∷ ys) (j, tail, there, others, more) ca
       | inr apart ↦ subst (ActionsBeginAfter y) (sym (get_or-set_other lists k q rest [] apart)) (others q not)
     ]
 
--- what can be told where a list begins later, by crossings alone
+-- what can be told if a list begins later, by crossings alone
 pub record Passed (lists : List (List Action)) (k : ℕ) (rest xs : List Action) : Type 0 where
   pub others : List Action
   pub tellings : CanBeTellings (set lists k rest) others

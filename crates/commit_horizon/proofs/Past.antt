@@ -21,7 +21,7 @@ abbrev pub HeadAfter : Stamp → List Entry → Type 0
 HeadAfter t [] = ⊤
 HeadAfter t (e ∷ es) = Before t (entry_stamp e)
 
--- where no entry is before one of them, that is the first
+-- if no entry is before one of them, that is the first
 pub head_is : (f : Stamp) (b : Action) (log : List Entry) → HeadNotBefore (stamp_of b) log → RiseFrom f log →
     IsAmong (Native b) log → (es : List Entry) × (log ≡ Native b ∷ es)
 head_is f b [] late rises among = absurd among
@@ -29,7 +29,7 @@ head_is f b (e ∷ es) late rises (inl same) = (es, ap (λ (v : Entry). v ∷ es
 head_is f b (e ∷ es) late rises (inr more) =
     absurd (late (among_after (entry_stamp e) es (Native b) rises.1 more))
 
--- without its first entry a log rises from where it did
+-- without its first entry a log rises from the same stamp
 pub rises_rest : (f : Stamp) (e : Entry) (es : List Entry) → RiseFrom f (e ∷ es) → RiseFrom f es
 rises_rest f e [] rises = tt
 rises_rest f e (x ∷ es) rises =
@@ -140,7 +140,7 @@ rest_past h t whole run rest late before = elim (past_cases t run run.log refl l
           (subst (λ (v : Stamp). Before v h) (sym same) before);
     }
 
--- where no entry that is left is before h, those that are done are all that are
+-- if no entry that is left is before h, those that are done are all that are
 pub done_is_below : (h : Stamp) (done rest : List Entry) → AllBefore h done → HeadNotBefore h rest →
     entries_below h (done ++ rest) ≡ done
 done_is_below h [] [] all late = refl

@@ -19,7 +19,7 @@ use Rattle.local_run.proofs.Sent.{sent_from}
 use Rattle.commit_horizon.specs.Horizon.{run_of, runs_of, AllStand, AllKept, AreStanding, IsBound, IsHorizon}
 use Rattle.commit_horizon.specs.Bounds.{HoldsUpTo, OfAll, IsUpToDue, AgreeOn, AllAgree, IsUpToAll}
 
--- what a region is seen as that stands on a state with this run
+-- a region that stands on a state with this run, as contracts see it
 abbrev pub region_on : CellStateData → ℕ → Local → RegionData
 region_on state k run = record { home = home_of state k; floor = state.floor; run = Some run }
 
@@ -74,7 +74,7 @@ are_standing state regions stand kept k is =
     }
 
 -- ---- bounds
--- what a bound asks for of the runs is what it asks for of the regions
+-- a bound of the runs is one of the regions
 pub within_is_bound : (state : CellStateData) (regions : List RegionData) (t : Stamp) →
     AllStand state regions → IsUpToAll (end_stamp state.rules.end) regions t → ¬ Before t state.floor →
     IsBound state (runs_of regions) t

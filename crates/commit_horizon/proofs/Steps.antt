@@ -115,7 +115,7 @@ module _ (state : CellStateData) (h : Stamp) (runs : LocalRuns) (laws : CellLaws
       offered)
 
   module _ (t : Stamp) (sooner : (s : Stamp) → Before s t → Before s h) (none : NoneBefore state runs t) where
-    -- where no native entry is before t, no entry is
+    -- if no native entry is before t, no entry is
     pub heads_not_before : (r : ℕ) → IsRegion state.grid r → (log : List Entry) → (runs r).log ≡ log →
         HeadNotBefore t log
     heads_not_before r within [] is = tt

@@ -40,7 +40,7 @@ told_in_turn after (Some m) (Some n) None xs ys h k = absurd k
 told_in_turn after (Some m) (Some n) (Some p) xs ys h k =
     k ∙ ap (λ v. told after v ys) h ∙ sym (told_joined after m xs ys)
 
--- the next action of a cell state, where it is a collision, can be told
+-- the next action of a cell state, if it is a collision, can be told
 pub next_tellable : (state : CellStateData) (x : Action) → IsCellState state → IsNextAction state x → MayBeTold x
 next_tellable state (Cross s cell) is next = tt
 next_tellable state (Hit change) is next =
@@ -56,7 +56,7 @@ hit_there None change is = absurd (none-some change (sym is))
 hit_there (Some (Cross s cell)) change is = absurd (none-some change (sym is))
 hit_there (Some (Hit c)) change is = ap (λ (v : Change). Some (Hit v)) (same_Some c change (sym is))
 
--- where there is no change, all of it is told
+-- if there is no change, all of it is told
 pub nothing_told : {M : Type 0} (after : M → Change → M) (m : Option M) (found : Option Action) →
     None ≡ change_in found → IfSome found (λ x. Told after m (hits (x ∷ [])) m)
 nothing_told after m None is = tt

@@ -16,7 +16,7 @@ one_horizon state runs h g here there =
 abbrev AreWithin : List Action → List Action → Type 0
 AreWithin xs ys = (x : Action) → IsAmong x xs → IsAmong x ys
 
--- of two lists with the same actions the first are the same
+-- two lists with the same actions have the same first one
 same_first : (x y : Action) (xs ys : List Action) → ActionStampsRise (x ∷ xs) → ActionStampsRise (y ∷ ys) →
     IsAmong x (y ∷ ys) → IsAmong y (x ∷ xs) → x ≡ y
 same_first x y xs ys rise rises (inl same) there = same

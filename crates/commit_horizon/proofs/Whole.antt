@@ -38,7 +38,7 @@ head_from h log done k (suc fuel) le past so_far = by_found (native_in (slice_ge
       | inr out ↦ (None, head_past h log done k out so_far)
     ]
 
--- each log has a head after so many entries
+-- each log has a head after any number of entries
 pub some_head : (h : Stamp) (log : List Entry) (done : ℕ) → (head : Option Head) × IsHeadAfter h log done head
 some_head h log done = head_from h log done done (length log) (omega arith) (omega arith) refl
 

@@ -1,4 +1,4 @@
--- What bounds the commit horizon: the least of some stamps bounds what each of them bounds.
+-- The bounds of the commit horizon: the least of some stamps bounds what each of them bounds.
 use Rattle.std.proofs.Common.{◌≡◌, ◌⊎◌, inl, inr, ℕ, ◌+◌, ◌<◌, Bool, true, false, ◌≤◌, List, length, sym, ap, ◌∙◌, subst, refl, arith}
 use Rattle.std.proofs.Common.{Option, Some, None}
 use Rattle.std.specs.Prelude.{◌↔◌, if◌then◌else◌, unwrap_or, slice_get, IfSome, MatchOption}

@@ -1,4 +1,4 @@
--- What bounds the commit horizon, region by region.
+-- The bounds of the commit horizon, region by region.
 use Rattle.std.specs.Prelude.{◌≡◌, ◌↔◌, ◌⊎◌, ℕ, ◌<◌, List, ⊤, Option, Some, None, length, slice_get, if◌then◌else◌}
 use Rattle.event_stamps.specs.declared.Stamp.{Stamp}
 use Rattle.event_stamps.specs.Order.{Before, end_stamp}
@@ -9,20 +9,21 @@ use Rattle.local_run.specs.LocalRun.{Local, now_of, IsOffered}
 use Rattle.local_run.specs.Opening.{RegionData}
 use Rattle.local_run.specs.Keeping.{IsSent, IsHeard}
 
--- not after a stamp, where there is one
+-- not after a stamp, if there is one
 abbrev pub IsUpToStamp : Option Stamp → Stamp → Type 0
 IsUpToStamp None t = ⊤
 IsUpToStamp (Some s) t = ¬ Before s t
 
--- of exactly the stamps up to this one it holds; of all, where there is none
+-- it holds for exactly the stamps up to this one; for all stamps, if there is none
 pub record HoldsUpTo (P : Stamp → Type 0) (bound : Option Stamp) : Type 0 where
   pub exactly : (t : Stamp) → (P t ↔ IsUpToStamp bound t)
 
--- it holds of the first regions, so many
+-- it holds for the first n regions
 abbrev pub OfFirst : (RegionData → Stamp → Type 0) → List RegionData → ℕ → Stamp → Type 0
 OfFirst P regions n t = (k : ℕ) (region : RegionData) → k < n → slice_get regions k ≡ Some region →
     P region t
 
+-- it holds for all regions
 abbrev pub OfAll : (RegionData → Stamp → Type 0) → List RegionData → Stamp → Type 0
 OfAll P regions t = OfFirst P regions (length regions) t
 
@@ -32,6 +33,7 @@ IsUpToDueOf home floor None t = ¬ Before floor t
 IsUpToDueOf home floor (Some run) t = (¬ Before (end_stamp home.rules.end) t)
     × ((s : Stamp) → IsOffered home (now_of run) s → (¬ Before s t) ⊎ (¬ Before floor t))
 
+-- the same for a region, by its home, its floor and its run
 abbrev pub IsUpToDue : RegionData → Stamp → Type 0
 IsUpToDue region t = IsUpToDueOf region.home region.floor region.run t
 
@@ -40,11 +42,11 @@ abbrev pub AgreeOn : RegionData → RegionData → Stamp → Type 0
 AgreeOn sender hearer t = (sent heard : List Message) → IsSent sender hearer.home.number sent →
     IsHeard hearer sender.home.number heard → AgreeBelow t sent heard
 
--- what a region sent and what each heard of it do
+-- the same for what a region sent and what each heard of it
 abbrev pub AllAgreeWith : List RegionData → RegionData → Stamp → Type 0
 AllAgreeWith regions sender t = OfAll (AgreeOn sender) regions t
 
--- what each region sent and what each heard of it do
+-- the same for what each region sent and what each heard of it
 abbrev pub AllAgree : List RegionData → Stamp → Type 0
 AllAgree regions t = OfAll (AllAgreeWith regions) regions t
 

@@ -1,4 +1,4 @@
--- What is taken over from a burst, and what a commit makes of the state and of the regions.
+-- What is taken over from a burst, and how a commit changes the state and the regions.
 use Rattle.std.specs.Prelude.{◌≡◌, ℕ, List, Some, length, map, slice_get}
 use Rattle.event_stamps.specs.declared.Stamp.{Stamp}
 use Rattle.region_view.specs.declared.action.Action.{Action}
@@ -12,17 +12,17 @@ use Rattle.commit_horizon.specs.declared.committed.Adopted.{Adopted}
 use Rattle.commit_horizon.specs.declared.committed.Adopted.TheVariants.{Kept, Made}
 use Rattle.commit_horizon.specs.Horizon.{runs_of, IsHorizon, IsMerged, AllStand}
 
--- exactly a region that stands on the state is kept, as it is; else it is opened anew, and what differs is said
+-- a region is kept, as it is, if and only if it stands on the state; else it is opened again, and the answer says why
 abbrev pub Adopts : CellStateData → ℕ → RegionData → Adopted → Type 0
 Adopts state k region (Kept kept) = StandsOn state k region × (kept ≡ region)
 Adopts state k region (Made made differs) = DiffersBy state k region differs × IsOpened state k made
 
--- the region that comes of it
+-- the region that is taken over
 abbrev pub adopted_region : Adopted → RegionData
 adopted_region (Kept kept) = kept
 adopted_region (Made made differs) = made
 
--- a region for a number, given or opened anew
+-- a region for a number, given or opened again
 abbrev pub IsAdopted : CellStateData → ℕ → RegionData → RegionData → Type 0
 IsAdopted state k given region =
     (adopted : Adopted) × Adopts state k given adopted × (region ≡ adopted_region adopted)

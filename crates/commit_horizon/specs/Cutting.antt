@@ -1,4 +1,4 @@
--- What a commit makes final, and leaves to be told.
+-- What a commit makes final and leaves to be told.
 use Rattle.std.specs.Prelude.{◌≡◌, List, Option, Some, None, map}
 use Rattle.event_stamps.specs.declared.Stamp.{Stamp}
 use Rattle.event_stamps.specs.Order.{Before}
@@ -34,20 +34,20 @@ HasActionAt log s = (x : Action) × IsAmong (Native x) log × (stamp_of x ≡ s)
 abbrev pub SomeHasStamp : List (List Entry) → Stamp → Type 0
 SomeHasStamp logs s = (log : List Entry) × IsAmong log logs × HasActionAt log s
 
--- P holds of the stamp, and of none after it; of none at all, where there is no stamp
+-- P holds for the stamp, and for none after it; if there is no stamp, for none at all
 abbrev pub IsLatest : (Stamp → Type 0) → Option Stamp → Type 0
 IsLatest P None = (s : Stamp) → ¬ P s
 IsLatest P (Some last) = P last × ((s : Stamp) → P s → ¬ Before last s)
 
--- the later of two that are there, or the only one there
+-- the later of two; of one, that one; none if both are none
 abbrev pub latest_of : Option Stamp → Option Stamp → Option Stamp
 latest_of None b = b
 latest_of (Some s) None = Some s
 latest_of (Some s) (Some t) = Some (later_of s t)
 
 -- ---- a commit
--- a batch was committed and is what is to be told; what is answered of the state that comes of it is its floor, and the
--- stamp of the batch's last action, where there is any
+-- a batch was committed and is what is to be told; the answer has the floor of the new state and the stamp of the
+-- batch's last action, if there is any
 pub record FinalMade (old : CellStateData) (given : List RegionData) (made : Final) (batch : List Action)
     (left : List RegionData) : Type 0 where
   pub new : CellStateData

@@ -26,12 +26,13 @@ pub record IsStanding (state : CellStateData) (k : ℕ) (run : Local) : Type 0 w
   pub base : Sees state k run.base
   pub right : IsRight (home_of state k) run
 
+-- the local run of each region stands on the state
 abbrev pub AreStanding : CellStateData → LocalRuns → Type 0
 AreStanding state runs = (k : ℕ) → IsRegion state.grid k → IsStanding state k (runs k)
 
 -- ---- the horizon
--- a stamp that isn't before the floor nor after the end, nor after what a region has due, unless that is before
--- the floor, nor after the first disagreement of what one region sent and another heard from it
+-- a stamp that isn't before the floor nor after the end, nor after both the floor and what a region has due, nor after
+-- the first disagreement of what one region sent and another heard from it
 pub record IsBound (state : CellStateData) (runs : LocalRuns) (h : Stamp) : Type 0 where
   pub end : ¬ Before (end_stamp state.rules.end) h
   pub floor : ¬ Before h state.floor
@@ -67,14 +68,16 @@ pub record IsMerged (state : CellStateData) (runs : LocalRuns) (h : Stamp) (xs :
   pub all : (x : Action) → IsDone state runs h x → IsAmong x xs
 
 -- ---- lists of regions
--- a run of which nothing is known, for a number of which there is no region
+-- a run of which nothing is known, for a number without a region
 abbrev pub no_run : Local
 no_run = record { floor = first_stamp; base = map.empty; heard = []; log = [] }
 
+-- the local run; if there is none, the one of which nothing is known
 abbrev pub local_run_in : Option Local → Local
 local_run_in None = no_run
 local_run_in (Some run) = run
 
+-- the local run of a region; if there is no region, or it is spent, the one of which nothing is known
 abbrev pub run_of : Option RegionData → Local
 run_of None = no_run
 run_of (Some region) = local_run_in region.run

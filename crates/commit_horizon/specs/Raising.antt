@@ -11,6 +11,7 @@ pub record MayRise (to : Stamp) (region : RegionData) : Type 0 where
   pub in_time : ¬ Before (end_stamp region.home.rules.end) to
   pub none_waiting : IfSome region.run (HasNoneWaitingBelow to)
 
+-- each region's floor may be raised to the stamp
 abbrev pub AllMayRise : Stamp → List RegionData → Type 0
 AllMayRise to regions = (k : ℕ) (region : RegionData) → slice_get regions k ≡ Some region →
     MayRise to region

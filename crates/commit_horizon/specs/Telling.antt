@@ -28,8 +28,8 @@ abbrev pub HitRefused : {M : Type 0} → (M → Change → M → Type 0) → Opt
 HitRefused torn old (Cross s cell) new = ⊥
 HitRefused torn old (Hit change) new = Torn torn old change new
 
--- a prefix of the collisions of some actions was told, and perhaps the one that follows was refused, if the listener
--- is why it breaks off
+-- a prefix of the collisions of some actions was told, and if the listener is the reason for breaking off, perhaps the
+-- one that follows was refused
 abbrev pub HitsCutShort : {M : Type 0} → (M → Change → M) → (M → Change → M → Type 0) → List Action →
     RunFault → Option M → Option M → Type 0
 HitsCutShort after torn actions Listener old new = PrefixTold after torn old (hits actions) new

@@ -1,4 +1,4 @@
--- How the telling of what is untold goes on.
+-- How the telling of untold actions goes on.
 use Rattle.std.specs.Prelude.{◌≡◌, ℕ, ◌≤◌, List, ◌++◌, ◌∷◌, ⊤, Option, None, Some}
 use Rattle.report_ports.specs.Ports.{Rose}
 use Rattle.event_rules.specs.declared.change.Change.{Change}
@@ -8,12 +8,12 @@ use Rattle.region_view.specs.declared.action.Action.{Action}
 use Rattle.region_view.specs.declared.action.Action.TheVariants.{Hit}
 use Rattle.cell_sequence.specs.Run.{hits}
 
--- of the untold actions the first ones are no more, and exactly their collisions were told, in order
+-- some first ones of the untold actions are gone, exactly their collisions were told, in order, and the others are left
 abbrev pub TellsFirst : {M : Type 0} → (M → Change → M) → List Action → Option M → ℕ → List Action → Option M → ℕ → Type 0
 TellsFirst after old m f new n g =
     (gone : List Action) × (old ≡ gone ++ new) × Told after m (hits gone) n × (g ≡ f)
 
--- of the collisions of the untold actions some first ones were told, in order, and the others are left
+-- some first collisions of the untold actions were told, in order, and the others are left
 abbrev pub TellsHits : {M : Type 0} → (M → Change → M) → List Action → Option M → ℕ → List Action → Option M → ℕ → Type 0
 TellsHits after old m f new n g =
     (gone : List Change) × (hits old ≡ gone ++ hits new) × Told after m gone n × (g ≡ f)
@@ -25,7 +25,7 @@ TellsTorn {M} after torn old m f n g =
     (gone : List Action) × (change : Change) × (rest : List Action) × (old ≡ gone ++ Hit change ∷ rest)
     × ((mid : Option M) × Told after m (hits gone) mid × Torn torn mid change n) × (f ≤ g) × Rose f g
 
--- what telling some of the untold actions comes to, where a refusal is kept: once there is one, nothing is told
+-- the result of telling some of the untold actions, while a refusal is kept: once there is one, nothing is told
 abbrev pub TellsOn : {M : Type 0} → (M → Change → M) → (M → Change → M → Type 0) →
     List Action → Option Deaf → Option M → ℕ → List Action → Option Deaf → Option M → ℕ → Type 0
 TellsOn after torn old None m f new None n g = TellsFirst after old m f new n g

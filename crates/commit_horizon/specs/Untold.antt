@@ -30,12 +30,12 @@ left_from log (Some head) = actions_in (drop head.place log)
 abbrev pub StandsIn : List Entry → Head → Type 0
 StandsIn log head = option_map stamp_of (native_in (slice_get log head.place)) ≡ Some head.stamp
 
--- the head is that of the first action after so many entries
+-- the head is that of the first action after `done` entries
 pub record IsNextHead (log : List Entry) (done : ℕ) (head : Option Head) : Type 0 where
   pub left : left_from log head ≡ actions_in (drop done log)
   pub stands : IfSome head (StandsIn log)
 
--- the first action, where there is any, has a stamp in the ranges of the events of a run
+-- the first action, if there is any, has a stamp in the ranges of the events of a run
 abbrev pub BeginsInRange : List Action → Type 0
 BeginsInRange [] = ⊤
 BeginsInRange (x ∷ xs) = IsInRange (stamp_of x)
@@ -44,16 +44,17 @@ BeginsInRange (x ∷ xs) = IsInRange (stamp_of x)
 abbrev pub PassesCrossings : List Action → List Action → Type 0
 PassesCrossings old new = (gone : List Action) × (old ≡ gone ++ new) × (hits gone ≡ [])
 
--- the head is that of the first collision after so many entries
+-- the head is that of the first collision after `done` entries
 pub record IsNextHit (log : List Entry) (done : ℕ) (head : Option Head) : Type 0 where
   pub passed : PassesCrossings (actions_in (drop done log)) (left_from log head)
   pub stands : IfSome head (StandsIn log)
 
 -- ---- all logs
+-- the first action of each log, if there is any, has a stamp in the ranges
 abbrev pub AllBeginInRange : List (List Entry) → Type 0
 AllBeginInRange logs = (k : ℕ) → BeginsInRange (actions_in (get_or logs k []))
 
--- the heads of the first logs, so many, are those of their first actions
+-- the heads of the first n logs are those of their first actions
 pub record AreFirstHeads (logs : List (List Entry)) (n : ℕ) (heads : Heads) : Type 0 where
   pub count : length heads ≡ n
   pub each : (k : ℕ) → k < n → IsNextHead (get_or logs k []) 0 (head_at heads k)
@@ -65,7 +66,7 @@ lefts (log ∷ logs) [] = []
 lefts (log ∷ logs) (head ∷ heads) = left_from log head ∷ lefts logs heads
 
 -- ---- merging by stamps
--- the first of some actions, where there is any, comes after one
+-- the first of some actions, if there is any, comes after one
 abbrev pub ActionsBeginAfter : Action → List Action → Type 0
 ActionsBeginAfter x [] = ⊤
 ActionsBeginAfter x (y ∷ ys) = Before (stamp_of x) (stamp_of y)
@@ -76,7 +77,7 @@ IsMergeOf lists [] = (k : ℕ) → get_or lists k [] ≡ []
 IsMergeOf lists (x ∷ xs) = (k : ℕ) × (rest : List Action) × (get_or lists k [] ≡ x ∷ rest)
     × ((q : ℕ) → q ≢ k → ActionsBeginAfter x (get_or lists q [])) × IsMergeOf (set lists k rest) xs
 
--- an action and others, where it is said how the others are merged
+-- an action and others, given how the others are merged
 abbrev pub merged_on : Action → (List Action → List Action) → List Action → List Action
 merged_on x on [] = x ∷ on []
 merged_on x on (y ∷ ys) = if is_before (stamp_of y) (stamp_of x) then y ∷ merged_on x on ys else x ∷ on (y ∷ ys)
@@ -97,6 +98,7 @@ pub record CanBeTold (x : Action) : Type 0 where
   pub range : IsInRange (stamp_of x)
   pub may : MayBeTold x
 
+-- the same for each action
 abbrev pub AllCanBeTold : List Action → Type 0
 AllCanBeTold [] = ⊤
 AllCanBeTold (x ∷ xs) = CanBeTold x × AllCanBeTold xs
@@ -105,13 +107,13 @@ AllCanBeTold (x ∷ xs) = CanBeTold x × AllCanBeTold xs
 abbrev pub AllListsRise : List (List Action) → Type 0
 AllListsRise lists = (k : ℕ) → ActionStampsRise (get_or lists k [])
 
--- actions that can be merged of some lists that rise, and told
+-- actions that can be merged from some lists that rise, and be told
 pub record CanBeTellings (lists : List (List Action)) (xs : List Action) : Type 0 where
   pub merged : IsMergeOf lists xs
   pub can : AllCanBeTold xs
   pub rise : AllListsRise lists
 
--- each log has a head, of which one leads, and what is left can be merged and told
+-- each log has a head, one of the heads leads, and what is left can be merged and told
 pub record AreUntold (logs : List (List Entry)) (heads : Heads) (first : Leader) : Type 0 where
   pub count : length heads ≡ length logs
   pub stand : (k : ℕ) (head : Head) → head_at heads k ≡ Some head → StandsIn (get_or logs k []) head

@@ -1,4 +1,4 @@
-//! What a commit made final.
+//! The actions that a commit made final.
 
 use region_view::Action;
 use std::marker::Model;

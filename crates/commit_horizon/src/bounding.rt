@@ -1,4 +1,4 @@
-//! What bounds the commit horizon.
+//! The bounds of the commit horizon.
 
 ghost use Rattle.commit_horizon.specs.Horizon.{AllKept};
 ghost use Rattle.commit_horizon.specs.Bounds.{HoldsUpTo, OfAll, IsUpToDue, AgreeOn, AllAgreeWith, AllAgree, IsUpToAll};
@@ -40,7 +40,7 @@ fn due_bound(region: &Region) -> Stamp
     if due < floor { floor } else { due }
 }
 
-// The first disagreement of all regions that are linked.
+// The first disagreement of any two regions that are linked.
 fn first_apart_of_all(regions: &[Region]) -> Option<Stamp>
     ensures { HoldsUpTo (AllAgree regions.now) result }
 {
@@ -51,7 +51,7 @@ fn first_apart_of_all(regions: &[Region]) -> Option<Stamp>
     first
 }
 
-// The first disagreement of what a region sent and what any heard of it.
+// The first disagreement of what a region sent and what any linked one heard of it.
 fn first_apart_from(sender: &Region, regions: &[Region]) -> Option<Stamp>
     ensures { HoldsUpTo (AllAgreeWith regions.now sender.now) result }
 {

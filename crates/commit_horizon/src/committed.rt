@@ -105,8 +105,8 @@ impl Committed {
         self.state.go_on_to(placed, last, floor);
     }
 
-    /// Makes final what the regions, which stand on the committed state by number, did before the commit
-    /// horizon: the state goes on by it, and all floors are raised to the horizon.
+    /// Makes final what the regions, which stand on the committed state by number, did before the commit horizon: the
+    /// state goes on by it, and all floors are raised to the horizon.
     ///
     /// # Errors
     /// Out of memory: the committed state and the regions are to be given up.
@@ -119,8 +119,8 @@ impl Committed {
         self.follow(alloc, untold, made.floor)
     }
 
-    /// Goes on by what is untold, which the cell run does next, and raises the floor to a stamp. What was untold is
-    /// the batch.
+    /// Goes on by the actions that are untold, which the cell run does next, and raises the floor to a stamp. These
+    /// actions are the batch.
     ///
     /// # Errors
     /// Out of memory: the committed state is to be given up.

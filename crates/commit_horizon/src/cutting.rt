@@ -18,7 +18,7 @@ use fixed_motion::Rules;
 use region_core::Region;
 use std::alloc::{AllocError, Global};
 
-/// What a commit makes of the state on which the regions stand. The rows are not in it: the regions have them.
+/// How a commit changes the state on which the regions stand. The rows aren't in it: the regions have them.
 #[derive(Clone, Copy)]
 pub struct Final {
     /// The stamp of the last action of its batch; none if the batch is empty.
@@ -27,12 +27,12 @@ pub struct Final {
     pub floor: Stamp,
 }
 
-/// Makes final what regions, which stand by number on a cell state with these rules, did before the commit horizon:
-/// it is cut off their logs and is what is to be told now, and all floors are raised to the horizon. All that was to be
-/// told before was told.
+/// Makes final what regions, which stand by number on a cell state with these rules, did before the commit horizon: it
+/// is cut off their logs and becomes what is untold, and all floors are raised to the horizon. All that was untold
+/// before has to be told already.
 ///
 /// # Errors
-/// Out of memory: the regions and what is to be told are to be given up.
+/// Out of memory: the regions and what is untold are to be given up.
 pub fn commit_cutting(
     alloc: Global,
     rules: &Rules,

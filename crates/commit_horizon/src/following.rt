@@ -1,4 +1,4 @@
-//! Going on by what was made final.
+//! Going on by the actions that were made final.
 
 ghost use Rattle.std.specs.Prelude.{◌≡◌, List, IfOk, OnOk};
 ghost use Rattle.region_view.specs.declared.action.Placed.{Placed};
@@ -10,7 +10,7 @@ use cell_sequence::CellState;
 use region_view::Action;
 use std::alloc::{AllocError, Global};
 
-/// Goes on by all that is untold, which the cell run does next, and answers it.
+/// Goes on by all actions that are untold, which the cell run does next, and answers them.
 ///
 /// # Errors
 /// Out of memory.

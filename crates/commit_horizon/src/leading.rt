@@ -6,8 +6,8 @@ ghost use Rattle.commit_horizon.specs.Leading.{NoOtherBefore, IsLeader, IsLeader
 
 use event_tree::Packed;
 
-/// The next action of a region that is to be merged, by its stamp and its place. Heads are compared again and
-/// again, so they are small, and their stamps are packed.
+/// The next action of a region that is to be merged, by its stamp and its place. Heads are compared again and again, so
+/// they are small, and their stamps are packed.
 #[derive(Clone, Copy)]
 pub(crate) struct PackedHead {
     /// The stamp of the action; none if no action is left.
@@ -16,8 +16,8 @@ pub(crate) struct PackedHead {
     pub(crate) place: usize,
 }
 
-/// The least of some heads, and the number of its region. Its region runs on while what it did is before the
-/// second: so the heads aren't compared for each action.
+/// The least of some heads, and the number of its region. As long as that region's next action is before the second
+/// head, it stays the leader, so the heads aren't compared for each action.
 #[derive(Clone, Copy)]
 pub(crate) struct Leader {
     /// The number of the region.
@@ -76,7 +76,8 @@ fn leader_with(first: Leader, k: usize, head: PackedHead) -> Leader
     }
 }
 
-/// The leader after one whose region has another head now: the same region, while it is before the second.
+/// The leader once the region of the last one has another head: the same region, as long as that head is before the
+/// second one.
 #[inline(always)]
 pub(crate) fn leader_after(heads: &[PackedHead], last: &Leader) -> Leader
     requires within { last.now.number < length heads.now }

@@ -46,8 +46,8 @@ impl Committed {
         all_or_none(alloc, opened)
     }
 
-    /// Regions that stand on the committed state, by number: of those given exactly the ones that stand on
-    /// it, as [`adopt`](Committed::adopt) answers for each place, and others that are opened again.
+    /// Regions that stand on the committed state, by number: of the given ones exactly those that stand on it, as
+    /// [`adopt`](Committed::adopt) answers for each place, and regions that are opened again at the other places.
     ///
     /// # Errors
     /// Out of memory.
@@ -82,7 +82,7 @@ impl Committed {
             return Ok(());
         };
         let made = Region::open(alloc, &self.state, number)?;
-        // By calls, as an assignment that drops the old region is dear to prove.
+        // These are calls, since an assignment that drops the old region takes long to prove.
         drop(std::mem::replace(region, made));
         Ok(())
     }

@@ -1,18 +1,18 @@
-//! What is final and wasn't told yet.
+//! Actions that are final and weren't told yet.
 
 use crate::leading::{Leader, PackedHead};
 use event_log::EventLog;
 use std::marker::Model;
 
-/// Actions that are final and are to be told, in the order of their stamps. They lie in the logs of the regions that
-/// ran them, which are merged only as they are told.
+/// Actions that are final and are to be told, in the order of their stamps. They are in the logs of the regions that
+/// ran them, which are merged only when they are told.
 #[derive(Drop)]
 pub struct Untold {
     // A log of each region.
     logs: Vec<EventLog>,
-    // Of each, the next action that is untold.
+    // The next action of each log that is untold.
     heads: Vec<PackedHead>,
-    // The first of those.
+    // The first of these.
     first: Leader,
 }
 
@@ -127,7 +127,7 @@ impl Untold {
         Ok(true)
     }
 
-    /// Tells the collisions among all that is left.
+    /// Tells all collisions that are left.
     ///
     /// # Errors
     /// The listener refused a collision, and its count of refusals rose.
@@ -147,7 +147,7 @@ impl Untold {
         }
     }
 
-    // Passes the next action, and tells it if it is a collision. Whether there was one.
+    // Passes the next action, and tells it if it is a collision. False if there was none.
     #[inline(always)]
     fn tell_one<L: Listener>(&mut self, listener: &mut L) -> Result<bool, Deaf>
         requires { AwaitsAll L.after L.awaits (L.meaning listener.old) (hits self.old) }
@@ -169,8 +169,8 @@ impl Untold {
         Ok(true)
     }
 
-    // Passes the next action, and tells it if it is a collision; passes the crossings after it in its log too. Whether
-    // there was an action.
+    // Passes the next action, and tells it if it is a collision; passes the crossings after it in its log too. False if
+    // there was no action.
     #[inline(always)]
     fn tell_hit<L: Listener>(&mut self, listener: &mut L) -> Result<bool, Deaf>
         requires { AwaitsAll L.after L.awaits (L.meaning listener.old) (hits self.old) }
@@ -242,7 +242,7 @@ fn head_after(log: &EventLog, place: usize) -> PackedHead
     head_from(log, place + 1, end)
 }
 
-// The head of the first collision after a place: the crossings between are passed.
+// The head of the first collision after a place; the crossings before it are passed.
 #[inline(always)]
 fn hit_after(log: &EventLog, place: usize) -> PackedHead
     requires within { place < length log.now }

@@ -44,7 +44,7 @@ nearest_square x y f g h k a b p z size close first second =
     let sized : (b * b) * (a + (2 * (f * g) + 2 * (h * k))) ≡ (b * b) * ((f * f + g * g) + (h * h + k * k)) = ap (λ (n : ℕ). (b * b) * n) size in
     omega arith
 
--- where the first component stays at least d, at the moment at which the disks are nearest they are at least d apart
+-- if the first component stays at least d, the disks are at least d apart at the moment at which they are nearest
 keeps_apart : (x y f g h k a b d w p z : ℕ) → 0 < a → b ≤ a → g ≤ w → d + w ≤ x →
     a + (2 * (f * g) + 2 * (h * k)) ≡ (f * f + g * g) + (h * h + k * k) →
     b + (x * f + y * h) ≡ x * g + y * k → a * x + b * f ≡ p + b * g → Apart (a * y + b * h) (b * k) z →
@@ -63,7 +63,7 @@ keeps_apart x y f g h k a b d w p z some within slow far size close first second
     times_less a m n some lt = let le : a * (m + 1) ≤ a * n = mul-le-mul_left a (omega arith) in omega arith
 
 -- ---- signed numbers
--- the speed, of its two sides on each axis
+-- the speed, from its two sides on each axis
 sized : (f g h k m n : ℕ) → m ≡ f + g → f * g ≡ 0 → n ≡ h + k → h * k ≡ 0 →
     (m * m + n * n) + (2 * (f * g) + 2 * (h * k)) ≡ (f * f + g * g) + (h * h + k * k)
 sized f g h k m n e p q r = rw (e, q) (omega arith)

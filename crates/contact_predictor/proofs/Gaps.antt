@@ -1,4 +1,4 @@
--- A squared gap as a machine computes it, and what bounds and bits make of sizes.
+-- A squared gap as a machine computes it, and sizes under bounds and as bits.
 use Rattle.std.proofs.Common.{◌≡◌, ℕ, ◌+◌, ◌*◌, ◌^◌, ◌≤◌, arith}
 use Rattle.std.specs.Prelude.{ℤ, nat_abs, FitsSigned, ◌-ℤ◌, ◌*ℤ◌}
 use Rattle.std.proofs.lemmas.Int.{ints}
@@ -9,7 +9,7 @@ use Rattle.plane_vectors.specs.Vectors.{sum, dot, IsWithin}
 use Rattle.plane_vectors.proofs.Sizes.{size_of_sum, size_of_product, dot_size, sent, sent_same}
 use Rattle.contact_predictor.specs.Contact.{gap}
 
--- what is within a bound is within each greater one
+-- a size within a bound is within each greater one
 pub within_more : (m n : ℕ) (a : Vector) → m ≤ n → IsWithin m a → IsWithin n a
 within_more m n a le within =
     let x = within.x in

@@ -118,7 +118,7 @@ mild (pos m) (negsuc n) (negsuc k) t p sb sc q r crosses early = absurd (omega (
 mild (pos m) (pos n) c t p sb sc q r crosses early = absurd (omega (arith, ints))
 mild (negsuc m) b c t p sb sc q r crosses early = absurd (omega (arith, ints))
 
--- one tick later they still have 64 bits
+-- one tick later they still fit 64 bits
 pub next_fits : (a b c : ℤ) → pos 0 ≤ℤ a → nat_abs a < 2 ^ 62 → AreMild a b c →
     FitsSigned w64 (b +ℤ (a *ℤ pos 1)) × FitsSigned w64 (c +ℤ ((b +ℤ (b +ℤ (a *ℤ pos 1))) *ℤ pos 1))
 next_fits a b c p sa h =
@@ -163,7 +163,7 @@ fits_small n h = omega (arith, ints)
 fits_gap : (n : ℤ) → nat_abs n < 2 ^ 62 → FitsSigned w64 n
 fits_gap n h = omega (arith, ints)
 
--- the same as the code tells it, of which no bits are lost
+-- the same as the code computes it, without losing bits
 pub ends : (q then past : Approach) (t : ℕ) → IsSmall q → pos 0 ≤ℤ q.gap → IsCourse q → IsEarly q t → then.square ≡ q.square →
     then.closing ≡ int_wrap w64 (closing_after q (pos t)) → then.gap ≡ int_wrap w64 (gap_after q (pos t)) → past.square ≡ then.square →
     past.closing ≡ int_wrap w64 (closing_after then (pos 1)) → past.gap ≡ int_wrap w64 (gap_after then (pos 1)) →
@@ -197,7 +197,7 @@ contact_course q r u distance of contact = (
   (subst (λ (n : ℤ). n <ℤ pos 0) (sym of.closing) contact.approaching.approaching, rw (of.square, of.closing, of.gap) contact.crossing),
 )
 
--- of disks that do, the quadratic one tick later tells whether they are in contact
+-- for such disks, the quadratic one tick later tells whether they are in contact
 pub contact_told : (q past : Approach) → IsSmall q → past.closing ≡ int_wrap w64 (closing_after q (pos 1)) →
     past.gap ≡ int_wrap w64 (gap_after q (pos 1)) → (r u : Vector) (distance : ℤ) → IsApproachOf r u distance q → pos 0 ≤ℤ q.gap →
     IsCourse q → (¬ ((pos 0 ≤ℤ past.gap) × (past.closing <ℤ pos 0))) ↔ IsContact r u distance

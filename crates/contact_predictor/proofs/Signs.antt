@@ -1,4 +1,4 @@
--- What the machine's tests of signed numbers tell, of numbers of 64 bits.
+-- What the machine's tests tell of signed numbers of 64 bits.
 use Rattle.std.proofs.Common.{◌≡◌, ◌↔◌, IsTrue, ◌<◌, Bool, true, false, T, refl, sym, ap, subst, ◌∙◌}
 use lib.Signed.{mag, lt_z, le_z}
 use Rattle.std.specs.Prelude.{ℤ, pos, FitsSigned, ◌≤ℤ◌, ◌<ℤ◌}

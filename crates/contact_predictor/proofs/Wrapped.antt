@@ -1,4 +1,4 @@
--- Products and sums that are told but for what goes beyond 64 bits, where nothing does.
+-- Products and sums that are wrapped to 64 bits, if nothing is lost by that.
 use Rattle.std.proofs.Common.{rules, ◌≡◌, ◌↔◌, Bool, true, false, IsTrue, ℕ, ◌+◌, ◌-◌, ◌*◌, ◌/◌, ◌%◌, min, ◌^◌, ◌<◌, ◌≤◌, refl, sym, ap, subst, ◌∙◌, arith, FitsSigned, to_z, of_z}
 use Rattle.std.specs.Prelude.{ℤ, pos, nat_abs, ◌+ℤ◌, ◌-ℤ◌, ◌*ℤ◌, ◌<ℤ◌, ◌&&◌}
 use Rattle.std.specs.Int.{int_wrap, w64}
@@ -33,7 +33,7 @@ difference_exact z n d f e small =
     let same : int_wrap w64 (int_wrap w64 n -ℤ (d *ℤ d)) ≡ int_wrap w64 (n -ℤ (d *ℤ d)) = search (rules, wraps) in
     told ∙ rw e same ∙ int_wrap_fits w64 (n -ℤ (d *ℤ d)) whole
 
--- the same of any number of 64 bits in place of the square
+-- the same for any number of 64 bits instead of the square
 pub less_exact : (z n k : ℤ) → FitsSigned w64 k → z ≡ int_wrap w64 n → nat_abs (n -ℤ k) < 2 ^ 63 →
     to_z w64 ((of_z w64 z + (18446744073709551616 - of_z w64 k)) % 18446744073709551616) ≡ n -ℤ k
 less_exact z n k f e small =

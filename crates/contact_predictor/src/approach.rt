@@ -11,21 +11,21 @@ use crate::MAX_TICKS;
 use crate::roots::{PAST_FLOATS, float_quotient, small_root};
 use plane_vectors::Vector;
 
-/// The quadratic a s^2 + 2 b s + c of s ticks that two disks on straight paths have for a squared gap: the squared
-/// distance of their centres less that at which they touch.
+/// The quadratic a s^2 + 2 b s + c in the number s of ticks, for two disks on straight paths: their squared gap, which
+/// is the squared distance of their centres less the squared distance at which they touch.
 #[derive(Clone, Copy)]
 pub struct Approach {
     /// The number a: the square of the relative velocity.
     pub square: i64,
-    /// The number b: the scalar product of the separation and the relative velocity, negative where they approach.
+    /// The number b: the scalar product of the separation and the relative velocity, negative if they approach.
     pub closing: i64,
-    /// The number c: the squared gap now, negative where they overlap.
+    /// The number c: the squared gap now, negative if they overlap.
     pub gap: i64,
 }
 
 impl Approach {
-    /// That of two disks at the separation `r` with the relative velocity `u`. Nothing is said where one of the
-    /// three numbers doesn't fit 64 bits.
+    /// The quadratic of two disks at the separation `r` with the relative velocity `u`. If one of the three numbers
+    /// doesn't fit 64 bits, nothing is said of the answer.
     #[inline(always)]
     pub fn new(r: Vector, u: Vector, distance: i64) -> Approach
         ensures { FitsApproach r u distance → IsApproachOf r u distance result }
@@ -37,7 +37,7 @@ impl Approach {
         }
     }
 
-    /// The same, where `square` is that of the distance at which they touch.
+    /// The same, if `square` is the square of the distance at which they touch.
     #[inline(always)]
     pub fn of_square(r: Vector, u: Vector, square: i64) -> Approach
         ensures { (distance : ℤ) → square ≡ distance *ℤ distance → FitsApproach r u distance → IsApproachOf r u distance result }
@@ -49,8 +49,8 @@ impl Approach {
         }
     }
 
-    /// Whether the disks approach each other on paths that cross, if they don't overlap. Nothing is said where
-    /// the products are great.
+    /// Whether the disks approach each other on paths that cross, if they don't overlap. If the products are great,
+    /// nothing is said of the answer.
     #[inline(always)]
     pub fn is_course(self) -> bool
         ensures { IsSmall self → IsTrue result ↔ IsCourse self }
@@ -68,7 +68,7 @@ impl Approach {
     }
 
     /// After how many ticks, at most 2^30, two disks that are apart, and approach each other on paths that cross,
-    /// are at their last whole tick before they touch. None says nothing: a guess wasn't confirmed, which is seldom.
+    /// are at their last whole tick before they overlap. None says nothing: a guess wasn't confirmed, which is seldom.
     #[inline(always)]
     pub fn contact(self) -> Option<u64>
         requires small { IsSmall self }
@@ -84,7 +84,7 @@ impl Approach {
         }
     }
 
-    /// The same as [`contact`](Approach::contact), by floats alone: None also where a float doesn't hold the numbers.
+    /// The same as [`contact`](Approach::contact), by floats alone: None also if a float doesn't hold the numbers.
     #[inline(always)]
     pub fn quick_contact(self) -> Option<u64>
         requires small { IsSmall self }
@@ -100,7 +100,7 @@ impl Approach {
         }
     }
 
-    // The smaller root by floats, but for rounding: tested, so that it is known not to be late. None where a float
+    // The smaller root by floats, up to rounding. It is tested, so that it is known not to be late. None if a float
     // doesn't hold the numbers, or the test fails.
     #[inline(always)]
     fn float_guess(self) -> Option<u64>
@@ -122,7 +122,7 @@ impl Approach {
         }
     }
 
-    // The same as `contact`, by whole numbers alone. Seldom asked, so it is kept apart.
+    // The same as `contact`, by whole numbers alone. It is seldom called, so it is kept apart.
     #[inline(never)]
     fn contact_by_integers(self) -> Option<u64>
         requires small { IsSmall self }
@@ -140,7 +140,7 @@ impl Approach {
         }
     }
 
-    // The smaller root, but for rounding. It is known only that it isn't late: no more than c / |b|.
+    // The smaller root, up to rounding. It is only known not to be late: it is at most c / |b|.
     #[inline(always)]
     fn guess(self) -> u64
         requires { self.closing <ℤ pos 0 }
@@ -150,7 +150,7 @@ impl Approach {
         self.gap.unsigned_abs() / root.saturating_add(self.closing.unsigned_abs())
     }
 
-    // The discriminant, but for what goes beyond 64 bits: nothing need be known of it.
+    // The discriminant, wrapped to 64 bits: the proof needs to know nothing of it.
     #[inline(always)]
     fn discriminant(self) -> u64 {
         let square = self.closing.wrapping_mul(self.closing);
@@ -158,7 +158,7 @@ impl Approach {
         square.wrapping_sub(product).cast_unsigned()
     }
 
-    // Whether they approach after so many ticks for the last time.
+    // Whether they approach after `ticks` ticks for the last time.
     #[inline(always)]
     fn ends_after(self, ticks: u64) -> bool
         requires small { IsSmall self }
@@ -173,7 +173,8 @@ impl Approach {
         then.is_approaching() && !then.after(1).is_approaching()
     }
 
-    /// Whether the disks are at their last whole tick before they touch. Nothing is said where the products are great.
+    /// Whether the disks are at their last whole tick before they overlap. If the products are great, nothing is said
+    /// of the answer.
     #[inline(always)]
     pub fn is_contact(self) -> bool
         ensures { IsSmall self → (r u : Vector) (distance : ℤ) → IsApproachOf r u distance self →
@@ -185,7 +186,7 @@ impl Approach {
         self.is_course() && !self.after(1).is_approaching()
     }
 
-    // The quadratic of the same disks so many ticks later.
+    // The quadratic of the same disks `ticks` ticks later.
     #[inline(always)]
     fn after(self, ticks: i64) -> Approach
         ensures square { result.square ≡ self.square }
@@ -209,7 +210,7 @@ impl Approach {
     }
 }
 
-// The scalar product, but for what goes beyond 64 bits.
+// The scalar product, wrapped to 64 bits.
 #[inline(always)]
 fn wrapping_dot(r: Vector, u: Vector) -> i64
     ensures { result ≡ int_wrap w64 (dot r u) }
@@ -217,7 +218,7 @@ fn wrapping_dot(r: Vector, u: Vector) -> i64
     r.x.wrapping_mul(u.x).wrapping_add(r.y.wrapping_mul(u.y))
 }
 
-// What a number comes to that grows by so much a tick, but for what goes beyond 64 bits.
+// The value after `ticks` ticks of a number that grows by `slope` a tick from `start`, wrapped to 64 bits.
 #[inline(always)]
 fn wrapping_line(start: i64, slope: i64, ticks: i64) -> i64
     ensures { result ≡ int_wrap w64 (start +ℤ (slope *ℤ ticks)) }

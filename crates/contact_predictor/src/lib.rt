@@ -19,15 +19,14 @@ use crate::roots::rough_root;
 pub use approach::Approach;
 use plane_vectors::Vector;
 
-// In units of length, on each axis.
+// The greatest separation, in units of length on each axis.
 const MAX_SEPARATION: u64 = 1 << 30;
 
 const MAX_TICKS: u64 = 1 << 30;
 
-/// How many ticks the coordinate `x`, in units of length, keeps within `lo` and `hi` at `v` units
-/// per tick.
+/// How many ticks the coordinate `x`, in units of length, keeps within `lo` and `hi` at `v` units per tick.
 ///
-/// None where it stands still. All four are at most 2^31 in size.
+/// None if it stands still. All four are at most 2^31 in size.
 pub fn stay(lo: i64, hi: i64, x: i64, v: i64) -> Option<u64>
     requires low { lo ≤ℤ x }
     requires high { x ≤ℤ hi }
@@ -48,14 +47,14 @@ pub fn stay(lo: i64, hi: i64, x: i64, v: i64) -> Option<u64>
     }
 }
 
-/// After how many ticks, at most `span`, two disks are at their last whole tick before they touch.
+/// After how many ticks, at most `span`, two disks are at their last whole tick before they overlap.
 ///
-/// The separation of the centres is (`rx`, `ry`) units of length now and at most 2^30 in each
-/// component now and after `span` ticks; the relative velocity is (`ux`, `uy`) units per tick, at
-/// most 2^21 in each component. The diameter is 2 to 2^30 units, the span at most 2^30 ticks.
+/// The separation of the centres is (`rx`, `ry`) units of length now and at most 2^30 in each component now and after
+/// `span` ticks; the relative velocity is (`ux`, `uy`) units per tick, at most 2^21 in each component. The diameter is
+/// 2 to 2^30 units, the span at most 2^30 ticks.
 ///
-/// None where no tick up to `span` is the last before a contact: the disks overlap already, don't
-/// approach, pass each other, are merely tangent, or touch later.
+/// None if no tick up to `span` is the last before a contact: the disks overlap already, don't approach, pass each
+/// other, are merely tangent, or touch later.
 pub fn contact(rx: i64, ry: i64, ux: i64, uy: i64, diameter: i64, span: u64) -> Option<u64>
     requires rx_size { nat_abs rx ≤ 2 ^ 30 }
     requires ry_size { nat_abs ry ≤ 2 ^ 30 }
@@ -78,10 +77,10 @@ pub fn contact(rx: i64, ry: i64, ux: i64, uy: i64, diameter: i64, span: u64) -> 
     )
 }
 
-/// The same as [`contact`], of disks at the separation `r` with the relative velocity `u`.
+/// The same as [`contact`], for disks at the separation `r` with the relative velocity `u`.
 ///
-/// The separation is at most 2^30 units in each component now and after `span` ticks, the velocity
-/// at most 2^21 units per tick, the distance at most 2^30 units, the span at most 2^30 ticks.
+/// The separation is at most 2^30 units in each component now and after `span` ticks, the velocity at most 2^21 units
+/// per tick, the distance at most 2^30 units, the span at most 2^30 ticks.
 pub fn contact_between(r: Vector, u: Vector, distance: i64, span: u64) -> Option<u64>
     requires separation { IsWithin (2 ^ 30) r }
     requires velocity { IsWithin (2 ^ 21) u }
@@ -118,7 +117,7 @@ pub fn may_touch(r: Vector, u: Vector, distance: i64) -> bool
     are_all_three(gap >= 0, closing < 0, crossing)
 }
 
-/// Whether two disks are at their last whole tick before they touch.
+/// Whether two disks are at their last whole tick before they overlap.
 ///
 /// The separation and the distance are at most 2^30 units, the velocity at most 2^21 units per tick.
 #[inline(always)]
@@ -131,7 +130,8 @@ pub fn is_contact(r: Vector, u: Vector, distance: i64) -> bool
     may_touch(r, u, distance) && !is_approaching(r.plus(u), u, distance)
 }
 
-// By a sum, as none of them can be foretold: `&&`, and `&` too, would be compiled into a branch for each.
+// Whether all three are true. It is a sum, since none of them can be predicted: the compiler would turn `&&`, and `&`
+// too, into a branch for each.
 #[inline(always)]
 fn are_all_three(first: bool, second: bool, third: bool) -> bool
     ensures { IsTrue result ↔ (IsTrue first × IsTrue second × IsTrue third) }
@@ -140,7 +140,7 @@ fn are_all_three(first: bool, second: bool, third: bool) -> bool
 }
 
 /// After how many ticks, at most 2^30, two disks whose paths cross are at their last whole tick
-/// before they touch. None says nothing: a guess wasn't confirmed, which is seldom.
+/// before they overlap. None says nothing: a guess wasn't confirmed, which is seldom.
 ///
 /// The separation and the distance are at most 2^30 units, the velocity at most 2^21 units per tick.
 #[inline(always)]
@@ -163,13 +163,13 @@ pub fn quick_contact(r: Vector, u: Vector, distance: i64) -> Option<u64>
     }
 }
 
-/// Two disks have no contact now where their separation on an axis is at least the distance at which
-/// they touch and the way of one tick on that axis together.
+/// Two disks have no contact now if their separation on an axis is at least the sum of the distance at which they touch
+/// and the way of one tick on that axis.
 pub fn far_pairs_dont_touch()
     ensures { FarPairsDontTouch }
 {}
 
-// The smaller root of the quadratic, but for rounding: nothing need be known of it.
+// The smaller root of the quadratic, up to rounding: the proof needs to know nothing of it.
 fn guess(r: Vector, u: Vector, distance: i64) -> u64
     requires separation { IsWithin (2 ^ 30) r }
     requires velocity { IsWithin (2 ^ 21) u }
@@ -178,13 +178,14 @@ fn guess(r: Vector, u: Vector, distance: i64) -> u64
     smaller_root(u.dot(u), r.dot(u), squared_gap(r, distance))
 }
 
-// Of the quadratic a s^2 + 2 b s + c, where b is negative and c isn't, in the form without cancelling.
+// The smaller root of the quadratic a s^2 + 2 b s + c, with b negative and c not, in the form without cancelling.
 fn smaller_root(a: i64, b: i64, c: i64) -> u64 {
     let root = rough_root(discriminant(a, b, c).unsigned_abs());
     c.unsigned_abs() / root.saturating_add(b.unsigned_abs()).max(1)
 }
 
-// Of disks whose paths cross, whose separation is at most 2^30 in each component now and then.
+// Whether two disks whose paths cross are after `ticks` ticks at their last whole tick before they overlap. Their
+// separation is at most 2^30 in each component now and then.
 #[inline(always)]
 fn is_contact_after(r: Vector, u: Vector, distance: i64, ticks: u64) -> bool
     requires separation { IsWithin (2 ^ 30) r }
@@ -204,7 +205,7 @@ fn is_small(place: Vector) -> bool
     place.x.unsigned_abs() <= MAX_SEPARATION && place.y.unsigned_abs() <= MAX_SEPARATION
 }
 
-// In as many steps as the span has bits.
+// The contact of two disks that may touch, by halving the span: in as many steps as it has bits.
 fn contact_by_halving(r: Vector, u: Vector, distance: i64, span: u64) -> Option<u64>
     requires separation { IsWithin (2 ^ 30) r }
     requires velocity { IsWithin (2 ^ 21) u }
@@ -233,7 +234,8 @@ fn contact_by_halving(r: Vector, u: Vector, distance: i64, span: u64) -> Option<
     Some(low)
 }
 
-// Up to one tick past the span of `contact`, which the separation may pass its bound by.
+// Whether two disks that don't overlap approach each other after `ticks` ticks. That may be one tick past the span of
+// `contact`, by which the separation may pass its bound.
 fn is_approaching_after(r: Vector, u: Vector, distance: i64, ticks: u64) -> bool
     requires separation { IsWithin (2 ^ 30) r }
     requires velocity { IsWithin (2 ^ 21) u }
@@ -254,7 +256,7 @@ fn is_approaching(r: Vector, u: Vector, distance: i64) -> bool
     squared_gap(r, distance) >= 0 && r.dot(u) < 0
 }
 
-// Of the quadratic a s^2 + 2 b s + c. The products need more than 64 bits.
+// The discriminant of the quadratic a s^2 + 2 b s + c. The products need more than 64 bits.
 fn discriminant(a: i64, b: i64, c: i64) -> i128
     ensures { result ≡ (b *ℤ b) -ℤ (a *ℤ c) }
 {

@@ -1,4 +1,4 @@
-//! Square roots, and quotients by them, but for rounding: nothing need be known of them.
+//! Square roots, and quotients by them, up to rounding: the proofs need to know nothing of them.
 
 ghost use Rattle.std.specs.Prelude.{◌^◌, ◌<◌};
 
@@ -8,23 +8,23 @@ pub(crate) const PAST_FLOATS: u64 = 1 << 53;
 // From here on neighbouring floats are one apart, so that a sum with it is rounded to a whole number.
 const WHOLE: f64 = 6755399441055744.0;
 
-// The bits of `WHOLE`; those of a float that is greater by a whole number are greater by as much.
+// The bits of `WHOLE`. The bits of a float that is greater by a whole number are greater by that number.
 const WHOLE_BITS: u64 = 0x4338_0000_0000_0000;
 
-// By 2^30 more than `WHOLE`.
+// `WHOLE` and 2^30.
 const PAST_WHOLE: f64 = 6755400514797568.0;
 
-// A binary point at bit 30, for numbers about one.
+// The number 1 as a fixed-point number with 30 bits after the point.
 const ONE: u64 = 1 << 30;
 
-// Of a straight line near 2^47 / sqrt(n) for n from 2^30 to 2^32: where it starts, at 0.
+// The start, at 0, of a straight line near 2^47 / sqrt(n) for n from 2^30 to 2^32.
 const LINE_START: u64 = 4_620_000_000;
 
-// How much the line falls for each 8.
+// How much the line falls for each 8 of n.
 const LINE_FALL: u64 = 5;
 
-// The whole part of gap / (root of the discriminant + closing), but for rounding, and if it isn't below 2^30, any number
-// that isn't. Floats are as fast as a division alone.
+// The whole part of gap / (root of the discriminant + closing), up to rounding. If that isn't below 2^30, the answer is
+// any number that isn't. Floats take no longer for all of this than a division alone.
 #[inline(always)]
 pub(crate) fn float_quotient(gap: u64, discriminant: u64, closing: u64) -> u64
     requires gap { gap < 2 ^ 53 }
@@ -41,7 +41,7 @@ pub(crate) fn float_quotient(gap: u64, discriminant: u64, closing: u64) -> u64
     }
 }
 
-// Through a signed number, for which there is an instruction.
+// Converts by way of a signed number, since there is an instruction for that.
 #[inline(always)]
 fn float(n: u64) -> f64
     requires { n < 2 ^ 53 }
@@ -49,12 +49,12 @@ fn float(n: u64) -> f64
     n.cast_signed() as f64
 }
 
-// The square root of a number, but for a millionth of it, or for one.
+// The square root of a number, to within a millionth of it, or to within one.
 pub(crate) fn rough_root(square: u128) -> u64 {
-    // Pairs of zeros in front are taken away, and then all but 31 or 32 bits, whose root is as near as is asked for.
+    // Pairs of leading zeros are shifted out, and then all but 31 or 32 bits; the root of these is precise enough.
     let pairs = square.leading_zeros().min(126) / 2;
     let high = ((square << (2 * pairs)) >> 96) as u64;
-    // In units of 2^-16.
+    // The root in units of 2^-16.
     let root = high.wrapping_mul(inverse_root(high)) >> 31;
     if pairs <= 32 {
         root << (32 - pairs)
@@ -63,16 +63,17 @@ pub(crate) fn rough_root(square: u128) -> u64 {
     }
 }
 
-// The square root of a number that isn't 0, but for a millionth of it, or for one: nothing need be known of it.
+// The square root of a number that isn't 0, to within a millionth of it, or to within one: the proof needs to know
+// nothing of it.
 #[inline(always)]
 pub(crate) fn small_root(square: u64) -> u64 {
-    // Pairs of zeros in front are taken away, and then all but 31 or 32 bits.
+    // Pairs of leading zeros are shifted out, and then all but 31 or 32 bits.
     let pairs = square.leading_zeros().min(62) / 2;
     let high = (square << (2 * pairs)) >> 32;
     (high.wrapping_mul(inverse_root(high)) >> 31) >> pairs
 }
 
-// One over the square root of a number from 2^30 to 2^32, in units of 2^-47, but for 2^-22 of it: by Newton's
+// One over the square root of a number from 2^30 to 2^32, in units of 2^-47, to within 2^-22 of it: by Newton's
 // iteration for the inverse square root, from a line that is off by a tenth at most.
 fn inverse_root(square: u64) -> u64 {
     let line = LINE_START.wrapping_sub(square / 8 * LINE_FALL);

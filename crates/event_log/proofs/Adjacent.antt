@@ -6,7 +6,7 @@ use Rattle.cell_grid.specs.Grid.{GridData, IsBeside, IsAdjacent}
 abbrev pub between : ℕ → ℕ → ℕ
 between a b = (a - b) + (b - a)
 
--- by one at most, or by so many columns, one more or one less
+-- by one at most, or by this many columns, one more or one less
 pub record AreNear (columns apart : ℕ) : Type 0 where
   pub most : apart ≤ columns + 1
   pub either : (apart ≤ 1) ⊎ (columns ≤ apart + 1)
@@ -18,7 +18,7 @@ same_or_next m n beside = grind arith
 next_row : (columns m n : ℕ) → m ≡ n + 1 → m * columns ≡ n * columns + columns
 next_row columns m n e = rw e (omega arith)
 
--- where the rows begin
+-- the cells at which the rows begin
 rows_begin : (columns m n : ℕ) → IsBeside m n →
     (m * columns ≡ n * columns) ⊎ ((m * columns ≡ n * columns + columns) ⊎ (n * columns ≡ m * columns + columns))
 rows_begin columns m n beside = elim (same_or_next m n beside) [

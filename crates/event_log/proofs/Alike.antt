@@ -1,4 +1,4 @@
--- Entries that are read alike where their rows lie elsewhere.
+-- Entries that are read alike if their rows are at other places.
 use Rattle.std.proofs.Common.{◌≡◌, ℕ, ◌+◌, ◌<◌, ◌≤◌, List, [], ◌∷◌, map, sym, ap, ◌∙◌, refl, arith, Some, None}
 use Rattle.std.proofs.lemmas.List.{map-id}
 use Rattle.region_view.specs.declared.action.Action.TheVariants.{Cross, Hit}
@@ -20,7 +20,7 @@ placed_at row whole h = record {
   form = h.form;
 }
 
--- so many rows from a place on are those from another place on
+-- this many rows from a place on are those from another place on
 abbrev pub AreSameRows : ℕ → NarrowList → ℕ → NarrowList → ℕ → Type 0
 AreSameRows count rows i others j = (k : ℕ) → k < count → row_at rows (i + k) ≡ row_at others (j + k)
 
@@ -70,7 +70,7 @@ alike_as rows others wholes rest h row whole Whole r w =
     let same = first_whole 1 rest wholes whole h.whole w (omega arith) in
     λ i. ((same i).0, (same i).1)
 
--- what a head is read as rests on its own rows alone
+-- what a head is read as depends only on its own rows
 pub alike : (rows others : NarrowList) (wholes rest : List Logged) (h : Head) (row whole : ℕ) →
     AreSameRows (row_count h.form) others row rows h.row →
     AreSameWholes (whole_count h.form) rest whole wholes h.whole →

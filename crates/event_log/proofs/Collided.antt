@@ -1,4 +1,4 @@
--- What a collision of two disks sets, and what leads back over it.
+-- The rows that a collision of two disks sets, and those that lead back over it.
 use Rattle.std.proofs.Common.{◌≡◌, ℕ, [], ◌∷◌, ◌++◌, map, sym, ap, subst, ◌∙◌, refl, Option, Some, None}
 use Rattle.std.specs.Prelude.{IsTrue, is_some}
 use Rattle.std.specs.FinMap as finmap

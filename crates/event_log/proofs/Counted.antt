@@ -1,4 +1,4 @@
--- The place in a log where a stamp would stand, by the heads.
+-- The place in a log where a stamp would be, given the heads.
 use Rattle.std.proofs.Common.{◌≡◌, ℕ, ◌<◌, ◌≤◌, true, false, List, get_or, length, map, sym, ap, ◌∙◌, arith, ◌-◌, ◌==◌, Bool, [], ◌∷◌, take, slice_get, None, refl}
 use Rattle.std.specs.List.Sorted.{IsPartitionedBy, IsPartitionPoint}
 use Rattle.std.proofs.lemmas.List.{get_or-map, length-map}

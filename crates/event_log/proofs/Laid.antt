@@ -1,4 +1,4 @@
--- What each change of a log leaves.
+-- The heads, rows and whole entries after each change of a log.
 use Rattle.std.proofs.Common.{◌≡◌, ℕ, zero, suc, ◌+◌, ◌-◌, ◌<◌, ◌≤◌, List, [], ◌∷◌, ◌++◌, length, take, drop, map, get_or, sym, ap, ◌∙◌, subst, refl, arith, None}
 use Rattle.std.specs.List.{insert}
 use Rattle.std.proofs.lemmas.List.{get_or_append_left, get_or-append-add, get_or-take, get_or-drop, map_push, map-append, take-map, drop-map, length-append, length-take-le, length-drop, length-map, length_push, take-append-drop, take_at, drop_at}
@@ -54,7 +54,7 @@ narrow_stamp rows wholes h Single none = refl
 narrow_stamp rows wholes h Double none = refl
 narrow_stamp rows wholes h Whole none = absurd (omega arith)
 
--- where its head stands, what rows it has
+-- its head and its rows
 pub record IsNext (rows : NarrowList) (wholes : List Logged) (more : NarrowList) (h : Head) : Type 0 where
   pub row : h.row ≡ length rows
   pub whole : h.whole ≡ length wholes
@@ -251,7 +251,7 @@ inserted_laid rows wholes heads n x stamp laid le is room =
     from_none : (n : ℕ) → n ≡ n + 0
     from_none n = omega arith
 
--- ---- the first entries alone
+-- ---- only the first entries
 pub taken_log : (rows : NarrowList) (wholes : List Logged) (heads : List Head) (n : ℕ) →
     AreLaid rows wholes heads →
     log_of (take (edge_of row_place (length rows) heads n) rows)

@@ -1,4 +1,4 @@
--- Why what a walk passes over has nothing to do with some rows.
+-- Why entries that a walk passes over have nothing to do with some rows.
 use Rattle.std.proofs.Common.{◌≡◌, ◌≢◌, inl, inr, ℕ, zero, suc, ◌+◌, ◌<◌, List, [], ◌∷◌, length, get_or, slice_get, Option, Some, None, sym, ◌∙◌, subst, refl, arith, ◌≤◌, ◌⊎◌}
 use Rattle.std.specs.Prelude.{IfSome, All, option_map, unwrap_or}
 use Rattle.std.specs.List.{Contains}
@@ -133,7 +133,7 @@ pub item_at : {A : Type 0} (P : A → Type 0) (xs : List A) (i : ℕ) (d : A) �
     IfSome (slice_get xs i) P
 item_at P xs i d lt is = subst (λ (o : Option _). IfSome o P) (sym (slice_get-get_or xs i d lt)) is
 
--- what the heads that are passed over come to
+-- what the heads that are passed over amount to
 logged_far : (grid : GridData) (rows : RowList) (narrow : NarrowList) (wholes : List Logged) (o : Option Head) →
     IfSome o (IsFarHead grid rows narrow) → IfSome (option_map (logged narrow wholes) o) (IsFar grid rows)
 logged_far grid rows narrow wholes None far = tt

@@ -20,7 +20,7 @@ base_is_undone base (l ∷ log) h =
 turned : (i j : ℕ) → (i == j) ≡ (j == i)
 turned i j = grind arith
 
--- rows that set a disk say what stands there, whatever did before
+-- rows that set a disk say what stands there, whatever stood there before
 pub sets_over : (disk : ℕ) (rows : RowList) (x y : Option Placed) → sets disk rows ≡ true →
     get_over rows disk x ≡ get_over rows disk y
 sets_over disk [] x y e = absurd (false_true e)
@@ -75,7 +75,7 @@ passed newest disk (suc i) (l ∷ log) none =
     ∙ others_over disk l.1 (finmap.get (undone newest (backs_in log)) disk) (same_Some (sets disk l.1) false (none 0 (omega arith)))
     ∙ passed newest disk i log (λ k lt. none (suc k) (omega arith))
 
--- the first entry that sets it, where there is one
+-- the first entry that sets it, if there is one
 pub found_at : (newest : ViewData) (disk i : ℕ) (log : List Logged) (back : RowList) →
     ((k : ℕ) → k < i → slice_get (setters_in disk log) k ≡ Some false) →
     slice_get (setters_in disk log) i ≡ Some true → slice_get (backs_in log) i ≡ Some back →

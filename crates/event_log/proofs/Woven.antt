@@ -16,7 +16,7 @@ use Rattle.event_log.specs.Logged.{Logged, sets}
 use Rattle.event_log.specs.Undoing.{rows_by, view_with, view_after, LeadBack, IsAside, LoggedAreAside, ChangesLeadBack, SparingIsAside, WovenLeadsBack}
 use Rattle.event_log.proofs.Undone.{sets_over, others_over}
 
--- rows that a disk is not among leave it
+-- rows without a disk leave that disk as it is
 get_other : (view : ViewData) (rows : RowList) (disk : ℕ) → sets disk rows ≡ false →
     finmap.get (set_rows view rows) disk ≡ finmap.get view disk
 get_other view rows disk e =
@@ -25,7 +25,7 @@ get_other view rows disk e =
 clash : true ≡ false → ⊥
 clash h = cc
 
--- no row of the one is a row of the other
+-- the two have no row in common
 abbrev AreApart : RowList → RowList → Type 0
 AreApart rows others = (disk : ℕ) → sets disk rows ≡ true → sets disk others ≡ false
 
@@ -58,7 +58,7 @@ set_either view rows others apart =
         ∙ sym (set_rows_are_put_over view others disk)
         ∙ sym (get_other (set_rows view others) rows disk e)
 
--- what stands at the numbers of rows rests on these alone
+-- what stands at the numbers of rows depends only on these
 rows_same : (at bt : Placing) (rows : RowList) → ((disk : ℕ) → sets disk rows ≡ true → at disk ≡ bt disk) →
     rows_at at rows ≡ rows_at bt rows
 rows_same at bt [] same = refl
@@ -93,7 +93,7 @@ recelled_apart : (rows : RowList) (i cell disk : ℕ) (o : Option Placed) → se
 recelled_apart rows i cell disk None spare named = refl
 recelled_apart rows i cell disk (Some p) spare named = no_row_of disk i false (not_the rows i disk spare named) refl
 
--- the rows that a collision sets, by what stands at its numbers
+-- the rows that a collision sets, given what stands at its numbers
 abbrev hit_rows : ℕ → Option Disk → Option Placed → ℕ → Option Disk → Option Placed → RowList
 hit_rows i a o j b p = each (λ r. (r.0, Some r.1)) (redisked i a o ++ redisked j b p)
 

@@ -5,7 +5,7 @@ use Rattle.region_view.specs.declared.action.Action.{Action}
 use Rattle.region_view.specs.declared.action.Action.TheVariants.{Cross, Hit}
 use Rattle.event_log.specs.Logged.{Logged, native_at}
 
--- the change of a collision; none where there is no action, or it is a crossing
+-- the change of a collision; none if there is no action, or it is a crossing
 abbrev pub change_in : Option Action → Option Change
 change_in None = None
 change_in (Some (Cross s cell)) = None

@@ -11,6 +11,7 @@ use Rattle.local_run.specs.Entries.{entry_stamp, native_in}
 abbrev pub Logged : Type 0
 Logged = Entry × RowList
 
+-- the stamp of an entry
 abbrev pub logged_stamp : Logged → Stamp
 logged_stamp l = entry_stamp l.0
 
@@ -18,23 +19,24 @@ logged_stamp l = entry_stamp l.0
 abbrev pub entries_in : List Logged → List Entry
 entries_in log = map (λ l. l.0) log
 
--- what leads back over each
+-- the rows that lead back over each
 abbrev pub backs_in : List Logged → List RowList
 backs_in log = map (λ l. l.1) log
 
+-- the stamp of each
 abbrev pub stamps_in : List Logged → List Stamp
 stamps_in log = map logged_stamp log
 
--- the action at a place, where there is an entry and it is a native one
+-- the action at a place, if there is an entry and it is a native one
 abbrev pub native_at : List Logged → ℕ → Option Action
 native_at log i = native_in (slice_get (entries_in log) i)
 
--- the region that sent what an entry took in
+-- the region that sent the message of an entry
 abbrev pub sender_of : Entry → Option ℕ
 sender_of (Native action) = None
 sender_of (Heard q m) = Some q
 
--- who sent each
+-- the sender of each
 abbrev pub senders_in : List Logged → List (Option ℕ)
 senders_in log = map (λ l. sender_of l.0) log
 

@@ -1,4 +1,4 @@
--- What has nothing to do with some rows, by disks and cells.
+-- Entries that have nothing to do with some rows, told by disks and cells.
 use Rattle.std.specs.Prelude.{◌≡◌, ◌≢◌, ◌⊎◌, ◌+◌, ℕ, ◌≤◌, ◌<◌, List, length, slice_get, Option, unwrap_or, IfSome}
 use Rattle.event_stamps.specs.declared.Stamp.{Stamp}
 use Rattle.cell_grid.specs.Grid.{GridData, IsAdjacent}
@@ -24,7 +24,7 @@ pub record IsFar (grid : GridData) (rows : RowList) (l : Logged) : Type 0 where
   pub away : (row other : ℕ × Option Placed) → IsAmong row l.1 → IsAmong other rows → AreAway grid row.1 other.1
 
 -- ---- how that is told
--- the entry of a head is far, whatever is kept whole
+-- the entry of a head is far, whatever the entries kept whole are
 abbrev pub IsFarHead : GridData → RowList → NarrowList → Head → Type 0
 IsFarHead grid rows narrow h = (wholes : List Logged) → IsFar grid rows (logged narrow wholes h)
 
@@ -36,11 +36,12 @@ HasNarrow narrow h = h.row + row_count h.form ≤ length narrow
 abbrev pub AllUpTo : {A : Type 0} → (A → Type 0) → List A → ℕ → Option ℕ → Type 0
 AllUpTo P xs from found = (k : ℕ) → from ≤ k → k < unwrap_or found (length xs) → IfSome (slice_get xs k) P
 
--- a row puts its disk there
+-- a row puts its disk at this place
 pub record IsPutAt (side : Side) (row : ℕ × Option Placed) : Type 0 where
   pub disk : row.0 ≡ side.disk
   pub cell : IfSome row.1 (λ p. p.cell ≡ side.cell)
 
+-- each row puts its disk at one of the two places
 abbrev pub AreSidesOf : Sides → RowList → Type 0
 AreSidesOf sides rows = (row : ℕ × Option Placed) → IsAmong row rows →
     IsPutAt sides.first row ⊎ IsPutAt sides.second row
@@ -49,6 +50,7 @@ AreSidesOf sides rows = (row : ℕ × Option Placed) → IsAmong row rows →
 abbrev pub IsUnnamed : Stamp → Side → Type 0
 IsUnnamed s side = (s.first ≢ side.disk) × (s.second ≢ side.disk)
 
+-- no number of a stamp is that of one of the two disks
 abbrev pub AreUnnamed : Stamp → Sides → Type 0
 AreUnnamed s sides = IsUnnamed s sides.first × IsUnnamed s sides.second
 

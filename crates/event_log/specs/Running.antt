@@ -21,7 +21,7 @@ abbrev pub redisked_row : Disk → Option Placed → Option Placed
 redisked_row disk None = None
 redisked_row disk (Some p) = Some (record { disk = disk; cell = p.cell })
 
--- a row that is there, and the one with another record
+-- a row that is there, and the same row with another record
 pub record IsMovedRow (there : Option Placed) (disk : Disk) (rows : HitRows) : Type 0 where
   pub before : rows.before ≡ there
   pub after : rows.after ≡ redisked_row disk there

@@ -1,4 +1,4 @@
-//! A log beside the view after it.
+//! A log together with the view after it.
 
 ghost use Rattle.std.specs.Prelude.{◌≡◌, ℕ, ◌-◌, ◌<◌, ◌≤◌, [], ◌∷◌, ◌++◌, length, take, slice_get, None, IsTrue, false, IfOk, OnOk, OnErr};
 ghost use Rattle.std.specs.FinMap as map;
@@ -13,7 +13,8 @@ use region_view::{Placed, Rows, View};
 use std::alloc::AllocError;
 
 impl EventLog {
-    /// Sets the rows of an entry in the view after the whole log, and appends the entry with what stood there.
+    /// Sets the rows of an entry in the view after the whole log, and appends the entry with the rows that stood there
+    /// before.
     ///
     /// # Errors
     /// Out of memory: nothing changes.
@@ -37,8 +38,7 @@ impl EventLog {
         }
     }
 
-    /// Takes the last entry back, in the view after the whole log too, and answers it; none where there is no
-    /// entry.
+    /// Takes the last entry back, also in the view after the whole log, and answers it; none if there is no entry.
     ///
     /// # Errors
     /// Out of memory: nothing changes.
@@ -61,8 +61,8 @@ impl EventLog {
         Ok(Some(entry))
     }
 
-    /// The row of a disk in the view before the log, from the view after it: what the first entry that sets it
-    /// found there.
+    /// The row of a disk in the view before the log, given the view after it: the row that the first entry setting that
+    /// disk found there.
     pub fn first_row(&self, newest: &View, disk: u32) -> Option<Placed>
         ensures { result ≡ map.get (undone newest.now (backs_in self.now)) disk }
     {
@@ -74,7 +74,7 @@ impl EventLog {
         newest.get(disk)
     }
 
-    /// For how many numbers, from 0 on, the view before the log may have rows, from the view after it: no disk from
+    /// How many numbers, from 0 on, may have rows in the view before the log, given the view after it: no disk from
     /// this number on has one there.
     pub fn first_room(&self, newest: &View) -> usize
         ensures { (disk : ℕ) → result ≤ disk → map.get (undone newest.now (backs_in self.now)) disk ≡ None }

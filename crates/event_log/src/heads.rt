@@ -1,4 +1,4 @@
-//! What is kept of each entry in one place: its stamp, and where the rest is.
+//! What is kept of each entry in one place: its stamp, and the place of the rest.
 
 ghost use Rattle.std.specs.Prelude.{◌≡◌, ◌+◌, ◌<◌, ◌≤◌, ◌^◌, length, get_or, take, drop, ◌++◌, map, All, true, false};
 ghost use Rattle.std.specs.List.Sorted.{IsPartitionedBy, IsPartitionPoint};
@@ -11,13 +11,13 @@ use event_stamps::Stamp;
 /// How an entry is kept.
 #[derive(Clone, Copy)]
 pub enum Form {
-    /// A crossing: the row before it is kept, and the cell after it is in the head.
+    /// A crossing: the row before it is kept; the cell after it is in the head.
     Crossing,
     /// A collision of one disk: the row before it is kept, and the record after it.
     Single,
     /// A collision of two disks: both rows before it are kept, and both records after it.
     Double,
-    /// Anything else: a message, or what has a number that is too great for a narrow row.
+    /// Anything else: a message, or an action with a number that is too great for a narrow row.
     Whole,
 }
 
@@ -28,16 +28,16 @@ pub struct Head {
     pub stamp: Stamp,
     /// The cell after a crossing.
     pub cell: u32,
-    /// How many narrow rows the entries before it have: the place of its first one.
+    /// How many narrow rows the entries before it have, which is the place of its first one.
     pub row: u32,
-    /// How many of the entries before it are kept whole: its place among these.
+    /// How many of the entries before it are kept whole, which is its own place if it is.
     pub whole: u32,
     /// How it is kept.
     pub form: Form,
 }
 
-/// Where the narrow rows of an entry begin, and where it is kept whole if it is: past the last entry, the numbers
-/// of all there are.
+/// The place of an entry's first narrow row, and its place among the entries kept whole, if it is one. For the place
+/// past the last entry, the answers are `rows` and `wholes`.
 #[inline(always)]
 pub fn edge(heads: &[Head], at: usize, rows: usize, wholes: usize) -> (usize, usize)
     ensures row { result.0 ≡ edge_of row_place rows heads.now at }
@@ -49,8 +49,8 @@ pub fn edge(heads: &[Head], at: usize, rows: usize, wholes: usize) -> (usize, us
     }
 }
 
-/// How many heads are before a stamp, where all that are come first: looked for from the end on, since what comes late
-/// mostly belongs near it.
+/// How many heads are before a stamp, if all of these come first. It searches from the end on, since late messages
+/// mostly belong near it.
 pub fn count_earlier(heads: &[Head], at: Stamp) -> usize
     requires { IsPartitionedBy (λ h. is_before h.stamp at) heads.now }
     ensures within { result ≤ length heads.now }
@@ -73,7 +73,7 @@ fn is_earlier(heads: &[Head], place: usize, at: Stamp) -> bool
     heads[place].stamp < at
 }
 
-/// One entry more is kept whole before those from a place on.
+/// Counts one more entry that is kept whole before those from the place `at` on.
 pub fn raise_from(heads: &mut [Head], at: usize)
     requires place { at ≤ length heads.old }
     requires room { All (λ h. h.whole + 1 < 2 ^ 32) heads.old }
@@ -82,7 +82,7 @@ pub fn raise_from(heads: &mut [Head], at: usize)
     raise(&mut heads[at..]);
 }
 
-// One entry more is kept whole before these.
+// Counts one more entry that is kept whole before these.
 fn raise(heads: &mut [Head])
     requires room { All (λ h. h.whole + 1 < 2 ^ 32) heads.old }
     ensures { heads.new ≡ map raised_head heads.old }
@@ -92,7 +92,7 @@ fn raise(heads: &mut [Head])
     }
 }
 
-/// So many rows and entries that are kept whole are no more before these.
+/// Takes off `rows` narrow rows and `wholes` entries kept whole, which were before these and are gone.
 pub fn lower(heads: &mut [Head], rows: u32, wholes: u32)
     requires places { All (λ h. (rows ≤ h.row) × (wholes ≤ h.whole)) heads.old }
     ensures { heads.new ≡ map (lowered rows wholes) heads.old }

@@ -1,6 +1,6 @@
 //! The log of what a region did: each entry, and the rows that lead back over it, in small records.
 //!
-//! It is the queue of processed events and the state queue of Time Warp in one: an entry and what undoes it lie
+//! It is the queue of processed events and the state queue of Time Warp in one: an entry and the rows that undo it are
 //! side by side.
 #![tactic(auto)]
 

@@ -1,4 +1,4 @@
-//! What can be kept in narrow rows.
+//! The numbers that can be kept in narrow rows.
 
 ghost use Rattle.std.specs.Prelude.{◌≡◌, ◌<◌, length, slice_index_or, None, IfSome, option_copied};
 ghost use Rattle.event_log.specs.Heads.{disk_at};
@@ -6,7 +6,7 @@ ghost use Rattle.event_log.specs.Heads.{disk_at};
 use fixed_motion::Disk;
 use region_view::{Compact, Placed, is_small};
 
-// What is read where there is no row, which never happens.
+// The disk that is read if there is no row, which never happens.
 const NO_DISK: Disk = Disk {
     x: 0,
     y: 0,
@@ -17,7 +17,7 @@ const NO_DISK: Disk = Disk {
     mark: 0,
 };
 
-/// The narrow form of what stands somewhere; none where a number is too great for it.
+/// The narrow form of a row; none if a number is too great for it.
 #[inline(always)]
 pub fn narrow(row: Option<&Placed>) -> Option<Compact>
     ensures { IfSome result (λ c. c ≡ option_copied row.entry) }
@@ -46,7 +46,7 @@ pub fn disk_in(rows: &[Compact], place: usize) -> Disk
     }
 }
 
-/// What stands in a row.
+/// The row at a place, in wide form.
 #[inline(always)]
 pub fn row_in(rows: &[Compact], place: usize) -> Option<Placed>
     requires within { place < length rows.now }

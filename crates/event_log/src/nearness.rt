@@ -12,9 +12,9 @@ use cell_grid::Grid;
 use event_stamps::Stamp;
 use region_view::{Compact, Placed, Rows};
 
-/// The first head from a place on whose entry may have to do with some rows: the entry is kept whole, its stamp has
+/// The first head, from a place on, whose entry may have to do with some rows: the entry is kept whole, its stamp has
 /// the number of one of their disks, or the narrow row of what stood there has a cell that may be adjacent to one of
-/// theirs. None where there is no such head.
+/// theirs. None if there is no such head.
 #[inline(always)]
 pub(crate) fn first_near(
     heads: &[Head],
@@ -36,7 +36,7 @@ pub(crate) fn first_near(
     None
 }
 
-// Whether the entry of a head may have to do with rows that put disks there.
+// Whether the entry of a head may have to do with rows that put disks at these places.
 #[inline(always)]
 fn may_be_near(head: &Head, narrow: &[Compact], sides: &Sides, grid: &Grid) -> bool
     requires narrow { HasNarrow narrow.now head.now }
@@ -56,15 +56,15 @@ fn may_be_near(head: &Head, narrow: &[Compact], sides: &Sides, grid: &Grid) -> b
     }
 }
 
-// Where a row puts a disk.
+// The cell in which a row puts a disk.
 #[derive(Clone, Copy)]
 struct Side {
     disk: u32,
-    // Where the row puts it nowhere, a number beyond all cells.
+    // A number beyond all cells, if the row puts the disk nowhere.
     cell: u32,
 }
 
-// Where at most two rows put disks: where there is one row, twice the same.
+// The cells in which at most two rows put disks; if there is one row, it is there twice.
 #[derive(Clone, Copy)]
 struct Sides {
     first: Side,
@@ -74,7 +74,7 @@ struct Sides {
 // A number beyond all cells.
 const NO_CELL: u32 = u32::MAX;
 
-// Where no row puts a disk.
+// The side of no row.
 const NOWHERE: Side = Side {
     disk: u32::MAX,
     cell: NO_CELL,
@@ -116,7 +116,7 @@ fn side_of(row: &(u32, Option<Placed>)) -> Side
     }
 }
 
-// Whether an event may have one of the disks.
+// Whether an event may be one of these disks.
 #[inline(always)]
 fn may_name(stamp: &Stamp, sides: &Sides) -> bool
     ensures { result ≡ false → AreUnnamed stamp.now sides.now }
@@ -142,8 +142,8 @@ fn may_be_beside(narrow: &[Compact], place: usize, sides: &Sides, grid: &Grid) -
     }
 }
 
-// False only where two cells aren't adjacent, and mostly there. The numbers of adjacent cells differ by at most one, or
-// by that of the columns, one more or one less.
+// False only if two cells aren't adjacent, and mostly if they aren't. The numbers of adjacent cells differ by at most
+// one, or by the number of columns, one more or one less.
 #[inline(always)]
 fn may_be_adjacent(grid: &Grid, a: u32, b: u32) -> bool
     ensures { result ≡ false → ¬ IsAdjacent grid.now a b }

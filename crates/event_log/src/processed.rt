@@ -7,13 +7,13 @@ use std::marker::Model;
 
 /// What a region did, oldest first: entries, and the rows that lead back over each of them.
 ///
-/// An action that was run takes 40 bytes, and beside them 32 (a crossing), 64 (a collision of one disk) or 128 (of
-/// two), if its numbers are small, as those of valid disks are. What is only put in, as a message is, takes 40 and the
-/// size of an entry and its rows.
+/// An action that was run takes 40 bytes, and besides these 32 (a crossing), 64 (a collision of one disk) or 128 (of
+/// two), if its numbers are small, as those of valid disks are. An entry that is put in as it is, like a message, takes
+/// 40 bytes and the size of an entry and its rows.
 #[derive(Drop)]
 pub struct EventLog {
     heads: Vec<Head>,
-    // Those of the crossings and collisions, in the order of the entries.
+    // The rows of the crossings and collisions, in the order of the entries.
     rows: Vec<Compact>,
     // Entries that are kept as they are, in their order, with the rows that lead back.
     wholes: Vec<(Entry, Rows)>,
@@ -88,7 +88,7 @@ impl EventLog {
         self.heads[i].stamp
     }
 
-    /// The stamp of the last entry; none where there is no entry.
+    /// The stamp of the last entry; none if there is no entry.
     #[inline(always)]
     pub fn last_stamp(&self) -> Option<Stamp>
         ensures { result ≡ slice_get (stamps_in self.now) (length self.now - 1) }
@@ -155,7 +155,7 @@ impl EventLog {
         }
     }
 
-    /// The action of an entry, by its place; none exactly where there is no such entry, or it is a message.
+    /// The action of an entry, by its place; none if and only if there is no such entry, or it is a message.
     #[inline(always)]
     pub fn native(&self, i: usize) -> Option<Action>
         ensures { result ≡ native_at self.now i }
@@ -167,7 +167,7 @@ impl EventLog {
         }
     }
 
-    /// The collision of an entry, by its place; none exactly where there is no such entry, or it is a crossing or a
+    /// The collision of an entry, by its place; none if and only if there is no such entry, or it is a crossing or a
     /// message.
     #[inline(always)]
     pub fn change(&self, i: usize) -> Option<Change>
@@ -191,7 +191,7 @@ impl EventLog {
         }
     }
 
-    /// The stamp of the action of an entry, by its place: none exactly where [`native`](EventLog::native) is none.
+    /// The stamp of the action of an entry, by its place; none if and only if [`native`](EventLog::native) is none.
     #[inline(always)]
     pub fn native_stamp(&self, i: usize) -> Option<Stamp>
         ensures { result ≡ option_map stamp_of (native_at self.now i) }
@@ -206,7 +206,7 @@ impl EventLog {
         }
     }
 
-    /// The region that sent what an entry took in, by its place; none where it is an event of the region's own
+    /// The region that sent the message of an entry, by its place; none if the entry is an event of the region's own
     /// columns.
     #[inline(always)]
     pub fn sender(&self, i: usize) -> Option<u32>
@@ -223,8 +223,8 @@ impl EventLog {
         }
     }
 
-    /// Whether an entry, by its place, sets the row of a disk. It looks at the head alone, but where the entry is
-    /// kept whole.
+    /// Whether an entry, by its place, sets the row of a disk. It looks at the head alone, unless the entry is kept
+    /// whole.
     #[inline(always)]
     pub fn sets(&self, i: usize, disk: u32) -> bool
         requires within { i < length self.now }
@@ -239,8 +239,8 @@ impl EventLog {
     }
 
     /// The first entry from a place on that may have to do with some rows: it has one of their disks, or a row that
-    /// leads back over it is of one of them, or in a cell that is adjacent to one of theirs. None where there is no
-    /// such entry. It may be one that has nothing to do with them, since it looks at heads and cells alone.
+    /// leads back over it is of one of them, or in a cell that is adjacent to one of theirs. None if there is no such
+    /// entry. It may be one that has nothing to do with them, since the search looks at heads and cells alone.
     #[inline(always)]
     pub fn next_near(&self, from: usize, rows: &Rows, grid: &Grid) -> Option<usize>
         ensures place { IfSome result (λ i. (from ≤ i) × (i < length self.now)) }
@@ -293,7 +293,7 @@ impl EventLog {
             whole: self.wholes.len() as u32,
             form,
         };
-        // There is room before anything changes.
+        // Room is made before anything changes.
         self.heads.reserve(1)?;
         self.rows.extend_from_slice(rows)?;
         self.heads.push(head).unwrap();
@@ -318,7 +318,7 @@ impl EventLog {
             whole: whole as u32,
             form: Form::Whole,
         };
-        // There is room before anything changes.
+        // Room is made before anything changes.
         self.heads.reserve(1)?;
         self.wholes.insert(whole, (*entry, *back))?;
         raise_from(&mut self.heads, at);
@@ -326,8 +326,8 @@ impl EventLog {
         Ok(())
     }
 
-    /// Takes the last entry away, and answers it with the rows that lead back over it; none where there is no
-    /// entry. Takes no memory.
+    /// Takes the last entry away, and answers it with the rows that lead back over it; none if there is no entry. Takes
+    /// no memory.
     pub fn drop_last(&mut self) -> Option<(Entry, Rows)>
         ensures log { self.new ≡ take (length self.old - 1) self.old }
         ensures last { result ≡ slice_get self.old (length self.old - 1) }
@@ -341,7 +341,7 @@ impl EventLog {
         Some(answer)
     }
 
-    /// Takes all entries away but the first ones, so many. Takes no memory.
+    /// Takes all entries away but the first `kept`. Takes no memory.
     pub fn truncate(&mut self, kept: usize)
         requires place { kept ≤ length self.old }
         ensures { self.new ≡ take kept self.old }
@@ -352,7 +352,7 @@ impl EventLog {
         self.wholes.truncate(whole);
     }
 
-    /// Takes the first entries away, so many. Takes no memory.
+    /// Takes the first `gone` entries away. Takes no memory.
     pub fn drop_first(&mut self, gone: usize)
         requires place { gone ≤ length self.old }
         ensures { self.new ≡ drop gone self.old }
@@ -364,9 +364,9 @@ impl EventLog {
         lower(&mut self.heads, row as u32, whole as u32);
     }
 
-    /// Puts the first entries, so many, into another log in place of what is there, and keeps the others. The two
-    /// exchange their rooms, and only what stays is copied: so of two logs that are cut again and again none takes
-    /// memory once both have room.
+    /// Moves the first `gone` entries into another log, whose own entries go, and keeps the others. The two logs
+    /// exchange their memory, and only the entries that stay are copied: so if two logs are cut again and again,
+    /// neither takes memory once both have room.
     ///
     /// # Errors
     /// Out of memory: nothing changes here, and what was in the other log may be gone.
@@ -382,7 +382,7 @@ impl EventLog {
         Ok(())
     }
 
-    // Copies the entries from a place on into another log, in place of what is there.
+    // Copies the entries from a place on into another log, whose own entries go.
     fn copy_rest(&self, from: usize, into: &mut EventLog) -> Result<(), AllocError>
         requires place { from ≤ length self.now }
         ensures { OnOk result (into.new ≡ drop from self.now) }
@@ -392,7 +392,7 @@ impl EventLog {
         let rows = rest_of(&self.rows, row);
         let wholes = rest_of(&self.wholes, whole);
         into.truncate(0);
-        // There is room before anything is copied.
+        // Room is made before anything is copied.
         into.heads.reserve(heads.len())?;
         into.rows.reserve(rows.len())?;
         into.wholes.extend_from_slice(wholes)?;
@@ -403,7 +403,7 @@ impl EventLog {
     }
 }
 
-// The collision of an entry; none where it is a crossing or a message.
+// The collision of an entry; none if it is a crossing or a message.
 #[inline(always)]
 fn change_of(entry: &Entry) -> Option<Change>
     ensures { result ≡ change_in (native_of entry.now) }
@@ -414,7 +414,7 @@ fn change_of(entry: &Entry) -> Option<Change>
     }
 }
 
-// The action of an entry; none where it is a message.
+// The action of an entry; none if it is a message.
 #[inline(always)]
 fn native_of(entry: &Entry) -> Option<Action>
     ensures { result ≡ native_of entry.now }
@@ -445,7 +445,7 @@ fn rest_of<T>(items: &[T], from: usize) -> &[T]
     &items[from..]
 }
 
-// Takes the first items away, so many. Only those that stay move.
+// Takes the first `gone` items away. Only those that stay move.
 fn drop_front<T: Copy>(items: &mut Vec<T>, gone: usize)
     requires { gone ≤ length items.old.items }
     ensures { items.new.items ≡ drop gone items.old.items }

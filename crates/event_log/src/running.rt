@@ -1,4 +1,4 @@
-//! Running actions in the view after a log, on narrow rows where that can be.
+//! Running actions in the view after a log, on narrow rows if that is possible.
 
 ghost use Rattle.std.specs.Prelude.{◌≡◌, ◌<◌, [], ◌∷◌, ◌++◌, length, None, Some, IfSome, OnOk, OnErr};
 ghost use Rattle.std.specs.FinMap as map;
@@ -21,14 +21,14 @@ use std::alloc::AllocError;
 /// The rows of a disk before and after a collision.
 #[derive(Clone, Copy)]
 pub struct HitRows {
-    /// The row in which it stands before it.
+    /// The row before it.
     pub before: Compact,
-    /// The one with the record that it has from then on, in the same cell.
+    /// The row after it, with the new record, in the same cell.
     pub after: Compact,
 }
 
 impl EventLog {
-    /// Runs an action in the view after the whole log, and appends it with what stood there.
+    /// Runs an action in the view after the whole log, and appends it with the rows that stood there before.
     ///
     /// # Errors
     /// Out of memory: nothing changes.
@@ -50,8 +50,8 @@ impl EventLog {
         }
     }
 
-    /// Runs a crossing in the view after the whole log, and appends it with what stood there: the row of its disk,
-    /// as [`View::narrow`] answers it.
+    /// Runs a crossing in the view after the whole log, and appends it with what stood there: the row of its disk, as
+    /// [`View::narrow`] answers it.
     ///
     /// # Errors
     /// Out of memory: nothing changes.
@@ -75,8 +75,8 @@ impl EventLog {
         Ok(())
     }
 
-    /// Runs a collision of two disks in the view after the whole log, and appends it with what stood there.
-    /// It is given by their rows, those before it as [`View::narrow`] answers them.
+    /// Runs a collision of two disks in the view after the whole log, and appends it with what stood there. It is given
+    /// by their rows; those before it are as [`View::narrow`] answers them.
     ///
     /// # Errors
     /// Out of memory: nothing changes.
@@ -180,7 +180,7 @@ impl EventLog {
     }
 }
 
-// The row of a disk, and the one with another record; none where one of them has no narrow form, or there is no row.
+// The row of a disk, and the same row with another record; none if one of them has no narrow form, or there is no row.
 #[inline(always)]
 fn moved(view: &View, number: u32, disk: &Disk) -> Option<HitRows>
     ensures { IfSome result (IsMovedRow (map.get view.now number) disk.now) }

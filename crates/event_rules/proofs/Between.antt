@@ -27,7 +27,7 @@ times_more a b n le =
     not_negative (pos d) h = omega (arith, ints)
     not_negative (negsuc d) h = absurd (omega (arith, ints))
 
--- a coordinate that is on one side of a bound at a tick and at the next is so between
+-- a coordinate that is on one side of a bound at a tick and at the next is there between the two
 keeps_above : (l x v : ℤ) (p q : ℕ) → p ≤ q → l ≤ℤ x → l ≤ℤ (x +ℤ v) → (l *ℤ pos q) ≤ℤ ((x *ℤ pos q) +ℤ (v *ℤ pos p))
 keeps_above l x v p q le now next = by_rest (q - p) (omega arith)
   where

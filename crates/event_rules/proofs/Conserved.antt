@@ -84,7 +84,7 @@ replaced_both f disks i j a b c d lt first second =
     omega (arith, ints)
 
 -- ---- momentum
--- what each event adds to a sum, a run's events add together
+-- the events of a run together add to a sum what each of them adds
 over_run : (rules : Rules) (f : Disk → ℤ) (g : Change → ℤ) →
     ((disks : List Disk) (c : Change) → RanWall rules disks c ⊎ RanPair rules disks c →
     total f (effect disks c) ≡ total f disks +ℤ g c) →
@@ -99,7 +99,7 @@ over_run rules f g step disks later (c ∷ cs) h =
     let rest = over_run rules f g step (effect disks c) later cs h.2 in
     omega (arith, ints)
 
--- what a side adds to a velocity, by the velocity after it
+-- what a side adds to a velocity, given the velocity after it
 turn_is : (side : ℕ) (v : Vector) → difference (turned side v) v ≡ turned_at side (turned side v)
 turn_is side v = by_test (nat_lt side 2)
   where
@@ -275,7 +275,7 @@ pub energy_stays_but_for_roundings : EnergyStaysButForRoundings
 energy_stays_but_for_roundings = energy_over_run
 
 -- ---- how much the roundings are
--- one where the change is of two disks
+-- one if the change is one of two disks
 abbrev pair_count : Change → ℕ
 pair_count c = cond (is_some c.second) 1 0
 

@@ -1,4 +1,4 @@
--- What the changes and the outcome of a scene's run are like.
+-- The form of the changes and the outcome of a scene's run.
 use Rattle.std.proofs.Common.{◌≡◌, inl, inr, ◌⊎◌, ℕ, zero, suc, ◌∙◌, List, [], ◌∷◌, Bool, true, false, Option, Some, None, Err, Ok, slice_get, length, option_map, ap, sym, subst, refl, arith}
 use Rattle.std.specs.Prelude.{◌&&◌, nat_lt, nat_abs, neg_ℤ, ℤ, if◌then◌else◌}
 use Rattle.std.proofs.lemmas.Grind.{common_steps}
@@ -66,7 +66,7 @@ pair_fits rules disks c valid p =
           };
     })
 
--- a change that was run is one of the state's disks
+-- a change that was run changes disks of the state
 pub change_fits : (rules : Rules) (disks : List Disk) (c : Change) → IsValidState rules disks →
     IsCandidate rules disks c.stamp → ComesTo rules disks c.stamp (Ok c) →
     IsChangeOf rules (length disks) c

@@ -11,7 +11,8 @@ use Rattle.event_rules.specs.Small.{IsValidPair, FitsTheBox, TellsByGreatest}
 use Rattle.event_rules.proofs.SmallProducts.{never_near, exact_near}
 use Rattle.event_rules.proofs.Swapped.{never_hit, never_hit_turned}
 
--- the code's quadratic of two disks in the box, where it fits, is that of their separation if they touch at a distance of this square
+-- if the code's quadratic of two disks in the box fits, it is that of their separation if they touch at a distance of
+-- this square
 pub record IsTold (square : ℤ) (rules : Rules) (a b : Disk) (q : Approach) : Type 0 where
   pub apart : Separation
   pub is : IsSeparation a b apart

@@ -57,7 +57,7 @@ state_now : (rules : Rules) (disks : List Disk) (cs : List Change) (outcome : Ou
 state_now rules disks [] outcome tick none run = refl
 state_now rules disks (c ∷ cs) outcome tick none run = state_before disks c cs tick (none c.stamp run.0.0)
 
--- between these two states, in place of two others that they are
+-- between these two states instead of two others that are the same
 kept_of : (tick : ℕ) (xs ys vs ws : List Disk) → vs ≡ xs → ws ≡ ys → AreKept tick xs ys → AreKept tick vs ws
 kept_of tick xs ys vs ws p q h = rw (p, q) h
 

@@ -1,4 +1,4 @@
--- Where two disks are at the later of their base ticks, by how much later one of them is.
+-- The places of two disks at the later of their base ticks, by how much later one of them is.
 use Rattle.std.proofs.Common.{◌≡◌, ℕ, zero, suc, ◌+◌, ◌-◌, ◌/◌, ◌*◌, ◌^◌, ◌%◌, ◌<◌, ◌≤◌, max, ap, sym, ◌∙◌, arith, to_z, of_z}
 use Rattle.std.specs.Prelude.{ℤ, pos, negsuc, nat_abs, FitsSigned, ◌+ℤ◌, ◌-ℤ◌, ◌*ℤ◌, ◌≤ℤ◌, ◌<ℤ◌}
 use Rattle.std.specs.Int.{int_wrap, w64}
@@ -118,7 +118,7 @@ half_sum m n d hm hn em en e = sums (half_of m) (half_of n) (two_halves m hm em)
     sums : (k l : ℤ) → k +ℤ k ≡ m → l +ℤ l ≡ n → d ≡ k +ℤ l
     sums k l p q = omega (arith, ints)
 
--- and as the code tells it
+-- and as the code computes it
 pub half_told : (m n d : ℤ) (w : ℕ) → pos 2 ≤ℤ m → m ≤ℤ pos 1073741824 → pos 2 ≤ℤ n → n ≤ℤ pos 1073741824 → nat_abs m % 2 ≡ 0 →
     nat_abs n % 2 ≡ 0 → w ≡ of_z w64 (to_z w64 ((of_z w64 m + of_z w64 n) % 18446744073709551616)) → d ≡ to_z w64 (w / 2) →
     sent d ≡ half_of m +ℤ half_of n

@@ -1,5 +1,5 @@
--- A disk's level is its base tick times the round limit, and its mark. Each event raises those of its disks, up to the end times
--- the round limit: so events are few.
+-- A disk's level is its base tick times the round limit, plus its mark. Each event raises the levels of its disks, and
+-- none passes the end times the round limit: so there are few events.
 use Rattle.std.proofs.Common.{◌≡◌, ◌≢◌, ◌⊎◌, inl, inr, ℕ, zero, suc, ◌+◌, ◌-◌, ◌*◌, ◌<◌, ◌≤◌, min, max, Bool, true, false, cond, List, [], ◌∷◌, length, sym, ap, ◌∙◌, subst, refl, arith, Option, Some, None, Ok, slice_get, slice_set}
 use Rattle.std.specs.Prelude.{◌==◌, ◌&&◌, ◌||◌, sum_by, is_some}
 use Rattle.std.proofs.Math.Nat.{mul-le-mul}
@@ -88,7 +88,7 @@ pair_raises rules disks c x y valid p xb xm yb ym =
     }
 
 -- ---- the events of a scene
--- the levels together
+-- the sum of the levels
 abbrev levels : ℕ → List Disk → ℕ
 levels limit disks = sum_by (level limit) disks
 
@@ -165,7 +165,7 @@ effect_below rules disks c valid next comes below i x at = elim (after_effect ru
   | inr kept ↦ below i x kept.1
 ]
 
--- a sum of parts that are at most so much
+-- a sum of parts that are at most this great
 sum_most : (f : Disk → ℕ) (most : ℕ) (disks : List Disk) → ((i : ℕ) (a : Disk) → slice_get disks i ≡ Some a → f a ≤ most) →
     sum_by f disks ≤ most * length disks
 sum_most f most [] all = omega arith

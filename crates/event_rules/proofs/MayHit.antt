@@ -1,4 +1,4 @@
--- What the separation of two disks says of whether their courses may bring them together.
+-- What the separation of two disks tells about whether their courses may bring them together.
 use Rattle.std.proofs.Common.{◌≡◌, ℕ, ◌^◌, ap, sym, subst, ◌∙◌, ℤ}
 use Rattle.plane_vectors.specs.declared.Vector.{Vector}
 use Rattle.plane_vectors.specs.Vectors.{difference, IsWithin}

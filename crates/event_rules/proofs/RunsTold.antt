@@ -1,4 +1,4 @@
--- What was told of the rules and disks of a scene was told of the scene.
+-- If something was told of the rules and disks of a scene, it was told of the scene.
 use Rattle.std.proofs.Common.{ℕ, List, sym, subst, Option, take}
 use Rattle.fixed_motion.specs.Scene.{SceneData, IsValidScene}
 use Rattle.event_rules.specs.declared.change.Change.{Change}

@@ -131,7 +131,7 @@ separation_later a b start s begun =
 abbrev TouchAfter : Disk → Vector → Disk → Vector → ℕ → Type 0
 TouchAfter a p b q s = IsContactAfter (difference p q) (difference (velocity_of a) (velocity_of b)) (contact_distance a b) s
 
--- to meet at a tick is to meet so many ticks after the start
+-- to meet at a tick is to meet a number of ticks after the start
 touch_after : (a b : Disk) (start s : ℕ) → HaveBegun a b start →
     TouchAt a (place_of a (start + s)) b (place_of b (start + s)) ↔ TouchAfter a (place_of a start) b (place_of b start) s
 touch_after a b start s begun =
@@ -160,7 +160,7 @@ later_small rules a b s last checked va vb h together =
     subst (λ (r : Vector). IsWithin (2 ^ 30) r) (same ∙ sym (λ i. after (places i) (velocities i) (last - s.start))) later
 
 -- ---- contacts
--- so many ticks after the separation is to be in contact then
+-- to be in contact a number of ticks after the separation is to be in contact then
 contact_same : (rules : Rules) (a b : Disk) (s : Separation) (n : ℕ) → IsSeparation a b s →
     IsContactAfter s.places s.velocities s.distance n ↔ TouchAfter a (place_of a s.start) b (place_of b s.start) n
 contact_same rules a b s n h = alike s.places s.velocities _ _ s.distance _ h.places h.velocities h.distance
@@ -168,7 +168,7 @@ contact_same rules a b s n h = alike s.places s.velocities _ _ s.distance _ h.pl
     alike : (r u r' u' : Vector) (d d' : ℤ) → r ≡ r' → u ≡ u' → d ≡ d' → IsContactAfter r u d n ↔ IsContactAfter r' u' d' n
     alike r u r' u' d d' p q t = rw (p, q, t) (λ h. h, λ h. h)
 
--- a contact tick is a contact so many ticks after the later base tick
+-- a contact tick is a contact that many ticks after the later base tick
 pub ticks_until : (rules : Rules) (a b : Disk) (s : Separation) (tick : ℕ) → IsSeparation a b s → IsContactTick rules a b tick →
     (tick ≡ s.start + (tick - s.start)) × IsContactAfter s.places s.velocities s.distance (tick - s.start)
 ticks_until rules a b s tick h contact =
@@ -181,7 +181,7 @@ ticks_until rules a b s tick h contact =
           (subst (λ (n : ℕ). TouchAt a (place_of a n) b (place_of b n)) t contact.contact)),
     )
 
--- and the other way about, if both disks are inside then
+-- and the other way round, if both disks are inside then
 contact_tick_from : (rules : Rules) (a b : Disk) (s : Separation) (n : ℕ) → IsSeparation a b s →
     IsContactAfter s.places s.velocities s.distance n → AreInside rules a b (s.start + n) → IsContactTick rules a b (s.start + n)
 contact_tick_from rules a b s n h contact inside =
@@ -213,7 +213,7 @@ pub touch_from : (rules : Rules) (a b : Disk) (s : Separation) (n : ℕ) → IsS
 touch_from rules a b s n h found before inside =
     (contact_tick_from rules a b s n h found.contact inside, before, only_tick rules a b s n h found.only)
 
--- and no tick else
+-- and no other tick
 pub no_touch : (rules : Rules) (a b : Disk) (s : Separation) (n : ℕ) → IsSeparation a b s → PathsTouchAfter s n →
     ((s.start + n) < rules.end → AreInside rules a b (s.start + n) → ⊥) → (tick : ℕ) → tick < rules.end → IsContactTick rules a b tick → ⊥
 no_touch rules a b s n h found never tick before contact =

@@ -52,11 +52,11 @@ multiplied m n f g h =
     told ∙ int_wrap_fits w64 (m *ℤ n) h
 
 -- ---- the low bits
--- to shift a word up takes the high bits away
+-- shifting a word up takes the high bits away
 shifted_up : (n : ℕ) → (n * 4294967296) % 18446744073709551616 ≡ (n % 4294967296) * 4294967296
 shifted_up n = omega arith
 
--- and to shift it down again reads what is left with its sign
+-- and shifting it down again reads what is left with its sign
 shifted_down : (k : ℕ) → k < 4294967296 → shr_z (to_z w64 (k * 4294967296)) 4294967296 ≡ to_z w32 k
 shifted_down k lt = by_half k lt
   where
@@ -88,7 +88,7 @@ wrapped_word (negsuc n) f =
     let same : 4294967296 - 1 - n % 4294967296 ≡ (18446744073709551616 - suc n) % 4294967296 = omega arith in
     ap (to_z w32) same
 
--- a number of 32 bits has 64
+-- a number of 32 bits fits 64
 pub wide : (z : ℤ) → FitsSigned w32 z → FitsSigned w64 z
 wide z f = let small : nat_abs z ≤ 2147483648 = omega (arith, ints) in omega (arith, ints)
 
@@ -163,7 +163,7 @@ second_bit false false true false = refl
 second_bit false false false true = refl
 second_bit false false false false = refl
 
--- the tests of one lane, where l is the closing number but for what goes beyond 32 bits
+-- the tests of one lane, if l is the closing number wrapped to 32 bits
 abbrev is_closing : ℤ → Bool
 is_closing closing = lt_z (to_z w64 (of_z w64 closing)) (to_z w64 0)
 
@@ -222,7 +222,7 @@ lanes_told p q =
     )
 
 -- ---- two disks
--- the lanes' numbers, where they fit, are those of the separation turned round
+-- if the lanes' numbers fit, they are those of the separation reversed
 pub turned : (x y w p s : ℤ) → nat_abs x ≤ 2 ^ 30 → nat_abs y ≤ 2 ^ 30 → nat_abs w ≤ 2 ^ 20 * 2 ^ 40 → p ≡ int_wrap w64 (y +ℤ w) →
     int_wrap w64 ((x -ℤ y) -ℤ w) ≡ s → nat_abs s ≤ 2 ^ 30 → int_wrap w32 (sent p -ℤ sent x) ≡ pos 0 -ℤ s
 turned x y w p s hx hy hw ep es hs =
@@ -249,7 +249,7 @@ slow_turned v w hv hw =
     low_fits : (v w : ℤ) → nat_abs v ≤ 2 ^ 20 → nat_abs w ≤ 2 ^ 20 → FitsSigned w32 (w -ℤ v)
     low_fits v w hv hw = omega (arith, ints)
 
--- the code's numbers of a disk, by the place of another one
+-- the code's numbers for a disk, given the place of another one
 abbrev pub low_vector : Vector → Vector → Vector
 low_vector p q = vector (int_wrap w32 (sent p.x -ℤ sent q.x)) (int_wrap w32 (sent p.y -ℤ sent q.y))
 

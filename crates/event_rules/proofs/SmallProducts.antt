@@ -1,4 +1,4 @@
--- What the bound on the greatest speed times half the outline of the box says of the numbers of two disks.
+-- What the bound on the greatest speed times half the outline of the box means for the numbers of two disks.
 use Rattle.std.proofs.Common.{◌≡◌, ◌↔◌, ℕ, ◌+◌, ◌-◌, ◌*◌, ◌^◌, ◌<◌, ◌≤◌, Bool, true, false, IsTrue, arith, sym, subst}
 use Rattle.std.specs.Prelude.{ℤ, pos, negsuc, nat_abs, ◌+ℤ◌, ◌-ℤ◌, ◌*ℤ◌, ◌≤ℤ◌, ◌<ℤ◌, FitsSigned}
 use Rattle.std.proofs.lemmas.Int.{ints}
@@ -122,7 +122,7 @@ gap_size w h s r u d slight =
         nat_abs (m -ℤ n) ≤ most
     apart m n k l most p q hm hn le = omega (arith, ints)
 
--- so all products have 64 bits
+-- so all products fit 64 bits
 record HaveFew (r u : Vector) (d : ℤ) : Type 0 where
   pub square : nat_abs (dot u u) < 2 ^ 62
   pub closing : nat_abs (dot r u) ≤ 2 ^ 31
@@ -228,7 +228,7 @@ distance_same rules a b s d pair sep reach near =
     short : (d side : ℤ) → nat_abs d ≤ nat_abs side → pos 2 ≤ℤ side → side ≤ℤ pos 1073741824 → nat_abs d ≤ 2 ^ 30
     short d side h k l = omega (arith, ints)
 
--- a quadratic, where its numbers fit, is that of the separation, as if the disks touched at this distance
+-- if the numbers of a quadratic fit, it is that of the separation, as if the disks touched at this distance
 abbrev Told : Separation → ℤ → Approach → Type 0
 Told s d q = FitsApproach s.places s.velocities d → IsApproachOf s.places s.velocities d q
 
@@ -285,7 +285,7 @@ inside_fits rules a b p q va vb ia ib =
         nat_abs (m -ℤ n) ≤ nat_abs side
     apart side m n k l hk hl a b c d = omega (arith, ints)
 
--- so at any places where both are inside
+-- so at any places at which both are inside
 pub inside_approach : (rules : Rules) (a b : Disk) (p o u : Vector) (q : Approach) → IsSmallPair rules a b → IsInside rules a p →
     IsInside rules b o → u ≡ difference (velocity_of a) (velocity_of b) →
     (FitsApproach (difference p o) u (contact_distance a b) → IsApproachOf (difference p o) u (contact_distance a b) q) →
@@ -348,7 +348,7 @@ never_overlapping rules a b s q pair sep approach overlap tick contact =
     let apart = (contact_course rules a b s q tick sep at contact).0 in
     omega (arith, ints)
 
--- of a greater distance the discriminant is greater
+-- for a greater distance the discriminant is greater
 times_less : (k : ℕ) (x y : ℤ) → x ≤ℤ y → (pos k *ℤ x) ≤ℤ (pos k *ℤ y)
 times_less k (pos m) (pos n) le =
     let order : m ≤ n = omega (arith, ints) in
@@ -373,7 +373,7 @@ wider : (a x y e : ℤ) → pos 0 ≤ℤ a → y ≤ℤ x → (a *ℤ x) <ℤ e 
 wider (pos k) x y e p le lt = let less = times_less k y x le in omega (arith, ints)
 wider (negsuc k) x y e p le lt = absurd (omega (arith, ints))
 
--- so disks that touch at a distance are on a course if they touched at a greater one
+-- so disks that may touch at a distance would be on a course with a greater one too
 course_near : (r u : Vector) (c d : ℤ) (q : Approach) → IsApproachOf r u d q → pos 0 ≤ℤ c → c ≤ℤ d → MayTouch r u c → IsCourse q
 course_near r u c d q of positive le may = (
   rw of.closing may.approaching.approaching,

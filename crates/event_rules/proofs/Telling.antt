@@ -71,7 +71,7 @@ whole_longer {C = C} after old new xs ys n h = (
   subst (λ (v : List C). Told after old v new) (sym (take_taken n xs ys)) h,
 )
 
--- the same, where perhaps the change that follows was refused
+-- the same, if perhaps the change that follows was refused
 pub prefix_longer : {M C : Type 0} (after : M → C → M) (torn : M → C → M → Type 0)
     (old new : Option M) (xs ys : List C) →
     PrefixTold after torn old xs new → PrefixTold after torn old (xs ++ ys) new

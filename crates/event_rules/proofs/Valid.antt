@@ -83,7 +83,7 @@ change_valid rules s a (Some b) ha hb event other slow =
       moved_valid rules s b _ (hb b refl) event.0.second_inside event.1 below tests.1,
     )
 
--- the same of a change by its tests
+-- the same for a change by its tests
 pub within_valid : (rules : Rules) (s : Stamp) (a : Disk) (b : Option Disk) (c : Change)
     (slow : Bool) → IsValidDisk rules a → ForSome b (IsValidDisk rules) → IsEventOf rules s a b →
     c ≡ change_of s a b → s.round ≢ rules.round_limit → slow ≡ keeps_speed rules c → slow ≡ true →
@@ -92,7 +92,7 @@ within_valid rules s a b c slow ha hb event own other test h =
     subst (KeepsValid rules) (sym own)
     (change_valid rules s a b ha hb event other (ap (keeps_speed rules) (sym own) ∙ sym test ∙ h))
 
--- ---- what the event comes to by the tests
+-- ---- the result of the event, given the tests
 pub applied_last : (rules : Rules) (s : Stamp) (a : Disk) (b : Option Disk) →
     s.round ≡ rules.round_limit → applied rules s a b ≡ Err (Rounds s)
 applied_last rules s a b last = grind (arith, nat_tests)

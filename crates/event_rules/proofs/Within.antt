@@ -12,9 +12,9 @@ use Rattle.contact_predictor.specs.Contact.{gap, IsContact}
 use Rattle.contact_predictor.proofs.Approaching.{gap_next, dot_next, speed_not_negative}
 use Rattle.event_rules.proofs.OneTick.{below_either}
 
--- ---- the quadratic, of natural numbers
--- where q^2 k + p^2 m is below 2 p q n, m k is below the square of n: else the mean of two numbers were below that of their
--- product
+-- ---- the quadratic, for natural numbers
+-- if q^2 k + p^2 m is below 2 p q n, m k is below the square of n: else the mean of two numbers would be below that of
+-- their product
 crossing_within : (m n k p q : ℕ) → (q * q) * k + (p * p) * m < (p * q) * n + (p * q) * n → m * k < n * n
 crossing_within m n k p q h =
     let product : ((q * q) * k) * ((p * p) * m) < ((p * q) * n) * ((p * q) * n) =
@@ -25,7 +25,7 @@ crossing_within m n k p q h =
           mul-le-mul_left ((p * q) * (p * q)) le in omega arith)
     ]
 
--- where the disks approach still a tick later, and are apart, the least of the gaps up to there is that one
+-- if the disks still approach a tick later, and are apart, the least of the gaps up to there is that one
 approach_within : (m e f p d : ℕ) →
     ((p + d) * (p + d)) * (m + (2 * e + f)) + (p * p) * m < (p * (p + d)) * (m + e) + (p * (p + d)) * (m + e) → ⊥
 approach_within m e f p d h = omega arith
@@ -38,7 +38,7 @@ approaching_within m n k p q le near apart h =
     by_parts : (d e f : ℕ) → q ≡ p + d → n ≡ m + e → k ≡ m + (2 * e + f) → ⊥
     by_parts d e f way speed rest = approach_within m e f p d (rw (way, speed, rest) at h)
 
--- ---- the same, of whole numbers
+-- ---- the same, for whole numbers
 abbrev quadratic : ℤ → ℤ → ℤ → ℕ → ℕ → ℤ
 quadratic a b c p q =
     ((c *ℤ pos (q * q)) +ℤ ((b *ℤ pos (p * q)) +ℤ (b *ℤ pos (p * q)))) +ℤ (a *ℤ pos (p * p))
@@ -63,7 +63,7 @@ meets (negsuc m) b c p q ha hc le h = absurd (omega (arith, ints))
 meets (pos m) b (negsuc k) p q ha hc le h = absurd (omega (arith, ints))
 
 -- ---- vectors
--- so many times as long
+-- a number of times as long
 abbrev pub scaled : Vector → ℕ → Vector
 scaled r q = vector (r.x *ℤ pos q) (r.y *ℤ pos q)
 

@@ -10,7 +10,7 @@ use Rattle.event_rules.specs.Conservation.{pairs}
 abbrev pub takes_part_in : ℕ → Change → Bool
 takes_part_in i c = (c.stamp.first == i) || (is_some c.second && (c.stamp.second == i))
 
--- in how many events of a tick it does
+-- in how many events of a tick it takes part
 abbrev pub events_of : ℕ → ℕ → List Change → ℕ
 events_of i tick changes = count_by (λ c. (c.stamp.tick == tick) && takes_part_in i c) changes
 

@@ -1,4 +1,4 @@
--- Where disks are between ticks, and that they are inside and apart there too.
+-- The places of disks between ticks, and that they are inside and apart there too.
 use Rattle.std.specs.Prelude.{◌≡◌, ℕ, ◌+◌, ◌<◌, ◌≤◌, ℤ, pos, ◌-ℤ◌, ◌*ℤ◌, ◌≤ℤ◌, List, slice_get, Some}
 use Rattle.plane_vectors.specs.declared.Vector.{Vector}
 use Rattle.plane_vectors.specs.Vectors.{vector, after}
@@ -11,14 +11,14 @@ use Rattle.event_rules.specs.declared.outcome.Outcome.{Outcome}
 use Rattle.event_rules.specs.Run.{IsRun, state_at}
 use Rattle.event_rules.specs.Laws.{last_tick}
 
--- The moment that comes part / whole of a tick after a tick. So that places are whole numbers, lengths are told in parts of a
--- unit there, of which as many as the whole make a unit.
+-- The moment part / whole of a tick after a tick. So that places are whole numbers, lengths are given in parts of a
+-- unit there; as many parts as `whole` make a unit.
 pub record Moment : Type 0 where
   pub tick : ℕ
   pub part : ℕ
   pub whole : ℕ
 
--- from the tick to the next, with both
+-- from the tick to the next, both included
 pub record IsWithinTick (m : Moment) : Type 0 where
   pub some : 0 < m.whole
   pub most : m.part ≤ m.whole
@@ -27,8 +27,8 @@ pub record IsWithinTick (m : Moment) : Type 0 where
 abbrev pub in_parts : Moment → ℤ → ℤ
 in_parts m length = length *ℤ pos m.whole
 
--- Where a disk is at the moment, in parts. Since the tick it has moved its velocity times part / whole, in units; in parts that is
--- its velocity times the part.
+-- The place of a disk at the moment, in parts. Since the tick it has moved its velocity times part / whole, in units;
+-- in parts that is its velocity times the part.
 abbrev pub place_at : Moment → Disk → Vector
 place_at m a =
     after (vector (in_parts m (place_of a m.tick).x) (in_parts m (place_of a m.tick).y)) (velocity_of a) m.part
@@ -55,6 +55,7 @@ abbrev pub KeepsApartBetween : SceneData → List Change → Outcome → Type 0
 KeepsApartBetween scene changes outcome = (m : Moment) → IsWithinTick m → m.tick < last_tick scene outcome →
     AreApartAt scene.rules (state_at scene.disks changes (m.tick + 1)) m
 
+-- this is so for each run of a valid scene
 abbrev pub NeverOverlapsBetween : Type 0
 NeverOverlapsBetween = (scene : SceneData) (changes : List Change) (outcome : Outcome) → IsValidScene scene →
     IsRun scene changes outcome → KeepsApartBetween scene changes outcome

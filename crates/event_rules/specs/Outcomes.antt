@@ -1,4 +1,4 @@
--- What changes and outcomes of a scene's run are like.
+-- The form of the changes and the outcome of a scene's run.
 use Rattle.std.specs.Prelude.{◌≡◌, ◌⊎◌, ℕ, ◌<◌, length, slice_get, ⊤, Option, Some, None}
 use Rattle.plane_vectors.specs.Vectors.{vector}
 use Rattle.fixed_motion.specs.declared.rules.Rules.{Rules}
@@ -19,12 +19,13 @@ pub record IsRecordAt (rules : Rules) (count tick i : ℕ) (disk : Disk) : Type 
   pub valid : IsValidDisk rules disk
   pub base : disk.base ≡ tick
 
--- the same, where there is a disk
+-- the same, if there is a disk
 abbrev pub IsRecordOf : Rules → ℕ → ℕ → ℕ → Option Disk → Type 0
 IsRecordOf rules count tick i None = ⊤
 IsRecordOf rules count tick i (Some disk) = IsRecordAt rules count tick i disk
 
--- a change of one or two of so many disks, whose new records are valid and begin at the tick of the event
+-- a change of one or two disks, of which there are this many; the new records are valid and begin at the tick of the
+-- event
 pub record IsChangeOf (rules : Rules) (count : ℕ) (c : Change) : Type 0 where
   pub tellable : IsTellable c
   pub first : IsRecordAt rules count c.stamp.tick c.stamp.first c.first

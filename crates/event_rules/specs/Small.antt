@@ -1,4 +1,4 @@
--- Rules under which what tells of two disks whether their paths cross has 64 bits.
+-- Rules under which 64 bits are enough to tell whether the paths of two disks cross.
 use Rattle.std.specs.Prelude.{◌≡◌, ◌↔◌, ◌≤◌, Bool, IsTrue, false, ℤ, pos, nat_abs, ◌+ℤ◌, ◌*ℤ◌, ◌<ℤ◌, ◌≤ℤ◌}
 use Rattle.plane_vectors.specs.declared.Vector.{Vector}
 use Rattle.std.specs.Int.{int_wrap, w64}
@@ -41,28 +41,28 @@ pub record DoCoursesCrossAt (distance : ℤ) (a b : Disk) : Type 0 where
   pub nearing : dot (separation_of a b) (difference (velocity_of a) (velocity_of b)) <ℤ pos 0
   pub crossing : IsCollisionCourse (separation_of a b) (difference (velocity_of a) (velocity_of b)) distance
 
--- so of the distance at which they do touch
+-- the same for the distance at which they do touch
 abbrev pub DoCoursesCross : Disk → Disk → Type 0
 DoCoursesCross a b = DoCoursesCrossAt (contact_distance a b) a b
 
--- what is told of two disks by the square of the greatest diameter, where products are small: where not, they never hit
--- each other, and within the box it is whether their courses cross if they touch at that distance
+-- what the square of the greatest diameter tells of two disks if products are small: if it says no, they never hit each
+-- other, and within the box it tells whether their courses cross if they touch at that distance
 pub record TellsByGreatest (square : ℤ) (a b : Disk) (may : Bool) : Type 0 where
   pub exact : (rules : Rules) → IsSmallPair rules a b → square ≡ rules.diameter *ℤ rules.diameter →
       FitsTheBox rules (separation_of a b) → (IsTrue may ↔ DoCoursesCrossAt rules.diameter a b)
   pub never : (rules : Rules) → IsSmallPair rules a b → square ≡ rules.diameter *ℤ rules.diameter → may ≡ false → NeverHit rules a b
   pub never_turned : (rules : Rules) → IsSmallPair rules a b → square ≡ rules.diameter *ℤ rules.diameter → may ≡ false → NeverHit rules b a
 
--- where a disk is so many ticks on, in 64 bits
+-- the place of a disk this many ticks on, in 64 bits
 abbrev pub wrapped_after : Disk → ℤ → Vector
 wrapped_after a ticks = vector (int_wrap w64 (a.x +ℤ (a.vx *ℤ ticks))) (int_wrap w64 (a.y +ℤ (a.vy *ℤ ticks)))
 
--- their quadratic, of which all products have 64 bits
+-- the quadratic of two disks, all of whose products fit 64 bits
 pub record IsSmallApproach (s : Separation) (q : Approach) : Type 0 where
   pub of : IsApproachOf s.places s.velocities s.distance q
   pub small : IsSmall q
 
--- that of any two such disks at this separation, within the box
+-- the quadratic of any two such disks at this separation, within the box
 abbrev pub IsApproachAt : Separation → Approach → Type 0
 IsApproachAt s q = (rules : Rules) (a b : Disk) → IsSmallPair rules a b → IsSeparation a b s → FitsTheBox rules s.places →
     IsSmallApproach s q

@@ -1,4 +1,4 @@
--- What of a run a listener was told.
+-- What a listener was told of a run.
 use Rattle.std.specs.Prelude.{◌≡◌, ℕ, ◌≤◌, List, take, Option, None, Result, Ok, Err}
 use Rattle.report_ports.specs.Ports.{Rose}
 use Rattle.fixed_motion.specs.Scene.{SceneData}
@@ -13,7 +13,7 @@ use Rattle.event_rules.specs.Told.{Told, PrefixTold, AwaitsAll}
 use Rattle.event_rules.specs.Laws.{KeepsApart}
 use Rattle.event_rules.specs.Moments.{KeepsApartBetween}
 
--- of the changes that lead on from the scene, each is awaited once those before it were told
+-- each of the changes that lead on from the scene is awaited once those before it were told
 abbrev pub AwaitsRun : {M : Type 0} → (M → Change → M) → (M → Change → Type 0) → SceneData → Option M → Type 0
 AwaitsRun after awaits scene old =
     (changes : List Change) (later : List Disk) → Steps scene.rules scene.disks changes later
@@ -36,18 +36,18 @@ abbrev pub RunBegunWhole : {M : Type 0} → (M → Change → M) → SceneData �
 RunBegunWhole after scene old new =
     (changes : List Change) × (outcome : Outcome) × IsRun scene changes outcome × ((n : ℕ) × Told after old (take n changes) new)
 
--- what was told where a run breaks off
+-- what was told when a run breaks off
 abbrev pub RunCutShort : {M : Type 0} → (M → Change → M) → (M → Change → M → Type 0) → SceneData → RunFault → Option M → Option M → Type 0
 RunCutShort after torn scene Listener old new = RunBegun after torn scene old new
 RunCutShort after torn scene NoMemory old new = RunBegunWhole after scene old new
 
--- a listener's count of refusals before and after: it rose where the listener refused a change, and else is what it was
+-- a listener's count of refusals before and after: it rose if the listener refused a change, and else is what it was
 abbrev pub CountsRun : {T : Type 0} → ℕ → ℕ → Result T RunFault → Type 0
 CountsRun before after (Ok value) = after ≡ before
 CountsRun before after (Err Listener) = (before ≤ after) × Rose before after
 CountsRun before after (Err NoMemory) = after ≡ before
 
--- ---- how an engine says it of the rules and disks alone
+-- ---- the same in terms of the rules and disks alone, for engines
 -- the scene of these rules and disks, without state blocks
 abbrev pub bare_scene : Rules → List Disk → SceneData
 bare_scene rules disks = record { rules = rules; disks = disks; every = None }
@@ -57,7 +57,7 @@ abbrev pub RunDone : {M : Type 0} → (M → Change → M) → SceneData → Out
 RunDone after scene outcome old new =
     (changes : List Change) × IsRun scene changes outcome × Told after old changes new
 
--- what was told of changes that lead on from the scene, where a run breaks off
+-- what was told of changes that lead on from the scene when a run breaks off
 abbrev pub StepsCutShort : {M : Type 0} → (M → Change → M) → (M → Change → M → Type 0) → SceneData → RunFault → Option M → Option M → Type 0
 StepsCutShort after torn scene Listener old new =
     (changes : List Change) × (later : List Disk) × Steps scene.rules scene.disks changes later

@@ -16,7 +16,7 @@ use crate::wall_events::last_inside;
 use contact_predictor::{Approach, contact_between, quick_contact};
 use fixed_motion::{Disk, Rules, sooner};
 
-// The cheap tests, which most pairs fail, come first.
+// The tick at which two disks touch inside the box. The cheap tests, which most pairs fail, come first.
 #[inline(always)]
 pub(crate) fn touching_tick(rules: &Rules, a: &Disk, b: &Disk) -> Option<u64>
     requires checked { IsChecked rules.now }
@@ -33,7 +33,7 @@ pub(crate) fn touching_tick(rules: &Rules, a: &Disk, b: &Disk) -> Option<u64>
     }
 }
 
-// Where products are small.
+// The same, if products are small.
 #[inline(always)]
 fn small_tick(rules: &Rules, a: &Disk, b: &Disk, s: &Separation) -> Option<u64>
     requires pair { IsSmallPair rules.now a.now b.now }
@@ -48,7 +48,7 @@ fn small_tick(rules: &Rules, a: &Disk, b: &Disk, s: &Separation) -> Option<u64>
     }
 }
 
-// The same, but for None, which says nothing: it is seldom.
+// The same as `small_tick`, except that None says nothing. It is rare.
 #[inline(always)]
 pub(crate) fn quick_tick(rules: &Rules, a: &Disk, b: &Disk) -> Option<Option<u64>>
     requires { IsSmallPair rules.now a.now b.now }
@@ -63,7 +63,7 @@ pub(crate) fn quick_tick(rules: &Rules, a: &Disk, b: &Disk) -> Option<Option<u64
     Some(tick_inside(rules, a, b, &s, ticks))
 }
 
-// The quadratic of two disks that approach each other on paths that cross. None where they never hit each other.
+// The quadratic of two disks that approach each other on paths that cross. None if they never hit each other.
 #[inline(always)]
 fn small_course(rules: &Rules, a: &Disk, b: &Disk, s: &Separation) -> Option<Approach>
     requires pair { IsSmallPair rules.now a.now b.now }
@@ -84,7 +84,7 @@ fn small_course(rules: &Rules, a: &Disk, b: &Disk, s: &Separation) -> Option<App
     Some(approach)
 }
 
-// Where products are great. Scenes of such numbers are seldom, so it is kept apart, and told all by value.
+// The same as `touching_tick`, for any products. Great products are rare, so it is kept apart, and gets all by value.
 #[inline(never)]
 fn great_tick(rules: &Rules, a: Disk, b: Disk, s: Separation) -> Option<u64>
     requires checked { IsChecked rules.now }
@@ -100,14 +100,15 @@ fn great_tick(rules: &Rules, a: Disk, b: Disk, s: Separation) -> Option<u64>
     if !are_on_course(rules, &a, &b, &s) {
         return None;
     }
-    // Seldom none, whatever the end and the walls.
+    // It is seldom none, whatever the end and the walls are.
     match quick_contact(s.places, s.velocities, s.distance) {
         Some(ticks) => tick_inside(rules, &a, &b, &s, ticks),
         None => searched_tick(rules, a, b, s),
     }
 }
 
-// The tick of a contact after so many ticks, if it is before the end and both disks are inside the box then.
+// The tick of a contact `ticks` ticks after the later base tick, if it is before the end and both disks are inside the
+// box then.
 #[inline(always)]
 fn tick_inside(rules: &Rules, a: &Disk, b: &Disk, s: &Separation, ticks: u64) -> Option<u64>
     requires checked { IsChecked rules.now }
@@ -127,7 +128,7 @@ fn tick_inside(rules: &Rules, a: &Disk, b: &Disk, s: &Separation, ticks: u64) ->
     }
 }
 
-// Whether two disks are inside the box at a tick. They mostly are, so there is no branch between.
+// Whether two disks are inside the box at a tick. They mostly are, so there is no branch between the two tests.
 #[inline(always)]
 fn are_inside_at(rules: &Rules, a: &Disk, b: &Disk, tick: u64) -> bool
     requires checked { IsChecked rules.now }
@@ -153,8 +154,8 @@ fn is_inside_at(rules: &Rules, a: &Disk, tick: u64) -> bool
     fits_between(a.size, rules.width, place.x) & fits_between(a.size, rules.height, place.y)
 }
 
-// Whether a disk of this size is between the ends of a side of the box, where this is the coordinate of its centre: one
-// comparison without signs tells both.
+// Whether a disk of this size, whose centre has this coordinate, is between the ends of a side of the box: one unsigned
+// comparison tells both.
 #[inline(always)]
 fn fits_between(size: i64, side: i64, coordinate: i64) -> bool
     requires size { pos 2 ≤ℤ size }
@@ -169,7 +170,7 @@ fn fits_between(size: i64, side: i64, coordinate: i64) -> bool
     above.cast_unsigned() <= room.cast_unsigned()
 }
 
-// Half a size, with no question for its sign.
+// Half a size, without a test of its sign.
 #[inline(always)]
 fn half(size: i64) -> i64
     requires least { pos 2 ≤ℤ size }
@@ -179,8 +180,8 @@ fn half(size: i64) -> i64
     (size.cast_unsigned() / 2).cast_signed()
 }
 
-// The contact tick of any two disks, by the last tick at which both are inside. Seldom asked, so it is kept apart,
-// and told all by value, so that the callers keep their numbers in registers.
+// The contact tick of any two disks, by the last tick at which both are inside. It is seldom called, so it is kept
+// apart, and gets all by value, so that the callers keep their numbers in registers.
 #[inline(never)]
 fn searched_tick(rules: &Rules, a: Disk, b: Disk, s: Separation) -> Option<u64>
     requires checked { IsChecked rules.now }
@@ -195,7 +196,7 @@ fn searched_tick(rules: &Rules, a: Disk, b: Disk, s: Separation) -> Option<u64>
     contact_tick(rules, &a, &b, &s, last)
 }
 
-// None also where both stand still, since then they don't meet.
+// The last tick at which two disks are both inside the box. None also if both stand still, since then they don't meet.
 fn last_together(rules: &Rules, a: &Disk, b: &Disk) -> Option<u64>
     requires checked { IsChecked rules.now }
     requires first_valid { IsValidDisk rules.now a.now }

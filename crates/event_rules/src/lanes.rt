@@ -35,7 +35,7 @@ pub fn each_may_hit(a: Disk, b: Disk, other: &Disk, square: i64) -> (bool, bool)
     )
 }
 
-// Where the second of two disks is when the first begins its course, but for what goes beyond 64 bits.
+// The place of the second of two disks at the base tick of the first, wrapped to 64 bits.
 #[inline(always)]
 fn place_then(a: &Disk, b: &Disk) -> Vector
     ensures { a.now.base ≤ 2 ^ 40 → b.now.base ≤ 2 ^ 40 → result ≡ wrapped_after b.now (pos a.now.base -ℤ pos b.now.base) }
@@ -43,8 +43,8 @@ fn place_then(a: &Disk, b: &Disk) -> Vector
     wrapped_place(b, lead_of(a, b))
 }
 
-// By how much a number is greater than each of two, but for what goes beyond 32 bits: then a product of two such lanes
-// takes one instruction.
+// By how much a number is greater than each of two, wrapped to 32 bits: then a product of two such lanes takes one
+// instruction.
 #[inline(always)]
 fn low_differences(number: i64, first: i64, second: i64) -> i64x2
     ensures { Hold result (int_wrap w32 (number -ℤ first)) (int_wrap w32 (number -ℤ second)) }
@@ -52,7 +52,7 @@ fn low_differences(number: i64, first: i64, second: i64) -> i64x2
     low_numbers(i64x2::splat(number) - i64x2::from_array([first, second]))
 }
 
-// Two numbers, but for what goes beyond 32 bits.
+// Two numbers, wrapped to 32 bits.
 #[inline(always)]
 fn low_numbers(numbers: i64x2) -> i64x2
     ensures { (m n : ℤ) → Hold numbers m n → Hold result (int_wrap w32 m) (int_wrap w32 n) }
@@ -60,7 +60,7 @@ fn low_numbers(numbers: i64x2) -> i64x2
     numbers << 32 >> 32
 }
 
-// The inner products of two vectors, and of two others, but for what goes beyond 64 bits.
+// The inner products of two vectors, and of two others, wrapped to 64 bits.
 #[inline(always)]
 fn dots(rx: i64x2, ry: i64x2, ux: i64x2, uy: i64x2) -> i64x2
     ensures { (r s u v : Vector) → Hold rx r.x s.x → Hold ry r.y s.y → Hold ux u.x v.x → Hold uy u.y v.y →
@@ -69,7 +69,7 @@ fn dots(rx: i64x2, ry: i64x2, ux: i64x2, uy: i64x2) -> i64x2
     rx * ux + ry * uy
 }
 
-// Two numbers less one, but for what goes beyond 64 bits.
+// Two numbers less one, wrapped to 64 bits.
 #[inline(always)]
 fn less(numbers: i64x2, number: i64) -> i64x2
     ensures { (m n : ℤ) → Hold numbers m n → Hold result (int_wrap w64 (m -ℤ number)) (int_wrap w64 (n -ℤ number)) }
@@ -89,7 +89,7 @@ fn are_courses(square: i64x2, closing: i64x2, gap: i64x2) -> (bool, bool)
     (bits & 1 != 0, bits >> 1 != 0)
 }
 
-// Where a disk is so many ticks on, but for what goes beyond 64 bits.
+// The place of a disk `ticks` ticks after its base tick, wrapped to 64 bits.
 #[inline(always)]
 fn wrapped_place(a: &Disk, ticks: i64) -> Vector
     ensures { result ≡ wrapped_after a.now ticks }

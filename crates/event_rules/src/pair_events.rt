@@ -19,10 +19,9 @@ use event_stamps::{Kind, Stamp};
 use fixed_motion::{Disk, Rules};
 use plane_vectors::Vector;
 
-/// The stamp at which two disks next hit each other if they keep their courses, before the last tick of
-/// the run.
+/// The stamp at which two disks next hit each other if they keep their courses, before the last tick of the run.
 ///
-/// `first` and `second` are the numbers of the disks. None where they don't hit each other.
+/// `first` and `second` are the numbers of the disks. None if they don't hit each other.
 #[inline(always)]
 pub fn pair_event(rules: &Rules, first: u32, a: &Disk, second: u32, b: &Disk) -> Option<Stamp>
     requires checked { IsChecked rules.now }
@@ -35,8 +34,8 @@ pub fn pair_event(rules: &Rules, first: u32, a: &Disk, second: u32, b: &Disk) ->
     event_between(rules, first, a, second, b)
 }
 
-/// The stamp at which two different disks, whose numbers come in any order, next hit each other: that of
-/// [`pair_event`], with the lower number first.
+/// The stamp at which two different disks next hit each other, as [`pair_event`] tells it. Their numbers may come in
+/// any order.
 #[inline(always)]
 pub fn event_between(rules: &Rules, i: u32, a: &Disk, j: u32, b: &Disk) -> Option<Stamp>
     requires checked { IsChecked rules.now }
@@ -50,7 +49,7 @@ pub fn event_between(rules: &Rules, i: u32, a: &Disk, j: u32, b: &Disk) -> Optio
     event_at(rules, i, a, j, b, touching_tick(rules, a, b))
 }
 
-// The event of two disks that hit each other at this tick, or never.
+// The event of two disks that hit each other at the tick `found`, or never.
 #[inline(always)]
 fn event_at(rules: &Rules, i: u32, a: &Disk, j: u32, b: &Disk, found: Option<u64>) -> Option<Stamp>
     requires { MatchOption found ((tick : ℕ) → tick < rules.now.end → IsContactTick rules.now a.now b.now tick → ⊥)
@@ -61,7 +60,8 @@ fn event_at(rules: &Rules, i: u32, a: &Disk, j: u32, b: &Disk, found: Option<u64
         (IsOnly (IsPairEvent rules.now j b.now i a.now)) }
 {
     let _rules = rules;
-    // Which number is lower can't be foretold, and is asked only where they meet: that is the same in either order.
+    // Which number is lower can't be predicted, and it matters only if the disks hit each other: whether and when they
+    // do is the same in either order.
     let tick = found?;
     Some(Stamp {
         tick,
@@ -72,7 +72,7 @@ fn event_at(rules: &Rules, i: u32, a: &Disk, j: u32, b: &Disk, found: Option<u64
     })
 }
 
-/// What [`event_between`] tells where products are small, with all that is seldom asked left out. None says nothing:
+/// What [`event_between`] tells if products are small, without the parts that are seldom needed. None says nothing:
 /// then `event_between` has to be asked.
 #[inline(always)]
 pub fn quick_event_between(
@@ -92,7 +92,7 @@ pub fn quick_event_between(
     Some(event_at(rules, i, a, j, b, found))
 }
 
-// The greater of the marks of two disks, which are 0 but at the later of their base ticks.
+// The greater of the marks of two disks at a tick. Both are 0 unless that is the later of their base ticks.
 #[inline(always)]
 fn round_at(a: &Disk, b: &Disk, tick: u64) -> u32
     requires { HaveBegun a.now b.now tick }
@@ -105,8 +105,8 @@ fn round_at(a: &Disk, b: &Disk, tick: u64) -> u32
     }
 }
 
-/// Whether a stamp of a pair is that of the next event of two disks: by what such an event is, with nothing
-/// predicted.
+/// Whether a stamp of a pair is that of the next event of two disks. It is tested by what defines such an event, and
+/// nothing is predicted.
 ///
 /// `a` and `b` are the disks of the lower and the higher of its numbers.
 #[inline(always)]
@@ -186,7 +186,7 @@ fn touch_at(rules: &Rules, a: &Disk, p: Vector, b: &Disk, q: Vector) -> bool
     }
 }
 
-// Whether two disks are in contact, whatever their products. Scenes of great products are seldom, so it is kept apart.
+// Whether two disks are in contact, whatever their products. Scenes with great products are rare, so it is kept apart.
 #[inline(never)]
 fn great_contact(places: Vector, velocities: Vector, distance: i64) -> bool
     requires separation { IsWithin (2 ^ 30) places }

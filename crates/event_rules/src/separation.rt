@@ -18,11 +18,11 @@ use plane_vectors::Vector;
 // The greatest difference of two places in a box, in units of length on each axis.
 const MAX_DIFFERENCE: i64 = 1 << 30;
 
-// Where the greatest speed times half the outline of the box is below this, products are small.
+// If the greatest speed times half the outline of the box is below this, products are small.
 const SMALL_PRODUCTS: i64 = 1 << 30;
 
-// Where one disk is from another at the later of their base ticks, how fast that changes, and how far
-// apart they are where they touch.
+// Where one disk is from another at the later of their base ticks, how fast that changes, and the distance of their
+// centres at which they touch.
 #[derive(Clone, Copy)]
 pub(crate) struct Separation {
     pub(crate) start: u64,
@@ -31,9 +31,9 @@ pub(crate) struct Separation {
     pub(crate) distance: i64,
 }
 
-/// Whether the courses of two disks may bring them together: at the later of their base ticks they are no
-/// farther apart than two places in a box can be, and approach each other on paths that cross. Where not, they
-/// never hit each other, whatever their numbers. Most pairs are told by this, by products alone.
+/// Whether the courses of two disks may bring them together: at the later of their base ticks they are no farther apart
+/// than two places in a box can be, and approach each other on paths that cross. If not, they never hit each other,
+/// whatever their numbers. This decides most pairs, by products alone.
 #[inline(always)]
 pub fn may_hit(rules: &Rules, a: &Disk, b: &Disk) -> bool
     requires checked { IsChecked rules.now }
@@ -47,8 +47,8 @@ pub fn may_hit(rules: &Rules, a: &Disk, b: &Disk) -> bool
     fit_in_a_box(s.places) && are_on_course(rules, a, b, &s)
 }
 
-/// Whether products are small: the greatest speed times half the outline of the box is below 2^30. Then all that
-/// tells of two disks in the box whether their paths cross has 64 bits.
+/// Whether products are small: the greatest speed times half the outline of the box is below 2^30. Then 64 bits are
+/// enough for all numbers that tell whether the paths of two disks in the box cross.
 #[inline(always)]
 pub fn has_small_products(rules: &Rules) -> bool
     requires { IsChecked rules.now }
@@ -57,10 +57,11 @@ pub fn has_small_products(rules: &Rules) -> bool
     rules.speed_limit * (rules.width + rules.height) < SMALL_PRODUCTS
 }
 
-/// What [`may_hit`] tells where products are small, in 64 bits and with no branch: where not, two valid disks
-/// never hit each other. Of disks that are no farther apart than the box is long it tells exactly whether they come
-/// nearer on paths that cross; unlike `may_hit` it says yes also of some that overlap. Nothing is said where
-/// products are great.
+/// What [`may_hit`] tells if products are small, in 64 bits and with no branch.
+///
+/// If the answer is no, two valid disks never hit each other. For disks that are no farther apart than the box is long
+/// it tells exactly whether they come nearer on paths that cross; unlike `may_hit` it says yes also for some that
+/// overlap. If products are great, nothing is said of the answer.
 #[inline(always)]
 pub fn may_hit_by_small(a: &Disk, b: &Disk) -> bool
     ensures exact { (rules : Rules) → IsSmallPair rules a.now b.now → FitsTheBox rules (separation_of a.now b.now) → (IsTrue result ↔ DoCoursesCross a.now b.now) }
@@ -79,8 +80,8 @@ pub fn greatest_square(rules: &Rules) -> i64
     rules.diameter * rules.diameter
 }
 
-/// The same as [`may_hit_by_small`], as if both disks had the greatest diameter, the square of which is told: so one
-/// number serves for all disks. Disks that wouldn't hit each other then don't.
+/// The same as [`may_hit_by_small`], as if both disks had the greatest diameter, whose square is given: so one number
+/// serves for all disks. If the answer is no, the disks don't hit each other with their own diameters either.
 #[inline(always)]
 pub fn may_hit_by_greatest(a: &Disk, b: &Disk, square: i64) -> bool
     ensures { TellsByGreatest square a.now b.now result }
@@ -123,7 +124,7 @@ pub(crate) fn lead_of(a: &Disk, b: &Disk) -> i64
     a.base.wrapping_sub(b.base).cast_signed()
 }
 
-// How far one coordinate is from another, less a way, but for what goes beyond 64 bits.
+// The difference of two coordinates, less a way, wrapped to 64 bits.
 #[inline(always)]
 fn wrapping_apart(x: i64, y: i64, v: i64, ticks: i64) -> i64
     ensures { result ≡ int_wrap w64 ((x -ℤ y) -ℤ (v *ℤ ticks)) }
@@ -131,7 +132,7 @@ fn wrapping_apart(x: i64, y: i64, v: i64, ticks: i64) -> i64
     x.wrapping_sub(y).wrapping_sub(v.wrapping_mul(ticks))
 }
 
-// The difference, but for what goes beyond 64 bits.
+// The difference, wrapped to 64 bits.
 #[inline(always)]
 fn wrapping_difference(u: Vector, v: Vector) -> Vector
     ensures { result ≡ vector (int_wrap w64 (u.x -ℤ v.x)) (int_wrap w64 (u.y -ℤ v.y)) }
@@ -150,7 +151,7 @@ fn distance_between(a: &Disk, b: &Disk) -> i64
     (a.size.wrapping_add(b.size).cast_unsigned() / 2).cast_signed()
 }
 
-// The quadratic of two disks at a separation, for which nothing is said where products are great.
+// The quadratic of two disks at a separation. If products are great, nothing is said of the answer.
 #[inline(always)]
 pub(crate) fn approach_at(s: &Separation) -> Approach
     ensures { IsApproachAt s.now result }
@@ -158,7 +159,7 @@ pub(crate) fn approach_at(s: &Separation) -> Approach
     Approach::new(s.places, s.velocities, s.distance)
 }
 
-// Of the separation of two disks; disks that are both inside the box are no farther apart than its sides are long.
+// Whether two disks are no farther apart than the sides of the box are long, as two disks inside the box always are.
 #[inline(always)]
 pub(crate) fn fits_the_box(rules: &Rules, places: Vector) -> bool
     requires { IsChecked rules.now }
@@ -167,21 +168,22 @@ pub(crate) fn fits_the_box(rules: &Rules, places: Vector) -> bool
     places.x.unsigned_abs() <= rules.width as u64 && places.y.unsigned_abs() <= rules.height as u64
 }
 
-// Of the separation of two disks; disks that are both inside the box are near.
+// Whether two disks are no farther apart on each axis than the longest side of any box, as two disks inside a box
+// always are.
 pub(crate) fn fit_in_a_box(places: Vector) -> bool
     ensures { IsTrue result ↔ IsWithin (2 ^ 30) places }
 {
     is_small(places.x) && is_small(places.y)
 }
 
-// By two comparisons, which are compiled into one.
+// Whether a difference is at most that long: by two comparisons, which are compiled into one.
 fn is_small(difference: i64) -> bool
     ensures { IsTrue result ↔ (nat_abs difference ≤ 2 ^ 30) }
 {
     -MAX_DIFFERENCE <= difference && difference <= MAX_DIFFERENCE
 }
 
-// Most pairs are told by this, by products alone.
+// Whether two disks approach each other on paths that cross. This decides most pairs, by products alone.
 pub(crate) fn are_on_course(rules: &Rules, a: &Disk, b: &Disk, s: &Separation) -> bool
     requires checked { IsChecked rules.now }
     requires first_valid { IsValidDisk rules.now a.now }

@@ -16,11 +16,10 @@ use plane_vectors::Vector;
 // The sides of the box.
 const SIDES: u32 = 4;
 
-/// The stamp at which a disk next hits a side of the box if it keeps its course, before the last tick of
-/// the run.
+/// The stamp at which a disk next hits a side of the box if it keeps its course, before the last tick of the run.
 ///
-/// `disk` is the number of the disk, and `side` is 0 left, 1 right, 2 bottom, 3 top. None where there is
-/// none.
+/// `disk` is the number of the disk, and `side` is 0 left, 1 right, 2 bottom, 3 top. None if the disk doesn't hit that
+/// side.
 pub fn wall_event(rules: &Rules, disk: u32, a: &Disk, side: u32) -> Option<Stamp>
     requires checked { IsChecked rules.now }
     requires valid { IsValidDisk rules.now a.now }
@@ -36,11 +35,10 @@ pub fn wall_event(rules: &Rules, disk: u32, a: &Disk, side: u32) -> Option<Stamp
     }
 }
 
-/// The stamp at which a disk first hits a side of the box if it keeps its course, before the last
-/// tick of the run.
+/// The stamp at which a disk first hits a side of the box if it keeps its course, before the last tick of the run.
 ///
-/// `disk` is the number of the disk. None where it hits none. Of two sides hit in one tick, the one
-/// with the lower number.
+/// `disk` is the number of the disk. None if it hits no side. If it hits two sides in one tick, the side with the lower
+/// number counts.
 pub fn first_wall(rules: &Rules, disk: u32, a: &Disk) -> Option<Stamp>
     requires checked { IsChecked rules.now }
     requires valid { IsValidDisk rules.now a.now }
@@ -66,7 +64,7 @@ fn wall_at(disk: u32, a: &Disk, side: u32, tick: u64) -> Stamp
     }
 }
 
-// The last tick at which a disk that keeps its course is inside the box; none where it stands still.
+// The last tick at which a disk that keeps its course is inside the box; none if it stands still.
 pub(crate) fn last_inside(rules: &Rules, a: &Disk) -> Option<u64>
     requires checked { IsChecked rules.now }
     requires valid { IsValidDisk rules.now a.now }

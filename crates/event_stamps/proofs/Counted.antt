@@ -27,7 +27,7 @@ abbrev pub IsPlace : {A : Type 0} → (A → Stamp) → Stamp → List A → ℕ
 IsPlace key t xs n =
     IsPartitionPoint (λ x. is_before (key x) t ≡ true) (λ x. is_before (key x) t ≡ false) xs n
 
--- one further on
+-- one place further on
 next_place : {A : Type 0} (key : A → Stamp) (t : Stamp) (x : A) (xs : List A) (n : ℕ) →
     IsPlace key t (x ∷ xs) (suc n) → IsPlace key t xs n
 next_place key t x xs n h = (

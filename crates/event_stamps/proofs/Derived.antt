@@ -28,7 +28,7 @@ pub cmp_is : (s t : Stamp) → stamps.ghosts.cmp s t ≡ stamp_cmp s t
 cmp_is s t = ap (λ (kind : Ordering). ordering_then (nat_cmp s.tick t.tick) (ordering_then (nat_cmp s.round t.round)
     (ordering_then kind (ordering_then (nat_cmp s.first t.first) (nat_cmp s.second t.second))))) (kind_is s.kind t.kind)
 
--- by four parts, of which the first is the kind
+-- by four parts, the first of which is the kind
 by_kind : (j k : Kind) (r : Option Ordering) (o : Ordering) → r ≡ Some o →
     is_some_and is_lt (partial_ordering_then (partial_kinds.ghosts.partial_cmp j k) r)
     ≡ is_lt (ordering_then (nat_cmp (kind_number j) (kind_number k)) o)

@@ -30,21 +30,21 @@ before_from_true s t h = from_lt (stamp_cmp s t) h
 pub not_before_from_false : (s t : Stamp) → is_before s t ≡ false → ¬ Before s t
 not_before_from_false s t e h = let other = is_before_true s t h in cc
 
--- what isn't after something that is before t is before t
+-- a stamp that isn't after one before t is before t
 pub not_after_before : (r s t : Stamp) → ¬ Before s r → Before s t → Before r t
 not_after_before r s t h lt = elim (before_decides r s) [
   | inl less ↦ before_trans r s t less lt
   | inr not ↦ subst (λ (v : Stamp). Before v t) (sym (same_stamp r s not h)) lt
 ]
 
--- what is before t is before whatever isn't
+-- a stamp before t is before each one that isn't before t
 pub before_not_before : (r s t : Stamp) → Before r t → ¬ Before s t → Before r s
 before_not_before r s t lt h = elim (before_decides r s) [
   | inl less ↦ less
   | inr not ↦ absurd (h (not_after_before s r t not lt))
 ]
 
--- of two stamps that aren't the same, where the second isn't before the first, the first is before the second
+-- if two stamps aren't the same, and the second isn't before the first, the first is before the second
 pub before_other : (s t : Stamp) → ¬ Before t s → ¬ (t ≡ s) → Before s t
 before_other s t not other = elim (before_decides s t) [
   | inl less ↦ less

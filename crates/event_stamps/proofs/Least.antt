@@ -1,4 +1,4 @@
--- The least of stamps: of those found so far, and of all of which a decided fact holds.
+-- The least of stamps: of those found so far, and of all with a property that is decided.
 use Rattle.std.proofs.Common.{◌≡◌, ◌⊎◌, inl, inr, ℕ, zero, suc, ◌+◌, ◌*◌, ◌/◌, ◌%◌, ◌<◌}
 use Rattle.std.proofs.Common.{sym, ap, ◌∙◌, subst, refl, arith}
 use Rattle.std.proofs.Common.{Option, Some, None, Bool, true, false}
@@ -28,7 +28,7 @@ only_least P None h = h
 only_least P (Some s) h =
     (h.0, λ t p before. not_before_itself s (subst (λ (v : Stamp). Before v s) (h.1 t p) before))
 
--- the least of those of which P or Q holds
+-- the least stamp for which P or Q holds
 pub least_of_either : (P Q R : Stamp → Type 0) (a b : Option Stamp) → ((t : Stamp) → P t → R t) →
     ((t : Stamp) → Q t → R t) → ((t : Stamp) → R t → P t ⊎ Q t) →
     IsLeastOf P a → IsLeastOf Q b → IsLeastOf R (earlier_of a b)
@@ -69,13 +69,13 @@ least_of_either P Q R (Some s) (Some t) p q split ha hb = by_order (stamp_cmp t 
     by_order Equal e = first (λ less. let same : Less ≡ Equal = sym less ∙ e in cc)
     by_order Greater e = first (λ less. let same : Less ≡ Greater = sym less ∙ e in cc)
 
--- what is the least of P is the least of whatever holds of the same
+-- the least stamp for which P holds is the least for any property of the same stamps
 pub least_same : (P R : Stamp → Type 0) (o : Option Stamp) → ((t : Stamp) → P t → R t) →
     ((t : Stamp) → R t → P t) → IsLeastOf P o → IsLeastOf R o
 least_same P R None to from h = λ t r. h t (from t r)
 least_same P R (Some s) to from h = (to s h.0, λ t r. h.1 t (from t r))
 
--- the least number below n of which P holds
+-- the least number below n for which P holds
 abbrev IsFirst : (ℕ → Type 0) → ℕ → ℕ → Type 0
 IsFirst P n k = (k < n) × P k × ((j : ℕ) → j < k → ¬ P j)
 
@@ -151,7 +151,7 @@ stamp_again s range =
     let first = ap (λ (v : ℕ). v % 65536) outer ∙ mod-mul-add n 65536 s.first range.1 in
     (λ i. stamp_of_parts (parts i) (first i) (second i)) ∙ parts_again s range.0
 
--- the rank is that of a stamp of which P holds
+-- the rank is that of a stamp for which P holds
 abbrev IsRank : (Stamp → Type 0) → ℕ → Type 0
 IsRank P n = P (stamp_of n) × (rank (stamp_of n) ≡ n)
 
@@ -160,7 +160,7 @@ has_rank P t range h =
     let again = stamp_again t range in
     (subst P (sym again) h, ap (λ (v : Stamp). rank v) again)
 
--- the least of those of which P holds, where all of them are in range and below a bound
+-- the least stamp for which P holds, if all such stamps are in range and below a bound
 pub least_or_none : (P : Stamp → Type 0) (bound : ℕ) → ((s : Stamp) → Decision (P s)) →
     ((s : Stamp) → P s → IsInRange s) → ((s : Stamp) → P s → rank s < bound) →
     ((s : Stamp) × IsLeast P s) ⊎ HasNone P

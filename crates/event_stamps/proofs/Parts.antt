@@ -97,7 +97,7 @@ pub below_whole : {A : Type 0} (key : A → Stamp) (t : Stamp) (xs : List A) →
 below_whole key t [] all = refl
 below_whole key t (x ∷ xs) all = below_first key t x xs all.0 ∙ ap (λ v. x ∷ v) (below_whole key t xs all.1)
 
--- where all stay, the last is before the stamp
+-- if all stay, the last is before the stamp
 pub kept_below : {A : Type 0} (key : A → Stamp) (f t : Stamp) (xs : List A) → keyed_below key t xs ≡ xs →
     (xs ≡ []) ⊎ Before (last_key key f xs) t
 kept_below key f t xs same = last_before key f t xs (subst (AllBefore key t) same (all_below key t xs))

@@ -117,7 +117,7 @@ after_joined : {A : Type 0} (key : A → Stamp) (s t : Stamp) (xs ys : List A) �
 after_joined key s t [] ys r lt all more = after_if_from key s t ys lt more
 after_joined key s t (x ∷ xs) ys r lt all more = (r.0, after_joined key (key x) t xs ys r.1 all.0 all.1 more)
 
--- where the first are before a stamp and the second rise from it on, both together rise
+-- if the first are before a stamp and the second rise from it on, both together rise
 pub rises_joined : {A : Type 0} (key : A → Stamp) (t : Stamp) (xs ys : List A) → KeysRise key xs →
     AllBefore key t xs → RisesFrom key t ys → KeysRise key (xs ++ ys)
 rises_joined key t [] ys r all more = rises_if_from key t ys more

@@ -21,7 +21,7 @@ pub fn ranks_agree()
     ensures { RanksAgree }
 {}
 
-/// Of stamps with ranks below a bound that pass a test there is a least, or there is none.
+/// Of the stamps with ranks below a bound that pass a test there is a least one, or there are none.
 pub fn least_or_none()
     ensures { LeastOrNone }
 {}

@@ -56,7 +56,7 @@ impl Stamp {
         }
     }
 
-    /// The stamp at which a run that ends at the tick `end` ends: all its events are before it.
+    /// The stamp at which a run with the last tick `end` ends: all its events are before it.
     pub fn end_of(end: u64) -> Stamp
         ensures { result ≡ end_stamp end }
     {

@@ -1,4 +1,4 @@
--- Codes are ordered as the keys are, and a key is its code's.
+-- Codes are ordered as the keys are, and a key is the key of its code.
 use Rattle.std.proofs.Common.{◌≡◌, ◌≢◌, ◌⊎◌, ℕ, ◌+◌, ◌-◌, ◌*◌, ◌/◌, ◌%◌, ◌^◌, ◌<◌, ◌≤◌, arith, refl, sym, ap, subst, ◌∙◌, inl, inr}
 use Rattle.std.specs.Prelude.{Some, None, IfSome}
 use Rattle.std.proofs.lemmas.Nat.{div-mul-add, mod-mul-add}

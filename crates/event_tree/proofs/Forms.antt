@@ -1,4 +1,4 @@
--- The entries are those of the wide form, where there is one.
+-- The entries are those of the wide form, if there is one.
 use Rattle.std.proofs.Common.{◌≡◌, ℕ, Option, refl, sym, ap, subst, ◌∙◌}
 use Rattle.std.specs.Prelude.{Some, None, ⊤, Result, OnOk, unwrap_or, is_some, false}
 use Rattle.std.proofs.lemmas.Bool.{false≢true}

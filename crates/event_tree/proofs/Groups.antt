@@ -1,4 +1,4 @@
--- Of each four disks the least key leads.
+-- The least key of each four disks leads.
 use Rattle.std.proofs.Common.{◌≡◌, ◌≢◌, ℕ, zero, suc, ◌+◌, ◌-◌, ◌*◌, ◌/◌, ◌%◌, ◌^◌, ◌<◌, ◌≤◌, List, [], length, take, drop, set, get_or, replicate, below_more, arith, refl, sym, ap, subst, ◌∙◌, inl, inr}
 use Rattle.std.specs.Prelude.{None}
 use Rattle.std.proofs.lemmas.List.{get_or-drop, get_or-set_same, get_or-set_other, get_or_past, get_or_default, length-drop, length-map, length-set, length-replicate, map-set}
@@ -210,7 +210,7 @@ led_again entries leads disk entry least are within lead =
       ];
     }
 
--- ---- nothing of any disk
+-- ---- no key and no bound of any disk
 blank_least : (keys leads : List Key) (group : ℕ) → ((i : ℕ) → key_at keys i ≡ None) → ((i : ℕ) → key_at leads i ≡ None) →
     IsLeastFrom keys (4 * group + 3) 4 (key_at leads group)
 blank_least keys leads group none free = record {

@@ -76,7 +76,7 @@ three_ways : (a b c d : ℕ) → nat_cmp a b ≡ nat_cmp c d →
     ((a < b) × (c < d)) ⊎ ((a ≡ b) × (c ≡ d)) ⊎ ((b < a) × (d < c))
 three_ways a b c d e = grind arith
 
--- one digit more leaves two numbers ordered as two others, also where those have a greater base
+-- one digit more leaves two numbers ordered as two others, also if those have a greater base
 recoded : (a b c d m n x y : ℕ) → nat_cmp a b ≡ nat_cmp c d → x < m → y < m → m ≤ n →
     nat_cmp (a * m + x) (b * m + y) ≡ nat_cmp (c * n + x) (d * n + y)
 recoded a b c d m n x y e hx hy le = elim (three_ways a b c d e) [

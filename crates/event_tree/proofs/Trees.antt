@@ -224,7 +224,7 @@ played_up roots first child parent nodes key few len but above within least k in
     go (inr ne) = subst (λ (v : Key). IsLeastFrom (set nodes parent key) (4 * k + roots) 4 v) (stays k ne)
         (same_least nodes (set nodes parent key) (4 * k + roots) 4 (key_at nodes k) same (but k inner (omega arith)))
 
--- where the parent keeps its key, all are played
+-- if the parent keeps its key, all are played
 pub kept_up : (roots first child parent : ℕ) (nodes : List Key) → roots ≤ 4 → first ≤ 2 ^ 32 → length nodes ≡ 4 * first + roots →
     IsTreeBut roots first child nodes → parent + 1 ≡ (child + 4 - roots) / 4 → IsPlayed roots nodes parent → IsTree roots first nodes
 kept_up roots first child parent nodes few most len but above here = record {
@@ -252,7 +252,7 @@ leaf_set roots first leaf nodes key few after tree k inner other =
     same i lt = stays (4 * k + roots + i) (omega arith)
 
 -- ---- more room
--- where no key is set, no disk has one
+-- if no key is set, no disk has one
 pub none_at : (n disk : ℕ) → key_at (replicate n None) disk ≡ None
 none_at n disk = at (below_or_not disk n)
   where

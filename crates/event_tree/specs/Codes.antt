@@ -1,4 +1,4 @@
--- Keys as numbers of 64 bits, where they are small.
+-- Keys as numbers of 64 bits, if they are small.
 use Rattle.std.specs.Prelude.{◌≡◌, ◌⊎◌, ℕ, ◌+◌, ◌-◌, ◌*◌, ◌/◌, ◌%◌, ◌^◌, ◌<◌, ◌==◌, if◌then◌else◌}
 use Rattle.event_tree.specs.Keys.{Key}
 use Rattle.event_tree.specs.Packing.{pack, unpack, IsPacked}
@@ -11,7 +11,7 @@ HasCode n = (n ≡ 2 ^ 128 - 1) ⊎ ((n / 2 ^ 37 % 2 ^ 14 ≡ 0) × (n / 2 ^ 51 
 unfoldable pub narrowed : ℕ → ℕ
 narrowed n = n / 2 ^ 51 % 2 ^ 27 * 2 ^ 37 + n % 2 ^ 37
 
--- the number that a code is of; the greatest code is that of no key
+-- the number of a code; the greatest code is that of no key
 unfoldable pub widened : ℕ → ℕ
 widened c = if c == (2 ^ 64 - 1) then 2 ^ 128 - 1 else c / 2 ^ 37 * 2 ^ 51 + c % 2 ^ 37
 

@@ -2,11 +2,12 @@
 use Rattle.std.specs.Prelude.{◌≡◌, ◌≢◌, ℕ, ◌≤◌, List, [], length}
 use Rattle.event_tree.specs.Keys.{Key, key_at}
 
--- of each disk the key, and the bound
+-- for each disk its key and its bound
 pub record EntriesData : Type 0 where
   pub keys : List Key
   pub bounds : List Key
 
+-- the entries with these keys and bounds
 abbrev pub entries_with : List Key → List Key → EntriesData
 entries_with keys bounds = record { keys = keys; bounds = bounds }
 
@@ -27,7 +28,7 @@ pub record IsEntered (disk : ℕ) (entry : Key × Key) (old new : EntriesData) :
 abbrev pub AreSame : EntriesData → EntriesData → Type 0
 AreSame old new = (disk : ℕ) → entry_at new disk ≡ entry_at old disk
 
--- room for so many disks, and the same entries
+-- room for this many disks, and the same entries
 pub record IsRoomier (old : EntriesData) (room : ℕ) (new : EntriesData) : Type 0 where
   pub enough : room ≤ length new.keys
   pub same : AreSame old new

@@ -11,19 +11,19 @@ Key = Option Stamp
 abbrev pub key_at : List Key → ℕ → Key
 key_at keys disk = slice_index_or keys disk None
 
--- no stamp comes after all stamps
+-- `None` comes after all stamps
 abbrev pub IsNotAfter : Key → Key → Type 0
 IsNotAfter a None = ⊤
 IsNotAfter None (Some t) = ⊥
 IsNotAfter (Some s) (Some t) = ¬ Before t s
 
--- a stamp is before those that come after it, and before no stamp
+-- a stamp is before those that come after it, and before `None`
 abbrev pub IsKeyBefore : Key → Key → Type 0
 IsKeyBefore None b = ⊥
 IsKeyBefore (Some s) None = ⊤
 IsKeyBefore (Some s) (Some t) = Before s t
 
--- one of the keys, and not after any of them; none where all are none
+-- one of the keys, and not after any of them; none if all are none
 pub record IsLeastKey (keys : List Key) (key : Key) : Type 0 where
   pub one : (s : Stamp) → key ≡ Some s → (disk : ℕ) × (key_at keys disk ≡ Some s)
   pub least : (disk : ℕ) → IsNotAfter key (key_at keys disk)
@@ -34,21 +34,21 @@ pub record IsSetAt (disk : ℕ) (key : Key) (old new : List Key) : Type 0 where
   pub others : (other : ℕ) → other ≢ disk → key_at new other ≡ key_at old other
 
 -- ---- how the keys are kept
--- room for so many keys, and the same for each disk
+-- room for this many keys, and the same key for each disk
 pub record HasWiderRoom (old : List Key) (room : ℕ) (new : List Key) : Type 0 where
   pub enough : room ≤ length new
   pub same : (disk : ℕ) → key_at new disk ≡ key_at old disk
 
--- one of so many keys from a place on, and not after any of them
+-- one of this many keys from a place on, and not after any of them
 pub record IsLeastFrom (nodes : List Key) (start many : ℕ) (key : Key) : Type 0 where
   pub one : (i : ℕ) × (i < many) × (key_at nodes (start + i) ≡ key)
   pub least : (i : ℕ) → i < many → IsNotAfter key (key_at nodes (start + i))
 
--- the node has the least of its children's keys, which follow on so many nodes at the top
+-- the node has the least of its children's keys; the first node's children come after this many nodes at the top
 abbrev pub IsPlayed : ℕ → List Key → ℕ → Type 0
 IsPlayed roots nodes k = IsLeastFrom nodes (4 * k + roots) 4 (key_at nodes k)
 
--- the nodes below `first` are played, and the others have the keys; so many at the top have no parent
+-- the nodes below `first` are played, and the others have the keys; `roots` nodes at the top have no parent
 pub record IsTree (roots first : ℕ) (nodes : List Key) : Type 0 where
   pub most : first ≤ 2 ^ 32
   pub within : first ≤ length nodes
@@ -59,7 +59,7 @@ pub record IsTree (roots first : ℕ) (nodes : List Key) : Type 0 where
 abbrev pub IsTreeBut : ℕ → ℕ → ℕ → List Key → Type 0
 IsTreeBut roots first child nodes = (k : ℕ) → k < first → (k + 1) ≢ ((child + 4 - roots) / 4) → IsPlayed roots nodes k
 
--- room for so many keys, and none is set
+-- room for this many keys, and none is set
 pub record IsBlank (room : ℕ) (keys : List Key) : Type 0 where
   pub enough : room ≤ length keys
   pub none : (place : ℕ) → key_at keys place ≡ None

@@ -12,11 +12,11 @@ keys_in entries = map (λ e. e.key) entries
 abbrev pub bounds_in : List NarrowEntry → List Key
 bounds_in entries = map (λ e. e.bound) entries
 
--- of each disk its entry; the first three are of no disk
+-- for each disk its entry; the first three belong to no disk
 abbrev pub disk_entries : List NarrowEntry → EntriesData
 disk_entries entries = entries_with (drop 3 (keys_in entries)) (drop 3 (bounds_in entries))
 
--- behind the first three the entries are in fours, of each four the least key leads, and no disk is past 2^32
+-- after the first three, the entries are in fours, the lead of each four is its least key, and no disk is past 2^32
 pub record AreLed (entries : List NarrowEntry) (leads : List Key) : Type 0 where
   pub fours : 0 < length entries → length entries % 4 ≡ 3
   pub room : length entries ≤ 4 * length leads + 3

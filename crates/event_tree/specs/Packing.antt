@@ -11,6 +11,7 @@ unfoldable pub number_of_stamp : Stamp → ℕ
 number_of_stamp s =
     (((s.tick * 2 ^ 17 + s.round) * 2 ^ 2 + kind_number s.kind) * 2 ^ 16 + s.first) * 2 ^ 16 + s.second
 
+-- the kind that has a number
 abbrev pub kind_of : ℕ → Kind
 kind_of n = if n == 0 then Cross else (if n == 1 then Wall else Pair)
 
@@ -24,11 +25,12 @@ stamp_of_number n = record {
   second = n % 2 ^ 16;
 }
 
--- no key has the greatest number of 128 bits
+-- the number of a key; that of no key is the greatest number of 128 bits
 abbrev pub pack : Key → ℕ
 pack None = 2 ^ 128 - 1
 pack (Some s) = number_of_stamp s
 
+-- the key that has a number
 abbrev pub unpack : ℕ → Key
 unpack n = if n == (2 ^ 128 - 1) then None else Some (stamp_of_number n)
 

@@ -1,4 +1,4 @@
-//! Keys of disks, of which the least is never asked for.
+//! Keys of disks whose least one is never asked for.
 
 ghost use Rattle.std.specs.Prelude.{◌≡◌, [], OnOk};
 ghost use Rattle.event_tree.specs.Keys.{IsSetAt, key_at};
@@ -33,7 +33,7 @@ impl DiskBounds {
         }
     }
 
-    // The key of a disk; none where none was set.
+    // The key of a disk; none if none was set.
     pub fn get(&self, disk: u32) -> Packed
         ensures { result ≡ key_at self.now disk }
     {

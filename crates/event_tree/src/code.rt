@@ -1,4 +1,4 @@
-//! Keys as numbers of 8 bytes, where they are small.
+//! Keys as numbers of 8 bytes, if they are small.
 
 ghost use Rattle.std.specs.Prelude.{◌≡◌, ◌↔◌, ◌<◌, ◌^◌, None, IfSome, IsTrue};
 ghost use Rattle.event_stamps.specs.Least.{earlier_of};
@@ -8,16 +8,16 @@ ghost use Rattle.event_tree.specs.Codes.{narrowed, widened, HasCode};
 use crate::packed::Packed;
 use std::marker::Model;
 
-// How many numbers a tick has.
+// How many numbers belong to one tick.
 const TICK: u128 = 1 << 51;
 
-// How many codes a tick has. Both are powers of two, so that codes are put together and taken apart by shifts.
+// How many codes belong to one tick. Both are powers of two, so that codes are put together and taken apart by shifts.
 const CODES: u64 = 1 << 37;
 
 // How many ticks have codes.
 const TICKS: u128 = 1 << 27;
 
-// How many bits of a round have no room in a code, as a power of two.
+// The bits of a round that have no room in a code, as a power of two.
 const ROUNDS_LEFT_OUT: u128 = 1 << 14;
 
 // The number of no key, and its code, above those of all stamps.
@@ -25,7 +25,7 @@ const NO_KEY: u128 = u128::MAX;
 
 const NO_CODE: u64 = u64::MAX;
 
-// A key, a stamp or none, as a number of 8 bytes: that of 16 bytes without the upper 14 bits of the round, which
+// A key, a stamp or none, as a number of 8 bytes: its number of 16 bytes without the upper 14 bits of the round, which
 // are 0. The codes are ordered as the keys are, and no key is the greatest of all.
 #[derive(Clone, Copy)]
 pub(crate) struct Code {
@@ -57,7 +57,7 @@ impl Code {
         Code { code: NO_CODE }
     }
 
-    // The code of a key; none where the key doesn't fit.
+    // The code of a key; none if the key doesn't fit.
     #[inline(always)]
     pub fn of(key: Packed) -> Option<Code>
         ensures { IfSome result (λ code. code ≡ key) }
@@ -97,7 +97,7 @@ impl Code {
     }
 }
 
-// Whether a key has a code, by its number: a tick below 2^27 and a round below 8, or no key.
+// Whether the key of a number has a code: its tick is below 2^27 and its round below 8, or it is no key.
 #[inline(always)]
 fn has_code(number: u128) -> bool
     ensures { IsTrue result ↔ HasCode number }

@@ -7,12 +7,12 @@ use crate::code::Code;
 use std::alloc::{AllocError, Global};
 use std::marker::Model;
 
-// Some keys, in a tree as that of `EventTree`.
+// Some keys, in a tree like that of `EventTree`.
 #[derive(Drop)]
 pub(crate) struct CodeTree {
-    // The key i is at first + i, and at each k below first is the least of the four from 4 k + 2 on. The two at the
-    // top, from 0 on, have no node above them. A big block of memory mostly begins 16 bytes after a multiple of 64,
-    // so that the four are in one line of the cache.
+    // Key i is at first + i. At each k below first is the least of the four from 4 k + 2 on. The two at the top, from 0
+    // on, have no node above them. A big block of memory mostly begins 16 bytes after a multiple of 64, so the four are
+    // in one line of the cache.
     nodes: Vec<Code>,
     // Where the keys begin.
     first: usize,
@@ -40,7 +40,7 @@ impl CodeTree {
         }
     }
 
-    // Room for so many keys, or for up to two more.
+    // Room for `room` keys, or for up to two more.
     pub fn with_room(alloc: Global, room: usize) -> Result<CodeTree, AllocError>
         requires { room ≤ 2 ^ 33 }
         ensures { IfOk result (IsBlank room) }
@@ -52,7 +52,7 @@ impl CodeTree {
         })
     }
 
-    // The least of the keys; none where there is no key.
+    // The least of the keys; none if there is no key.
     #[inline(always)]
     pub fn top(&self) -> Code
         ensures { IsLeastKey self.now result }
@@ -76,7 +76,7 @@ impl CodeTree {
     }
 }
 
-// Plays the nodes above a leaf again, up to the first that keeps its key.
+// Plays the nodes above a leaf again, up to the first one whose key doesn't change.
 #[inline(always)]
 fn replay(nodes: &mut [Code], first: usize, leaf: usize)
     requires most { first ≤ 2 ^ 32 }
@@ -105,7 +105,7 @@ fn least_of_four(nodes: &[Code], start: usize) -> Code
     requires { start + 4 ≤ length nodes.now }
     ensures { IsLeastFrom nodes.now start 4 result }
 {
-    // One question for the bounds of all four.
+    // One test of the bounds for all four.
     let four = &nodes[start..start + 4];
     let left = four[0].earlier(four[1]);
     let right = four[2].earlier(four[3]);

@@ -15,12 +15,12 @@ use std::marker::Model;
 
 /// A key and a bound of each disk: a stamp, or none.
 ///
-/// While all of them are of ticks below 2^27 and rounds below 8, an entry of 16 bytes has both, and four of them
-/// are in one line of the cache. From the first on that isn't, all are kept in an `EventTree` and a list.
+/// While all of them have ticks below 2^27 and rounds below 8, an entry of 16 bytes has both, and four entries are in
+/// one line of the cache. From the first one that doesn't fit on, all are kept in an `EventTree` and a list.
 #[derive(Drop)]
 pub struct Entries {
     narrow: Narrow,
-    // What there is, once something doesn't fit.
+    // The wide form, once something doesn't fit.
     wide: Option<Wide>,
 }
 
@@ -34,7 +34,7 @@ impl Model for Entries {
 }
 
 impl Entries {
-    /// Nothing of any disk. No memory is taken.
+    /// No key and no bound of any disk. No memory is taken.
     pub fn new(alloc: Global) -> Entries
         ensures { result ≡ is_empty }
     {
@@ -44,7 +44,7 @@ impl Entries {
         }
     }
 
-    /// The least of the keys; none where there is no key.
+    /// The least of the keys; none if there is no key.
     pub fn least(&self) -> Option<Stamp>
         ensures least { IsLeastKey self.now.keys result }
         ensures room { IfSome result HasRoom }
@@ -63,7 +63,7 @@ impl Entries {
         }
     }
 
-    /// The key of a disk; none where none was set.
+    /// The key of a disk; none if none was set.
     #[inline(always)]
     pub fn key(&self, disk: u32) -> Packed
         ensures { result ≡ key_at self.now.keys disk }
@@ -74,7 +74,7 @@ impl Entries {
         }
     }
 
-    /// The bound of a disk; none where none was set.
+    /// The bound of a disk; none if none was set.
     #[inline(always)]
     pub fn bound(&self, disk: u32) -> Packed
         ensures { result ≡ key_at self.now.bounds disk }

@@ -26,10 +26,9 @@ use std::marker::Model;
 /// as many, in threes: four nodes of 16 bytes for each three disks.
 #[derive(Drop)]
 pub struct EventTree {
-    // The key of disk i is at first + i, and at each k below first is the least of the four from
-    // 4 k + 3 on. The three at the top, from 0 on, have no node above them. A big block of memory
-    // mostly begins 16 bytes after a multiple of 64, so that the four are in one line of the cache,
-    // and the three are too.
+    // The key of disk i is at first + i. At each k below first is the least of the four from 4 k + 3 on. The three at
+    // the top, from 0 on, have no node above them. A big block of memory mostly begins 16 bytes after a multiple of 64,
+    // so the four are in one line of the cache, and so are the three.
     nodes: Vec<Packed>,
     // Where the keys of the disks begin.
     first: usize,
@@ -63,7 +62,7 @@ impl EventTree {
         }
     }
 
-    /// The least of the keys; none where there is no key.
+    /// The least of the keys; none if there is no key.
     pub fn least(&self) -> Option<Stamp>
         ensures least { IsLeastKey self.now result }
         ensures room { IfSome result HasRoom }
@@ -83,7 +82,7 @@ impl EventTree {
         }
     }
 
-    /// The key of a disk; none where none was set.
+    /// The key of a disk; none if none was set.
     pub fn key(&self, disk: u32) -> Option<Stamp>
         ensures { result ≡ key_at self.now disk }
     {
@@ -123,14 +122,14 @@ impl EventTree {
         Ok(())
     }
 
-    // For how many disks there is room.
+    // The number of disks for which there is room.
     fn room(&self) -> usize
         ensures { result ≡ length self.now }
     {
         self.nodes.len() - self.first
     }
 
-    // The same keys, with room for so many disks, or for up to two more.
+    // The same keys, with room for `room` disks, or for up to two more.
     fn with_room(&self, alloc: Global, room: usize) -> Result<EventTree, AllocError>
         requires more { length self.now < room }
         requires most { room ≤ 2 ^ 33 }
@@ -158,7 +157,7 @@ impl EventTree {
     }
 }
 
-// Plays the nodes above a leaf again, up to the first that keeps its key.
+// Plays the nodes above a leaf again, up to the first one whose key doesn't change.
 fn replay(nodes: &mut [Packed], first: usize, leaf: usize)
     requires most { first ≤ 2 ^ 32 }
     requires leaf { first ≤ leaf }
@@ -186,7 +185,7 @@ fn least_of_four(nodes: &[Packed], start: usize) -> Packed
     requires { start + 4 ≤ length nodes.now }
     ensures { IsLeastFrom nodes.now start 4 result }
 {
-    // One question for the bounds of all four.
+    // One test of the bounds for all four.
     let four = &nodes[start..start + 4];
     let left = four[0].earlier(four[1]);
     let right = four[2].earlier(four[3]);

@@ -1,4 +1,4 @@
-//! A key and a bound of each disk in 16 bytes, where all of them are small.
+//! A key and a bound of each disk in 16 bytes, if all of them are small.
 
 ghost use Rattle.std.specs.Prelude.{◌≡◌, ◌+◌, ◌<◌, ◌≤◌, ◌^◌, length, IfOk, OnOk};
 ghost use Rattle.event_tree.specs.Keys.{IsLeastKey, IsLeastFrom, key_at};
@@ -25,8 +25,8 @@ pub(crate) struct NarrowEntry {
 // number that was ever set, or for up to twice as many.
 #[derive(Drop)]
 pub(crate) struct Narrow {
-    // From the fourth one on those of the disks: a big block of memory mostly begins 16 bytes after a multiple of
-    // 64, so that four side by side are in one line of the cache.
+    // The disks' entries begin with the fourth one: a big block of memory mostly begins 16 bytes after a multiple of
+    // 64, so four side by side are in one line of the cache.
     entries: Vec<NarrowEntry>,
     // The least key of each such four.
     leads: CodeTree,
@@ -44,7 +44,7 @@ impl Model for Narrow {
 }
 
 impl Narrow {
-    // Nothing of any disk. No memory is taken.
+    // No key and no bound of any disk. No memory is taken.
     pub fn new(alloc: Global) -> Narrow
         ensures { result ≡ is_empty }
     {
@@ -54,7 +54,7 @@ impl Narrow {
         }
     }
 
-    // The least of the keys; none where there is no key.
+    // The least of the keys; none if there is no key.
     #[inline(always)]
     pub fn top(&self) -> Code
         ensures { IsLeastKey self.now.keys result }
@@ -62,7 +62,7 @@ impl Narrow {
         self.leads.top()
     }
 
-    // The key of a disk; none where none was set.
+    // The key of a disk; none if none was set.
     #[inline(always)]
     pub fn key(&self, disk: u32) -> Code
         ensures { result ≡ key_at self.now.keys disk }
@@ -75,7 +75,7 @@ impl Narrow {
         }
     }
 
-    // The bound of a disk; none where none was set.
+    // The bound of a disk; none if none was set.
     #[inline(always)]
     pub fn bound(&self, disk: u32) -> Code
         ensures { result ≡ key_at self.now.bounds disk }
@@ -100,7 +100,7 @@ impl Narrow {
         Ok(())
     }
 
-    // The same of a disk for which there is no room yet. Seldom asked, so it is kept apart: then `set` needs no
+    // The same for a disk for which there is no room yet. It is seldom called, so it is kept apart: then `set` needs no
     // registers but those that it may change.
     #[inline(never)]
     fn set_beyond(&mut self, alloc: Global, disk: u32, entry: NarrowEntry) -> Result<(), AllocError>
@@ -126,7 +126,7 @@ impl Narrow {
         Ok(wide)
     }
 
-    // For how many disks there is room.
+    // The number of disks for which there is room.
     #[inline(always)]
     fn room(&self) -> usize
         ensures { result ≡ length self.now.keys }
@@ -134,7 +134,7 @@ impl Narrow {
         self.entries.len().saturating_sub(3)
     }
 
-    // The same, with room for so many disks, or for up to three more.
+    // The same entries, with room for `room` disks, or for up to three more.
     #[inline(never)]
     fn with_room(&self, alloc: Global, room: usize) -> Result<Narrow, AllocError>
         requires more { length self.now.keys < room }
@@ -156,7 +156,7 @@ impl Narrow {
         Ok(wider)
     }
 
-    // Sets those of a disk for which there is room.
+    // Sets the key and the bound of a disk for which there is room.
     #[inline(always)]
     fn put(&mut self, disk: usize, entry: NarrowEntry)
         requires { disk < length self.old.keys }
@@ -176,7 +176,7 @@ fn least_of_group(entries: &[NarrowEntry], start: usize) -> Code
     requires { start + 4 ≤ length entries.now }
     ensures { IsLeastFrom (keys_in entries.now) start 4 result }
 {
-    // One question for the bounds of all four.
+    // One test of the bounds for all four.
     let four = &entries[start..start + 4];
     let left = four[0].key.earlier(four[1].key);
     let right = four[2].key.earlier(four[3].key);

@@ -3,8 +3,8 @@
 use event_stamps::{Kind, Stamp};
 use std::marker::Model;
 
-// How many rounds a number tells apart. This and the next two are powers of two, so that numbers
-// are put together and taken apart by shifts.
+// How many rounds a number distinguishes. This and the next two are powers of two, so that numbers are put together and
+// taken apart by shifts.
 const ROUNDS: u128 = 1 << 17;
 
 // How many kinds.
@@ -91,7 +91,7 @@ impl Packed {
         self.number == other.number
     }
 
-    /// Whether it comes before another one, where no key comes after all stamps.
+    /// Whether it comes before another one; no key comes after all stamps.
     #[inline(always)]
     pub fn is_before(self, other: Packed) -> bool
         ensures { IsTrue result ↔ IsKeyBefore self other }
@@ -99,7 +99,7 @@ impl Packed {
         self.number < other.number
     }
 
-    /// The key, if it comes after another one, which is there; else none.
+    /// The key, if it comes after another one, which isn't none; else none.
     #[inline(always)]
     pub fn if_after(self, last: Packed) -> Packed
         ensures same { (s : Stamp) → last ≡ Some s → IfSome self (Before s) → result ≡ self }

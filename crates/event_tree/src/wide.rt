@@ -1,4 +1,4 @@
-//! A key and a bound of each disk, whatever they are.
+//! A key and a bound of each disk, of any size.
 
 ghost use Rattle.std.specs.Prelude.{◌≡◌, OnOk};
 ghost use Rattle.event_tree.specs.Keys.{IsLeastKey, key_at};
@@ -25,7 +25,7 @@ impl std::marker::Model for Wide {
 }
 
 impl Wide {
-    // Nothing of any disk. No memory is taken.
+    // No key and no bound of any disk. No memory is taken.
     pub fn new(alloc: Global) -> Wide
         ensures { result ≡ is_empty }
     {
@@ -35,21 +35,21 @@ impl Wide {
         }
     }
 
-    // The least of the keys; none where there is no key.
+    // The least of the keys; none if there is no key.
     pub fn top(&self) -> Packed
         ensures { IsLeastKey self.now.keys result }
     {
         self.keys.top()
     }
 
-    // The key of a disk; none where none was set.
+    // The key of a disk; none if none was set.
     pub fn key(&self, disk: u32) -> Packed
         ensures { result ≡ key_at self.now.keys disk }
     {
         self.keys.packed_key(disk)
     }
 
-    // The bound of a disk; none where none was set.
+    // The bound of a disk; none if none was set.
     pub fn bound(&self, disk: u32) -> Packed
         ensures { result ≡ key_at self.now.bounds disk }
     {

@@ -39,13 +39,13 @@ one_fails : (a b x : Bool) → x ≡ false → x ≡ a → x ≡ (a && b)
 one_fails true b x h k = cc
 one_fails false b x h k = k
 
--- the test of a place, where the test of its first coordinate holds
+-- the test of a place, if the test of its first coordinate holds
 pub inside_where_first : (rules : Rules) (a : Disk) (p : Vector) (radius : ℤ) (x y : Bool) → radius ≡ radius_of a → x ≡ true →
     x ≡ is_in (radius, rules.width -ℤ radius) p.x → y ≡ is_in (radius, rules.height -ℤ radius) p.y → y ≡ is_inside rules a p
 inside_where_first rules a p radius x y e h k l =
     rw (← e) (both_hold (is_in (radius, rules.width -ℤ radius) p.x) (is_in (radius, rules.height -ℤ radius) p.y) x y h k l)
 
--- the test of a place, where the test of its first coordinate fails
+-- the test of a place, if the test of its first coordinate fails
 pub outside_by_first : (rules : Rules) (a : Disk) (p : Vector) (radius : ℤ) (x : Bool) → radius ≡ radius_of a → x ≡ false →
     x ≡ is_in (radius, rules.width -ℤ radius) p.x → x ≡ is_inside rules a p
 outside_by_first rules a p radius x e h k =

@@ -1,4 +1,4 @@
--- No fault exactly where each number is in its range.
+-- There is no fault if and only if each number is in its range.
 use Rattle.std.proofs.Common.{◌≡◌, ◌↔◌, ◌∙◌, sym, ℕ, ◌%◌, ◌≤◌, Bool, ◌&&◌, ◌==◌, int_le, true, false, if◌then◌else◌, IsTrue, ℤ, pos, nat_abs, ◌≤ℤ◌, refl, arith}
 use Rattle.std.specs.Prelude.{Option, Some, None}
 use Rattle.std.proofs.lemmas.Int.{ints}
@@ -54,7 +54,7 @@ pub size_tested : (rules : Rules) (n : ℤ) (b : Bool) → b ≡ is_size rules.d
 size_tested rules n b e = (λ h. size_by_test rules n (sym e ∙ h), λ h. e ∙ size_tests rules n h)
 
 -- ---- faults
--- where none is found, the first test holds, and none is found by the others
+-- if none is found, the first test holds, and the others find none
 passed : (b : Bool) (rest : Option RuleFault) (fault : RuleFault) → (if b then rest else Some fault) ≡ None → (b ≡ true) × (rest ≡ None)
 passed true rest fault h = (refl, h)
 passed false rest fault h = absurd (none fault h)

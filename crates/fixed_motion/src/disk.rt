@@ -64,7 +64,7 @@ impl Disk {
         }
     }
 
-    /// The mark at a tick that isn't before the base tick: later than that it is 0.
+    /// The mark at a tick that isn't before the base tick. If the tick is later than that, the mark is 0.
     pub fn mark_at(&self, tick: u64) -> u32
         ensures { result ≡ mark_at self.now tick }
     {
@@ -94,7 +94,7 @@ impl Disk {
             && self.mark <= rules.round_limit
     }
 
-    /// Whether the disk is inside the box where its centre is at the place, in units of length.
+    /// Whether the disk is inside the box if its centre is at the place, in units of length.
     pub fn is_inside(&self, rules: &Rules, place: Vector) -> bool
         requires { IsChecked rules.now }
         ensures fact { IsTrue result ↔ IsInside rules.now self.now place }

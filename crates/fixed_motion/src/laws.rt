@@ -3,7 +3,7 @@
 ghost use Rattle.fixed_motion.specs.Rules.{RangesAgree};
 ghost use Rattle.fixed_motion.specs.Motion.{SizesBounded};
 
-/// No number of the rules is at fault exactly where each is in its range.
+/// There is no fault in the numbers of the rules if and only if each is in its range.
 pub fn ranges_agree()
     ensures { RangesAgree }
 {}

@@ -6,17 +6,20 @@ use std::marker::Model;
 /// The greatest number of disks.
 pub const MAX_DISKS: usize = 65_536;
 
-/// A valid scene: checked rules, at most [`MAX_DISKS`] disks inside the box with sizes that the rules
-/// allow, with base tick and mark 0 and no component of a velocity above the speed limit, no two of
-/// which overlap; and after how many ticks each the state of all disks is asked for, if at all.
+/// A valid scene.
+///
+/// - Its rules are checked.
+/// - It has at most [`MAX_DISKS`] disks, each inside the box, of a size that the rules allow, with base tick and mark
+///   0, and with no component of the velocity above the speed limit. No two overlap.
+/// - `every` may ask for the state of all disks at regular ticks.
 #[derive(Drop)]
 pub struct Scene {
     /// The rules.
     pub rules: Rules,
     /// The disks, numbered from 0.
     pub disks: Vec<Disk>,
-    /// The state of all disks is asked for at each multiple of so many ticks, 1 to
-    /// [`MAX_END`](crate::MAX_END), below the end.
+    /// The state of all disks is asked for at each multiple of this many ticks, 1 to [`MAX_END`](crate::MAX_END), below
+    /// the end.
     pub every: Option<u64>,
 }
 
@@ -34,7 +37,7 @@ ghost use Rattle.std.specs.Prelude.{◌≡◌, length};
 ghost use Rattle.fixed_motion.specs.Scene.{SceneData, IsValidScene};
 
 impl Scene {
-    /// The scene of these, which are known to be valid.
+    /// The scene with these rules, disks and state ticks, which are known to make a valid one.
     pub fn new(rules: Rules, disks: Vec<Disk>, every: Option<u64>) -> Scene
         requires { IsValidScene (record { rules = rules; disks = disks.items; every = every }) }
         ensures { result ≡ record { rules = rules; disks = disks.items; every = every } }

@@ -5,8 +5,8 @@ use Rattle.std.specs.Io.KnownBytes.{append_known}
 use Rattle.report_ports.specs.declared.sink.Given.{Given}
 use Rattle.report_ports.specs.declared.sink.Given.TheVariants.{All as AllGiven, Failed as GiveFailed}
 
--- the bytes that it has taken, and those of them that the sink below has taken, where that one knows its bytes; the bytes
--- that it holds, and how many it may hold; and how many calls failed of it and of the sink below
+-- the bytes that it has taken, and those of them that the sink below has taken, if that one knows its bytes; the bytes
+-- that it holds, and how many it may hold; and how many of its own calls failed, and of those of the sink below
 pub record GatheredData : Type 0 where
   pub told : Option (List ℕ)
   pub passed : Option (List ℕ)
@@ -22,7 +22,7 @@ IsFront None (Some whole) = ⊥
 IsFront (Some front) None = ⊥
 IsFront (Some front) (Some whole) = StartsWith whole front
 
--- where nothing failed, what was taken is what the sink below has taken and what is held
+-- if nothing failed, what was taken is what the sink below has taken and what is held
 abbrev pub IsWhole : GatheredData → Type 0
 IsWhole s = (s.faults ≡ 0) × (s.faults_below ≡ 0) × (s.told ≡ append_known s.passed s.held)
 
@@ -35,8 +35,8 @@ abbrev pub StaysTorn : GatheredData → GatheredData → Type 0
 StaysTorn before after =
     1 ≤ before.faults → (after.passed ≡ before.passed) × (after.faults_below ≡ before.faults_below)
 
--- what is held after a piece was taken: it is put to what is held where it fits, and else what is held is passed on; then
--- the piece alone is held where it fits, and else it is passed on too
+-- what is held after a piece was taken: if the piece fits, it is added to what is held; else what is held is passed on,
+-- and then the piece alone is held if it fits, or else passed on too
 abbrev pub held_after : ℕ → List ℕ → List ℕ → List ℕ
 held_after room held piece =
     if nat_le (length held + length piece) room then held ++ piece

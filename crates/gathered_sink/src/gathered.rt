@@ -1,4 +1,4 @@
-//! A sink over another, which holds what it is given until there is enough of it.
+//! A sink over another, which holds the bytes that it is given until there are enough.
 
 ghost use Rattle.std.specs.Prelude.{◌≡◌, ◌⊎◌, ◌<◌, ◌≤◌, [], length, is_some};
 ghost use Rattle.report_ports.specs.Ports.{Gives, CountsGive};
@@ -11,18 +11,18 @@ use std::snapshot::Snapshot;
 
 /// A sink that holds pieces, and gives them to another sink together.
 ///
-/// The bytes that it has taken are those that the sink below has taken and then those that it holds, until that sink
-/// fails. From then on it takes nothing, gives nothing, and answers that it failed; the sink below has taken a front of
-/// what was taken here.
+/// The bytes that it has taken are those that the sink below has taken, and then those that it holds, until that sink
+/// fails. From then on it takes nothing, gives nothing, and answers that it failed; the sink below has then taken a
+/// front of what was taken here.
 #[derive(Drop)]
 pub struct GatheringSink<K: Sink> {
     sink: K,
-    // The sink below when it had taken all but what is held. It takes no place, and is there to say what that one had
-    // taken before it failed.
+    // The sink below as it was when it had taken all but what is held. It takes no memory, and only says what that sink
+    // had taken before it failed.
     seen: Snapshot<K>,
     held: Vec<u8>,
     room: usize,
-    // 1 or more where the sink below failed.
+    // 1 or more if the sink below failed.
     faults: u64,
 }
 
@@ -51,8 +51,9 @@ impl<K: Sink> Model for GatheringSink<K> {
 }
 
 impl<K: Sink> GatheringSink<K> {
-    /// One over the sink, of which no call has failed. It holds up to `room` bytes; with no room each piece goes to the
-    /// sink at once. The memory for the room is taken here, and no later call takes any. Out of memory it has no room.
+    /// A gathering sink over the sink, of which no call has failed. It holds up to `room` bytes; with no room each
+    /// piece goes to the sink at once. The memory for the room is taken here, and no later call takes any. If there is
+    /// none, it has no room.
     pub fn new(alloc: Global, sink: K, room: usize) -> GatheringSink<K>
         requires { K.faults sink ≡ 0 }
         ensures told { result.told ≡ K.taken sink }
@@ -76,7 +77,7 @@ impl<K: Sink> GatheringSink<K> {
         }
     }
 
-    /// Gives what is held to the sink below, in one piece, where anything is. A failure, of this call or an earlier one,
+    /// Gives what is held, if anything is, to the sink below in one piece. A failure, of this call or an earlier one,
     /// is answered again each time.
     pub fn flush(&mut self) -> Given
         ensures told { self.new.told ≡ self.old.told }
@@ -113,7 +114,7 @@ impl<K: Sink> GatheringSink<K> {
         self.sink
     }
 
-    // Gives a piece to the sink below, where nothing is held and it hasn't failed.
+    // Gives a piece to the sink below, if nothing is held and it hasn't failed.
     fn pass(&mut self, piece: &[u8]) -> Given
         requires none { self.old.held ≡ [] }
         requires whole { self.old.faults ≡ 0 }
@@ -147,7 +148,7 @@ impl<K: Sink> Sink for GatheringSink<K> {
         self.faults
     }
 
-    /// Holds the piece, where it fits beside what is held. Else what is held is given to the sink below first, and then
+    /// Holds the piece, if it fits beside what is held. Else what is held is given to the sink below first, and then
     /// the piece too, if it is greater than the room.
     fn give(&mut self, piece: &[u8]) -> Given
         ensures gives { Gives self.old.told self.new.told result piece.now }

@@ -13,7 +13,7 @@ use Rattle.hard_disks.specs.declared.auditing.AuditFault.{AuditFault}
 use Rattle.hard_disks.specs.declared.auditing.AuditFault.TheVariants.{Scene, ReadFault, NoMemory}
 use Rattle.hard_disks.specs.Audits.{HasRead, ComparesRun, IsUnrefused, IsAudit, IsAudited, IsClaimedOf, IsRead, Empties, CountsAudit}
 
--- what is left after it is turned, of known bytes
+-- what is left of known bytes after it is turned
 pub claimed_left : (old front front' coming coming' told : Option (List ℕ)) (scene : SceneData) →
     front ≡ front_of_known old → coming ≡ rest_of_known old → coming' ≡ coming → HasRead front front' scene →
     ((bytes : List ℕ) → front' ≡ Some [] → coming' ≡ Some bytes → told ≡ Some bytes) →
@@ -51,7 +51,7 @@ audited old front front' told after scene v is reads rest h =
     let claimed = of_claimed h.0 old told after v rest h.2 in
     (scene, h.0, claimed.0, own.0, h.1, claimed.1, claimed.2)
 
--- where the texts are the same, nothing is left
+-- if the texts are the same, nothing is left
 read_to_end : (v : Verdict) (stage : Stage) (ahead : List ℕ) (left : Option (List ℕ)) (xs : List ℕ) →
     coming_in stage (all_left ahead left) ≡ None → left_in stage (all_left ahead left) ≡ Some xs → LeavesNone v xs →
     IsRead v left
@@ -68,7 +68,7 @@ emptied scene (Some bytes) told stage ahead left v last rest h =
     let is = compared h.0 (rest_of bytes) told (left_in stage (all_left ahead left)) v (rest bytes refl) h.2 in
     read_to_end v stage ahead left is.0 last is.1 is.3
 
--- where there is no verdict, nothing is said of what the source has left
+-- if there is no verdict, nothing is said of what the source has left
 pub unread_empties : (old left : Option (List ℕ)) (fault : AuditFault) → Empties old left (Err fault)
 unread_empties None left fault = tt
 unread_empties (Some bytes) left fault = tt

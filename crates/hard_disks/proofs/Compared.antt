@@ -1,4 +1,4 @@
--- The verdict on a run of which the report was compared while it was told.
+-- The verdict on a run whose report was compared while it was told.
 use Rattle.std.proofs.Common.{◌≡◌, ℕ, List, [], ◌∷◌, ◌++◌, append-nil, Bool, true, false, sym, ap, ◌∙◌, subst, refl, Option, Some}
 use Rattle.std.specs.Prelude.{flat_map, IfOk, Result, Ok, Err}
 use Rattle.fixed_motion.specs.Scene.{SceneData, IsValidScene}

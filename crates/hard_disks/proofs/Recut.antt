@@ -1,4 +1,4 @@
--- Cuts of cuts are cuts: what is written of a scene that is cut, and cut again, is what is written where it is cut once.
+-- Cuts of cuts are cuts: what is written of a scene that is cut, and cut again, is what is written if it is cut once.
 use Rattle.std.proofs.Common.{◌≡◌, inl, inr, ℕ, ◌+◌, ◌-◌, ◌≤◌, List, Some, Ok, Err, sym, ap, ◌∙◌, subst, refl, arith}
 use Rattle.std.specs.Prelude.{codes}
 use Rattle.fixed_motion.specs.Scene.{SceneData, IsValidScene}
@@ -35,7 +35,7 @@ record Leaves (format : Format) (at : ℕ) (scene : SceneData) (text : List ℕ)
   end : IsEndOf (before_scene scene at) spots
   shown : text ≡ scene_text_of (codes "rest") format (rest_scene scene at spots)
 
--- the bytes state a scene of which the text is left
+-- the bytes state a scene whose rest is the text
 record LeavesOf (format : Format) (at : ℕ) (bytes text : List ℕ) : Type 0 where
   scene : SceneData
   says : says bytes ≡ Ok scene
@@ -61,7 +61,7 @@ reading_leaves format at (Ok scene) bytes text e h =
     record { scene = scene; says = sym e; leaves = cut_leaves format at scene text h }
 reading_leaves format at (Err fault) bytes text e h = absurd (let same : Done ≡ SceneRefused = h.1 in cc)
 
--- what is written with the settings, by the tick and the format
+-- what is written with the settings, given the tick and the format
 abbrev CutOf : Settings → ℕ → OutputFormat → Reading → List ℕ → Type 0
 CutOf settings at format said text = OfReading (IsCutText (format_of format) at) said text Done
 

@@ -33,7 +33,7 @@ begun_between {Loan} {before} {after} a b from to changes told =
     subst (λ (o : Option (LentReport Loan)). PrefixTold told_on_loan IsTornOnLoan o changes (Some b)) from
     (subst (λ (o : Option (LentReport Loan)). PrefixTold told_on_loan IsTornOnLoan before changes o) to told)
 
--- ---- what came of a run
+-- ---- the end of a run
 -- all changes were told: all pairs are published, and with the end the whole report is written
 pub record ToldAll {Loan : Type 0} (format : Format) (scene : SceneData) (outcome : Outcome) (taken : Option (List ℕ)) (m n : SoFar (LentReport Loan)) (a b : LentReport Loan) : Type 0 where
   pub changes : List Change

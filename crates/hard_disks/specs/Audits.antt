@@ -18,7 +18,7 @@ use Rattle.hard_disks.specs.declared.auditing.AuditFault.TheVariants.{Scene, Rea
 use Rattle.hard_disks.specs.Reports.{IsReport, IsReadingOf}
 
 -- ---- what an audit says
--- the claimed report: the bytes after the parting line; where the source doesn't know its bytes, any
+-- the claimed report: the bytes after the parting line; if the source doesn't know its bytes, any
 abbrev pub IsClaimedOf : Option (List ℕ) → List ℕ → Type 0
 IsClaimedOf None claimed = ⊤
 IsClaimedOf (Some bytes) claimed = claimed ≡ rest_of bytes
@@ -44,11 +44,12 @@ IsAudit left (Err (Scene fault)) = IsRefusal (front_of_known left) fault
 IsAudit left (Err ReadFault) = ⊤
 IsAudit left (Err NoMemory) = ⊤
 
--- where the texts are the same, nothing is left of known bytes
+-- if the texts are the same, nothing is left of known bytes
 abbrev pub IsRead : Verdict → Option (List ℕ) → Type 0
 IsRead (Same lines) after = after ≡ Some []
 IsRead (Line number expected) after = ⊤
 
+-- the same for an answer of an audit, given what the source had left
 abbrev pub Empties : Option (List ℕ) → Option (List ℕ) → Result Verdict AuditFault → Type 0
 Empties None after result = ⊤
 Empties (Some bytes) after (Ok verdict) = IsRead verdict after
@@ -66,6 +67,7 @@ CountsAudit before after (Err NoMemory) = after ≡ before
 abbrev pub HasRead : Option (List ℕ) → Option (List ℕ) → SceneData → Type 0
 HasRead left left' scene = IsReadingOf left (Ok scene) × ((bytes : List ℕ) → left ≡ Some bytes → left' ≡ Some [])
 
+-- the source was read to its end and states the scene, or its bytes are refused; of other faults nothing is said
 abbrev pub ReadsFront : Option (List ℕ) → Option (List ℕ) → Result SceneData AuditFault → Type 0
 ReadsFront left left' (Ok scene) = HasRead left left' scene
 ReadsFront left left' (Err (Scene fault)) = IsRefusal left fault
@@ -83,7 +85,7 @@ IsUnrefused (Err (Scene fault)) = ⊥
 IsUnrefused (Err ReadFault) = ⊤
 IsUnrefused (Err NoMemory) = ⊤
 
--- what a verdict, or its want, is to an audit
+-- the answer of an audit with this verdict, or with none
 abbrev pub answer_of : Result Verdict NoVerdict → Result Verdict AuditFault
 answer_of (Ok verdict) = Ok verdict
 answer_of (Err Unread) = Err ReadFault
@@ -96,7 +98,7 @@ is_whole SpeedLimit = true
 is_whole RoundLimit = true
 is_whole _ = false
 
--- what a fault of the reading is to an audit
+-- the fault of an audit whose reading has this fault
 abbrev pub IsAuditFaultOf : SceneFault → AuditFault → Type 0
 IsAuditFaultOf fault (Scene other) = (other ≡ fault) × (fault ≢ reading.ReadFault) × (fault ≢ reading.NoMemory)
 IsAuditFaultOf fault ReadFault = fault ≡ reading.ReadFault

@@ -3,7 +3,7 @@ use Rattle.std.specs.Prelude.{◌≡◌, ◌≢◌, ◌⊎◌, ℕ, ◌≤◌, L
 use Rattle.hard_disks.specs.declared.status.Status.{Status}
 use Rattle.hard_disks.specs.declared.status.Status.TheVariants.{ReadFault, WriteFault}
 
--- a sink has taken nothing, where it tells its bytes
+-- a sink has taken nothing, if it tells its bytes
 abbrev pub IsFresh : Option (List ℕ) → Type 0
 IsFresh None = ⊤
 IsFresh (Some bytes) = bytes ≡ []

@@ -18,6 +18,7 @@ use Rattle.scene_reader.specs.Laws.{IsSceneOrRefusal}
 abbrev pub Reading : Type 0
 Reading = Result SceneData SceneFault
 
+-- the status of a run that ends so
 abbrev pub status_of : Outcome → Status
 status_of (DoneOutcome spots) = Done
 status_of (Passes (Speed s)) = SpeedLimit
@@ -28,7 +29,7 @@ abbrev pub IsReport : Format → SceneData → List ℕ → Status → Type 0
 IsReport format scene text status =
     (changes : List Change) × (outcome : Outcome) × IsRun scene changes outcome × (text ≡ report format scene changes outcome) × (status ≡ status_of outcome)
 
--- what the bytes that a source has left say; where it doesn't know them, any valid scene or any refusal
+-- what the bytes that a source has left say; if it doesn't know them, any valid scene or any refusal
 abbrev pub IsReadingOf : Option (List ℕ) → Reading → Type 0
 IsReadingOf None said = IsSceneOrRefusal said
 IsReadingOf (Some bytes) said = said ≡ says bytes

@@ -16,10 +16,12 @@ abbrev pub expected_line : Option (List ℕ) → List ℕ
 expected_line None = line_of (codes "expected nothing" ∷ [])
 expected_line (Some line) = line_of (codes "expected" ∷ line ∷ [])
 
+-- what an audit with this verdict writes
 abbrev pub verdict_text : Verdict → List ℕ
 verdict_text (Same lines) = line_of (codes "audit ok" ∷ decimal lines ∷ [])
 verdict_text (Line number expected) = line_of (codes "audit line" ∷ decimal number ∷ []) ++ expected_line expected
 
+-- the status of an audit with this verdict
 abbrev pub verdict_status : Verdict → Status
 verdict_status (Same lines) = Done
 verdict_status (Line number expected) = Wrong
@@ -30,7 +32,7 @@ ShowsAudit scene claimed text status =
     (report : List ℕ) × (verdict : Verdict) × IsReportOf scene report × IsVerdict report claimed verdict
     × (text ≡ verdict_text verdict) × (status ≡ verdict_status verdict)
 
--- the output, by what the bytes before the parting line say and the claimed report after it
+-- the output, given what the bytes before the parting line say and the claimed report after it
 abbrev pub OfAudit : Reading → List ℕ → List ℕ → Status → Type 0
 OfAudit (Ok scene) claimed text status = ShowsAudit scene claimed text status
 OfAudit (Err fault) claimed text status = (text ≡ refusal_line fault) × (status ≡ SceneRefused)

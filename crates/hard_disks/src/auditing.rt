@@ -1,4 +1,4 @@
-//! The audit of a claimed report: whether it is the report of the scene that stands before it.
+//! The audit of a claimed report: whether it is the report of the scene that precedes it.
 
 ghost use Rattle.std.specs.Prelude.{◌≡◌, IfOk};
 ghost use Rattle.cell_grid.specs.Grid.{IsAsked};
@@ -24,7 +24,7 @@ use std::thread::Threads;
 /// Why there is no verdict.
 #[derive(Drop)]
 pub enum AuditFault {
-    /// The scene was refused, never for the last two reasons.
+    /// The scene was refused. The refusal is never `ReadFault` or `NoMemory`, which have variants here.
     Scene(SceneFault),
     /// The source failed.
     ReadFault,
@@ -32,9 +32,9 @@ pub enum AuditFault {
     NoMemory,
 }
 
-/// Reads a scene from the bytes before the parting line, runs it over so many regions, 1 to
+/// Reads a scene from the bytes before the parting line, runs it over `regions` regions, 1 to
 /// [`MAX_REGIONS`](cell_grid::MAX_REGIONS), and compares the report of its run with the bytes after that line while the
-/// run tells it. At the end of the first line that is wrong the run ends. The burst may do with the regions what it will:
+/// run tells it. The run ends at the end of the first line that is wrong. The burst may do anything with the regions:
 /// the verdict is the same.
 ///
 /// # Errors
@@ -48,10 +48,10 @@ pub fn audit<R: Threads + Wait + Sync, S: Source, B: Burst<Idle, ()>>(
 ) -> Result<Verdict, AuditFault>
     requires asked { IsAsked regions }
     ensures audits { IsAudit (S.left source.old) result }
-    // Where the claimed report is the report, the source was read to its end.
+    // If the claimed report is the report, the source was read to its end.
     ensures emptied { Empties (S.left source.old) (S.left source.new) result }
-    // The source failed exactly where that is answered; so where it didn't, a verdict comes or a refusal,
-    // unless out of memory.
+    // The answer says that the source failed if and only if it did. So if it didn't, the answer is a verdict or a
+    // refusal, unless memory ran out.
     ensures counts { CountsAudit (S.faults source.old) (S.faults source.new) result }
 {
     let mut engine = Engine::over(regions, burst);
@@ -97,7 +97,7 @@ fn read_front<T: Source>(alloc: Global, source: &mut T) -> Result<Scene, AuditFa
     }
 }
 
-// What a fault of the scene is to an audit.
+// The fault of an audit whose scene has this fault.
 fn audit_fault(fault: SceneFault) -> AuditFault
     ensures { IsAuditFaultOf fault result }
 {
@@ -108,8 +108,8 @@ fn audit_fault(fault: SceneFault) -> AuditFault
     }
 }
 
-// Compares the report of the scene's run with what the source has left, and gives the source back. The answer goes
-// another way: of a source within a pair a caller wouldn't know which loan it holds.
+// Compares the report of the scene's run with what the source has left, and gives the source back. The answer comes by
+// a reference: if the source were given back within a pair, a caller wouldn't know which loan it holds.
 fn compare_run<R: Threads + Wait + Sync, C: Source, G: Gate, B: Burst<Idle, ()>>(
     rt: &R,
     alloc: Global,
@@ -132,7 +132,7 @@ fn compare_run<R: Threads + Wait + Sync, C: Source, G: Gate, B: Burst<Idle, ()>>
     claimed
 }
 
-// What a verdict, or its want, is to an audit.
+// The answer of an audit with this verdict, or with none.
 fn answer_of(verdict: Result<Verdict, NoVerdict>) -> Result<Verdict, AuditFault>
     ensures { result ≡ answer_of verdict }
 {
@@ -153,7 +153,7 @@ fn is_whole(status: Status) -> bool
     )
 }
 
-// Writes the report of the scene's run, of which nothing is published: nobody looks at its board.
+// Writes the report of the scene's run without publishing it: nobody looks at its board.
 fn write_unwatched<R: Threads + Wait + Sync, G: Gate, B: Burst<Idle, ()>, K: Sink>(
     rt: &R,
     alloc: Global,

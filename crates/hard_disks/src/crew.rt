@@ -37,9 +37,9 @@ impl<'g, G: Gate> Crew<'g, G> {
         }
     }
 
-    /// Works on the regions of a grid, as a burst does that keeps them: gives back each at its place, run on. Under
-    /// locks the workers are threads of the scope, which may end after it, and the first of them goes on with what is
-    /// beside where it would wait; in a table they are threads of their own, which have ended then.
+    /// Works on the regions of a grid, as a burst that keeps them: gives back each at its place, run on. Under locks
+    /// the workers are threads of the scope, which may end after this call, and the first of them goes on with the work
+    /// beside when it would wait. In a table they are threads of their own, which have ended then.
     ///
     /// # Errors
     /// Out of memory.

@@ -1,4 +1,4 @@
-//! A run up to a tick, and what is left of it.
+//! A run up to a tick, and the rest of it.
 
 ghost use Rattle.std.specs.Prelude.{◌≤◌, IfOk, IfErr};
 ghost use Rattle.cell_grid.specs.Grid.{IsAsked};
@@ -18,15 +18,15 @@ use std::thread::Threads;
 /// How a run up to a tick ends.
 #[derive(Drop)]
 pub enum Cut {
-    /// The tick is reached; this is what is left.
+    /// The tick is reached; this is the rest.
     Rest(Scene),
     /// An event before the tick fails.
     Limit(Limit),
 }
 
-/// Runs a scene over so many regions, 1 to [`MAX_REGIONS`](cell_grid::MAX_REGIONS), up to a tick, which is at most its
-/// last one, tells each change before it in the order of the stamps, and answers the rest as a scene of its own. The
-/// burst may do with the regions what it will: what is told and what is left are the same.
+/// Runs a scene over `regions` regions, 1 to [`MAX_REGIONS`](cell_grid::MAX_REGIONS), up to a tick, which is at most
+/// its last one, tells each change before it in the order of the stamps, and answers the rest as a scene of its own.
+/// The burst may do anything with the regions: what is told and the rest are the same.
 ///
 /// # Errors
 /// The listener refused a change, and its count of refusals rose; or out of memory.

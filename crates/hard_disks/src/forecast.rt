@@ -1,14 +1,14 @@
-//! How long a run has to go.
+//! How much longer a run takes.
 
-// How many microseconds the older of two marks is old at least, before the younger one takes its place.
+// The least age, in microseconds, of the later of two marks before it becomes the earlier one.
 const HALF_MINUTE: u64 = 30_000_000;
 
-/// How long a run has to go, if it goes on as in the last minute.
+/// How much longer a run takes, if it goes on as in the last minute.
 #[derive(Drop)]
 pub(crate) struct Forecast {
-    // From here on is measured: half a minute to a minute ago, once the run has gone on for so long.
+    // The mark from which on the run is measured: half a minute to a minute ago, once the run has gone on for so long.
     from: Milestone,
-    // What takes its place.
+    // The mark that takes its place.
     next: Milestone,
 }
 
@@ -20,7 +20,7 @@ struct Milestone {
 }
 
 impl Forecast {
-    /// Of a run that begins now.
+    /// The forecast of a run that begins now.
     pub(crate) fn new(now: u64) -> Forecast {
         let begin = Milestone {
             micros: now,
@@ -32,7 +32,7 @@ impl Forecast {
         }
     }
 
-    /// How many seconds a run has to go to its end that is at a tick now; none where it didn't come further lately.
+    /// How many seconds a run still takes to its end, if it is at this tick now; none if it didn't come further lately.
     pub(crate) fn seconds_left(&mut self, now: u64, tick: u64, end: u64) -> Option<u64> {
         if now.saturating_sub(self.next.micros) >= HALF_MINUTE {
             self.from = self.next;

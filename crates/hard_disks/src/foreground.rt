@@ -1,18 +1,18 @@
-//! Whether the terminal is the process's to write to.
+//! Whether the process may write to the terminal.
 
 use std::fs;
 use std::rt::Files;
 
-// What the system tells of the process in one line (proc(5)).
+// The file in which the system describes the process in one line (proc(5)).
 const STAT: &str = "/proc/self/stat";
 
-/// The terminal to which errors go. Whoever shows a line there asks it from a thread of its own.
+/// The terminal to which errors go. The thread that shows a line there asks it.
 pub trait Terminal {
-    /// Whether the terminal is the process's to write to.
+    /// Whether the process may write to the terminal.
     fn is_ours(&self) -> bool;
 }
 
-/// Whether the process belongs to the foreground group of its terminal. If the system doesn't tell, it does.
+/// Whether the process belongs to the foreground group of its terminal. If the system doesn't tell, the answer is yes.
 pub fn is_in_foreground<R: AllocGlobal + Files>(rt: &R) -> bool {
     match fs::read_to_string(rt, STAT) {
         Ok(stat) => says_foreground(&stat).unwrap_or(true),
@@ -20,8 +20,8 @@ pub fn is_in_foreground<R: AllocGlobal + Files>(rt: &R) -> bool {
     }
 }
 
-// Behind the program's name, which stands in parentheses, come its state, its parent, its group, its session, its
-// terminal, and the terminal's foreground group.
+// After the program's name, which is in parentheses, come its state, its parent, its group, its session, its terminal,
+// and the terminal's foreground group.
 fn says_foreground(stat: &str) -> Option<bool> {
     let (_, fields) = stat.rsplit_once(") ")?;
     let mut fields = fields.split(' ');

@@ -1,4 +1,4 @@
-//! The top call over a sink that gathers what it is given.
+//! The top call over a sink that gathers the pieces that it is given.
 
 ghost use Rattle.std.specs.Prelude.{◌≡◌, ◌⊎◌, map, Option, List, ℕ};
 ghost use Rattle.report_ports.specs.Ports.{Rose};
@@ -21,11 +21,11 @@ use std::thread::Threads;
 use std::time::Clock;
 
 /// Does what [`top`] does, but gathers the pieces of the output, up to `room` bytes, before it gives them to the sink;
-/// what is gathered in the end is given before the call returns. The sink has taken nothing yet, where it tells its
-/// bytes, and no call of it has failed. It is given back.
+/// the rest is given before the call returns. At the beginning the sink has taken nothing, if it tells its bytes, and
+/// no call of it has failed. It is given back.
 ///
-/// Where the rest can't be given, the status is [`Status::WriteFault`], whatever it was before. No more memory than that
-/// for the room is taken, and without that each piece is given at once.
+/// If the rest can't be given, the status is [`Status::WriteFault`], whatever it was before. The gathering takes memory
+/// only for the room; if there is none, each piece is given at once.
 pub fn top_gathered<R: Threads + Wait + Sync, S: Source, K: Sink, G: Gate, C: Clock>(
     rt: &R,
     alloc: Global,
@@ -71,7 +71,7 @@ pub fn top_gathered<R: Threads + Wait + Sync, S: Source, K: Sink, G: Gate, C: Cl
     finish(timely.gathered, status)
 }
 
-// Gives the rest of what was gathered, where the call that gave it ended with the status.
+// Gives the rest of what was gathered, after the call that gathered it ended with the status.
 #[tactic(auto, using(crate::proofs::PassedOn::answered_torn, crate::proofs::PassedOn::answered_unread, crate::proofs::PassedOn::answered_whole, crate::proofs::PassedOn::writes, crate::proofs::PassedOn::counted_whole, crate::proofs::PassedOn::counted_torn, crate::proofs::PassedOn::risen,))]
 pub(crate) fn finish<K: Sink>(mut gathered: GatheringSink<K>, status: Status) -> (Status, K)
     ensures answers { (settings : Option Settings) (left taken : Option (List ℕ)) → IsFresh taken →

@@ -1,5 +1,5 @@
-//! What `hard_disks` does, a simulator of hard disks of equal mass in a walled box: from the words that the program is
-//! called with and the bytes of a scene to the bytes of the output.
+//! The simulator `hard_disks`, of hard disks of equal mass in a walled box: from the words that the program is called
+//! with and the bytes of a scene to the bytes of the output.
 //!
 //! The program itself, `hard_disks_program`, calls [`top_gathered`] or [`top_watched`] over standard input and output,
 //! and adds nothing to what is written. [`audit`] and [`cut_at`] are for a caller that brings a burst of its own.

@@ -1,4 +1,4 @@
-//! Bursts of a caller's own, by which a scene can be run.
+//! Bursts that a caller brings, by which a scene can be run.
 
 ghost use Rattle.cell_grid.specs.Grid.{IsAsked};
 
@@ -7,18 +7,18 @@ use std::alloc::{AllocError, Global};
 use std::sync::Wait;
 use std::thread::Threads;
 
-/// A burst with nothing to do beside, and over how many regions it is to work.
+/// A burst with nothing to do beside, and the number of regions on which it is to work.
 #[derive(Drop)]
 pub struct OverBurst<'b, B> {
-    /// 1 to [`MAX_REGIONS`](cell_grid::MAX_REGIONS).
+    /// The number of regions, 1 to [`MAX_REGIONS`](cell_grid::MAX_REGIONS).
     pub regions: u32,
-    /// What works on them.
+    /// The burst.
     pub burst: &'b mut B,
     pub ghost asked: { IsAsked regions },
 }
 
 // A run hands each burst what is to be told beside it. The caller's burst is spared that, since the caller needn't know
-// who is told: what isn't told beside a burst is told after it.
+// the listener: what isn't told beside a burst is told after it.
 impl<S: Beside<W>, W, B: Burst<Idle, ()>> Burst<S, W> for OverBurst<'_, B> {
     ghost keeping = { λ over. B.keeping over.burst.now };
 
@@ -38,7 +38,7 @@ impl<S: Beside<W>, W, B: Burst<Idle, ()>> Burst<S, W> for OverBurst<'_, B> {
     }
 }
 
-/// Stands for a caller's burst where there is none. It does nothing.
+/// Stands for a caller's burst if there is none. It does nothing.
 #[derive(Drop)]
 pub struct NoBurst;
 

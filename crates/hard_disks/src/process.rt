@@ -1,7 +1,7 @@
 //! What the process does with its words: the top call over standard input and output.
 //!
-//! Nothing is known of the bytes on these, so what is proved of the status is what the words decide. Over a reader and
-//! a writer whose bytes are known it is proved of these.
+//! Nothing is known of the bytes of standard input and output, so only that part of the status is proved which the
+//! words decide. For a reader and a writer whose bytes are known, the whole is proved.
 
 ghost use Rattle.std.specs.Prelude.{◌≡◌, [], map, None, Some, IsSome, string_bytes};
 ghost use Rattle.hard_disks.specs.Answers.{Answers};
@@ -24,7 +24,7 @@ use std::thread::Threads;
 use std::time::Clock;
 use std::{io, thread};
 
-// How many bytes of output are written together, where it isn't a terminal: what a pipe holds.
+// How many bytes of output are written together, unless it goes to a terminal: what a pipe holds.
 const ROOM: usize = 65_536;
 
 /// Which of the two streams that the process writes to are terminals.
@@ -99,7 +99,7 @@ pub fn run_streams<R: AllocGlobal + Threads + Wait + Clock + Sync, I: Read + Dro
     (status, sink.into_writer())
 }
 
-// The top call as the process makes it: the output is gathered, and workers pass the gate of time-sharing.
+// The top call as the process makes it: the output is gathered, and workers pass the gate `TimeSharing`.
 fn run_between<R: AllocGlobal + Threads + Wait + Clock + Sync, S: Source, K: Sink>(
     rt: &R,
     words: &[&str],

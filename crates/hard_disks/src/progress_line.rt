@@ -1,7 +1,8 @@
 //! The line on a terminal that says how far a run is.
 //!
-//! The cursor waits on the row below it, so that whoever writes there next, as a shell after an interrupt, begins a row
-//! of its own. The terminal cuts the line at its width. Nothing is shown while the process is in the background.
+//! The cursor waits on the row below it, so that another program that writes there next, as a shell after an interrupt,
+//! begins a row of its own. The terminal cuts the line at its width. Nothing is shown while the process is in the
+//! background.
 
 ghost use Rattle.std.specs.Prelude.{◌≡◌};
 
@@ -16,20 +17,20 @@ use std::sync::{Mutex, Wait};
 use std::thread::Parker;
 use std::time::{Clock, Duration};
 
-// How many milliseconds a run goes on before the line is shown, and how many pass between two of its forms.
+// How many milliseconds a run goes on before the line is shown, and how many pass before it is rewritten.
 const PATIENCE: u64 = 1_000;
 
 const PAUSE: u64 = 250;
 
-// After so many microseconds without a new form the process was stopped, and somebody else may have written.
+// If no new form was shown for this many microseconds, the process was stopped, and another program may have written.
 const LOST: u64 = 5_000_000;
 
-// From how many seconds on minutes are told, and from how many on hours.
+// From how many seconds on the line counts in minutes, and from how many on in hours.
 const MINUTES: u64 = 120;
 
 const HOURS: u64 = 7_200;
 
-// To the row above; to its beginning, with nothing on it; the terminal cuts what is too long; it breaks it again.
+// Control sequences: to the row above; to its beginning, and clear it; cut lines that are too long; wrap them again.
 const BACK: &str = "\x1b[A";
 
 const CLEAR: &str = "\r\x1b[K";
@@ -45,7 +46,7 @@ pub struct ProgressLine {
     sleeper: Parker,
 }
 
-// Whether the line stands on the row above the cursor.
+// Whether the line is on the row above the cursor.
 #[derive(Clone, Copy, Debug, PartialEq, Eq)]
 enum LineState {
     Hidden,
@@ -62,7 +63,7 @@ impl ProgressLine {
         }
     }
 
-    /// Shows what the board shows, some times a second, until the line is ended. It stays hidden in the first
+    /// Shows what the board shows, some times a second, until the line is ended. The line stays hidden in the first
     /// second, and as long as no scene was read.
     pub fn show<R: AllocGlobal + Eprint + Wait + Clock, T: Terminal>(
         &self,
@@ -97,7 +98,7 @@ impl ProgressLine {
         }
     }
 
-    // What stands above the cursor isn't the line any more.
+    // Notes that the row above the cursor isn't the line any more.
     fn lose<R: Wait>(&self, rt: &R) {
         let mut stage = self.stage.lock(rt);
         if *stage == LineState::Shown {
@@ -105,7 +106,7 @@ impl ProgressLine {
         }
     }
 
-    // Whether the line isn't ended; then it shows this, if there is anything to show and the terminal is ours.
+    // Shows this, if there is anything to show and the terminal is ours. False if the line is ended.
     fn rewrite<R: AllocGlobal + Eprint + Wait>(
         &self,
         rt: &R,
@@ -118,7 +119,7 @@ impl ProgressLine {
         }
         if is_ours && sight.is_any() {
             let back = if *stage == LineState::Shown { BACK } else { "" };
-            // What can't be shown is left out.
+            // A form that can't be shown is left out.
             if let Ok(text) = format!(in rt.alloc(); "{back}{CLEAR}{CUT}{sight}{WRAP}\n") {
                 let _ = eprint!(rt; "{text}");
                 *stage = LineState::Shown;
@@ -139,11 +140,11 @@ impl ProgressLine {
     }
 }
 
-// What is seen of a run.
+// What the line shows of a run.
 #[derive(Drop)]
 struct ShownProgress {
     shown: Progress,
-    // The tick at which it ends; 0 where that isn't known.
+    // The tick at which it ends; 0 if that isn't known.
     end: u64,
     seconds_left: Option<u64>,
 }
@@ -174,7 +175,7 @@ impl Display for ShownProgress {
     }
 }
 
-// So many seconds in the unit in which they are told.
+// A number of seconds in the unit in which it is shown.
 fn in_units(seconds: u64) -> (u64, &'static str) {
     if seconds < MINUTES {
         (seconds, "s")
@@ -194,7 +195,7 @@ pub struct BesideLine<'l, R: Eprint + Wait, K: Sink> {
     pub line: &'l ProgressLine,
     /// Whether the sink writes to the terminal of the line.
     pub is_shared: bool,
-    /// Where the pieces go.
+    /// The sink that takes the pieces.
     pub sink: K,
 }
 

@@ -1,4 +1,4 @@
-//! What mode `cut` writes: what is left of a scene after a tick, as a scene of its own.
+//! What mode `cut` writes: the rest of a scene after a tick, as a scene of its own.
 
 ghost use Rattle.std.specs.Prelude.{◌≡◌, ◌≤◌};
 ghost use Rattle.fixed_motion.specs.Scene.{IsValidScene};
@@ -21,8 +21,7 @@ use std::alloc::Global;
 use std::sync::Wait;
 use std::thread::Threads;
 
-/// Runs the scene by an engine up to a tick, and writes what is left of it. A tick after its last one is
-/// refused.
+/// Runs the scene by an engine up to a tick, and writes the rest. A tick after the scene's last one is refused.
 pub fn write_cut<R: Threads + Wait + Sync, G: Gate, B: Burst<Idle, ()>, K: Sink>(
     rt: &R,
     alloc: Global,
@@ -43,7 +42,7 @@ pub fn write_cut<R: Threads + Wait + Sync, G: Gate, B: Burst<Idle, ()>, K: Sink>
     }
 }
 
-// The same up to a tick of the scene.
+// The same, for a tick that isn't after the last one.
 fn write_rest<R: Threads + Wait + Sync, G: Gate, B: Burst<Idle, ()>, K: Sink>(
     rt: &R,
     alloc: Global,
@@ -66,8 +65,8 @@ fn write_rest<R: Threads + Wait + Sync, G: Gate, B: Burst<Idle, ()>, K: Sink>(
     write_left(rt, alloc, engine, format, at, scene, &mut table, sink)
 }
 
-// The same with the table of a run that begins. Where the run passes a limit before the tick, its report is
-// written, in the short form, which has the end alone.
+// The same with the table of a run that begins. If the run passes a limit before the tick, its report is written, in
+// the short form, which has only the end.
 fn write_left<R: Threads + Wait + Sync, G: Gate, B: Burst<Idle, ()>, K: Sink>(
     rt: &R,
     alloc: Global,

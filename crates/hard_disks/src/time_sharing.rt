@@ -1,11 +1,11 @@
 //! How workers share the processors with other programs.
 //!
-//! Where more threads want to run than there are processors, the system takes a worker's away every few milliseconds,
-//! and mostly while it works on a region: then the other workers wait until it is back. Between two slices a worker
-//! holds no region, and the others do its work. So it is better to give the processor away there, a little before it
-//! would be taken.
+//! If more threads want to run than there are processors, the system takes a worker's away every few milliseconds, and
+//! mostly while it works on a region: then the other workers wait until it is back. Between two slices a worker holds
+//! no region, and the others do its work. So it is better to give the processor away there, a little before it would be
+//! taken.
 //!
-//! Nothing is claimed of it: the regions are right whoever runs them, and when.
+//! Nothing is claimed of it: the regions are right whichever worker runs them, and when.
 
 use crate::moments::micros;
 use region_core::Gate;
@@ -14,39 +14,40 @@ use std::alloc::Global;
 use std::sync::atomic::{AtomicU64, Ordering};
 use std::time::{Clock, Duration};
 
-// A worker that comes so many microseconds after it came last was without a processor, or waited for one that was.
+// A worker that comes more than this many microseconds after it came last was without a processor, or waited for one
+// that was.
 const LATE: u64 = 1_000;
 
-// For how many microseconds after that a worker takes the processors to be wanted by others.
+// For this many microseconds after that, a worker takes it that others want the processors.
 const CROWDED: u64 = 100_000;
 
-// How many microseconds a worker keeps a processor then: somewhat less than the system mostly gives at a time.
+// For how many microseconds a worker keeps a processor then: somewhat less than the system mostly gives at a time.
 const STINT: u64 = 3_000;
 
 // How many microseconds a worker sleeps to give its processor away.
 const AWAY: u64 = 1;
 
-/// A gate at which a worker gives its processor away for a moment, where others seem to want it and it has had it for
-/// some milliseconds.
+/// A gate at which a worker gives its processor away for a moment, if others seem to want it and the worker has had it
+/// for some milliseconds.
 #[derive(Drop)]
 pub struct TimeSharing<'r, R> {
     rt: &'r R,
     workers: Vec<Stint>,
 }
 
-// What is known of a worker, in microseconds.
+// What is known of a worker. All times are in microseconds.
 #[derive(Drop)]
 struct Stint {
     // When it came to the gate last.
     last: AtomicU64,
     // Since when it has had a processor.
     since: AtomicU64,
-    // Until when the processors are taken to be wanted by others.
+    // Until when others are taken to want the processors.
     crowded: AtomicU64,
 }
 
 impl<'r, R: Clock> TimeSharing<'r, R> {
-    /// A gate to which nobody has come. Where memory is wanting, some workers never give their processors away.
+    /// A gate to which nobody has come. If memory runs out, some workers never give their processors away.
     pub fn new(rt: &'r R, alloc: Global) -> TimeSharing<'r, R> {
         let mut workers = Vec::new(alloc);
         for _ in 0..MAX_WORKERS {
@@ -59,8 +60,8 @@ impl<'r, R: Clock> TimeSharing<'r, R> {
 }
 
 impl<'r, R: Clock + Sync> Gate for TimeSharing<'r, R> {
-    // Before the first turn of a burst a worker may have waited for the burst; those but the first are threads that
-    // have just been given a processor.
+    // Before the first turn of a burst a worker may have waited for the burst. All workers but the first are threads
+    // that have just been given a processor.
     fn turn(&self, worker: u32, turn: u32) {
         if turn > 0 {
             return;
@@ -82,7 +83,7 @@ impl<'r, R: Clock + Sync> Gate for TimeSharing<'r, R> {
 }
 
 impl Stint {
-    // Nobody was seen.
+    // A worker that has never come.
     fn new() -> Stint {
         Stint {
             last: AtomicU64::new(0),
@@ -91,7 +92,7 @@ impl Stint {
         }
     }
 
-    // The worker is there at this time, and may have been given a processor just now.
+    // Notes that the worker comes at this time. `is_given` says that it has just been given a processor.
     fn come(&self, now: u64, is_given: bool) {
         self.last.store(now, Ordering::SeqCst);
         if is_given {

@@ -1,4 +1,4 @@
-//! A sink that gathers, but holds nothing back for long from whoever waits for it.
+//! A sink that gathers, but holds nothing back for long from a reader that waits for it.
 
 ghost use Rattle.std.specs.Prelude.{◌≡◌, is_some};
 ghost use Rattle.report_ports.specs.Ports.{Gives, CountsGive};
@@ -8,25 +8,25 @@ use gathered_sink::GatheringSink;
 use report_ports::{Given, Sink};
 use std::time::Clock;
 
-// For how many microseconds pieces are held, where more of them come.
+// For how many microseconds pieces are held while more of them come.
 const PATIENCE: u64 = 100_000;
 
-/// A sink that gathers pieces, and gives those that it holds to the sink below with the first that comes a tenth of a
-/// second or more after it last did so.
+/// A sink that gathers pieces. It gives those that it holds to the sink below with the first piece that comes a tenth
+/// of a second or more after it last did so.
 ///
 /// It looks at the clock when a piece comes, and at no other time.
 #[derive(Drop)]
 pub struct Timely<'c, C: Clock, K: Sink> {
-    /// What holds the pieces.
+    /// The gathering sink, which holds the pieces.
     pub gathered: GatheringSink<K>,
     /// The clock that it looks at.
     pub clock: &'c C,
-    /// When it was flushed last, in microseconds.
+    /// The time of the last flush, in microseconds.
     pub flushed: u64,
 }
 
 impl<'c, C: Clock, K: Sink> Timely<'c, C, K> {
-    /// One that begins to count time now.
+    /// A timely sink that begins to count time now.
     pub fn new(clock: &'c C, gathered: GatheringSink<K>) -> Timely<'c, C, K>
         ensures { result.gathered ≡ gathered }
     {
@@ -37,7 +37,7 @@ impl<'c, C: Clock, K: Sink> Timely<'c, C, K> {
         }
     }
 
-    // Whether it is time for a flush, which is taken to be done then.
+    // Whether it is time for a flush. If so, the flush counts as done then.
     fn is_due(&mut self) -> bool
         ensures { self.new.gathered ≡ self.old.gathered }
     {

@@ -1,8 +1,8 @@
-//! What the regions of a grid come to together: the commit horizon, commits, and what is taken over of regions of
-//! other scenes.
+//! Tests of the regions of a grid together: the commit horizon, commits, and the taking over of regions of other
+//! scenes.
 //!
-//! There is nothing here but tests: they stand beside the crate of the commit horizon, so that each is proved
-//! without the other.
+//! There is nothing here but tests. They are in a crate of their own, so that this crate and the crate of the commit
+//! horizon are proved without each other.
 #![tactic(auto)]
 
 #[cfg(test)]

@@ -1,4 +1,4 @@
-//! By hand, and drawn.
+//! Tests worked out by hand, and tests with drawn numbers.
 
 mod commits;
 mod horizons;

@@ -91,7 +91,7 @@ component_square x y s t g l e f h he hf =
     let square : l * (g * g) ≡ (x * x + y * y) * (g * g) = ap (λ i. i * (g * g)) h in
     omega arith
 
--- m² + n² is at most 2 r·r where both components miss by at most one
+-- m² + n² is at most 2 r·r if both components miss by at most one
 miss_bound : (x y s t g l m n e f : ℕ) → l ≡ x * x + y * y → 0 < l → Apart (x * s + y * t) g m →
     Apart (x * t) (y * s) n → Apart (l * s) (g * x) e → Apart (l * t) (g * y) f → e ≤ l → f ≤ l →
     m * m + n * n ≤ 2 * l

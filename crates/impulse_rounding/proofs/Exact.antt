@@ -28,7 +28,7 @@ small r u h =
     (nat_abs (dot r u)) h.x h.y (dot_size r u) in
     record { x = rw (square_size r) bounds.0; y = rw (square_size r) bounds.1 }
 
--- what holds of the nearest impulse where the two then recede, and of that rounded up, holds
+-- what holds for the nearest impulse if the two then recede, and for the impulse rounded up, holds for the one taken
 pub of_either : (P : Vector → Type 0) (r u : Vector) →
     (pos 0 <ℤ parting r u (rounded_impulse nearest r u) → P (rounded_impulse nearest r u)) →
     P (rounded_impulse ceiling r u) → P (impulse_of r u)
@@ -62,7 +62,7 @@ pub sizes_are : (round : ℕ → ℕ → ℕ) (r u : Vector) (x y n : ℕ) (v : 
     n ≡ nat_abs (dot r r) → v ≡ with_signs r (round x n) (round y n) → v ≡ rounded_impulse round r u
 sizes_are round r u x y n v ex ey en ev = rw (ev, ex, ey, en)
 
--- where the two recede after the nearest impulse, it is taken
+-- if the two recede after the nearest impulse, it is taken
 pub takes_nearest : (r u near : Vector) (speed : ℤ) → near ≡ rounded_impulse nearest r u → speed ≡ parting r u near → pos 0 <ℤ speed → near ≡ impulse_of r u
 takes_nearest r u near speed is parts fast = is ∙ by (int_lt (pos 0) (parting r u (rounded_impulse nearest r u))) refl
   where
@@ -74,7 +74,7 @@ takes_nearest r u near speed is parts fast = is ∙ by (int_lt (pos 0) (parting 
     by true e = refl
     by false e = let parted = same in absurd (omega (arith, ints))
 
--- where they don't, that rounded up is
+-- if they don't, the one rounded up is taken
 pub takes_up : (r u near up : Vector) (speed : ℤ) → near ≡ rounded_impulse nearest r u → speed ≡ parting r u near → speed ≤ℤ pos 0 →
     up ≡ rounded_impulse ceiling r u → up ≡ impulse_of r u
 takes_up r u near up speed is parts slow up_is = up_is ∙ by (int_lt (pos 0) (parting r u (rounded_impulse nearest r u))) refl

@@ -68,7 +68,7 @@ signed_square (pos n) s = refl
 signed_square (negsuc n) zero = refl
 signed_square (negsuc n) (suc s) = refl
 
--- twice a size that is at least z's turns the negative z round
+-- twice a size that is at least that of the negative z reverses z's sign
 recedes_from : (z : ℤ) (a b : ℕ) → z <ℤ pos 0 → nat_abs z ≤ a + b →
     pos 0 <ℤ (z +ℤ (pos 2 *ℤ (pos a +ℤ pos b)))
 recedes_from z a b h k = grind (arith, ints)

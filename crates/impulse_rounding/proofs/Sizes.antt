@@ -9,13 +9,13 @@ twice_product zero y = omega arith
 twice_product (suc x) zero = omega arith
 twice_product (suc x) (suc y) = omega (arith, twice_product x y)
 
--- where r·u isn't 0, r·r isn't
+-- if r·u isn't 0, r·r isn't
 pub some_square : (x y u v b : ℕ) → 0 < b → b ≤ x * u + y * v → 0 < x * x + y * y
 some_square zero zero u v b h k = omega arith
 some_square (suc x) y u v b h k = omega arith
 some_square zero (suc y) u v b h k = omega arith
 
--- b x / r·r and b y / r·r, where b is at most |x u| + |y v|: the components' sizes
+-- b x / r·r and b y / r·r, if b is at most |x u| + |y v|: the components' sizes
 pub quotient_bounds : (x y u v b : ℕ) → u ≤ 2 ^ 21 → v ≤ 2 ^ 21 → b ≤ x * u + y * v →
     (b * x ≤ 2 ^ 22 * (x * x + y * y)) × (b * y ≤ 2 ^ 22 * (x * x + y * y))
 quotient_bounds x y u v b hu hv hb =

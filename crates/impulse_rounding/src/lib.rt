@@ -12,7 +12,7 @@ ghost use Rattle.impulse_rounding.specs.Laws.{RoundsRight, ImpulseEnergyNearlySt
 
 use plane_vectors::Vector;
 
-// Below this twice a number and a divisor of 61 bits fit 64 bits.
+// If a number is below this, twice the number plus a divisor of 61 bits fits 64 bits.
 const MAX_NARROW: u128 = 1 << 62;
 
 /// The impulse, in units per tick, that the first of two disks gets and the second loses.
@@ -60,13 +60,13 @@ pub fn rounds_right()
     ensures { RoundsRight }
 {}
 
-/// The energy of two disks that approach each other, of whatever size the numbers are, but for the
-/// roundings of [`impulse`].
+/// The energy of two disks that approach each other is kept up to the roundings of [`impulse`], however great the
+/// numbers are.
 pub fn energy_nearly_stays()
     ensures { ImpulseEnergyNearlyStays }
 {}
 
-// The exact impulse rounded to nearest, or up where the two wouldn't recede.
+// The exact impulse rounded to nearest, or rounded up if the two wouldn't recede then.
 #[inline(always)]
 fn rounded(r: Vector, u: Vector) -> Vector
     requires approaching { dot r u <ℤ pos 0 }
@@ -172,7 +172,7 @@ fn divide_to_nearest(n: u128, d: u64) -> u64
     }
 }
 
-// The same where 64 bits are enough.
+// The same, if 64 bits are enough.
 #[inline(always)]
 fn divide_narrow_to_nearest(n: u64, d: u64) -> u64
     requires d { 0 < d }
@@ -183,7 +183,7 @@ fn divide_narrow_to_nearest(n: u64, d: u64) -> u64
     (2 * n + d) / (2 * d)
 }
 
-// The same where they may not be.
+// The same, if they may not be.
 #[inline(never)]
 fn divide_wide_to_nearest(n: u128, d: u64) -> u64
     requires d { 0 < d }

@@ -64,12 +64,12 @@ pairs_begin n (x ∷ xs) ys =
     let rest = pairs_begin (n + 1) xs ys in
     (rest.0, ap (λ (l : List Progress). progress (counted_event (n + 1)) x.stamp.tick ∷ l) rest.1)
 
--- who was told a run has published its pairs
+-- a listener that was told a run has published its pairs
 run_published : (scene : SceneData) (changes : List Change) (outcome : Outcome) → IsValidScene scene → IsRun scene changes outcome →
     fold published [] changes ≡ pairs_of changes
 run_published scene changes outcome valid run = pairs_published 0 0 [] changes refl (run_ascends scene changes outcome valid run)
 
--- and who was told a prefix of it, a prefix of them
+-- and one that was told a prefix of it has published a prefix of them
 run_so_far : (scene : SceneData) (changes : List Change) (outcome : Outcome) (xs ys : List Change) → IsValidScene scene → IsRun scene changes outcome →
     changes ≡ xs ++ ys → StartsWith (pairs_of changes) (fold published [] xs)
 run_so_far scene changes outcome xs ys valid run e =
@@ -80,7 +80,7 @@ run_so_far scene changes outcome xs ys valid run e =
     )
 
 -- ---- the listener within
--- it is told what it awaits, where it tells
+-- it is told what it awaits, if it tells its meaning
 told_within : {M : Type 0} (after : M → Change → M) (inner : Option M) (changes : List Change) (new : Option M) →
     new ≡ told (within after) inner changes → Told after inner changes new
 told_within after None changes new h = tt
@@ -90,7 +90,7 @@ told_within {M} after (Some m) changes new h = subst (Told after (Some m) change
     each m [] = refl
     each m (c ∷ cs) = each (after m c) cs
 
--- if it tells after a change as before, it means what it is to mean
+-- if it tells a meaning after a change if and only if it did before, that is the meaning that it is to have
 one_within : {M : Type 0} (after : M → Change → M) (old : Option M) (change : Change) (new : Option M) →
     is_some new ≡ is_some old → Told after old (change ∷ []) new → new ≡ within after old change
 one_within after None change None alike told = refl
@@ -113,7 +113,7 @@ parts : {M : Type 0} (after : M → Change → M) (m : SoFar M) (changes : List 
 parts after m [] = refl
 parts after m (c ∷ cs) = parts after (with_published after m c) cs
 
--- a telling that broke off: the loan is kept, some changes were published, and of the listener within the same is told
+-- a telling that broke off: the loan is kept, some changes were published, and the same is told of the listener within
 record BrokeOff {M : Type 0} (after : M → Change → M) (torn : M → Change → M → Type 0) (m : SoFar M) (changes : List Change) (n : SoFar M) : Type 0 where
   pub loan : n.loan ≡ m.loan
   pub board : n.board ≡ m.board

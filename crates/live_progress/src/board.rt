@@ -22,8 +22,8 @@ pub struct Progress {
     pub tick: u64,
 }
 
-/// A board, which shows the last pair that its pen published, and (0, 0) before the first. Beside it stands the tick
-/// at which the run ends, of which nothing is claimed.
+/// A board, which shows the last pair that its pen published, and (0, 0) before the first. It also has the tick at
+/// which the run ends, of which nothing is claimed.
 ///
 /// Contracts see its name.
 #[derive(Drop)]
@@ -40,7 +40,7 @@ impl Model for Board {
     ghost view = { λ b. b.cell.table.shared.table_id };
 }
 
-/// The one that publishes on a board. A board has one pen.
+/// A pen, which publishes on a board. A board has one.
 ///
 /// Contracts see its board's name, and the list of what it published.
 #[derive(Drop)]
@@ -61,7 +61,7 @@ impl Model for Pen {
     ghost invariant = { λ p. ((cell_view p.token).writes ≡ true) × (p.last ≡ last_of (cell_view p.token).list) };
 }
 
-/// One that looks at a board.
+/// A glass, which looks at a board.
 ///
 /// Contracts see its board's name, and a list of published pairs, which goes up to the one that it saw last.
 #[derive(Drop)]
@@ -96,12 +96,12 @@ impl Board {
         Ok((Board { cell, end }, Pen { token, last }))
     }
 
-    /// Says at which tick the run ends that is shown.
+    /// Sets the tick at which the run that is shown ends.
     pub fn announce(&self, end: u64) {
         self.end.store(end, Ordering::SeqCst);
     }
 
-    /// The tick at which the run ends; 0 as long as nobody has said it.
+    /// The tick at which the run ends; 0 as long as it isn't set.
     pub fn end(&self) -> u64 {
         self.end.load(Ordering::SeqCst)
     }
@@ -129,7 +129,7 @@ impl Board {
         pen.last = to;
     }
 
-    // Writes the words of a pair, as the rule has the pen do.
+    // Writes the words of a pair, as the rule requires of the pen.
     fn put<R: Wait>(&self, rt: &R, token: &mut Token, words: [u64; 2])
         requires board { token.old.table_id ≡ self.now }
         requires rule { Turns IsShown token.old.id (cell_view token.old) (λ _. words) Publishing }
@@ -166,7 +166,7 @@ impl Board {
         self.check(rt, &mut pen.token);
     }
 
-    // Looks, as the rule has the pen do that was told what a glass has seen.
+    // Looks at the board, as the rule requires of a pen that was told what a glass has seen.
     fn check<R: Wait>(&self, rt: &R, token: &mut Token)
         requires board { token.old.table_id ≡ self.now }
         requires rule { Turns IsShown token.old.id (cell_view token.old) (λ x. x) Checking }

@@ -9,22 +9,22 @@ use std::sync::Wait;
 
 /// A listener that publishes each event and then tells it on.
 ///
-/// Publishing takes a runtime, which telling a listener doesn't bring along: so it is kept here, and to tell this
-/// listener may wait, as [`Board::publish`] may. What it means is what the pen has published, beside the loan of the
-/// pen, its board, and what the listener within means, where that tells.
+/// Publishing needs a runtime, and telling a listener doesn't pass one: so the runtime is kept here, and telling this
+/// listener may wait, as [`Board::publish`] may. Its meaning consists of what the pen has published, the loan of the
+/// pen, its board, and the meaning of the listener within, if that tells one.
 #[derive(Drop)]
 pub struct Watched<'p, R: Wait, L: Listener> {
     /// The runtime.
     pub rt: &'p R,
-    /// Where each event is shown.
+    /// The board that shows each event.
     pub board: &'p Board,
     /// The pen of the board.
     pub pen: &'p mut Pen,
-    /// Who is told of each event after it was published.
+    /// The listener that is told of each event after it was published.
     pub inner: L,
     /// The pen is of the board.
     pub ghost of_board: { pen.now.board ≡ board.now },
-    /// Whether the listener within tells what it means is a matter of its type.
+    /// Whether the listener within tells its meaning depends only on its type.
     pub ghost alike: { (one other : _) → is_some (L.meaning one) ≡ is_some (L.meaning other) },
 }
 

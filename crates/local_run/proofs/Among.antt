@@ -47,7 +47,7 @@ pub waits_first : (ts : Trails) (q : ℕ) (m : Message) (rest : List Message) �
     trail_of ts q ≡ m ∷ rest → IsWaiting ts m.stamp
 waits_first ts q m rest is = waits_among ts q m (subst (IsAmong m) (sym is) (inl refl))
 
--- trails of which each rises
+-- trails each of which rises
 abbrev pub AllRise : Trails → Type 0
 AllRise ts = (q : ℕ) → Rises (trail_of ts q)
 

@@ -1,4 +1,4 @@
--- Disks that entries have nothing to do with: with their rows set, each entry is what it was.
+-- Disks that entries have nothing to do with: if their rows are set, each entry is what it was.
 use Rattle.std.proofs.Common.{◌≡◌, ◌⊎◌, inl, inr, ℕ, zero, suc, ◌==◌, Bool, List, [], ◌∷◌, ◌++◌, Option, Some, None, Ok, sym, ap, ◌∙◌, refl, arith}
 use Rattle.std.specs.Prelude.{if◌then◌else◌, ◌||◌, IfSome}
 use Rattle.std.specs.List.{Contains}
@@ -66,7 +66,7 @@ over_among (r ∷ rows) i o p has is = elim (among_or_not (numbers_of rows) i) [
         ∙ ap (λ (b : Bool). if b then r.1 else o) (same_is i r.0 same) in
         λ k. (same k, row k)
 
--- and doesn't hang on what stood there before
+-- and doesn't depend on what stood there before
 pub over_here : (rows : RowList) (i : ℕ) (o r : Option Placed) → Contains (numbers_of rows) i →
     get_over rows i o ≡ get_over rows i r
 over_here [] i o r has = absurd (none_among i has)
@@ -77,7 +77,7 @@ over_here (x ∷ rows) i o r has = elim (first_or_later x.0 (numbers_of rows) i 
 ]
 
 -- ---- candidates
--- a native candidate of other disks stays one where rows are set, and was one where it is one then
+-- a native candidate of other disks stays one if rows are set, and was one if it is one then
 pub own_on : (h : Home) (view : ViewData) (rows : RowList) (s : Stamp) → ¬ NamesAny s (numbers_of rows) →
     IsOwn h view s → IsOwn h (set_rows view rows) s
 unfolding IsOwn
@@ -94,7 +94,7 @@ own_back h view rows s not own = (natives_stay h.rules h.grid h.number view (set
 pub later_still : (x : ℕ) (xs : List ℕ) (i : ℕ) → Contains xs i → Contains (x ∷ xs) i
 later_still x xs i (k, lt, at) = (suc k, omega arith, at)
 
--- an event sets rows of its own disks alone
+-- an event sets only rows of its own disks
 pub set_are_named : (h : Home) (view : ViewData) (x : Action) (i : ℕ) → ComesToInView h view (stamp_of x) (Ok x) →
     Contains (numbers_of (rows_set (rows_in view) x)) i → Names (stamp_of x) i
 set_are_named h view (Cross s cell) i comes has = by_row (rows_in view s.first) has
@@ -131,7 +131,7 @@ set_are_named h view (Hit change) i comes has =
       | inr later ↦ inr (pair, one s.second later)
     ]
 
--- ---- what an event comes to where its disks are as they were
+-- ---- the result of an event if its disks are as they were
 abbrev pub AreSame : Stamp → ViewData → ViewData → Type 0
 AreSame s v w = (i : ℕ) → Names s i → rows_in w i ≡ rows_in v i
 

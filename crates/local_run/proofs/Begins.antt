@@ -1,4 +1,4 @@
--- What stays of a region that makes steps.
+-- What a region that makes steps keeps.
 use Rattle.std.proofs.Common.{◌≡◌, inl, inr, ℕ, zero, suc, Option, Some, None, ap, ◌∙◌}
 use Rattle.std.specs.Prelude.{option_map}
 use Rattle.event_stamps.specs.declared.Stamp.{Stamp}

@@ -1,4 +1,4 @@
--- Which move is due, where the least native candidate and the first messages are known.
+-- The move that is due, given the least native candidate and the first messages.
 use Rattle.std.proofs.Common.{◌≡◌, ◌≢◌, inl, inr, ℕ, List, ◌∷◌, sym, subst, refl}
 use Rattle.event_stamps.specs.declared.Stamp.{Stamp}
 use Rattle.region_view.specs.declared.rows.Message.{Message}
@@ -12,7 +12,7 @@ use Rattle.local_run.proofs.Heads.{NoHeadBefore, only_of_heads}
 
 -- ---- what is due
 -- ---- the move
--- the first message of a region that has the due stamp, where no other region's has it
+-- the first message of a region that has the due stamp, if no other region's has it
 pub heard_is_move : (h : Home) (a : At) (q : ℕ) (m : Message) (rest : List Message) →
     AllRise a.waiting → IsDue h a m.stamp → trail_of a.waiting q ≡ m ∷ rest →
     ¬ IsOwn h a.view m.stamp → NoHeadBefore a.waiting m.stamp →

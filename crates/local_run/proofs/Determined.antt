@@ -1,4 +1,4 @@
--- Each move is the only one at its place, so a log can go on in one way alone.
+-- Each move is the only one at its place, so a log can go on in only one way.
 use Rattle.std.proofs.Common.{◌≡◌, inl, ℕ, ◌≤◌, List, [], ◌∷◌, ◌++◌, ◌+◌, length, sym, ap, ◌∙◌}
 use Rattle.std.proofs.Common.{subst, refl, arith, Ok}
 use Rattle.std.specs.Prelude.{Result}

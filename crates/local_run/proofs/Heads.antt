@@ -43,7 +43,7 @@ pub none_waits : (ts : Trails) → ((q : ℕ) → trail_of ts q ≡ []) → HasN
 unfolding IsWaiting
 none_waits ts none s (q, m, among, is) = subst (IsAmong m) (none q) among
 
--- where no first message is before the stamp and only that of q has it, no other message has it
+-- if no first message is before the stamp and only that of q has it, no other message has it
 pub only_of_heads : (ts : Trails) (q : ℕ) (s : Stamp) → AllRise ts → NoHeadBefore ts s →
     ((r : ℕ) (n : Message) (rest : List Message) → trail_of ts r ≡ n ∷ rest → n.stamp ≡ s → r ≡ q) →
     (r : ℕ) (n : Message) → IsAmong n (trail_of ts r) → n.stamp ≡ s → r ≡ q

@@ -111,7 +111,7 @@ moves_across h view d w v (Heard q m ∷ es) same rise lt moves = (
 )
 
 -- ---- the local run
--- the region with other trails, and of its log the entries before a stamp
+-- the region with other trails, and with only those entries of its log that are before a stamp
 abbrev pub hearing : Stamp → Trails → Local → Local
 hearing d v r = record { floor = r.floor; base = r.base; heard = v; log = entries_below d r.log }
 

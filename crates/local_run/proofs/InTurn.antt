@@ -22,7 +22,7 @@ rises_from_first : (m : Message) (rest ms : List Message) (n : Message) → ms �
     IsAmong n rest → Before m.stamp n.stamp
 rises_from_first m rest ms n is rises among = among_rises m.stamp rest n (subst Rises is rises) among
 
--- what waits after a move comes after it
+-- a message that waits after a move comes after it
 after_move : (h : Home) (a : At) (e : Entry) → AllRise a.waiting → IsMove h a e → (q : ℕ) (m : Message) →
     IsAmong m (trail_of (after_entry a e).waiting q) → Before (entry_stamp e) m.stamp
 after_move h a (Native x) rise move q m among =

@@ -20,7 +20,7 @@ with_later m n ms lt =
     let rest = from_later message_key m.stamp n ms lt in
     λ i. first i ++ m ∷ rest i
 
--- where nothing comes before it, it is the first
+-- if nothing comes before it, it is the first
 pub with_first : (m : Message) (ms : List Message) →
     ((n : Message) → IsAmong n ms → ¬ Before n.stamp m.stamp) → with_message m ms ≡ m ∷ ms
 with_first m [] late = refl
@@ -35,7 +35,7 @@ abbrev pub IsInserted : ℕ → Message → Trails → Trails → Type 0
 IsInserted q m w v = (trail_of v q ≡ with_message m (trail_of w q))
     × ((k : ℕ) → k ≢ q → trail_of v k ≡ trail_of w k)
 
--- so it stays where a message before it is taken in
+-- so it stays if a message before it is taken in
 inserted_heard : (q : ℕ) (m : Message) (w v : Trails) (p : ℕ) (n : Message) (rest : List Message) →
     trail_of w p ≡ n ∷ rest → Before n.stamp m.stamp → IsInserted q m w v →
     IsInserted q m (without_first w p) (without_first v p)
@@ -66,7 +66,7 @@ inserted_heard q m w v p n rest is lt inserted = (at_q, at_other)
 abbrev pub with_trails : At → Trails → At
 with_trails a v = record { view = a.view; waiting = v }
 
--- and along entries that are before it, which come to the same view
+-- and along entries that are before it, which lead to the same view
 pub inserted_along : (h : Home) (q : ℕ) (m : Message) (xs : List Entry) (a : At) (v : Trails) →
     Moves h a xs → AllBefore m.stamp xs → IsInserted q m a.waiting v →
     IsInserted q m (after_log a xs).waiting (after_log (with_trails a v) xs).waiting

@@ -1,4 +1,4 @@
--- What a step and a hearing leave is a right local run.
+-- A step and a hearing leave a right local run.
 use Rattle.std.proofs.Common.{ℕ, List, sym, subst}
 use Rattle.region_view.specs.declared.rows.Message.{Message}
 use Rattle.local_run.specs.declared.home.Home.{Home}

@@ -33,7 +33,7 @@ after_join a (x ∷ xs) ys = after_join (after_entry a x) xs ys
 pub now_appended : (r : Local) (e : Entry) → now_of (with_entry r e) ≡ after_entry (now_of r) e
 now_appended r e = after_join (start_of r) r.log (e ∷ [])
 
--- ---- lists by stamps, for those who read logs
+-- ---- lists by stamps, for proofs about logs
 abbrev pub AllBefore : Stamp → List Entry → Type 0
 AllBefore s log = ordered.AllBefore entry_stamp s log
 
@@ -70,12 +70,12 @@ all_before_turn f s log = rising.all_before_turn entry_stamp f s log
 pub below_whole : (s : Stamp) (log : List Entry) → AllBefore s log → entries_below s log ≡ log
 below_whole s log = parts.below_whole entry_stamp s log
 
--- where the last entry is before the stamp, or there is none, all stay
+-- if the last entry is before the stamp, or there is none, all stay
 pub below_kept : (f s : Stamp) (log : List Entry) → RiseFrom f log →
     (log ≡ []) ⊎ Before (clock_of f log) s → entries_below s log ≡ log
 below_kept f s log rises turn = below_whole s log (all_before_turn f s log rises turn)
 
--- and only there
+-- and only then
 pub kept_below : (f s : Stamp) (log : List Entry) → entries_below s log ≡ log →
     (log ≡ []) ⊎ Before (clock_of f log) s
 kept_below f s log = parts.kept_below entry_stamp f s log

@@ -1,4 +1,4 @@
--- A step can answer in one way alone.
+-- A step can answer in only one way.
 use Rattle.std.proofs.Common.{◌≡◌, inl, inr, ℕ, ◌<◌, ◌≤◌, length, sym, ap, ◌∙◌, subst, refl, arith}
 use Rattle.std.proofs.Common.{Ok, Err}
 use Rattle.std.specs.Prelude.{Result}

@@ -1,4 +1,4 @@
--- A local run with an empty log, and where it begins.
+-- A local run with an empty log, and the point at which it begins.
 use Rattle.std.proofs.Common.{◌≡◌, ℕ, zero, suc, [], replicate, refl, sym, subst, arith}
 use Rattle.std.specs.Prelude.{slice_get}
 use Rattle.event_stamps.specs.declared.Stamp.{Stamp}

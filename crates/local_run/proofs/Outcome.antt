@@ -1,4 +1,4 @@
--- What a native candidate of a view comes to, by the rows that reads give.
+-- The result of a native candidate of a view, given the rows that reads give.
 use Rattle.std.proofs.Common.{Bor, ◌≡◌, ◌⊎◌, inl, inr, sym, ap, ◌∙◌, subst, refl, Option, Some, None, Result}
 use Rattle.std.specs.Prelude.{IsSome, option_copied}
 use Rattle.std.proofs.lemmas.Option.{none-some, same_Some}
@@ -55,7 +55,7 @@ pub second_row : (h : Home) (view : ViewData) (s : Stamp) → IsOwn h view s →
 second_row h view s own kind =
     let pair = near_pair h view s own kind in (pair.1.2.0, pair.1.2.1)
 
--- ---- its event, and what it comes to
+-- ---- its event and its result
 pub pair_by : (h : Home) (view : ViewData) (s : Stamp) (p q : Placed) → IsOwn h view s → s.kind ≡ Pair →
     rows_in view s.first ≡ Some p → rows_in view s.second ≡ Some q →
     IsEventBy h.rules h.grid s p (Some q.disk) s.kind

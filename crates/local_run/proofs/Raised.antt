@@ -53,7 +53,7 @@ none_before_move : (h : Home) (a : At) (e : Entry) (t : Stamp) → IsMove h a e 
 none_before_move h a (Native x) t move offered = move.due.1 t offered
 none_before_move h a (Heard p m) t move offered = move.due.1 t offered
 
--- where nothing waits before the stamp after the whole log, it is what was heard from the stamp on
+-- if nothing waits before the stamp after the whole log, what waits is what was heard from the stamp on
 waits_from : (h : Home) (a : At) (s : Stamp) (log : List Entry) → Moves h a log →
     ((q : ℕ) (m : Message) → IsAmong m (trail_of (after_log a log).waiting q) → ¬ Before m.stamp s) →
     (q : ℕ) → trail_of (after_log a (entries_below s log)).waiting q ≡ from s (trail_of a.waiting q)
@@ -87,7 +87,7 @@ none_waits_below : (to : Stamp) (r : Local) → HasNoneWaitingBelow to r → (q 
     IsAmong m (trail_of (now_of r).waiting q) → ¬ Before m.stamp to
 none_waits_below to r none q m among = none m.stamp (waits_among (now_of r).waiting q m among)
 
--- it begins where the entries before the stamp end
+-- it begins at the point that the entries before the stamp reach
 pub start_raised : (h : Home) (r : Local) (to : Stamp) → IsRight h r → HasNoneWaitingBelow to r →
     after_log (start_of r) (entries_below to r.log) ≡ start_of (raised_run to r)
 start_raised h r to right none =

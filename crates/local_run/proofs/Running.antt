@@ -7,7 +7,7 @@ use Rattle.local_run.specs.Opening.{RegionData, spent}
 use Rattle.local_run.specs.Running.{GoesOn, RunsSteps, IsDueBefore, IsDueLater, RunsBefore}
 use Rattle.local_run.specs.Steps.{RegionSteps}
 
--- so many steps were made: the run ends with them, or goes on from where they came to
+-- a number of steps were made: the run ends with them, or goes on from there
 pub record IsUnderWay (made : ℕ) (old : RegionData) (answer : Step) (mid : RegionData) : Type 0 where
   pub same : spent mid ≡ spent old
   pub ends : (left steps : ℕ) → made + left ≡ steps → (GoesOn answer → left ≡ 0) →
@@ -42,7 +42,7 @@ one_more_made made old mid new first answer before on step = record {
 }
 
 -- ---- while what is due is before a bound
--- the same of steps that were each made before a bound
+-- the same for steps that were each made before a bound
 pub record IsUnderWayBefore (bound : Stamp) (made : ℕ) (old : RegionData) (answer : Step) (mid : RegionData) :
     Type 0 where
   pub same : spent mid ≡ spent old

@@ -1,4 +1,4 @@
--- Regions that begin as one that stood stand where it stood.
+-- A region that begins as one that stood on a state stands on it too.
 use Rattle.std.proofs.Common.{◌≡◌, ◌≢◌, ℕ, Option, Some, None, slice_get, refl, sym, ap, ◌∙◌, subst}
 use Rattle.std.specs.Prelude.{option_map}
 use Rattle.std.proofs.lemmas.Option.{same_Some}

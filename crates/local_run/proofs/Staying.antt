@@ -1,4 +1,4 @@
--- Entries that have nothing to do with some disks stay moves where rows of these are set.
+-- Entries that have nothing to do with some disks stay moves if rows of these are set.
 use Rattle.std.proofs.Common.{◌≡◌, ◌⊎◌, inl, inr, ℕ, List, [], ◌∷◌, Some, sym, ap, ◌∙◌, subst, refl}
 use Rattle.event_stamps.specs.declared.Stamp.{Stamp}
 use Rattle.event_stamps.specs.declared.Kind.TheVariants.{Pair}
@@ -117,8 +117,8 @@ abbrev pub IsLaterThan : Home → RowList → ViewData → Stamp → Type 0
 IsLaterThan h rows view c = (s : Stamp) → IsOwn h (set_rows view rows) s → NamesAny s (numbers_of rows) →
     Before c s
 
--- where it does so at the end, it comes after the first entry: a candidate stays one to the end, or up to an
--- entry that it comes after
+-- if it does so at the end, it comes after the first entry: a candidate stays one to the end, or up to an entry that it
+-- comes after
 pub still_later : (h : Home) (rows : RowList) (a : At) (e : Entry) (es : List Entry) →
     EntriesRiseAfter (entry_stamp e) es → AreAside h rows a (e ∷ es) →
     IsLaterThan h rows (after_log a (e ∷ es)).view (clock_of (entry_stamp e) es) →
@@ -201,7 +201,7 @@ pub stays_waiting : (rows : RowList) (a : At) (w : Trails) (e : Entry) → SameT
 stays_waiting rows a w (Native x) same = same
 stays_waiting rows a w (Heard q m) same = same_without a.waiting w q same
 
--- with the rows set, and what waits the same, it is at what it was at with the rows set
+-- with the rows set, and what waits the same, it reaches the same point with the rows set
 pub next_beside : (h : Home) (rows : RowList) (a : At) (w : Trails) (e : Entry) → IsApart rows e →
     IsMove h a e → after_entry (beside rows a w) e
     ≡ beside rows (after_entry a e) (after_entry (beside rows a w) e).waiting

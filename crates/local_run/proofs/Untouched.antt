@@ -49,7 +49,7 @@ crossing_keeps view s cell = by_row (map.get view s.first) refl
     by_row (Some p) is =
         ap disk_in (get_put_here view s.first (Some (record { disk = p.disk; cell = cell })))
 
--- a crossing moves its disk alone, and the disk keeps its record
+-- a crossing moves only its disk, and the disk keeps its record
 pub crossing_moves : (view : ViewData) (s : Stamp) (cell : ℕ) →
     IsMoved s.first view (after_action view (Cross s cell))
 crossing_moves view s cell = (crossing_leaves view s cell, crossing_keeps view s cell)

@@ -1,4 +1,4 @@
--- What waits is what was heard and isn't among the entries.
+-- A message waits if and only if it was heard and isn't among the entries.
 use Rattle.std.proofs.Common.{◌≡◌, ◌≢◌, ◌↔◌, inl, inr, ℕ, List, [], ◌∷◌, take, drop, sym, ap, subst}
 use Rattle.std.proofs.lemmas.List.{take-append-drop}
 use Rattle.event_stamps.proofs.StampOrder.{not_before_itself}
@@ -31,7 +31,7 @@ first_goes q n m (x ∷ xs) rest rises is = (
   ],
 )
 
--- after one is taken in, what waits is what waited, but for that one
+-- after one is taken in, the others that waited wait, and nothing else
 one_taken : (h : Home) (a : At) (p q : ℕ) (n m : Message) → AllRise a.waiting → IsHeardMove h a p n →
     IsAmong m (trail_of (without_first a.waiting p) q)
     ↔ (IsAmong m (trail_of a.waiting q) × (Heard q m ≢ Heard p n))

@@ -30,7 +30,7 @@ due_of h a (Native x) move = move.due
 due_of h a (Heard q m) move = move.due
 
 -- ---- the message at its place
--- where all that is offered comes after a message, which is the first of those that wait, it is the next move
+-- if all that is offered comes after a message, which is the first of those that wait, it is the next move
 taken_at_place : (h : Home) (a b : At) (q : ℕ) (m : Message) →
     ((s : Stamp) → IsOffered h a s → Before m.stamp s) → b.view ≡ a.view →
     IsInserted q m a.waiting b.waiting →

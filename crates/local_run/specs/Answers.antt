@@ -38,7 +38,7 @@ with_entry r e = record r { log = r.log ++ e ∷ [] }
 abbrev pub HasDue : Home → Local → Stamp → Type 0
 HasDue h r s = (length r.log < MAX_ENTRIES) × IsDue h (now_of r) s
 
--- what a step of a region that isn't spent answers, and what it makes of its local run
+-- the answer of a step of a region that isn't spent, and the local run after it
 abbrev pub StepsTo : Home → Local → Step → Local → Type 0
 StepsTo h r (Ran s) new = HasDue h r s × IsInTurn r s
     × ((a : Action) × (stamp_of a ≡ s) × IsNativeMove h (now_of r) a
@@ -66,7 +66,7 @@ pub record HasHeard (k : ℕ) (sent : List Message) (r : Local) (d : Stamp) (new
   pub trail : trail_of new.heard k ≡ sent
   pub others : (q : ℕ) → q ≢ k → trail_of new.heard q ≡ trail_of r.heard q
 
--- what hearing region k answers, and what it makes of the local run; `sent` is what k sends
+-- the answer when region k is heard, and the local run after it; `sent` is what k sends
 abbrev pub HearsFrom : ℕ → List Message → Local → Hearing → Local → Type 0
 HearsFrom k sent r Same new = (trail_of r.heard k ≡ sent) × (new ≡ r)
 HearsFrom k sent r (Later d) new = AgreesUpTo (trail_of r.heard k) sent d

@@ -1,11 +1,11 @@
--- What regions a burst is given.
+-- The regions that a burst is given.
 use Rattle.std.specs.Prelude.{◌≡◌, ◌≢◌, ℕ, List, length, slice_get, Some, None}
 use Rattle.fixed_motion.specs.declared.rules.Rules.{Rules}
 use Rattle.event_stamps.specs.declared.Stamp.{Stamp}
 use Rattle.cell_grid.specs.Grid.{GridData}
 use Rattle.local_run.specs.Opening.{RegionData}
 
--- it isn't spent, and it is the region of this number, of these rules and this grid, from this floor on
+-- it isn't spent, and it is the region of this number, with these rules, this grid and this floor
 pub record IsAtPlace (rules : Rules) (grid : GridData) (floor : Stamp) (k : ℕ) (region : RegionData) :
     Type 0 where
   pub alive : region.run ≢ None

@@ -1,4 +1,4 @@
--- The code of what a region is seen as.
+-- The code of what contracts see of a region.
 use Rattle.std.specs.Prelude.{List, Option, refl}
 use Rattle.std.specs.Coded.{Coded, code_by, coded×, coded_ℕ, coded_list, coded_option}
 use Rattle.std.specs.FinMap as map
@@ -14,9 +14,11 @@ use Rattle.local_run.specs.contracts.entry.Entry as entry
 use Rattle.local_run.specs.LocalRun.{Local, Trails}
 use Rattle.local_run.specs.Opening.{RegionData}
 
+-- a view is stored as its placed disks by number
 abbrev pub view_code : Coded ViewData
 view_code = map.code coded_ℕ placed.the_row.coded
 
+-- a local run is stored as its four parts
 abbrev pub local_code : Coded Local
 local_code = code_by (Stamp × (ViewData × (Trails × List Entry)))
     (coded× stamp.the_row.coded (coded× view_code
@@ -24,6 +26,7 @@ local_code = code_by (Stamp × (ViewData × (Trails × List Entry)))
     (λ r. (r.floor, (r.base, (r.heard, r.log))))
     (λ p. record { floor = p.0; base = p.1.0; heard = p.1.1.0; log = p.1.1.1 }) (λ _. refl)
 
+-- a region is stored as its home, its floor and its local run
 abbrev pub region_code : Coded RegionData
 region_code = code_by (Home × (Stamp × Option Local))
     (coded× home.the_row.coded (coded× stamp.the_row.coded (coded_option local_code)))

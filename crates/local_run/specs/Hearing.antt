@@ -1,4 +1,4 @@
--- What a rollback and a hearing make of a region.
+-- A region after a rollback, and after a hearing.
 use Rattle.std.specs.Prelude.{◌≡◌, Some, option_map}
 use Rattle.event_stamps.specs.declared.Stamp.{Stamp}
 use Rattle.local_run.specs.declared.answers.Hearing.{Hearing}
@@ -8,7 +8,7 @@ use Rattle.local_run.specs.LocalRun.{Local, sent_to}
 use Rattle.local_run.specs.Opening.{RegionData}
 use Rattle.local_run.specs.Answers.{HearsFrom}
 
--- the same local run with the entries before a stamp alone
+-- the same local run with only the entries before a stamp
 abbrev pub rewound_run : Stamp → Local → Local
 rewound_run at run = record run { log = entries_below at run.log }
 
@@ -37,7 +37,7 @@ pub record HearsAnother (old from new : RegionData) (answer : Hearing) : Type 0 
   pub hears : HearsFrom from.home.number
       (sent_to old.home.grid old.home.number sender.base sender.log) before answer after
 
--- what is answered of two that are apart changes nothing
+-- if two are apart, the answer says so and nothing changes
 abbrev pub HearsRegion : RegionData → RegionData → Hearing → RegionData → Type 0
 HearsRegion old from Apart new = new ≡ old
 HearsRegion old from Same new = HearsAnother old from new Same

@@ -17,20 +17,22 @@ pub record IsKept (region : RegionData) : Type 0 where
   pub begins : IfSome region.run (λ run. run.floor ≡ region.floor)
 
 -- ---- the log
+-- the log of a local run; no entries if there is none
 abbrev pub run_entries : Option Local → List Entry
 run_entries None = []
 run_entries (Some run) = run.log
 
--- the entries of the log; none where the region is spent
+-- the entries of the log; none if the region is spent
 abbrev pub entries_of : RegionData → List Entry
 entries_of region = run_entries region.run
 
 -- ---- what is due
+-- the due stamp, or the end stamp; without a local run, the floor
 abbrev pub IsDueAt : Home → Stamp → Option Local → Stamp → Type 0
 IsDueAt h floor None s = s ≡ floor
 IsDueAt h floor (Some run) s = IsDueOrEnd h (now_of run) s
 
--- the due stamp, or the end stamp; of a spent region, the floor
+-- the due stamp, or the end stamp; for a spent region, the floor
 abbrev pub IsDueIn : RegionData → Stamp → Type 0
 IsDueIn region s = IsDueAt region.home region.floor region.run s
 
@@ -39,13 +41,16 @@ IsDueIn region s = IsDueAt region.home region.floor region.run s
 abbrev pub SendsTo : Home → ℕ → Type 0
 SendsTo h to = IsRegion h.grid to × AreLinked h.grid h.number to
 
+-- messages may come to the region from that one
 abbrev pub HearsOf : Home → ℕ → Type 0
 HearsOf h from = IsRegion h.grid from × AreLinked h.grid from h.number
 
+-- a region that isn't spent sent these messages to that one, to which it is linked
 abbrev pub IsSent : RegionData → ℕ → List Message → Type 0
 IsSent region to ms = (run : Local) × (region.run ≡ Some run) × SendsTo region.home to
     × (ms ≡ sent_to region.home.grid to run.base run.log)
 
+-- a region that isn't spent heard these messages from that one, which is linked to it
 abbrev pub IsHeard : RegionData → ℕ → List Message → Type 0
 IsHeard region from ms = (run : Local) × (region.run ≡ Some run) × HearsOf region.home from
     × (ms ≡ trail_of run.heard from)

@@ -20,29 +20,29 @@ use Rattle.local_run.specs.Answers.{IsInTurn, StepsTo, HearsFrom}
 use Rattle.local_run.specs.Raising.{IsRaised, HasNoneWaitingBelow}
 
 -- ---- what a local run knows
--- each entry was due at its place: nothing that was offered there came before it
+-- each entry was due at its place: no native candidate and no message that waited there came before it
 abbrev pub EntriesWereDue : Type 0
 EntriesWereDue = (h : Home) (r : Local) (before after : List Entry) (e : Entry) → IsRight h r →
     r.log ≡ before ++ e ∷ after → IsDue h (after_log (start_of r) before) (entry_stamp e)
 
--- the view after each number of entries is valid: all that is known of it, also where it is mistaken
+-- the view after each number of entries is valid, also if it is mistaken: no more is known of it
 abbrev pub ViewsAreValid : Type 0
 ViewsAreValid = (h : Home) (r : Local) (i : ℕ) → IsInPlace h → IsRight h r →
     IsValidPlacing h.rules h.grid (rows_in (after_log (start_of r) (take i r.log)).view)
 
--- what waits after some entries is what was heard and isn't among them
+-- a message waits after some entries if and only if it was heard and isn't among them
 abbrev pub WaitsIfNotTaken : Type 0
 WaitsIfNotTaken = (h : Home) (r : Local) (i q : ℕ) (m : Message) → IsRight h r →
     (IsAmong m (trail_of (after_log (start_of r) (take i r.log)).waiting q)
     ↔ (IsAmong m (trail_of r.heard q) × ¬ IsAmong (Heard q m) (take i r.log)))
 
--- what waits may come next: it is from the floor on, and after the last entry
+-- a message that waits may come next: it is from the floor on, and after the last entry
 abbrev pub MessagesAreInTurn : Type 0
 MessagesAreInTurn = (h : Home) (r : Local) (s : Stamp) → IsRight h r → IsWaiting (now_of r).waiting s →
     IsInTurn r s
 
 -- ---- one way to go on
--- of two logs of one region, over one view and with the same heard, the longer goes on from the other
+-- of two logs of one region, over one view and with the same messages heard, the longer goes on from the other
 abbrev pub LogsGoOneWay : Type 0
 LogsGoOneWay = (h : Home) (r : Local) (log : List Entry) → IsRight h r →
     IsRight h (record r { log = log }) → length r.log ≤ length log →
@@ -59,10 +59,12 @@ HearingsHaveOneAnswer = (k : ℕ) (sent : List Message) (r new kept : Local) (an
     HearsFrom k sent r answer new → HearsFrom k sent r given kept → answer ≡ given
 
 -- ---- what stays right
+-- a right local run is right after a step
 abbrev pub StepsKeepRight : Type 0
 StepsKeepRight = (h : Home) (r new : Local) (answer : Step) → IsRight h r → StepsTo h r answer new →
     IsRight h new
 
+-- a right local run is right after it heard what the other may send
 abbrev pub HearingsKeepRight : Type 0
 HearingsKeepRight = (h : Home) (k : ℕ) (sent : List Message) (r new : Local) (answer : Hearing) →
     IsRight h r → IsHearable h r.floor k sent → HearsFrom k sent r answer new → IsRight h new
@@ -74,15 +76,15 @@ RollbacksKeepRight = (h : Home) (r : Local) (at : Stamp) (q : ℕ) → IsRight h
     × (sent_to h.grid q r.base (entries_below at r.log) ≡ below at (sent_to h.grid q r.base r.log))
 
 -- ---- between two regions
--- what a region sends to a linked one of the same rules, grid and floor, that one may hear
+-- a linked region of the same rules, grid and floor may hear what a region sends
 abbrev pub SentMayBeHeard : Type 0
 SentMayBeHeard = (h k : Home) (r : Local) (floor : Stamp) → h.rules ≡ k.rules → h.grid ≡ k.grid →
     floor ≡ r.floor → IsInPlace k → IsRight k r → AreLinked h.grid k.number h.number →
     IsHearable h floor k.number (sent_to h.grid h.number r.base r.log)
 
 -- ---- a later floor
--- where nothing that waits is before the new floor, the run from there on is right, is at what it was at, and
--- sends what it sent from there on
+-- if nothing that waits is before the new floor, the run from there on is right, has the same view and the same
+-- messages waiting, and sends what it sent from there on
 abbrev pub RaisingKeepsRight : Type 0
 RaisingKeepsRight = (h : Home) (r : Local) (to : Stamp) → IsInPlace h → IsRight h r → ¬ Before to r.floor →
     ¬ Before (end_stamp h.rules.end) to → HasNoneWaitingBelow to r → IsRaised h to r

@@ -22,13 +22,15 @@ use Rattle.local_run.specs.declared.entry.TheConstants.{MAX_ENTRIES}
 use Rattle.local_run.specs.Entries.{RiseFrom}
 
 -- ---- what waits
--- what there is of each region, by its number
+-- a list of messages for each region, by its number
 abbrev pub Trails : Type 0
 Trails = List (List Message)
 
+-- the messages of a region; none if there is no list for it
 abbrev pub trail_of : Trails → ℕ → List Message
 trail_of trails q = get_or trails q []
 
+-- the messages without the first one
 abbrev pub messages_after_first : List Message → List Message
 messages_after_first [] = []
 messages_after_first (m ∷ ms) = ms
@@ -42,17 +44,18 @@ unfoldable pub IsWaiting : Trails → Stamp → Type 0
 IsWaiting trails s = (q : ℕ) × (m : Message) × IsAmong m (trail_of trails q) × (m.stamp ≡ s)
 
 -- ---- the log
--- what a region is at: its view, and the messages of each region that it hasn't taken in
+-- the point that a region has reached: its view, and the messages of each region that it hasn't taken in
 pub record At : Type 0 where
   pub view : ViewData
   pub waiting : Trails
 
--- what an entry makes of that
+-- the point after an entry
 abbrev pub after_entry : At → Entry → At
 after_entry a (Native action) = record { view = after_action a.view action; waiting = a.waiting }
 after_entry a (Heard q m) =
     record { view = set_rows a.view m.rows; waiting = without_first a.waiting q }
 
+-- the point after a log
 abbrev pub after_log : At → List Entry → At
 after_log a [] = a
 after_log a (e ∷ es) = after_log (after_entry a e) es
@@ -62,7 +65,7 @@ after_log a (e ∷ es) = after_log (after_entry a e) es
 unfoldable pub IsOwn : Home → ViewData → Stamp → Type 0
 IsOwn h view s = IsNative h.rules h.grid h.number (rows_in view) s
 
--- what a native candidate comes to in the view
+-- the result of a native candidate in the view
 abbrev pub ComesToInView : Home → ViewData → Stamp → Result Action Limit → Type 0
 ComesToInView h view s r = ActsAs h.rules h.grid (rows_in view) s r
 
@@ -74,7 +77,7 @@ IsOffered h a s = IsOwn h a.view s ⊎ IsWaiting a.waiting s
 abbrev pub IsDue : Home → At → Stamp → Type 0
 IsDue h a s = IsLeast (IsOffered h a) s
 
--- the due stamp, or the end stamp where there is none
+-- the due stamp, or the end stamp if nothing is due
 abbrev pub IsDueOrEnd : Home → At → Stamp → Type 0
 IsDueOrEnd h a s = IsDue h a s ⊎ (HasNone (IsOffered h a) × (s ≡ end_stamp h.rules.end))
 
@@ -92,6 +95,7 @@ pub record IsHeardMove (h : Home) (a : At) (q : ℕ) (m : Message) : Type 0 wher
   pub alone : ¬ IsOwn h a.view m.stamp
   pub only : (r : ℕ) (n : Message) → IsAmong n (trail_of a.waiting r) → n.stamp ≡ m.stamp → r ≡ q
 
+-- the entry is what is due, and nothing else is due with it
 abbrev pub IsMove : Home → At → Entry → Type 0
 IsMove h a (Native action) = IsNativeMove h a action
 IsMove h a (Heard q m) = IsHeardMove h a q m
@@ -102,11 +106,12 @@ Moves h a [] = ⊤
 Moves h a (e ∷ es) = IsMove h a e × Moves h (after_entry a e) es
 
 -- ---- what is sent
+-- the messages with one before them, if there is one
 abbrev pub prepended : Option Message → List Message → List Message
 prepended None ms = ms
 prepended (Some m) ms = m ∷ ms
 
--- what region q is told of the native entries, of each by the view before it
+-- what region q is told of the native entries, given for each the view before it
 abbrev pub sent_to : GridData → ℕ → ViewData → List Entry → List Message
 sent_to grid q view [] = []
 sent_to grid q view (Native action ∷ es) =
@@ -121,15 +126,16 @@ pub record Local : Type 0 where
   pub heard : Trails
   pub log : List Entry
 
+-- the point at which a local run begins
 abbrev pub start_of : Local → At
 start_of r = record { view = r.base; waiting = r.heard }
 
--- what the region is at after its whole log
+-- the point after the whole log
 abbrev pub now_of : Local → At
 now_of r = after_log (start_of r) r.log
 
--- what region q may send: messages that rise strictly, from the floor on and before the end, of valid
--- rows; none where the two aren't linked
+-- what region q may send: messages that rise strictly, from the floor on and before the end, with valid rows; none if
+-- the two aren't linked
 pub record IsHearable (h : Home) (floor : Stamp) (q : ℕ) (ms : List Message) : Type 0 where
   pub rises : Rises ms
   pub from_floor : (m : Message) → IsAmong m ms → ¬ Before m.stamp floor

@@ -1,4 +1,4 @@
--- What a region is seen as, and how it begins.
+-- What contracts see of a region, and how it begins.
 use Rattle.std.specs.Prelude.{◌≡◌, ◌≢◌, ◌⊎◌, ℕ, [], Option, Some, None, replicate, slice_get}
 use Rattle.event_stamps.specs.declared.Stamp.{Stamp}
 use Rattle.cell_grid.specs.Grid.{AreLinked}
@@ -7,7 +7,7 @@ use Rattle.local_run.specs.declared.home.Home.{Home}
 use Rattle.local_run.specs.LocalRun.{Local}
 use Rattle.cell_sequence.specs.State.{CellStateData}
 
--- what a region is seen as: whose it is, its floor, and its local run unless it is spent
+-- what contracts see of a region: its home, its floor, and its local run unless it is spent
 pub record RegionData : Type 0 where
   pub home : Home
   pub floor : Stamp
@@ -17,6 +17,7 @@ pub record RegionData : Type 0 where
 abbrev pub spent : RegionData → RegionData
 spent region = record { home = region.home; floor = region.floor; run = None }
 
+-- the home of the region with this number, in a state
 abbrev pub home_of : CellStateData → ℕ → Home
 home_of state number = record { number = number; rules = state.rules; grid = state.grid }
 

@@ -1,4 +1,4 @@
--- What raising the floor makes of a region.
+-- A region after its floor is raised.
 use Rattle.std.specs.Prelude.{◌≡◌, ℕ, map, option_map}
 use Rattle.event_stamps.specs.declared.Stamp.{Stamp}
 use Rattle.event_stamps.specs.Order.{Before}
@@ -31,7 +31,7 @@ raised_region to region = record {
 abbrev pub HasNoneWaitingBelow : Stamp → Local → Type 0
 HasNoneWaitingBelow to run = (s : Stamp) → IsWaiting (now_of run).waiting s → ¬ Before s to
 
--- a right local run stays right, is at what it was at, and sends what it sent from there on
+-- a right local run stays right, has the same view and the same messages waiting, and sends what it sent from there on
 pub record IsRaised (h : Home) (to : Stamp) (r : Local) : Type 0 where
   pub right : IsRight h (raised_run to r)
   pub now : now_of (raised_run to r) ≡ now_of r

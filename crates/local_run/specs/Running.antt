@@ -1,4 +1,4 @@
--- What several steps make of a region.
+-- A region after several steps.
 use Rattle.std.specs.Prelude.{◌≡◌, ◌⊎◌, ℕ, zero, suc, ⊤}
 use Rattle.local_run.specs.declared.answers.Step.{Step}
 use Rattle.local_run.specs.declared.answers.Step.TheVariants.{Ran, Heard}
@@ -14,7 +14,7 @@ GoesOn (Ran s) = ⊤
 GoesOn (Heard s) = ⊤
 GoesOn _ = ⊥
 
--- steps one after the other, as many as these or up to the first that did nothing; the answer is the last one's
+-- steps one after the other, this many or up to the first that does nothing; the answer is the last one's
 abbrev pub RunsSteps : ℕ → RegionData → Step → RegionData → Type 0
 RunsSteps zero old answer new = ⊥
 RunsSteps (suc rest) old answer new = (RegionSteps old answer new × (GoesOn answer → rest ≡ 0))
@@ -28,8 +28,8 @@ IsDueBefore bound region = (s : Stamp) × IsDueIn region s × Before s bound
 abbrev pub IsDueLater : Stamp → RegionData → Type 0
 IsDueLater bound region = (s : Stamp) × IsDueIn region s × ¬ Before s bound
 
--- steps one after the other, each where what is due is before a bound: as many as these, or up to the first that
--- did nothing, or until what is due isn't before the bound; the answer is the last one's
+-- steps one after the other, each of them while what is due is before a bound: this many, or up to the first that does
+-- nothing, or until what is due isn't before the bound; the answer is the last one's
 abbrev pub RunsBefore : Stamp → ℕ → RegionData → Step → RegionData → Type 0
 RunsBefore bound zero old answer new = ⊥
 RunsBefore bound (suc rest) old answer new = IsDueBefore bound old

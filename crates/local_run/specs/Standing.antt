@@ -1,4 +1,4 @@
--- Which regions stand on a cell state, and what else is the matter with the others.
+-- The regions that stand on a cell state, and why others don't.
 use Rattle.std.specs.Prelude.{◌≡◌, ◌≢◌, ◌↔◌, ℕ, ◌<◌, Option, Some, None, Result, Ok, Err, slice_get}
 use Rattle.std.specs.FinMap as map
 use Rattle.cell_grid.specs.Grid.{GridData, Reaches}
@@ -11,8 +11,8 @@ use Rattle.local_run.specs.declared.answers.Differs.TheVariants.{Spent, Number, 
 use Rattle.local_run.specs.LocalRun.{Local}
 use Rattle.local_run.specs.Opening.{RegionData}
 
--- it isn't spent, it is the region of this number of the state's rules and grid, its floor is the state's,
--- and it begins in the view of the state
+-- it isn't spent, it is the region of this number with the state's rules and grid, its floor is the state's, and it
+-- begins in its view of the state
 pub record StandsOn (state : CellStateData) (k : ℕ) (region : RegionData) : Type 0 where
   pub run : Local
   pub alive : region.run ≡ Some run
@@ -22,7 +22,7 @@ pub record StandsOn (state : CellStateData) (k : ℕ) (region : RegionData) : Ty
   pub floor : region.floor ≡ state.floor
   pub base : IsViewOf state.grid k (slice_get state.placed) run.base
 
--- what is found is exactly what the region sees of a row
+-- this is exactly what the region sees of a row
 abbrev pub SeesRow : GridData → ℕ → Option Placed → Option Placed → Type 0
 SeesRow grid k row found = (p : Placed) → (found ≡ Some p) ↔ ((row ≡ Some p) × Reaches grid k p.cell)
 
@@ -30,17 +30,17 @@ SeesRow grid k row found = (p : Placed) → (found ≡ Some p) ↔ ((row ≡ Som
 abbrev pub IsSeenAt : GridData → ℕ → Placing → ViewData → ℕ → Type 0
 IsSeenAt grid k at view i = SeesRow grid k (at i) (map.get view i)
 
--- the least number at which it hasn't, of placed disks
+-- the least number at which it doesn't, for placed disks
 abbrev pub IsUnseenFirst : GridData → ℕ → Placing → ViewData → ℕ → Type 0
 IsUnseenFirst grid k at view i = (¬ IsSeenAt grid k at view i)
     × ((j : ℕ) → j < i → IsSeenAt grid k at view j)
 
--- the least number at which it hasn't
+-- the least number at which it doesn't
 pub record DiffersFirstAt (state : CellStateData) (k : ℕ) (view : ViewData) (i : ℕ) : Type 0 where
   pub here : ¬ IsSeenAt state.grid k (slice_get state.placed) view i
   pub before : (j : ℕ) → j < i → IsSeenAt state.grid k (slice_get state.placed) view j
 
--- the first of these that differs: it is spent, its number, rules, grid or floor, or its first view
+-- the first of these in which it differs: it is spent, its number, rules, grid or floor, or its first view
 abbrev pub DiffersBy : CellStateData → ℕ → RegionData → Differs → Type 0
 DiffersBy state k region Spent = region.run ≡ None
 DiffersBy state k region (Number kept given) = (region.run ≢ None)
@@ -57,7 +57,7 @@ DiffersBy state k region (Row i) = (region.home.number ≡ k)
     × (region.floor ≡ state.floor)
     × ((run : Local) × (region.run ≡ Some run) × DiffersFirstAt state k run.base i)
 
--- whether it stands on the state with this number, or what differs first
+-- whether it stands on the state with this number, or the first thing in which it differs
 abbrev pub TellsStanding : CellStateData → ℕ → RegionData → Result (Unit {0}) Differs → Type 0
 TellsStanding state k region (Ok _) = StandsOn state k region
 TellsStanding state k region (Err differs) = DiffersBy state k region differs

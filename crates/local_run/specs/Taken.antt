@@ -9,5 +9,6 @@ abbrev pub is_of : ℕ → Entry → Bool
 is_of q (Native action) = false
 is_of q (Heard p m) = p == q
 
+-- how many messages of this region are in a log
 abbrev pub taken_of : ℕ → List Entry → ℕ
 taken_of q log = count_by (is_of q) log

@@ -28,12 +28,12 @@ HasDisk (Heard q m) i = Contains (numbers_of m.rows) i
 abbrev pub IsApart : RowList → Entry → Type 0
 IsApart rows e = (i : ℕ) → HasDisk e i → ¬ Contains (numbers_of rows) i
 
--- what a disk does with the disks of the rows, where these are set, comes after a stamp
+-- what a disk does with the disks of the rows, if these are set, comes after a stamp
 abbrev pub TouchesAfter : Home → RowList → ViewData → Stamp → ℕ → Type 0
 TouchesAfter h rows view t i = (s : Stamp) → IsOwn h (set_rows view rows) s → Names s i →
     NamesAny s (numbers_of rows) → Before t s
 
--- each disk of a view stays as it is, or touches the disks of the rows after a stamp alone
+-- each disk of a view stays as it is, or touches the disks of the rows only after a stamp
 abbrev pub LeavesNear : Home → RowList → Stamp → ViewData → ViewData → Type 0
 LeavesNear h rows t before after = (i : ℕ) (p : Placed) → rows_in before i ≡ Some p →
     (rows_in after i ≡ Some p) ⊎ TouchesAfter h rows before t i
@@ -67,11 +67,11 @@ pub record MayWeave (h : Home) (r : Local) (m : Message) : Type 0 where
   -- the entries after it have nothing to do with its disks
   pub aside : AreAside h m.rows (after_log (start_of r) (entries_below m.stamp r.log))
       (entries_from m.stamp r.log)
-  -- what its disks do next in this region's columns comes after them
+  -- the next native event of its disks comes after them
   pub later : (s : Stamp) → IsOwn h (set_rows (now_of r).view m.rows) s →
       NamesAny s (numbers_of m.rows) → Before (clock_of r.floor r.log) s
 
--- then the log stays right, comes to the same view with the rows of the message set, and sends the same
+-- then the log stays right, leads to the same view with the rows of the message set, and sends the same messages
 abbrev pub WeavingKeepsRight : Type 0
 WeavingKeepsRight = (h : Home) (r new : Local) (q : ℕ) (m : Message) → IsRight h r → MayWeave h r m →
     IsHearable h r.floor q (with_message m (trail_of r.heard q)) → IsWoven q m r new →

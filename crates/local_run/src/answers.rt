@@ -3,7 +3,7 @@
 use event_rules::Limit;
 use event_stamps::Stamp;
 
-/// What one step came to.
+/// The answer of one step.
 #[derive(Clone, Copy, Debug, PartialEq, Eq)]
 pub enum Step {
     /// The event with this stamp was run.
@@ -16,7 +16,7 @@ pub enum Step {
     Past {
         /// The stamp that is due.
         due: Stamp,
-        /// The stamp of the last entry; of an empty log, the floor.
+        /// The stamp of the last entry; if the log is empty, the floor.
         clock: Stamp,
     },
     /// Two or more of the events and messages have the stamp that is due.
@@ -29,21 +29,20 @@ pub enum Step {
     Spent,
 }
 
-/// What one hearing came to.
+/// The answer of one hearing.
 #[derive(Clone, Copy, Debug, PartialEq, Eq)]
 pub enum Hearing {
     /// Nothing is new.
     Same,
     /// From this stamp on something is new, and the entries from it on are taken back.
     Rewound(Stamp),
-    /// From this stamp on, after the last entry, something is new.
+    /// From this stamp on something is new; it is after the last entry.
     Later(Stamp),
-    /// The two can't hear each other: one is spent, they have other rules, grids or floors, or they
-    /// aren't linked.
+    /// The two can't hear each other: one is spent, they have other rules, grids or floors, or they aren't linked.
     Apart,
 }
 
-/// In what a region, first of all, doesn't stand on a cell state.
+/// The first thing in which a region doesn't stand on a cell state.
 #[derive(Clone, Copy, Debug, PartialEq, Eq)]
 pub enum Differs {
     /// It is spent.
@@ -52,7 +51,7 @@ pub enum Differs {
     Number {
         /// The number that was asked for.
         kept: u32,
-        /// The region's.
+        /// The number that the region has.
         given: u32,
     },
     /// It has other rules.
@@ -61,9 +60,9 @@ pub enum Differs {
     Grid,
     /// It has another floor.
     Floor {
-        /// The state's.
+        /// The floor of the state.
         kept: Stamp,
-        /// The region's.
+        /// The floor of the region.
         given: Stamp,
     },
     /// It begins with another row of this disk, the least such number.

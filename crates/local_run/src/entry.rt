@@ -5,7 +5,7 @@ ghost use Rattle.std.specs.Prelude.{◌≡◌};
 use event_stamps::Stamp;
 use region_view::{Action, Message};
 
-/// How many entries a log holds at most.
+/// The greatest number of entries in a log.
 pub const MAX_ENTRIES: usize = 4096;
 
 /// One move of a region, in its log of processed events.

@@ -1,4 +1,4 @@
-//! Whose local run it is.
+//! The region whose local run it is.
 
 ghost use Rattle.std.specs.Prelude.{◌↔◌, IsTrue};
 ghost use Rattle.cell_grid.specs.Grid.{IsRegion};

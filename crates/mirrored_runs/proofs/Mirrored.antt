@@ -47,7 +47,7 @@ neg_difference x y = omega (arith, ints)
 pub neg_size : (x : ℤ) → nat_abs (neg_ℤ x) ≡ nat_abs x
 neg_size x = grind (arith, ints)
 
--- a coordinate as far from the side across, in a box of width or height w
+-- a coordinate as far from the opposite side, in a box of width or height w
 across_twice : (w x : ℤ) → w -ℤ (w -ℤ x) ≡ x
 across_twice w x = omega (arith, ints)
 
@@ -147,7 +147,7 @@ wall_mirrored axis rules a side tick h = record {
       (past_mirrored axis rules a side (place_of a (tick + 1)) h.past);
 }
 
--- what a disk that is past a side is past, by the side's number
+-- the side that a disk is past, by the side's number
 record IsPastBy (rules : Rules) (a : Disk) (side : ℕ) (p : Vector) : Type 0 where
   pub left : side ≡ 0 → p.x <ℤ radius_of a
   pub right : side ≡ 1 → (rules.width -ℤ radius_of a) <ℤ p.x
@@ -169,7 +169,7 @@ abbrev pub AreAcross : Axis → ℕ → ℕ → Type 0
 AreAcross LeftRight low high = (low ≡ 0) × (high ≡ 1)
 AreAcross BottomTop low high = (low ≡ 2) × (high ≡ 3)
 
--- no disk is past both, as it was inside
+-- no disk is past both, since it was inside
 pub not_past_both : (axis : Axis) (rules : Rules) (a : Disk) (low high : ℕ) (p q : Vector) → IsInside rules a p → IsPast rules a low q →
     IsPast rules a high q → AreAcross axis low high → ⊥
 not_past_both axis rules a low high p q inside h k across = by_axis axis (past_by rules a low q h) (past_by rules a high q k) across

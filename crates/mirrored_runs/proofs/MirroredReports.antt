@@ -1,4 +1,4 @@
--- Reports mirrored: their lines, in the order in which they stand.
+-- Reports mirrored: their lines, in the order of the report.
 use Rattle.std.proofs.Common.{◌≡◌, ℕ, ◌+◌, ◌*◌, pos, nat_abs, Bool, List, [], ◌∷◌, ◌++◌, map, cond, append-nil, sym, ap, ◌∙◌, subst, refl, Option, Some, None}
 use Rattle.std.specs.Prelude.{flat_map, fold, sum_by, count_by, is_none, is_some, ⊤}
 use Rattle.std.proofs.lemmas.Grind.{flat_map-append}

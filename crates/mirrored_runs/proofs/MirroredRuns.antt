@@ -1,4 +1,4 @@
--- Runs mirrored: candidates, their order, what they come to, and states.
+-- Runs mirrored: candidates, their order, their results, and states.
 use Rattle.std.proofs.Common.{◌≡◌, ◌⊎◌, inl, inr, ℕ, ◌+◌, ◌<◌, Bool, true, false, List, [], ◌∷◌, map, sym, ap, ◌∙◌, subst, refl, arith, Option, Some, None, Result, Ok, Err, slice_get, slice_set}
 use Rattle.std.specs.Prelude.{ℤ, neg_ℤ, nat_abs, ◌*ℤ◌, ◌<ℤ◌, ◌==◌, ◌&&◌, nat_lt, nat_le, if◌then◌else◌}
 use Rattle.std.specs.Option.{option_map}
@@ -106,7 +106,7 @@ cmp_also m n p q h less = below p q (h (from m n less))
     from : (m n : ℕ) → nat_cmp m n ≡ Less → m < n
     from m n less = grind arith
 
--- stamps that differ from two others in their last numbers alone
+-- stamps that differ from two others only in their last numbers
 order_by : (s t : Stamp) (m n : ℕ) →
     (s.tick ≡ t.tick → kind_number s.kind ≡ kind_number t.kind → s.first ≡ t.first → m < n → s.second < t.second) →
     Before (record { tick = s.tick; round = s.round; kind = s.kind; first = s.first; second = m })

@@ -1,5 +1,5 @@
--- Scenes and runs mirrored, left to right or bottom to top: what was at one side is as far from the one across, and velocities
--- to one side are to the one across.
+-- Scenes and runs mirrored, left to right or bottom to top: a place at some distance from one side gets the same
+-- distance from the opposite side, and a velocity towards one side goes towards the opposite one.
 use Rattle.std.specs.Prelude.{ℕ, ◌==◌, if◌then◌else◌, ◌-ℤ◌, neg_ℤ, List, map, Option, Some, None}
 use Rattle.plane_vectors.specs.declared.Vector.{Vector}
 use Rattle.plane_vectors.specs.Vectors.{vector}
@@ -24,12 +24,12 @@ pub data Axis : Type 0 where
   LeftRight : Axis
   BottomTop : Axis
 
--- the place that is as far from the side across
+-- the place that is as far from the opposite side
 abbrev pub mirrored_place : Axis → Rules → Vector → Vector
 mirrored_place LeftRight rules p = vector (rules.width -ℤ p.x) p.y
 mirrored_place BottomTop rules p = vector p.x (rules.height -ℤ p.y)
 
--- one component turned round
+-- one component reversed
 abbrev pub mirrored_vector : Axis → Vector → Vector
 mirrored_vector LeftRight v = vector (neg_ℤ v.x) v.y
 mirrored_vector BottomTop v = vector v.x (neg_ℤ v.y)
@@ -51,12 +51,12 @@ abbrev pub mirrored_scene : Axis → SceneData → SceneData
 mirrored_scene axis scene =
     record { rules = scene.rules; disks = map (mirrored axis scene.rules) scene.disks; every = scene.every }
 
--- the right side for the left one, or the top for the bottom, and the other way about
+-- the right side for the left one, or the top for the bottom, and the other way round
 abbrev pub mirrored_side : Axis → ℕ → ℕ
 mirrored_side LeftRight side = if side == 0 then 1 else if side == 1 then 0 else side
 mirrored_side BottomTop side = if side == 2 then 3 else if side == 3 then 2 else side
 
--- the last number of a stamp, which is a side where a disk hits one
+-- the last number of a stamp, which is a side if a disk hits one
 abbrev pub mirrored_second : Axis → Kind → ℕ → ℕ
 mirrored_second axis Cross second = second
 mirrored_second axis Wall second = mirrored_side axis second
@@ -72,7 +72,7 @@ mirrored_stamp axis s = record {
   second = mirrored_second axis s.kind s.second;
 }
 
--- the disk, where there is one
+-- the disk, if there is one
 abbrev pub mirrored_if : Axis → Rules → Option Disk → Option Disk
 mirrored_if axis rules None = None
 mirrored_if axis rules (Some a) = Some (mirrored axis rules a)
@@ -90,7 +90,7 @@ abbrev pub mirrored_limit : Axis → Limit → Limit
 mirrored_limit axis (Rounds s) = Rounds (mirrored_stamp axis s)
 mirrored_limit axis (Speed s) = Speed (mirrored_stamp axis s)
 
--- the mirrored place and velocity of a disk in the end
+-- the mirrored place and velocity of a disk at the end
 abbrev pub mirrored_spot : Axis → Rules → Spot → Spot
 mirrored_spot axis rules spot = record {
   x = (mirrored_place axis rules (vector spot.x spot.y)).x;
@@ -104,7 +104,7 @@ abbrev pub mirrored_outcome : Axis → Rules → Outcome → Outcome
 mirrored_outcome axis rules (Done spots) = Done (map (mirrored_spot axis rules) spots)
 mirrored_outcome axis rules (Passes limit) = Passes (mirrored_limit axis limit)
 
--- a mirrored scene is valid where the scene is
+-- a mirrored scene is valid if the scene is
 abbrev pub MirrorsAreValid : Type 0
 MirrorsAreValid = (axis : Axis) (scene : SceneData) → IsValidScene scene → IsValidScene (mirrored_scene axis scene)
 

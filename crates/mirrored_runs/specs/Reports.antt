@@ -28,7 +28,7 @@ pub data Line : Type 0 where
   MomentumLine : Vector → Line
   EnergyLine : ℕ → ℕ → Line
 
--- how it stands in the report
+-- its text in the report
 abbrev pub line_text : Line → List ℕ
 line_text (WallLine s a) = wall_line s a
 line_text (PairLine s a b) = pair_line s a b
@@ -41,8 +41,8 @@ line_text (PairsLine count) = number_line (codes "pairs") count
 line_text (MomentumLine p) = momentum_line p
 line_text (EnergyLine before after) = energy_line before after
 
--- what says the same of the mirrored run: sides, places, velocities and the momentum are mirrored, and ticks, rounds, numbers of
--- disks, counts and energies are the same
+-- the line that says the same of the mirrored run: sides, places, velocities and the momentum are mirrored, and ticks,
+-- rounds, numbers of disks, counts and energies are the same
 abbrev pub mirrored_line : Axis → Rules → Line → Line
 mirrored_line axis rules (WallLine s a) = WallLine (record s { second = mirrored_side axis s.second }) (mirrored axis rules a)
 mirrored_line axis rules (PairLine s a b) = PairLine s (mirrored axis rules a) (mirrored axis rules b)

@@ -3,7 +3,7 @@
 ghost use Rattle.mirrored_runs.specs.Mirror.{RunsMirror, MirrorsAreValid};
 ghost use Rattle.mirrored_runs.specs.Reports.{ReportsMirror};
 
-/// A scene mirrored left to right, or bottom to top, is valid where the scene is.
+/// A scene mirrored left to right, or bottom to top, is valid if the scene is.
 pub fn mirrors_are_valid()
     ensures { MirrorsAreValid }
 {}

@@ -6,9 +6,11 @@ use Rattle.plane_vectors.specs.declared.Vector.{Vector}
 abbrev pub vector : ℤ → ℤ → Vector
 vector x y = record { x = x; y = y }
 
+-- the sum of two vectors
 abbrev pub sum : Vector → Vector → Vector
 sum a b = vector (a.x +ℤ b.x) (a.y +ℤ b.y)
 
+-- the first vector less the second
 abbrev pub difference : Vector → Vector → Vector
 difference a b = vector (a.x -ℤ b.x) (a.y -ℤ b.y)
 
@@ -16,7 +18,7 @@ difference a b = vector (a.x -ℤ b.x) (a.y -ℤ b.y)
 abbrev pub dot : Vector → Vector → ℤ
 dot a b = (a.x *ℤ b.x) +ℤ (a.y *ℤ b.y)
 
--- where a point is that starts here and moves with this velocity for so many ticks
+-- the place of a point that starts here and moves with this velocity for this many ticks
 abbrev pub after : Vector → Vector → ℕ → Vector
 after start velocity ticks = vector (start.x +ℤ (velocity.x *ℤ pos ticks)) (start.y +ℤ (velocity.y *ℤ pos ticks))
 

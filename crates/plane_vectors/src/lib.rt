@@ -1,4 +1,4 @@
-//! Vectors in the plane, in whole numbers: places, velocities and what is between them.
+//! Vectors in the plane, in whole numbers: places, velocities and the differences of these.
 #![tactic(auto)]
 
 ghost use Rattle.std.specs.Prelude.{◌≡◌, ◌+◌, ◌-◌, ◌*◌, ◌^◌, ◌≤◌, nat_abs};
@@ -48,7 +48,8 @@ impl Vector {
         self.x * other.x + self.y * other.y
     }
 
-    /// Where a point is that starts here and moves with a velocity of components up to 2^21 for at most 2^40 ticks.
+    /// The place that a point starting here reaches in `ticks` ticks, at most 2^40, with a velocity of components up to
+    /// 2^21.
     pub fn after(self, velocity: Vector, ticks: u64) -> Vector
         requires own { IsWithin (2 ^ 31) self }
         requires velocity { IsWithin (2 ^ 21) velocity }

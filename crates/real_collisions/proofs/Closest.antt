@@ -1,5 +1,5 @@
--- Two disks in contact overlap within the tick that follows: at its end, or where they are nearest to each other. There the
--- discriminant, which stays what it is, is positive with r·u = 0.
+-- Two disks in contact overlap within the tick that follows: at its end, or at the moment at which they are nearest to
+-- each other. Then the discriminant, which stays what it is, is positive with r·u = 0.
 use Rattle.std.proofs.Common.{◌≡◌, ℕ, zero, suc, ◌+◌, ◌*◌, ◌<◌, ◌≤◌, subst, sym, ap, ◌∙◌, arith}
 use Rattle.std.specs.Prelude.{ℤ, pos, negsuc, nat_abs, ◌+ℤ◌, ◌*ℤ◌, ◌≤ℤ◌, ◌<ℤ◌}
 use Rattle.std.proofs.lemmas.Int.{ints, by_lt_z}
@@ -12,7 +12,7 @@ use Rattle.contact_predictor.proofs.Approaching.{after_next, after_none, dot_nex
 use Rattle.event_rules.proofs.Within.{scaled, minus_times}
 use Rattle.real_collisions.proofs.Numbers.{times_across, times_both}
 
--- at this part of the tick two disks overlap, with lengths told in parts
+-- at this part of the tick two disks overlap, with lengths given in parts
 abbrev pub OverlapAfter : Vector → Vector → ℤ → ℕ → ℕ → Type 0
 OverlapAfter r u distance part whole =
     dot (after (scaled r whole) u part) (after (scaled r whole) u part) <ℤ ((distance *ℤ pos whole) *ℤ (distance *ℤ pos whole))
@@ -58,7 +58,7 @@ crosses_in_parts a b c q some ha hc crosses = rw (times_both b (pos q) b (pos q)
     by_signs (negsuc m) c d ha hc lt = absurd (omega (arith, ints))
     by_signs (pos m) (negsuc k) d ha hc lt = absurd (omega (arith, ints))
 
--- ---- where two disks are nearest
+-- ---- the moment at which two disks are nearest
 closing_after : (r u : Vector) (s : ℕ) → dot (after r u s) u ≡ dot r u +ℤ (dot u u *ℤ pos s)
 closing_after r u zero =
     let first = ap (λ (p : Vector). dot p u) (after_none r u) in
@@ -70,7 +70,7 @@ closing_after r u (suc s) =
     let earlier = closing_after r u s in
     omega (arith, ints)
 
--- where r·u has become 0, the gap is negative
+-- if r·u has become 0, the gap is negative
 below_there : (a b c : ℤ) → pos 0 ≤ℤ a → b ≡ pos 0 → (a *ℤ c) <ℤ (b *ℤ b) → c <ℤ pos 0
 below_there a b (negsuc k) ha hb lt = omega (arith, ints)
 below_there (pos m) b (pos k) ha hb lt = absurd (let none : b *ℤ b ≡ pos 0 = rw hb (omega (arith, ints)) in omega (arith, ints))

@@ -1,4 +1,4 @@
--- The exact impulse turns the speed along r round, and keeps the size of the relative velocity.
+-- The exact impulse reverses the speed along r, and keeps the size of the relative velocity.
 use Rattle.std.proofs.Common.{◌≡◌, sym, ap, ◌∙◌, arith}
 use Rattle.std.specs.Prelude.{ℤ, pos, neg_ℤ, ◌+ℤ◌, ◌-ℤ◌, ◌*ℤ◌}
 use Rattle.std.proofs.lemmas.Int.{ints}

@@ -73,7 +73,7 @@ ceiling_not_smaller r u h =
       rw (size_of_signed r.y y) (above_ceiling (b * nat_abs r.y) n some),
     )
 
--- what is at most half a unit off is less than one off
+-- a number that is at most half a unit off is less than one off
 half_within_one : (r u j : Vector) → dot r u <ℤ pos 0 → IsWithinHalf r u j → IsWithinOne r u j
 half_within_one r u j h near =
     let some = square_positive r u h in

@@ -4,25 +4,26 @@ use Rattle.plane_vectors.specs.declared.Vector.{Vector}
 use Rattle.plane_vectors.specs.Vectors.{vector, sum, difference, dot}
 use Rattle.impulse_rounding.specs.Impulse.{nearest, rounded_impulse, impulse_of, parting}
 
--- a vector so many times as long
+-- a vector this many times as long
 abbrev pub scaled : ℤ → Vector → Vector
 scaled k v = vector (k *ℤ v.x) (k *ℤ v.y)
 
--- Two equal smooth disks that collide, with the separation r and the relative velocity u, give each other exactly the impulse
--- -(r·u / r·r) r. This is the relative velocity after it, told r·r times as large, so that it is whole: (r·r) u - 2 (r·u) r.
+-- Two smooth disks of one mass that collide, with the separation r and the relative velocity u, give each other exactly
+-- the impulse -(r·u / r·r) r. This is the relative velocity after it, r·r times as large, so that it is whole:
+-- (r·r) u - 2 (r·u) r.
 abbrev pub after_exact : Vector → Vector → Vector
 after_exact r u = difference (scaled (dot r r) u) (scaled (pos 2 *ℤ dot r u) r)
 
--- the exact impulse turns the speed along r round, and keeps the size of the relative velocity, and so the energy
+-- the exact impulse reverses the speed along r, and keeps the size of the relative velocity, and so the energy
 pub record IsElastic (r u : Vector) : Type 0 where
   pub turned : dot r (after_exact r u) ≡ neg_ℤ (dot r r *ℤ dot r u)
   pub energy : dot (after_exact r u) (after_exact r u) ≡ (dot r r *ℤ dot r r) *ℤ dot u u
 
--- so it is of all separations and velocities
+-- that is so for all separations and velocities
 abbrev pub ExactImpulsesAreElastic : Type 0
 ExactImpulsesAreElastic = (r u : Vector) → IsElastic r u
 
--- an impulse less the exact one, told r·r times as large
+-- an impulse less the exact one, r·r times as large
 abbrev pub difference_from_exact : Vector → Vector → Vector → Vector
 difference_from_exact r u j = sum (scaled (dot r r) j) (scaled (dot r u) r)
 
@@ -44,8 +45,8 @@ IsNotSmaller r u j =
     (nat_abs (dot r u) * nat_abs r.x ≤ nat_abs (dot r r) * nat_abs j.x)
     × (nat_abs (dot r u) * nat_abs r.y ≤ nat_abs (dot r r) * nat_abs j.y)
 
--- An impulse of whole numbers after which two disks recede. It is the nearest to the exact one where they recede after that;
--- else its sizes are rounded up.
+-- An impulse of whole numbers after which two disks recede. It is the one nearest to the exact impulse if they recede
+-- after that; else its sizes are rounded up.
 pub record IsNearlyElastic (r u j : Vector) : Type 0 where
   pub one : IsWithinOne r u j
   pub half : pos 0 <ℤ parting r u (rounded_impulse nearest r u) → IsWithinHalf r u j

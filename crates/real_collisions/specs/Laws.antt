@@ -1,4 +1,4 @@
--- What each event of a run is, of whatever state: the real one of its disks, to within a tick and a unit.
+-- Each event of a run, from any state, is the real one of its disks, to within a tick and a unit.
 use Rattle.std.specs.Prelude.{◌≡◌, ◌⊎◌, ℕ, ◌<◌, List, ◌∷◌, ◌++◌, fold, slice_get, Some, None}
 use Rattle.plane_vectors.specs.declared.Vector.{Vector}
 use Rattle.plane_vectors.specs.Vectors.{sum, difference}
@@ -56,7 +56,7 @@ FailingEventsAreReal = (rules : Rules) (disks : List Disk) (changes : List Chang
     Runs rules disks changes (Passes limit) → IsReal rules (fold effect disks changes) (stamp_of_limit limit)
 
 -- ---- what it does
--- a disk stays where it is at the tick of the event, and has this velocity then
+-- a disk stays at its place at the tick of the event, and has this velocity then
 pub record GoesOnWith (a : Disk) (tick : ℕ) (velocity : Vector) (x : Disk) : Type 0 where
   pub place : place_of x tick ≡ place_of a tick
   pub velocity_after : velocity_of x ≡ velocity
@@ -84,7 +84,7 @@ pub record IsElasticCollision (disks : List Disk) (c : Change) : Type 0 where
   pub second_later : c.second ≡ Some later
   pub second_goes_on : GoesOnWith second c.stamp.tick (difference (velocity_of second) impulse) later
 
--- each event of a run is elastic: exactly at a side, and of two disks nearly
+-- each event of a run is elastic: exactly at a side, and nearly for two disks
 abbrev pub EventsAreElastic : Type 0
 EventsAreElastic = (rules : Rules) (disks : List Disk) (before after : List Change) (c : Change) (outcome : Outcome) →
     Runs rules disks (before ++ (c ∷ after)) outcome →

@@ -7,8 +7,9 @@ use Rattle.event_rules.specs.Events.{IsContactTick}
 use Rattle.event_rules.specs.Predict.{HaveBegun, AreInside}
 use Rattle.event_rules.specs.Moments.{Moment, IsWithinTick, OverlapAt}
 
--- On the straight ways that they have, two disks touch for the first time at this tick or after it, and before the next one:
--- they don't overlap up to the tick, from where both ways have begun, and would at a moment from it to the next one.
+-- On their straight ways two disks touch for the first time at this tick or after it, and before the next one: from the
+-- tick on from which both ways have begun, they don't overlap up to this tick, and they would at a moment from it to
+-- the next one.
 pub record TouchFrom (a b : Disk) (tick : ℕ) : Type 0 where
   pub before : (m : Moment) → IsWithinTick m → a.base ≤ m.tick → b.base ≤ m.tick → m.tick < tick → ¬ OverlapAt m a b
   pub apart : ¬ Overlaps (contact_distance a b) (place_of a tick) (place_of b tick)

@@ -1,4 +1,4 @@
--- What a region keeps with one more entry.
+-- What a region keeps, with one more entry.
 use Rattle.std.proofs.Common.{◌≡◌, inl, inr, ℕ, ◌+◌, ◌<◌, ◌≤◌, List, [], ◌∷◌, ◌++◌, length, sym, ap, ◌∙◌, subst, refl, arith, Option}
 use Rattle.std.specs.Prelude.{IsSome}
 use Rattle.std.proofs.lemmas.List.{get_or-set_same, get_or-set_other, length-set}
@@ -43,7 +43,7 @@ use Rattle.region_core.proofs.NextMove.{next_of_waits}
 use Rattle.region_view.proofs.ValidRows.{setting_keeps_valid}
 use Rattle.region_view.specs.Placing.{IsValidPlacing}
 
--- an entry in the newest view of a body, with what leads back over it
+-- an entry in the newest view of a body, with the rows that lead back over it
 abbrev pub logged_in : Live → Entry → Logged
 logged_in live e = (e, rows_at (rows_in live.view) (rows_by live.view e))
 

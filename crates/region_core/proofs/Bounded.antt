@@ -1,4 +1,4 @@
--- What a step before a bound makes of a region.
+-- A region after a step before a bound.
 use Rattle.std.proofs.Common.{◌≡◌, Option, Some, None, ap, refl, subst, sym, ◌∙◌}
 use Rattle.std.specs.Prelude.{MatchOption}
 use Rattle.event_stamps.specs.declared.Stamp.{Stamp}
@@ -16,7 +16,7 @@ use Rattle.local_run.specs.Opening.{RegionData}
 use Rattle.local_run.specs.Keeping.{IsDueIn}
 use Rattle.region_core.proofs.Shown.{seen_as}
 
--- what the step makes of its body it makes of the region
+-- what the step does to its body it does to the region
 pub bounded_step : (place : Place) (bound : Stamp) (old new : Live) (last : Option Step) →
     MatchOption last (HasDueLater place.home bound old × (new ≡ old))
     (λ step. HasDueBefore place.home bound old

@@ -1,4 +1,4 @@
--- What each region keeps, as its value tells it.
+-- What each region keeps, in terms of its value.
 use Rattle.std.proofs.Common.{◌≡◌, Option, Some, None, subst, sym, refl}
 use Rattle.std.specs.Prelude.{option_map, IfSome}
 use Rattle.event_stamps.specs.declared.Stamp.{Stamp}
@@ -45,7 +45,7 @@ spent_sound place old new sound gone =
 pub body_is : (place : Place) (o : Option Live) (live : Live) → IsSound place o → o ≡ Some live → IsLive place live
 body_is place o live sound here = subst (λ (p : Option Live). IfSome p (IsLive place)) here sound.alive
 
--- it begins as it did, where it is as it was
+-- it begins as it did, if it is as it was
 pub still_begins : (home : Home) (floor : Stamp) (live : Option Live) (region : RegionData) →
     record { home = home; floor = floor; run = option_map (run_in floor) live } ≡ region →
     BeginsAs region (record { home = home; floor = floor; run = option_map (run_in floor) live })

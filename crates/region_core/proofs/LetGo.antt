@@ -58,7 +58,7 @@ raised_run_is to r base heard log base_is heard_is log_is = λ i. record {
   log = log_is i;
 }
 
--- it begins in the view after what goes, and keeps what comes after
+-- it begins in the view after the entries that go, and keeps what comes after them
 pub base_let_go : (to : Stamp) (old : Live) (view : ViewData) (log : List Logged) (gone : ℕ) → HasTrace old →
     take gone (entries_in old.log) ≡ entries_below to (entries_in old.log) → view ≡ old.view →
     log ≡ drop gone old.log →

@@ -47,7 +47,7 @@ ends_there f at s (e ∷ es) b rises last tested =
       ]),
     )
 
--- what is left when entries are taken back is all before the stamp
+-- the entries that are left when some are taken back are all before the stamp
 pub nothing_more : (at : Stamp) (log left : List Entry) → left ≡ entries_below at log →
     entries_below at left ≡ left
 nothing_more at log left is =
@@ -150,7 +150,7 @@ mixed_hearable home floor at k heard sent was is = record {
   linked = of_both _ at heard sent was.linked is.linked;
 }
 
--- from where what is sent differs on, it is what is sent
+-- from the stamp on at which what is sent differs, the trail is what is sent
 pub hears_all : (at : Stamp) (k : ℕ) (sent : List Message) (r new : Local) (answer : Hearing) →
     AgreesUpTo (trail_of r.heard k) sent at →
     HearsOn at k (mixed at (trail_of r.heard k) sent) r answer new → HearsFrom k sent r answer new

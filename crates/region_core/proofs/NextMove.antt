@@ -1,4 +1,4 @@
--- Which move comes next, by what a region keeps.
+-- The move that comes next, given what a region keeps.
 use Rattle.std.proofs.Common.{◌≡◌, ◌≢◌, ◌⊎◌, inl, inr, ℕ, ◌<◌, ◌≤◌, suc, List, [], ◌∷◌, drop, sym, ap, ◌∙◌, subst, refl, arith, Option, Some, None, Ok}
 use Rattle.std.specs.Prelude.{◌↔◌, slice_get}
 use Rattle.std.proofs.lemmas.Option.{none-some, same_Some}
@@ -110,12 +110,12 @@ own_least h queue view o of least =
     subst (λ (x : Home). IsLeastOf (IsNative x.rules x.grid x.number (rows_in view)) o)
     (λ i. record { number = of.region i; rules = of.rules i; grid = of.grid i }) least
 
--- where no message waits
+-- if no message waits
 pub alone_is_earlier : (own : Option Stamp) → earlier_of own None ≡ own
 alone_is_earlier None = refl
 alone_is_earlier (Some s) = refl
 
--- a native candidate has the due stamp exactly where the least of them does
+-- a native candidate has the due stamp if and only if the least of them does
 pub own_at : (h : Home) (a : At) (own due : Stamp) → IsLeast (IsOwn h a.view) own → IsDue h a due →
     (own ≡ due) ↔ IsOwn h a.view due
 own_at h a own due least is = (
@@ -123,7 +123,7 @@ own_at h a own due least is = (
   λ here. one_least (IsOwn h a.view) own due least (here, λ t native. is.1 t (inl native)),
 )
 
--- where the least message hasn't the due stamp, none has
+-- if the least message doesn't have the due stamp, none has
 pub none_at : (h : Home) (a : At) (s due : Stamp) → IsLeast (IsWaiting a.waiting) s → IsDue h a due →
     s ≢ due → ¬ IsWaiting a.waiting due
 none_at h a s due least is other here =

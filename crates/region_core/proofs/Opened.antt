@@ -60,7 +60,7 @@ opened_there home floor live valid in_time log inbox sent traced queue stands = 
       log = ap entries_in (sym log) i;
     }
 
--- the same, where what it opens with is known
+-- the same, given what it opens with
 pub opened_is : (home : Home) (floor : Stamp) (base : ViewData) (live : Live) →
     IsValidPlacing home.rules home.grid (rows_in base) → ¬ Before (end_stamp home.rules.end) floor →
     live.log ≡ [] → live.view ≡ base → live.inbox ≡ empty_inbox home.grid.regions →

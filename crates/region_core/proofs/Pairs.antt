@@ -1,4 +1,4 @@
--- Two regions, of which the one hears the other or is apart from it.
+-- Two regions, one of which hears the other or is apart from it.
 use Rattle.std.proofs.Common.{◌≡◌, ◌≢◌, ◌⊎◌, inl, inr, ℕ, Bool, true, false, ◌==◌, ◌&&◌, List, Option, Some, None, MatchOption, Decides, sym, ap, subst, ◌∙◌, refl}
 use Rattle.std.specs.Prelude.{◌↔◌, IsTrue, option_map, IfSome}
 use Rattle.std.proofs.lemmas.Bool.{false≢true}
@@ -125,7 +125,7 @@ grid_decides a b = Decides-like (grid_eq a b)
     (Decides-and _ _ (Decides-eqb a.side_x b.side_x)
     (Decides-and _ _ (Decides-eqb a.side_y b.side_y) (Decides-eqb a.regions b.regions)))))
 
--- where rules and grids were found the same, the floors decide
+-- if rules and grids were found to be the same, the floors decide
 pub are_alike : (x y : Home) (f g : Stamp) (o p : Option Live) (a b : RegionData) (r t u : Bool) →
     seen_as x f o ≡ a → seen_as y g p ≡ b → r ≡ rules_eq x.rules y.rules → r ≡ true →
     t ≡ grid_eq x.grid y.grid → t ≡ true → u ≡ stamp_eq f g → IsTrue u ↔ AreAlike a b
@@ -140,7 +140,7 @@ are_alike x y f g o p a b r t u here there r_is r_true t_is t_true u_is =
       λ alike. u_is ∙ (stamp_decides f g).1 alike.2,
     ))
 
--- where the rules or the grids were found to differ, they aren't
+-- if the rules or the grids were found to differ, they aren't
 pub unlike_rules : (x y : Home) (f g : Stamp) (o p : Option Live) (a b : RegionData) (r t : Bool) →
     seen_as x f o ≡ a → seen_as y g p ≡ b → r ≡ rules_eq x.rules y.rules → r ≡ false → t ≡ false →
     IsTrue t ↔ AreAlike a b

@@ -1,4 +1,4 @@
--- What may be heard of a copy of what a region sends, once it is brought up to date.
+-- A copy of what a region sends may be heard, once it is brought up to date.
 use Rattle.std.proofs.Common.{◌≡◌, ◌⊎◌, inl, inr, ℕ, List, Option, sym, subst}
 use Rattle.event_stamps.specs.declared.Stamp.{Stamp}
 use Rattle.region_view.specs.declared.rows.Message.{Message}

@@ -59,7 +59,7 @@ outbox_rewound home base floor at log sent rises is = record {
 }
 
 -- ---- the whole
--- the local run with the entries before a stamp alone
+-- the local run with only the entries before a stamp
 abbrev rewound_run : Stamp → Stamp → Live → Local
 rewound_run floor at live = record (run_in floor live) { log = entries_below at (entries_in live.log) }
 
@@ -90,7 +90,7 @@ rewound_is home floor at old new is base log heard counts taken sent along = rec
       log = sym log i;
     }
 
--- it is right and its queue stands for its view also where what was taken in waits again
+-- it is right and its queue stands for its view also if the messages that were taken in wait again
 pub still_right : (home : Home) (floor : Stamp) (live : Live) (heard : Trails) → IsBodyOf home floor live →
     heard ≡ live.inbox.heard → IsRight home (record (run_in floor live) { heard = heard })
 still_right home floor live heard is same =

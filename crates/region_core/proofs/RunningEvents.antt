@@ -71,7 +71,7 @@ halted_is h r s limit at comes = (
   refl,
 )
 
--- which limit, is known by what the newest view makes of the event
+-- the result of the event in the newest view tells which limit
 pub fails_once : (h : Home) (live : Live) (s : Stamp) (r : Result Action Limit) → HasTrace live →
     (fails : FailsLimit h (now_in live).view s) → ComesToInView h live.view s r → r ≡ Err fails.0
 fails_once h live s r traced fails comes =
@@ -94,7 +94,7 @@ valid_row h floor live i p place is at =
     let here = row_now h floor live i p is at in
     (valid.disk i p here, valid.cell i p here)
 
--- what the event at its turn comes to is what comes next
+-- the result of the event at its turn is what comes next
 pub turn_fits : (h : Home) (floor : Stamp) (live : Live) (s : Stamp) (x : Action) → IsInPlace h → IsBodyOf h floor live →
     IsAtTurn h (run_in floor live) s → ComesToInView h (now_in live).view s (Ok x) → Fits h (run_in floor live) (Run x)
 turn_fits h floor live s x place is at comes = event_fits h floor live s x place is at.due at.turn at.alone comes
@@ -167,7 +167,7 @@ pair_is_untold h at s change second p q same is here beside far =
     (subst (λ (t : Stamp). IsFarRow h (at t.first)) (sym same) (subst (IsFarRow h) (sym here) far.0))
     (subst (λ (t : Stamp). IsFarRow h (at t.second)) (sym same) (subst (IsFarRow h) (sym beside) far.1))
 
--- what the event changes has its stamp, and a record for the second disk
+-- the change of the event has its stamp, and a record for the second disk
 pub record IsOfBoth (s : Stamp) (change : Change) : Type 0 where
   pub stamp : change.stamp ≡ s
   pub second : IsSome change.second

@@ -31,7 +31,7 @@ use Rattle.region_core.specs.declared.running_on.RunSoFar.{RunSoFar}
 use Rattle.event_log.specs.Logged.{entries_in}
 use Rattle.region_parts.proofs.Lists.{as_many}
 
--- ---- before what no message waits
+-- ---- before all messages that wait
 pub clear_of_first : (first : Stamp) (waiting : Trails) → IsLeast (IsWaiting waiting) first → IsClear first waiting
 clear_of_first first waiting least s waits lt = least.1 s waits lt
 
@@ -48,7 +48,7 @@ still_clear h limit s r new next clear =
     (sym (ap (λ (x : Local). (now_of x).waiting) next.1.2.3
     ∙ ap (λ (a : At). a.waiting) (now_appended r (Native next.1.2.0)))) clear
 
--- the least event of its own columns is what comes next, where it is before what waits
+-- the least event of its own columns comes next, if it is before what waits
 pub clear_turn : (h : Home) (r : Local) (s limit : Stamp) → length r.log < MAX_ENTRIES →
     IsLeast (IsOwn h (now_of r).view) s → Before s limit → IsClear limit (now_of r).waiting → IsInTurn r s →
     IsAtTurn h r s
@@ -127,7 +127,7 @@ one_follows place bound limit s made given before old live new near follow next 
     subst (λ (n : ℕ). Follow bound n given old (Ran s) (region_in place new)) more
     (before, region_in place live, follow, step.0, step.1, tt)
 
--- the same of what is equal
+-- the same for equal things
 pub still_follows : (place : Place) (bound : Stamp) (given : Step) (old : RegionData) (made n : ℕ)
     (last event : Option Stamp) (live new : Live) → n ≡ made → event ≡ last → new ≡ live →
     Follow bound made given old (answer_after given last) (region_in place live) →
@@ -143,7 +143,7 @@ pub failed_same : (place : Place) (s : Stamp) (live new : Live) (ran : Bool) →
     RunsOrFails place s live new ran → new ≡ live
 failed_same place s live new ran is steps = (subst (RunsOrFails place s live new) is steps).0
 
--- so many steps, with what they came to
+-- a number of steps, with their results
 pub runs_on : (bound : Stamp) (given so_far : RunSoFar) (made : ℕ) (old new : RegionData) (last : Option Stamp) →
     so_far.answer ≡ answer_after given.answer last → so_far.left + made ≡ given.left →
     Follow bound made given.answer old (answer_after given.answer last) new → RunsOn bound given old new so_far

@@ -48,7 +48,7 @@ least_again h queue a view e x s of move is stamp here =
     }) (subst (IsLeast (IsOwn h a.view)) (sym stamp) least))
 
 -- ---- what an entry that is taken back leaves
--- before a native one other disks than its event's are as they were
+-- before a native one, disks other than its event's are as they were
 pub native_leaves : (h : Home) (a b : At) (view : ViewData) (e : Entry) (x : Action) (s : Stamp) →
     IsMove h a e → e ≡ Native x → s ≡ stamp_of x → a.view ≡ view → b.view ≡ view →
     IsSameButBy s (after_entry b e).view view
@@ -61,7 +61,7 @@ native_leaves h a b view e x s move is stamp here also =
     (subst (λ (t : Stamp). IsSameButBy t (after_action a.view x) a.view) (sym stamp)
     (action_leaves h a.view x (subst (IsMove h a) is move).comes)))
 
--- before a message those that it has no row of are
+-- before a message, disks without a row in it are as they were
 pub heard_leaves : (a : At) (view : ViewData) (e : Entry) (q : ℕ) (m : Message) → e ≡ Heard q m →
     a.view ≡ view → IsSameBut (numbers_of m.rows) (after_entry a e).view view
 heard_leaves a view e q m is here =
@@ -71,7 +71,7 @@ heard_leaves a view e q m is here =
     (λ i none. sym (same_but view m.rows i none))
 
 -- ---- one entry less
--- what a local run and the queue of its view are where the log was these entries and a last one
+-- the local run and the queue of its view, if the log was these entries and a last one
 pub record IsShorter (home : Home) (run : Local) (queue : QueueData) (xs : List Entry) (e : Entry) : Type 0 where
   pub right : IsRight home (record run { log = xs })
   pub valid : IsValidPlacing home.rules home.grid (rows_in (after_log (start_of run) xs).view)

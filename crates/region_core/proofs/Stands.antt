@@ -32,7 +32,7 @@ sees_none grid k row out p = (
   λ h. absurd (out (subst (λ (r : Placed). Reaches grid k r.cell) (sym (same_Some row p h.0)) h.1)),
 )
 
--- there is one thing that it sees of a row
+-- it sees exactly one thing of a row
 sees_one : (grid : GridData) (k : ℕ) (row a b : Option Placed) → SeesRow grid k row a → SeesRow grid k row b →
     a ≡ b
 sees_one grid k row (Some p) b sees also = sym ((also p).1 ((sees p).0 refl))
@@ -131,7 +131,8 @@ differs_in_row state k view grid placed i grid_is placed_is unseen =
 rest_of_row : (start index : ℕ) → start ≤ index → start + (index - start) ≡ index
 rest_of_row start index le = omega arith
 
--- a cell that isn't before the start of a row, nor past its end, is in the column by which it is after the start
+-- a cell that isn't before the start of a row, nor past its end, is in the column whose number is its distance from the
+-- start
 pub column_is : (row columns index cell count : ℕ) → index ≡ cell → columns ≡ count → row * columns ≤ index →
     index - row * columns < columns → index - row * columns ≡ cell % count
 column_is row columns index cell count same of le lt =

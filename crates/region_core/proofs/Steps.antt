@@ -1,4 +1,4 @@
--- What the rows tell that lead back over the entries of a log, before which a message is put.
+-- What the rows that lead back over the entries of a log tell, before which a message is put.
 use Rattle.std.proofs.Common.{◌≡◌, ◌⊎◌, inl, inr, ℕ, zero, suc, ◌==◌, Bool, true, false, List, [], ◌∷◌, Some, sym, ap, ◌∙◌, subst, refl, arith}
 use Rattle.std.specs.Prelude.{None, All}
 use Rattle.std.specs.List.{Contains}
@@ -111,7 +111,7 @@ leads_back view l is = ap (set_rows (view_with view l)) is ∙ swap_is_undone vi
 all_rest : {A : Type 0} (P : A → Type 0) (x : A) (xs : List A) → All P (x ∷ xs) → P x × All P xs
 all_rest P x xs all = (all 0 x (omega arith), λ k d lt. all (suc k) d (omega arith))
 
--- so have entries nothing to do with rows, where those that lead back have not
+-- so entries have nothing to do with rows, if the rows that lead back over them have not
 pub aside_by_backs : (h : Home) (rows : RowList) (a : At) (log : List Logged) → LeadBack a.view log →
     All (IsLateAside h rows) log → All (IsApart rows) (entries_in log) → AreAside h rows a (entries_in log)
 aside_by_backs h rows a [] back late apart = tt
@@ -187,7 +187,7 @@ is_aside h rows a (Heard q m) apart move = record {
   apart = λ disk set. not_set disk m.rows (λ has. apart disk has (sets_has disk rows set));
 }
 
--- in a right run those that have none of their disks
+-- in a right run, entries that have none of their disks
 pub all_spared : (h : Home) (rows : RowList) (a : At) (log : List Logged) → All (IsApart rows) (entries_in log) →
     Moves h a (entries_in log) → AreSpared rows a.view log
 all_spared h rows a [] apart moves = tt

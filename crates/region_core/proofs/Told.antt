@@ -50,7 +50,7 @@ hit_leaves view change ids first second i none = same_but view (rows_set (rows_i
 abbrev in_cell : Option Placed → Option ℕ
 in_cell = option_map (λ p. p.cell)
 
--- each of these rows is in the cell of what stands at its number
+-- each of these rows is in the cell of the one at its number
 abbrev StayInCells : Placing → RowList → Type 0
 StayInCells at [] = ⊤
 StayInCells at (r ∷ rows) = (in_cell r.1 ≡ in_cell (at r.0)) × StayInCells at rows

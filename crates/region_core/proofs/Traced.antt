@@ -1,4 +1,4 @@
--- The view at the floor and the newest one, by the log that leads from the one to the other.
+-- The view at the floor and the newest one, and the log that leads from the one to the other.
 use Rattle.std.proofs.Common.{◌≡◌, ℕ, zero, suc, ◌-◌, List, [], ◌∷◌, ◌++◌, length, take, drop, slice_get, sym, ap, ◌∙◌, subst, refl, arith}
 use Rattle.std.specs.Prelude.{unwrap_or}
 use Rattle.std.proofs.lemmas.List.{map-append, take-map, drop-map}
@@ -22,7 +22,7 @@ use Rattle.region_core.specs.Live.{base_in, start_in, now_in, HasTrace, IsBodyOf
 pub now_is : (live : Live) → HasTrace live → (now_in live).view ≡ live.view
 now_is live is = view_of_log (start_in live) live.log ∙ is.forth
 
--- where the log leads from a view to the newest one, that is the one at the floor
+-- if the log leads from a view to the newest one, that is the view at the floor
 pub base_is : (base : ViewData) (live : Live) → IsTraced base live.view live.log → base_in live ≡ base
 base_is base live is = undone_is base live.view live.log is
 

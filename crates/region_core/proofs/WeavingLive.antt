@@ -124,7 +124,7 @@ set_valid home floor live q m place is hearable =
     now = subst (λ (v : ViewData). IsValidPlacing home.rules home.grid (rows_in v)) (now_is live is.traced)
         (valid_now home (run_in floor live) place is.right)
 
--- what leads back over the entries is valid
+-- the rows that lead back over the entries are valid
 pub back_valid : (home : Home) (floor : Stamp) (live : Live) → IsInPlace home → IsBodyOf home floor live →
     All (λ l. IsValidBack home l.1) live.log
 back_valid home floor live place is =
@@ -132,7 +132,7 @@ back_valid home floor live place is =
     (λ q m among. ((is.right.heard q).rows m among).1) is.right.moves is.traced.back
 
 -- ---- the parts of the log
--- how the log is parted
+-- how the log is divided
 pub record IsParted (live : Live) (kept : ℕ) (m : Message) : Type 0 where
   pub below : take kept (entries_in live.log) ≡ entries_below m.stamp (entries_in live.log)
   pub rest : drop kept (entries_in live.log) ≡ entries_from m.stamp (entries_in live.log)
@@ -147,7 +147,7 @@ entries_last : (live : Live) (kept : ℕ) (m : Message) → IsParted live kept m
     entries_in (drop kept live.log) ≡ entries_from m.stamp (entries_in live.log)
 entries_last live kept m parted = sym (entries_dropped kept live.log) ∙ parted.rest
 
--- what the region is at between them
+-- the point that the region has reached between them
 abbrev middle_of : Live → Message → At
 middle_of live m = after_log (start_in live) (entries_below m.stamp (entries_in live.log))
 
@@ -218,11 +218,11 @@ may_be_woven home floor live q kept m last is parted tried late ends later = rec
         (subst (BeginsAfter m.stamp) parted.rest tried.late)
 
 -- ---- the whole
--- the message with what leads back over it
+-- the message with the rows that lead back over it
 abbrev pub woven_entry : Live → ℕ → Message → Logged
 woven_entry live q m = (Heard q m, rows_at (rows_in live.view) m.rows)
 
--- what the code makes of the parts
+-- how the code treats the parts
 pub record IsPutInto (home : Home) (q kept : ℕ) (m : Message) (old new : Live) : Type 0 where
   pub heard : new.inbox.heard ≡ slice_set old.inbox.heard q (with_message m (trail_of old.inbox.heard q))
   pub taken : new.inbox.taken ≡ slice_set old.inbox.taken q (taken_from old.inbox q + 1)
@@ -335,7 +335,7 @@ of_before a b c of again = record {
   region = again.region ∙ of.region;
 }
 
--- a hindrance that is told by another stamp is one still
+-- a hindrance that is given by another stamp is still one
 pub still_weaves : (q : ℕ) (m : Message) (r new : Local) (o told : Option Stamp) → Weaves q m r o new →
     (told ≡ None) ↔ (o ≡ None) → Weaves q m r told new
 still_weaves q m r new None None weaves both = weaves

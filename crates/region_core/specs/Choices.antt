@@ -1,4 +1,4 @@
--- What a region does next, by the stamp alone where it is an event of its own.
+-- What a region does next; if that is an event of its own columns, only the event's stamp is given.
 use Rattle.event_stamps.specs.declared.Stamp.{Stamp}
 use Rattle.local_run.specs.declared.home.Home.{Home}
 use Rattle.local_run.specs.declared.moves.Move.TheVariants.{TakeIn as TakesIn}

@@ -1,4 +1,4 @@
--- What a region keeps beside its local run, so that it need not be found again.
+-- What a region keeps besides its local run, so that it need not be found again.
 use Rattle.std.specs.Prelude.{◌≡◌, ℕ, List, length, Option, Some, None, IfSome}
 use Rattle.event_stamps.specs.declared.Stamp.{Stamp}
 use Rattle.event_stamps.specs.Order.{Before}
@@ -35,20 +35,21 @@ run_in floor live = record {
 abbrev pub region_in : Place → Live → RegionData
 region_in place live = record { home = place.home; floor = place.floor; run = Some (run_in place.floor live) }
 
--- what the region is at where it begins, and after its whole log
+-- the point at which the region begins
 abbrev pub start_in : Live → At
 start_in live = record { view = base_in live; waiting = live.inbox.heard }
 
+-- the point after its whole log
 abbrev pub now_in : Live → At
 now_in live = after_log (start_in live) (entries_in live.log)
 
--- of each region there is a trail, and the log took in so many of its messages
+-- for each region there is a trail, and this many of its messages were taken in by the log
 pub record IsInbox (home : Home) (log : List Entry) (inbox : InboxData) : Type 0 where
   pub regions : length inbox.heard ≡ home.grid.regions
   pub counts : length inbox.taken ≡ home.grid.regions
   pub taken : (q : ℕ) → IsRegion home.grid q → taken_from inbox q ≡ taken_of q log
 
--- for each linked region what the log sends to it
+-- for each linked region the messages that the log sends to it
 pub record IsOutbox (home : Home) (base : ViewData) (log : List Entry) (sent : Trails) : Type 0 where
   pub regions : length sent ≡ home.grid.regions
   pub each : (q : ℕ) → IsRegion home.grid q → AreLinked home.grid home.number q →
@@ -58,7 +59,7 @@ pub record IsOutbox (home : Home) (base : ViewData) (log : List Entry) (sent : T
 abbrev pub HasTrace : Live → Type 0
 HasTrace live = IsTraced (base_in live) live.view live.log
 
--- a right local run, and what is kept beside it is what it comes to
+-- a right local run, and what is kept besides it follows from it
 pub record IsBodyOf (home : Home) (floor : Stamp) (live : Live) : Type 0 where
   pub right : IsRight home (run_in floor live)
   pub inbox : IsInbox home (entries_in live.log) live.inbox
@@ -72,7 +73,7 @@ pub record IsLive (p : Place) (live : Live) : Type 0 where
   pub place : IsPlace p
   pub body : IsBodyOf p.home p.floor live
 
--- what is due, or the end stamp where nothing is, is before a bound
+-- what is due, or the end stamp if nothing is, is before a bound
 abbrev pub HasDueBefore : Home → Stamp → Live → Type 0
 HasDueBefore home bound live = (s : Stamp) × IsDueOrEnd home (now_in live) s × Before s bound
 
@@ -92,7 +93,7 @@ pub record IsPartOf (home : Home) (floor : Stamp) (live : Live) : Type 0 where
   pub queue : IsOf live.queue home.rules home.grid home.number
   pub stands : StandsFor live.queue (now_in live).view
 
--- so much is known while entries are taken back
+-- what is known while entries are taken back
 pub record IsAlong (p : Place) (live : Live) : Type 0 where
   pub place : IsPlace p
   pub body : IsPartOf p.home p.floor live

@@ -1,4 +1,4 @@
--- Copies of what a region sends, for those who hear it.
+-- Copies of what a region sends, for the regions that hear it.
 use Rattle.std.specs.Prelude.{ℕ, List}
 use Rattle.region_view.specs.declared.rows.Message.{Message}
 use Rattle.local_run.specs.declared.home.Home.{Home}

@@ -1,4 +1,4 @@
--- What another trail of messages leaves as it was.
+-- What stays the same when a trail is replaced by another.
 use Rattle.std.specs.Prelude.{◌≡◌, ℕ, List, slice_set}
 use Rattle.event_stamps.specs.declared.Stamp.{Stamp}
 use Rattle.region_view.specs.declared.rows.Message.{Message}
@@ -9,8 +9,7 @@ use Rattle.local_run.specs.Entries.{entries_below}
 use Rattle.local_run.specs.LocalRun.{Local}
 use Rattle.local_run.specs.Answers.{HasHeard}
 
--- what hearing region k from a stamp on answers, and what it makes of the local run; `trail` is what was
--- heard from k then
+-- the answer when region k is heard from a stamp on, and the local run after it; `trail` is what was heard from k then
 abbrev pub HearsOn : Stamp → ℕ → List Message → Local → Hearing → Local → Type 0
 HearsOn at k trail r (Later d) new = (d ≡ at) × (entries_below at r.log ≡ r.log)
     × HasHeard k trail r at new

@@ -39,18 +39,18 @@ IsClear limit waiting = (s : Stamp) → IsWaiting waiting s → ¬ Before s limi
 abbrev pub RunsOneBefore : Home → Stamp → Stamp → Local → Local → Type 0
 RunsOneBefore h limit s old new = Before s limit × StepsTo h old (Ran s) new
 
--- what the last step answered, where the last event that ran is given, if one did
+-- the answer of the last step: if an event is given, that it ran this event
 abbrev pub answer_after : Step → Option Stamp → Step
 answer_after answer None = answer
 answer_after answer (Some s) = Ran s
 
--- so many steps that did something, each where what is due is before a bound: from one answer to another
+-- this many steps that did something, each of them while what is due is before a bound, lead from one answer to another
 abbrev pub Follow : Stamp → ℕ → Step → RegionData → Step → RegionData → Type 0
 Follow bound zero before old answer new = (answer ≡ before) × (new ≡ old)
 Follow bound (suc rest) before old answer new = (last : Step) × (mid : RegionData)
     × Follow bound rest before old last mid × IsDueBefore bound mid × RegionSteps mid answer new × GoesOn answer
 
--- as many as are left fewer
+-- the steps that are made, and as many fewer are left
 abbrev pub RunsOn : Stamp → RunSoFar → RegionData → RegionData → RunSoFar → Type 0
 RunsOn bound given old new so_far = (made : ℕ) × (so_far.left + made ≡ given.left)
     × Follow bound made given.answer old so_far.answer new

@@ -1,4 +1,4 @@
--- What the tests of weaving tell, and what weaving makes of a local run.
+-- What the tests of weaving tell, and a local run after weaving.
 use Rattle.std.specs.Prelude.{◌≡◌, ℕ, ◌<◌, List, [], ◌∷◌, Option, None, Some, length, drop, All, option_map}
 use Rattle.event_stamps.specs.declared.Stamp.{Stamp}
 use Rattle.event_stamps.specs.Order.{Before}
@@ -41,7 +41,7 @@ pub record IsTried (q kept : ℕ) (m : Message) (live : Live) : Type 0 where
   pub free : IsFree m.stamp (trail_of live.inbox.heard q)
   pub apart : All (IsApart m.rows) (drop kept (entries_in live.log))
 
--- the local run has the message woven in where there is no hindrance, else it is as it was
+-- if there is no hindrance, the local run has the message woven in; else it is as it was
 abbrev pub Weaves : ℕ → Message → Local → Option Stamp → Local → Type 0
 Weaves q m r None new = IsWoven q m r new
 Weaves q m r (Some at) new = new ≡ r

@@ -1,4 +1,4 @@
-//! One more entry of a log, and what it changes beside the log.
+//! One more entry of a log, and what it changes besides the log.
 
 ghost use Rattle.std.specs.Prelude.{◌≡◌, ◌<◌, [], OnOk};
 ghost use Rattle.region_view.specs.declared.action.Action.TheVariants.{Cross, Hit};
@@ -21,7 +21,7 @@ use region_view::{Action, Message, Rows, View};
 use std::alloc::{AllocError, Global};
 
 impl Live {
-    /// Takes in the first message of a region, which is what comes next.
+    /// Takes in the first message of a region, which is the region's next move.
     ///
     /// # Errors
     /// Out of memory: what is left is to be dropped.
@@ -47,7 +47,7 @@ impl Live {
 }
 
 impl Live {
-    /// Runs an event of its own columns, which is what comes next, and sends its messages.
+    /// Runs an event of its own columns, which is the region's next move, and sends its messages.
     ///
     /// # Errors
     /// Out of memory: what is left is to be dropped.
@@ -71,7 +71,7 @@ impl Live {
     }
 }
 
-// Tells the queue of an action that was run, and of the view after it.
+// Tells the queue of an action that was run, given the view after it.
 #[inline(always)]
 pub(crate) fn tell(
     alloc: Global,
@@ -94,7 +94,7 @@ pub(crate) fn tell(
     }
 }
 
-/// Tells the queue of a view that differs in the disks of some rows from the one that it stands for.
+/// Tells the queue of a view that differs in the disks of some rows from the view for which it stands.
 #[inline(always)]
 pub(crate) fn touch(
     alloc: Global,

@@ -1,22 +1,23 @@
-//! What is done beside a burst.
+//! Work that is done beside a burst.
 
-/// Work that is done piece by piece beside a burst, with something that is lent to it, by whoever would wait.
+/// Work that is done piece by piece beside a burst, with something that is lent to it. A worker that would wait does
+/// it.
 pub trait Beside<W> {
-    /// Whether it may go on with what is lent.
+    /// Whether the work may go on with what is lent.
     ghost fits: { Self → W → Type 0 };
 
-    /// What may have come of both after some pieces.
+    /// What the work and what is lent may have become after some pieces.
     ghost goes: { Self → W → Self → W → Type 0 };
 
-    /// Does a piece of it, and says whether there may be more.
+    /// Does a piece of the work, and says whether there may be more.
     fn go_on(&mut self, lent: &mut W) -> bool
         requires { fits self.old lent.old }
         ensures { goes self.old lent.old self.new lent.new };
 
-    /// No piece leaves both as they are.
+    /// Doing no piece leaves both as they are.
     ghost stays: { (x : Self) (u : W) → goes x u x u };
 
-    /// Pieces and further pieces are pieces.
+    /// Some pieces and then some more are some pieces.
     ghost goes_further: { (x y z : Self) (u v w : W) → goes x u y v → goes y v z w → goes x u z w };
 
     /// After some pieces it may still go on.

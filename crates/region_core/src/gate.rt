@@ -1,6 +1,6 @@
-//! What workers pass on their way.
+//! The gate that workers pass.
 
-/// Is called by each worker before each of its turns, so that whoever runs workers can count their turns, or
+/// Is called by each worker before each of its turns, so that the caller who runs workers can count their turns, or
 /// hold one up.
 pub trait Gate: Sync {
     /// A worker is about to make a turn of the present burst, both counted from 0 on.

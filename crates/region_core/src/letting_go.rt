@@ -15,8 +15,8 @@ use region_parts::{Place, drop_before};
 use std::alloc::AllocError;
 
 impl Live {
-    /// Lets go of what is before the stamp `to`, before which nothing waits: it begins in the view after the
-    /// entries before it, and keeps what it heard, did and sent from there on. Takes no memory.
+    /// Lets go of what is before the stamp `to`, before which nothing waits: the run then begins in the view after the
+    /// entries before `to`, and keeps what it heard, did and sent from there on. Takes no memory.
     pub(crate) fn raise_floor(&mut self, place: &mut Place, to: Stamp)
         requires live { IsLive place.old self.old }
         requires in_time { ¬ Before (end_stamp place.old.home.rules.end) to }
@@ -32,7 +32,7 @@ impl Live {
         place.floor = to;
     }
 
-    /// The same, and the entries before the stamp go into a log, in place of what is there.
+    /// The same, and the entries before the stamp go into a log, whose own entries go.
     ///
     /// # Errors
     /// Out of memory: this is to be let go.

@@ -1,8 +1,7 @@
-//! One region's run ahead of the others: it steps, hears what its neighbours send, and rolls back where
-//! it was wrong.
+//! One region's run ahead of the others: it steps, hears what its neighbours send, and rolls back if it was wrong.
 //!
-//! A region is a logical process with a local virtual time, an input queue, an output queue and saved
-//! states (Jefferson, Virtual Time, 1985).
+//! A region is a logical process with a local virtual time, an input queue, an output queue and saved states
+//! (Jefferson, Virtual Time, 1985).
 #![tactic(auto)]
 
 mod appending;

@@ -1,4 +1,4 @@
-//! What a region that isn't spent has.
+//! The parts of a region that isn't spent.
 
 use event_log::EventLog;
 use region_messages::Trail;
@@ -6,17 +6,17 @@ use region_parts::Inbox;
 use region_queue::Queue;
 use region_view::View;
 
-/// The body of a region: the log of what it did from the floor on, and what this comes to, kept up to date.
+/// The body of a region: the log of what it did from the floor on, and what follows from the log, kept up to date.
 #[derive(Drop)]
 pub(crate) struct Live {
     // The view after the whole log.
     pub(crate) view: View,
-    // What it did from the floor on, and what leads back over it: processed events and saved states in one.
+    // What it did from the floor on, and the rows that lead back over it: processed events and saved states in one.
     pub(crate) log: EventLog,
     // The events of its own columns that may come next.
     pub(crate) queue: Queue,
     pub(crate) inbox: Inbox,
-    // The output queue: by number of the region that it goes to.
+    // The output queue: what it sent, by the number of the region that it goes to.
     pub(crate) sent: Vec<Trail>,
 }
 
@@ -56,7 +56,7 @@ impl Live {
         })
     }
 
-    /// What goes to a region; none where the two aren't linked.
+    /// What goes to a region; none if the two aren't linked.
     pub(crate) fn sent_to(&self, place: &Place, to: u32) -> Option<&Trail>
         requires { IsLive place.now self.now }
         ensures { MatchOption result (¬ SendsTo place.now.home to)
@@ -70,7 +70,7 @@ impl Live {
         }
     }
 
-    /// What was heard from a region; none where the two aren't linked.
+    /// What was heard from a region; none if the two aren't linked.
     pub(crate) fn heard_from(&self, place: &Place, from: u32) -> Option<&Trail>
         requires { IsLive place.now self.now }
         ensures { MatchOption result (¬ HearsOf place.now.home from)

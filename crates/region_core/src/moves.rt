@@ -48,7 +48,7 @@ impl Live {
         self.queue.least()
     }
 
-    /// The stamp that is due; none exactly where nothing is.
+    /// The stamp that is due; none if and only if nothing is due.
     pub(crate) fn due(&self) -> Option<Stamp>
         ensures { (place : Place) → IsLive place self.now →
             IsLeastOf (IsOffered place.home (now_in self.now)) result }
@@ -56,7 +56,7 @@ impl Live {
         self.due_beside(self.inbox.least())
     }
 
-    // The same, where the least of the first messages is known.
+    // The same, given the least of the first messages.
     #[inline(always)]
     fn due_beside(&self, head: Option<(u32, Stamp)>) -> Option<Stamp>
         requires { IsLeastHead self.now.inbox head }
@@ -70,7 +70,7 @@ impl Live {
         }
     }
 
-    /// The stamp that is due, or the end stamp where nothing is.
+    /// The stamp that is due, or the end stamp if nothing is.
     pub(crate) fn due_or_end(&self, place: &Place) -> Stamp
         requires { IsLive place.now self.now }
         ensures { IsDueOrEnd place.now.home (now_in self.now) result }
@@ -78,7 +78,7 @@ impl Live {
         or_end(&place.home, self.due())
     }
 
-    // What comes next, where the least of the first messages and the stamp that is due are known.
+    // What comes next, given the least of the first messages and the stamp that is due.
     fn next_move(&self, place: &Place, head: Option<(u32, Stamp)>, due: Option<Stamp>) -> Choice
         requires live { IsLive place.now self.now }
         requires head { IsLeastHead self.now.inbox head }
@@ -102,8 +102,8 @@ impl Live {
         }
     }
 
-    /// One step: what it answers. Where a bound is given, the stamp that is due, or the end stamp, has to be before
-    /// it; none exactly where it isn't: then nothing changes.
+    /// Makes one step, and gives its answer. If a bound is given, the stamp that is due, or the end stamp, has to be
+    /// before it. If it isn't, the answer is none and nothing changes.
     ///
     /// # Errors
     /// Out of memory: what is left is to be dropped.
@@ -142,7 +142,7 @@ impl Live {
         }
     }
 
-    // The limit at which what is due fails.
+    // The limit at which the event that is due fails.
     #[cold]
     fn limit_of(&self, place: &Place, due: &Stamp) -> Limit
         requires live { IsLive place.now self.now }
@@ -165,7 +165,7 @@ impl Live {
         }
     }
 
-    // Whether the stamp, which is due, is that of a native candidate.
+    // Whether the stamp that is due is that of a native candidate.
     fn is_own(&self, due: &Stamp) -> bool
         ensures { (place : Place) → IsLive place self.now → IsDue place.home (now_in self.now) due.now →
             IsTrue result ↔ IsOwn place.home (now_in self.now).view due.now }
@@ -176,7 +176,7 @@ impl Live {
         }
     }
 
-    // What comes next where the first message of a region has the due stamp, which is in turn.
+    // What comes next if the first message of a region has the due stamp, which is in turn.
     fn message_move(&self, place: &Place, from: u32, due: Stamp) -> Choice
         requires live { IsLive place.now self.now }
         requires due { HasDue place.now.home (run_in place.now.floor self.now) due }
@@ -193,8 +193,8 @@ impl Live {
     }
 }
 
-// A region whose first message has a stamp, where the least of the first messages is known; none exactly where no
-// message has it. No message is before the stamp.
+// A region whose first message has a stamp, given the least of the first messages; none if and only if no message has
+// it. No message is before the stamp.
 fn sender_at(head: Option<(u32, Stamp)>, due: &Stamp) -> Option<u32>
     ensures { (place : Place) (live : Live) → IsLive place live → IsLeastHead live.inbox head →
         IsDue place.home (now_in live) due.now →
@@ -213,7 +213,7 @@ fn sender_at(head: Option<(u32, Stamp)>, due: &Stamp) -> Option<u32>
     }
 }
 
-// A stamp that is due, or the end stamp where nothing is.
+// A stamp that is due, or the end stamp if nothing is.
 fn or_end(home: &Home, due: Option<Stamp>) -> Stamp
     ensures { (a : At) → IsLeastOf (IsOffered home.now a) due → IsDueOrEnd home.now a result }
 {
@@ -251,7 +251,7 @@ fn stamp_of(head: Option<(u32, Stamp)>) -> Option<Stamp>
     }
 }
 
-// What a native candidate of a view comes to.
+// The action of a native candidate of a view, or the limit at which it fails.
 pub(crate) fn outcome(place: &Place, view: &View, stamp: &Stamp) -> Result<Action, Limit>
     requires place { IsPlace place.now }
     requires valid { IsValidPlacing place.now.home.rules place.now.home.grid (rows_in view.now) }

@@ -13,15 +13,15 @@ use std::marker::Model;
 
 /// One region of a grid, with its run from a floor on.
 ///
-/// After want of memory it is spent: it has no run any more, and is opened again.
+/// If memory runs out it is spent: it has no run any more, and is opened again.
 pub struct Region {
     place: Place,
     // None: it is spent.
     live: Option<Live>,
 }
 
-// Written out, so that it is proved here, once: of what is derived, each crate that has a list of regions proves anew
-// how all that is in one is let go.
+// The drop is written out, so that it is proved once, here. If it were derived, each crate with a list of regions would
+// prove again how all parts of a region are dropped.
 impl Drop for Region {
     fn drop(self) {
         let Region { place: _, live: _ } = self;
@@ -93,7 +93,7 @@ impl Region {
         })
     }
 
-    /// A region that is spent, of checked rules and a grid of them, with a floor not after the end.
+    /// A region that is spent, with checked rules and a grid of them, and with a floor that isn't after the end.
     pub fn spent(number: u32, rules: &Rules, grid: &Grid, floor: Stamp) -> Region
         requires place { IsInPlace (record { number = number; rules = rules.now; grid = grid.now }) }
         requires in_time { ¬ Before (end_stamp rules.now.end) floor }
@@ -118,7 +118,7 @@ impl Region {
         }
     }
 
-    /// One step: runs the event that is due, or takes in the message that is.
+    /// One step: runs the event that is due, or takes in the message that is due.
     ///
     /// # Errors
     /// Out of memory: the region is spent.
@@ -179,8 +179,8 @@ impl Region {
         self.live.is_none()
     }
 
-    /// For how many disks it has room, whose numbers begin at 0: no more than there are in all, and of all regions
-    /// the greatest such number is that. 0 where it is spent. Nothing is claimed of it.
+    /// How many numbers of disks, from 0 on, it has room for; 0 if it is spent. That is at most the number of all
+    /// disks, and the greatest room of all regions is the number of all disks; but no clause says so.
     pub fn room(&self) -> usize {
         match &self.live {
             Some(live) => live.view.room(),
@@ -188,7 +188,7 @@ impl Region {
         }
     }
 
-    /// The number of entries of its log, at most [`MAX_ENTRIES`](crate::MAX_ENTRIES); 0 where it is spent.
+    /// The number of entries of its log, at most [`MAX_ENTRIES`](crate::MAX_ENTRIES); 0 if it is spent.
     pub fn entries(&self) -> usize
         ensures value { result ≡ length (entries_of self.now) }
         ensures kept { IsKept self.now }
@@ -199,8 +199,8 @@ impl Region {
         }
     }
 
-    /// The action of an entry, by its place in the log from 0 on. None exactly where there is no such entry,
-    /// and where it is a message that was taken in.
+    /// The action of an entry, by its place in the log from 0 on. None if and only if there is no such entry, or it is
+    /// a message that was taken in.
     #[inline(always)]
     pub fn native(&self, i: usize) -> Option<Action>
         ensures value { result ≡ native_in (slice_get (entries_of self.now) i) }
@@ -212,7 +212,7 @@ impl Region {
         }
     }
 
-    /// The stamp of the action of an entry, by its place, in the ranges of the events of a run: none exactly where
+    /// The stamp of the action of an entry, by its place, in the ranges of the events of a run; none if and only if
     /// [`native`](Region::native) is none.
     #[inline(always)]
     pub fn native_stamp(&self, i: usize) -> Option<Stamp>
@@ -226,8 +226,8 @@ impl Region {
         }
     }
 
-    /// The row of a disk in the view with which its run begins, at the floor. None exactly where it is spent,
-    /// and where it doesn't see the disk there.
+    /// The row of a disk in the view with which its run begins, at the floor. None if and only if the region is spent,
+    /// or doesn't see the disk there.
     pub fn first_row(&self, disk: u32) -> Option<Placed>
         ensures value { result ≡ first_row self.now disk }
         ensures kept { IsKept self.now }
@@ -238,7 +238,7 @@ impl Region {
         }
     }
 
-    /// The stamp of the last entry; none exactly where there is no entry.
+    /// The stamp of the last entry; none if and only if there is no entry.
     pub fn clock(&self) -> Option<Stamp>
         ensures value { result ≡ last_entry_stamp (entries_of self.now) }
         ensures kept { IsKept self.now }
@@ -249,8 +249,8 @@ impl Region {
         }
     }
 
-    /// The stamp that is due: the least of its own events that may come next and of the messages that wait;
-    /// the end stamp where there is none. Of a spent region, the floor.
+    /// The stamp that is due: the least of its own events that may come next and of the messages that wait; the end
+    /// stamp if there are none. For a spent region, the floor.
     pub fn due(&self) -> Stamp
         ensures value { IsDueIn self.now result }
         ensures kept { IsKept self.now }
@@ -261,8 +261,7 @@ impl Region {
         }
     }
 
-    /// What it sends to a region, by number. None exactly where it is spent, and where it isn't linked with
-    /// that region.
+    /// What it sends to a region, by number. None if and only if it is spent, or isn't linked with that region.
     pub fn sent(&self, to: u32) -> Option<&Trail>
         ensures value { MatchOption result ((self.now.run ≡ None) ⊎ ¬ SendsTo self.now.home to)
             (λ trail. IsSent self.now to trail.now) }
@@ -274,8 +273,7 @@ impl Region {
         }
     }
 
-    /// What it heard from a region, by number. None exactly where it is spent, and where it isn't linked
-    /// with that region.
+    /// What it heard from a region, by number. None if and only if it is spent, or isn't linked with that region.
     pub fn heard(&self, from: u32) -> Option<&Trail>
         ensures value { MatchOption result ((self.now.run ≡ None) ⊎ ¬ HearsOf self.now.home from)
             (λ trail. IsHeard self.now from trail.now) }
@@ -288,7 +286,7 @@ impl Region {
     }
 }
 
-// Lets a run go. Kept apart, since all of its room is filled here, and a step seldom comes here.
+// Lets a run go. It is kept apart, since it drops all parts of a run, and a step seldom comes here.
 #[cold]
 #[inline(never)]
 pub(crate) fn let_go(live: &mut Option<Live>)

@@ -19,8 +19,8 @@ use region_view::View;
 use std::alloc::{AllocError, Global};
 
 impl Live {
-    /// Takes away the entries from the stamp `at` on: what they took in waits again, and what they sent is
-    /// gone.
+    /// Takes away the entries from the stamp `at` on. The messages that they took in wait again, and those that they
+    /// sent are gone.
     ///
     /// # Errors
     /// Out of memory: what is left is to be dropped.
@@ -43,7 +43,7 @@ impl Live {
         Ok(())
     }
 
-    // Takes entries back, the last one first, until no more than so many are left.
+    // Takes entries back, the last one first, until no more than `kept` are left.
     fn drop_down_to(&mut self, alloc: Global, place: &Place, kept: usize) -> Result<(), AllocError>
         requires { IsAlong place.now self.old }
         ensures along { OnOk result (IsAlong place.now self.new) }
@@ -74,7 +74,7 @@ impl Live {
     }
 }
 
-// Tells the queue that an entry is taken back, and of the view before it.
+// Tells the queue that an entry is taken back, given the view before it.
 fn take_back(
     alloc: Global,
     home: &Home,

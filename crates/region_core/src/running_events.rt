@@ -1,4 +1,4 @@
-//! Events of a region's own columns, those of each kind run in a function of its own, on narrow rows.
+//! Events of a region's own columns. Those of each kind run in a function of their own, on narrow rows.
 
 ghost use Rattle.std.specs.Prelude.{◌≡◌, IfOk, IfSome, OnOk, IsTrue, is_some};
 ghost use Rattle.std.specs.FinMap as map;
@@ -28,8 +28,8 @@ use region_view::{Compact, Placed, crossed_cell};
 use std::alloc::{AllocError, Global};
 
 impl Live {
-    /// Runs the event of its own columns that is due, and sends its messages. It says whether it ran; else it fails
-    /// at a limit, and nothing changes.
+    /// Runs the event of its own columns that is due, and sends its messages. False if the event fails at a limit: then
+    /// nothing changes.
     ///
     /// # Errors
     /// Out of memory: what is left is to be dropped.
@@ -52,7 +52,7 @@ impl Live {
         }
     }
 
-    // The same of a crossing. Kept apart, so that nothing of other events is carried along.
+    // The same for a crossing. It is kept apart, so that it carries nothing along for other events.
     #[inline(never)]
     fn run_crossing(
         &mut self,
@@ -80,7 +80,7 @@ impl Live {
         }
     }
 
-    // The same of a collision of two disks.
+    // The same for a collision of two disks.
     #[inline(never)]
     fn run_pair(&mut self, alloc: Global, place: &Place, due: &Stamp) -> Result<bool, AllocError>
         requires live { IsLive place.now self.old }
@@ -110,7 +110,7 @@ impl Live {
         }
     }
 
-    // The same of any event.
+    // The same for any event.
     #[inline(never)]
     fn run_any(&mut self, alloc: Global, place: &Place, due: &Stamp) -> Result<bool, AllocError>
         requires live { IsLive place.now self.old }
@@ -127,7 +127,7 @@ impl Live {
         }
     }
 
-    // Runs a crossing, which is what comes next and whose disk has this row, and sends its messages, but where it is
+    // Runs a crossing, which is the region's next move and whose disk has this row. Sends its messages, unless it is
     // known that nobody is told of it.
     #[inline(always)]
     fn cross_and_send(
@@ -160,7 +160,7 @@ impl Live {
         Ok(())
     }
 
-    // The same of a collision of two disks, which have these rows before it and after it.
+    // The same for a collision of two disks, which have these rows before it and after it.
     #[inline(always)]
     fn collide_and_send(
         &mut self,
@@ -190,7 +190,7 @@ impl Live {
     }
 }
 
-// The row of a disk before a collision, and the one with the record that it has after it.
+// The row of a disk before a collision, and the row with the disk's new record after it.
 #[inline(always)]
 fn rows_of_hit(before: Compact, cell: u32, disk: Disk) -> HitRows
     requires there { IfSome before (λ p. p.cell ≡ cell) }

@@ -16,18 +16,18 @@ use event_tree::Packed;
 use region_parts::Place;
 use std::alloc::{AllocError, Global};
 
-/// What a run of steps came to so far.
+/// A run of steps so far.
 #[derive(Clone, Copy)]
 pub(crate) struct RunSoFar {
-    /// What the last step answered.
+    /// The answer of the last step.
     pub(crate) answer: Step,
     /// How many more may follow.
     pub(crate) left: u32,
 }
 
 impl Live {
-    /// Goes on with events of its own columns, as many as are left at most, while what is due is one and is before a
-    /// bound: as so many steps would.
+    /// Goes on with events of its own columns, at most as many as are left, as long as the next thing due is such an
+    /// event and is before a bound. Steps would do the same.
     ///
     /// # Errors
     /// Out of memory: what is left is to be dropped.
@@ -63,7 +63,7 @@ impl Live {
             ran += 1;
             last = top;
             top = self.top_own();
-            // What comes next is later, or it isn't in turn.
+            // If the next event isn't after the last one, it isn't in turn.
             if !last.is_before(top) {
                 break;
             }
@@ -71,7 +71,7 @@ impl Live {
         Ok(so_far.after(ran, last))
     }
 
-    // The earlier one of a bound and of the first message that waits.
+    // The earlier of a bound and the stamp of the first message that waits.
     fn limit(&self, bound: &Stamp) -> Stamp
         ensures bound { ¬ Before bound.now result }
         ensures clear { (place : Place) → IsLive place self.now → IsClear result (now_in self.now).waiting }
@@ -118,7 +118,7 @@ impl Live {
 }
 
 impl RunSoFar {
-    // The same after so many more, the last of which ran an event, if one is given.
+    // The same after `steps` more steps. If an event is given, the last of them ran it.
     #[inline(always)]
     fn after(self, steps: u32, event: Packed) -> RunSoFar
         requires { steps ≤ self.left }

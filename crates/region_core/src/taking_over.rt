@@ -1,4 +1,4 @@
-//! Hearing: taking over what another region sends, in place of what was heard from it before.
+//! Hearing: taking over what another region sends, instead of what was heard from it before.
 
 ghost use Rattle.std.specs.Prelude.{◌≡◌, ◌⊎◌, ◌↔◌, ◌<◌, List, length, IfOk, OnOk, IsTrue};
 ghost use Rattle.event_stamps.specs.declared.Stamp.{Stamp};
@@ -21,7 +21,7 @@ use region_parts::Place;
 use std::alloc::{AllocError, Global};
 
 impl Live {
-    /// Hears what a region sends, by its number. What was done since the first news is taken back.
+    /// Hears what a region sends, by its number. What was done from the first news on is taken back.
     ///
     /// # Errors
     /// Out of memory: what is left is to be dropped.
@@ -45,9 +45,9 @@ impl Live {
         self.hear_from(alloc, place, from, at, sent)
     }
 
-    /// Hears what is new since the other's last mark: all that stood then is taken to be heard, and
-    /// what isn't sent any more is waited for until the other's `clock` is past it. What comes late is
-    /// taken in at its place where that can be done; else what was done since it is taken back.
+    /// Hears what is new since the other's last mark. All that was there then is taken to be heard, and a message that
+    /// isn't sent any more counts only once the other's `clock` is past it. A message that comes late is taken in at
+    /// its place if that is possible; else what was done since it is taken back.
     ///
     /// # Errors
     /// Out of memory: what is left is to be dropped.
@@ -99,7 +99,7 @@ impl Live {
         }
     }
 
-    // Hears what a region sends from a stamp on, where all entries are before it.
+    // Hears what a region sends from a stamp on, if all entries are before it.
     fn replace(&mut self, from: u32, at: Stamp, sent: &Trail) -> Result<(), AllocError>
         requires { from < length self.old.inbox.heard }
         ensures { OnOk result (IsReplaced from
@@ -108,7 +108,7 @@ impl Live {
         self.inbox.replace(from, at, sent)
     }
 
-    /// Marks what stands of what goes to a region, which has so many of its messages (see [`Trail::mark`]).
+    /// Marks what goes to a region now. `heard` is how many of these messages that region has (see [`Trail::mark`]).
     pub(crate) fn mark_sent(&mut self, to: u32, heard: usize)
         ensures sent { self.new.sent.items ≡ self.old.sent.items }
         ensures rest { self.new ≡ record self.old { sent = self.new.sent } }
@@ -135,7 +135,7 @@ impl Live {
         trail.post_to(copy)
     }
 
-    /// Forgets what stands of what goes to a region (see [`Trail::forget`]).
+    /// Forgets the mark of what goes to a region (see [`Trail::forget`]).
     pub(crate) fn forget_sent(&mut self, to: u32)
         ensures sent { self.new.sent.items ≡ self.old.sent.items }
         ensures rest { self.new ≡ record self.old { sent = self.new.sent } }
@@ -172,7 +172,7 @@ impl Live {
     }
 }
 
-// Whether all entries of a log, whose stamps rise and of which this is the last one's, are before a stamp.
+// Whether all entries of a log are before a stamp, given the stamp of the last one. The stamps of the log rise.
 fn ends_before(last: Option<Stamp>, at: Stamp) -> bool
     ensures { (floor : Stamp) (log : List Entry) → RiseFrom floor log → last ≡ last_entry_stamp log →
         IsTrue result ↔ (entries_below at log ≡ log) }

@@ -28,9 +28,9 @@ use region_view::{Message, Placed, Rows, View};
 use std::alloc::{AllocError, Global};
 
 impl Live {
-    /// Takes in what is new of what a region sends, message by message, each at its place, as long as that can be
-    /// done; what was done from the first hindrance on is taken back. The stamp from which on it is still to be
-    /// heard; none where nothing is new any more.
+    /// Takes in what is new in what a region sends, message by message, each at its place, as long as that is possible.
+    /// What was done from the first hindrance on is taken back. The answer is the stamp from which on messages are
+    /// still to be heard; none if nothing is new any more.
     ///
     /// # Errors
     /// Out of memory: what is left is to be dropped.
@@ -65,8 +65,8 @@ impl Live {
         Ok(news.map(|news| news.at))
     }
 
-    // Takes in a message at its place, or takes back what was done from the first hindrance on. False where it
-    // did neither, since there is nothing after the message, or the message itself is the hindrance.
+    // Takes in a message at its place, or takes back what was done from the first hindrance on. False if it did
+    // neither, since nothing is after the message, or the message itself is the hindrance.
     fn weave_or_rewind(
         &mut self,
         alloc: Global,
@@ -90,9 +90,9 @@ impl Live {
         Ok(true)
     }
 
-    /// Takes in a message of a region that comes late at its place in the log, where what was done since has
-    /// nothing to do with its disks. If not, all is as it was, and it tells the stamp of the first hindrance: that
-    /// of the message where it isn't late, or can't be taken in at all.
+    /// Takes in a message of a region that comes late at its place in the log, if what was done since has nothing to do
+    /// with its disks. If not, all is as it was, and the answer is the stamp of the first hindrance. That is the
+    /// message's own stamp if it isn't late, or can't be taken in at all.
     ///
     /// # Errors
     /// Out of memory: what is left is to be dropped.
@@ -115,7 +115,7 @@ impl Live {
         Ok(not_before(hindrance, &message.stamp))
     }
 
-    // The same, where the stamp may be one of a native candidate before that of the message.
+    // The same, but the stamp may be that of a native candidate before the message.
     fn weave_if_aside(
         &mut self,
         alloc: Global,
@@ -136,7 +136,8 @@ impl Live {
         }
     }
 
-    // What keeps a message of a region from coming before the entries from a place on, by the log and what was heard.
+    // What keeps a message of a region from being put before the entries from a place on, as far as the log and the
+    // messages heard tell.
     fn hindrance(&self, place: &Place, from: u32, kept: usize, message: &Message) -> Option<Stamp>
         requires live { IsLive place.now self.now }
         requires region { IsRegion place.now.home.grid from }
@@ -156,7 +157,7 @@ impl Live {
         first_in_way(&self.log, kept, &message.rows, &place.home)
     }
 
-    // The same before the entries from a place on, where these are no hindrance.
+    // Puts the message before the entries from a place on, if these are no hindrance.
     fn weave_at(
         &mut self,
         alloc: Global,
@@ -191,7 +192,7 @@ impl Live {
     }
 }
 
-// The message of a region's that is news; none where it is that there is one less.
+// The message that is news; none if the news is that a message is gone.
 #[inline(always)]
 fn told_at(sent: &Trail, news: &News) -> Option<Message>
     ensures { IfSome result (λ message. IsAmong message sent.now) }
@@ -206,7 +207,7 @@ fn told_at(sent: &Trail, news: &News) -> Option<Message>
     }
 }
 
-// A stamp, or another where it is before that.
+// A stamp, or `least` if the stamp is before that.
 fn not_before(at: Option<Stamp>, least: &Stamp) -> Option<Stamp>
     ensures none { (result ≡ None) ↔ (at ≡ None) }
     ensures some { IfSome result (λ stamp. ¬ Before stamp least.now) }
@@ -226,8 +227,8 @@ fn begins_after(log: &EventLog, kept: usize, at: &Stamp) -> bool
     kept < log.len() && is_before(at, &log.stamp(kept))
 }
 
-// Sets rows in a view, and tells the queue of it. Where a native candidate isn't after a stamp then, it undoes
-// that, and tells the least.
+// Sets rows in a view, and tells the queue of it. If the least native candidate isn't after a stamp then, it undoes
+// that, and answers the candidate's stamp.
 fn set_late(
     alloc: Global,
     queue: &mut Queue,
@@ -252,8 +253,8 @@ fn set_late(
     Ok(Some(least))
 }
 
-// Tells the queue of rows that were set in a view, and of what stood there before: a disk that is only in another
-// cell keeps its course.
+// Tells the queue of rows that were set in a view, given what stood there before. A disk that is only in another cell
+// keeps its course.
 #[inline(always)]
 fn tell_of(
     alloc: Global,
@@ -274,7 +275,7 @@ fn tell_of(
     }
 }
 
-// The disk of the only one of some rows, where it differs in the cell alone from what stood there.
+// The disk of the rows, if there is one row alone and it differs from the row before only in the cell.
 fn moved_disk(rows: &Rows, before: &Rows) -> Option<u32>
     ensures { IfSome result (λ disk. (was : ViewData) → before.now ≡ rows_at (rows_in was) rows.now →
         IsMoved disk was (set_rows was rows.now)) }
@@ -292,7 +293,7 @@ fn moved_disk(rows: &Rows, before: &Rows) -> Option<u32>
     }
 }
 
-// The row, where there is one alone.
+// The row, if there is exactly one.
 fn only_row(rows: &Rows) -> Option<&(u32, Option<Placed>)>
     ensures { IfSome (option_copied result) (λ row. rows.now ≡ row ∷ []) }
 {
@@ -302,7 +303,7 @@ fn only_row(rows: &Rows) -> Option<&(u32, Option<Placed>)>
     }
 }
 
-// Whether there is a disk in both of two rows, with one record.
+// Whether both rows have a disk, with the same record.
 fn is_same_disk(row: &Option<Placed>, old: &Option<Placed>) -> bool
     ensures { IsTrue result → record_in row.now ≡ record_in old.now }
 {

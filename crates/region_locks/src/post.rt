@@ -1,13 +1,13 @@
-//! What a region posts to another.
+//! The post of a region to another.
 
 use crate::origin::Origin;
 use event_stamps::Stamp;
 use region_messages::Trail;
 use std::marker::{Model, PhantomData};
 
-/// A copy of what one region sends to another, both by number, as it stood when it was last brought up to date, and the
-/// stamp of the sender's last entry then. Whoever holds its lock finds nothing there that the other may not hear, if
-/// both were put under locks; contracts see nothing else of it.
+/// A copy of what one region sends to another, both by number, as it was when it was last brought up to date, and the
+/// stamp of the sender's last entry then. If both were put under locks, a worker that holds the post's lock finds
+/// nothing there that the other may not hear. Contracts see nothing else of it.
 #[derive(Drop)]
 pub struct Post<O: Origin> {
     trail: Trail,
@@ -48,8 +48,8 @@ impl<O: Origin> Post<O> {
         }
     }
 
-    /// Brings it up to date: see [`Region::post`]. Nothing is done where the region isn't the one that sends, or is
-    /// spent.
+    /// Brings it up to date: see [`Region::post`]. If the region isn't the one that sends, or is spent, nothing is
+    /// done.
     ///
     /// # Errors
     /// Out of memory: it lacks the last messages.
@@ -64,8 +64,8 @@ impl<O: Origin> Post<O> {
         region.post(self.to, &mut self.trail)
     }
 
-    /// Has the region to which it goes hear what is new of it, and says whether anything was: see
-    /// [`Region::catch_up_posted`]. Nothing is done where the region is another, or is spent.
+    /// Has the region to which it goes hear what is new in it, and says whether anything was: see
+    /// [`Region::catch_up_posted`]. If the region is another, or is spent, nothing is done.
     ///
     /// # Errors
     /// Out of memory: the region is spent.

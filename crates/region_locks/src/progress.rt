@@ -7,10 +7,10 @@ use event_stamps::Stamp;
 pub struct RegionProgress {
     /// Whether it heard anything new before it ran.
     pub heard_news: bool,
-    /// What was due there when it began to run: see [`Region::due`](region_core::Region::due).
+    /// The stamp that was due there when it began to run: see [`Region::due`](region_core::Region::due).
     pub began: Stamp,
     /// How many events it ran and messages it took in.
     pub steps: u32,
-    /// What is due there next.
+    /// The stamp that is due there next.
     pub due: Stamp,
 }

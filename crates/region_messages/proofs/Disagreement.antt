@@ -1,4 +1,4 @@
--- Where two trails first disagree.
+-- The first disagreement of two trails.
 use Rattle.std.proofs.Common.{◌≡◌, ◌⊎◌, inl, inr, ℕ, zero, suc, true, false, Option, Some, None, List, [], ◌∷◌, take, slice_get, sym, ap, ◌∙◌, subst, refl}
 use Rattle.std.specs.Prelude.{MatchOption, option_map}
 use Rattle.event_stamps.specs.declared.Stamp.{Stamp}
@@ -61,7 +61,7 @@ first_is_lacking m ms b r after lacks = (
     least t (inl h) lt = not_after h.0 h.2 (subst (λ (v : Stamp). Before v m.stamp) (sym h.1) lt)
     least t (inr h) lt = after h.0 h.2 (subst (λ (v : Stamp). Before v m.stamp) (sym h.1) lt)
 
--- of two trails with different first messages the one that isn't after the other
+-- two trails with different first messages, and the message that isn't after the other
 lesser_first : (m n : Message) (ms ns : List Message) → RisesAfter m.stamp ms →
     RisesAfter n.stamp ns → ¬ Before n.stamp m.stamp → ¬ (m ≡ n) →
     IsFound (m ∷ ms) (n ∷ ns) (Some m.stamp)
@@ -198,13 +198,14 @@ NoneBefore t a b = (s : Stamp) → DisagreeAt a b s → ¬ Before s t
 none_swapped : (t : Stamp) (a b : List Message) → NoneBefore t a b → NoneBefore t b a
 none_swapped t a b none s k = none s (disagree_swapped b a s k)
 
--- a message isn't among those of a trail whose first is another that isn't before it
+-- a message isn't among those of a trail that begins with another message that isn't before it
 not_among_after : (m n : Message) (ns : List Message) → RisesAfter n.stamp ns → ¬ (m ≡ n) →
     ¬ Before n.stamp m.stamp → ¬ IsAmong m (n ∷ ns)
 not_among_after m n ns r other not (inl e) = other e
 not_among_after m n ns r other not (inr h) = not (among_rises n.stamp ns m r h)
 
--- the first message of one, where the other's first is another that isn't before it, isn't before t
+-- if the other trail begins with another message that isn't before the first one of this trail, that first one isn't
+-- before t
 first_not_before : (t : Stamp) (m n : Message) (ms ns : List Message) → RisesAfter n.stamp ns →
     NoneBefore t (m ∷ ms) (n ∷ ns) → ¬ (m ≡ n) → ¬ Before n.stamp m.stamp → ¬ Before m.stamp t
 first_not_before t m n ms ns r none other not =

@@ -12,7 +12,7 @@ use Rattle.region_messages.specs.Trails.{IsAmong, Rises, below, from, with_messa
 use Rattle.region_messages.proofs.Among.{among_either, among_rises}
 use Rattle.region_messages.proofs.Parts.{split, from_among}
 
--- those from a stamp on that don't have it come after it
+-- if no message from a stamp on has the stamp, those messages come after it
 after_free : (s : Stamp) (ms : List Message) (n : Message) → Rises ms → IsFree s ms →
     IsAmong n (from s ms) → Before s n.stamp
 after_free s ms n rises free among =
@@ -72,7 +72,7 @@ free_where_other s n ms m rises parts here other = free_by_parts s ms (m ∷ res
     free k (inl same) e = other (ap (λ (v : Message). v.stamp) (sym same) ∙ e)
     free k (inr more) e = late (subst (Before m.stamp) e (among_rises m.stamp rest k rising more))
 
--- by its stamp, where there is one
+-- given its stamp, if there is one
 pub free_by_stamp : (s : Stamp) (n : ℕ) (ms : List Message) (o : Option Stamp) → Rises ms →
     drop n ms ≡ from s ms → o ≡ option_map (λ m. m.stamp) (slice_get ms n) → o ≢ Some s → IsFree s ms
 free_by_stamp s n ms o rises parts is other = by_first (slice_get ms n) refl
@@ -88,7 +88,7 @@ slice_among n [] m is = absurd (let no : None ≡ Some m = is in cc)
 slice_among zero (x ∷ ms) m is = inl (let same : Some x ≡ Some m = is in cc)
 slice_among (suc n) (x ∷ ms) m is = inr (slice_among n ms m is)
 
--- what is found at a stamp: nothing where it is free, else a message with it
+-- what is found at a stamp: nothing if it is free, else a message with it
 abbrev pub IsAt : Stamp → List Message → Option Message → Type 0
 IsAt s ms o = MatchOption o (IsFree s ms) (λ m. IsAmong m ms × (m.stamp ≡ s))
 

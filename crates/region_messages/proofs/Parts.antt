@@ -22,7 +22,7 @@ pub agreed_part : AgreedPartIsKept
 agreed_part a b d agree =
     ap (λ (v : List Message). v ++ from d b) (agree.below d (not_before_itself d)) ∙ split b d
 
--- ---- lists by stamps, for those who read trails
+-- ---- lists by stamps, for proofs about trails
 pub below_first : (t : Stamp) (m : Message) (ms : List Message) → Before m.stamp t →
     below t (m ∷ ms) ≡ m ∷ below t ms
 below_first t m ms = parts.below_first message_key t m ms

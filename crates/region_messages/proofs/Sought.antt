@@ -1,4 +1,4 @@
--- The place in a list where a stamp would stand, looked for from the end on.
+-- The place in a list where a stamp would be, searched from the end on.
 use Rattle.std.proofs.Common.{◌≡◌, ◌⊎◌, inl, inr, ℕ, ◌-◌, ◌<◌, ◌≤◌, true, false, List, get_or, length, ap, ◌∙◌, arith}
 use Rattle.std.specs.List.Sorted.{IsPartitionedBy}
 use Rattle.event_stamps.specs.declared.Stamp.{Stamp}
@@ -15,7 +15,7 @@ none_from_end key t xs k d low high = absurd (omega arith)
 this_or_later : (n k : ℕ) → n - 1 ≤ k → (k ≡ n - 1) ⊎ (n ≤ k)
 this_or_later n k le = grind arith
 
--- one place less, where what stands there isn't before the stamp either
+-- one place less, if the item there isn't before the stamp either
 pub none_from_less : {A : Type 0} (key : A → Stamp) (t : Stamp) (xs : List A) (n : ℕ) → NoneFrom key t xs n →
     ((d : A) → is_before (key (get_or xs (n - 1) d)) t ≡ false) → NoneFrom key t xs (n - 1)
 none_from_less key t xs n none not k d low high = elim (this_or_later n k low) [
@@ -23,7 +23,7 @@ none_from_less key t xs n none not k d low high = elim (this_or_later n k low) [
   | inr le ↦ none k d le high
 ]
 
--- it is found where what stands before it is before the stamp, or nothing does
+-- it is found if the item before it is before the stamp, or there is none
 pub found_from_end : {A : Type 0} (key : A → Stamp) (t : Stamp) (xs : List A) (n : ℕ) →
     IsPartitionedBy (λ y. is_before (key y) t) xs → NoneFrom key t xs n → 0 < n → n ≤ length xs →
     ((d : A) → is_before (key (get_or xs (n - 1) d)) t ≡ true) → IsPlace key t xs n

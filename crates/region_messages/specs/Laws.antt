@@ -5,12 +5,12 @@ use Rattle.event_stamps.specs.Order.{Before}
 use Rattle.region_view.specs.declared.rows.Message.{Message}
 use Rattle.region_messages.specs.Trails.{IsAmong, Rises, below, from, AgreeBelow, AgreesUpTo, IsFirstDisagreement}
 
--- trails agree below a stamp exactly where the end of their agreement isn't before it
+-- trails agree below a stamp if and only if the stamp isn't after the end of their agreement
 abbrev pub AgreeUpTo : Type 0
 AgreeUpTo = (a b : List Message) (d t : Stamp) → AgreesUpTo a b d →
     (AgreeBelow t a b ↔ ¬ Before d t)
 
--- the same, of the least stamp at which they disagree
+-- the same for the least stamp at which they disagree
 abbrev pub AgreeUntilFirst : Type 0
 AgreeUntilFirst = (a b : List Message) (d t : Stamp) → Rises a → Rises b →
     IsFirstDisagreement a b d → (AgreeBelow t a b ↔ ¬ Before d t)
@@ -20,7 +20,7 @@ abbrev pub BelowIsBefore : Type 0
 BelowIsBefore = (a : List Message) (t : Stamp) (m : Message) → Rises a →
     (IsAmong m (below t a) ↔ (IsAmong m a × Before m.stamp t))
 
--- a trail with the messages of another, from where their agreement ends, is the other
+-- a trail that takes the messages of another from the end of their agreement on is the other
 abbrev pub AgreedPartIsKept : Type 0
 AgreedPartIsKept = (a b : List Message) (d : Stamp) → AgreesUpTo a b d → below d a ++ from d b ≡ b
 

@@ -8,6 +8,7 @@ use Rattle.event_stamps.specs.Least.{IsLeast}
 use Rattle.region_view.specs.declared.rows.Message.{Message}
 
 -- ---- as lists by stamps
+-- the stamp of a message
 abbrev pub message_key : Message → Stamp
 message_key m = m.stamp
 
@@ -19,10 +20,11 @@ RisesAfter s ms = ordered.KeysRiseAfter message_key s ms
 abbrev pub Rises : List Message → Type 0
 Rises ms = ordered.KeysRise message_key ms
 
--- the messages before a stamp, and those from it on
+-- the messages before a stamp
 abbrev pub below : Stamp → List Message → List Message
 below s ms = ordered.keyed_below message_key s ms
 
+-- the messages from a stamp on
 abbrev pub from : Stamp → List Message → List Message
 from s ms = ordered.keyed_from message_key s ms
 
@@ -42,7 +44,7 @@ IsAfterAll ms s = (m : Message) → IsAmong m ms → Before m.stamp s
 abbrev pub AgreeBelow : Stamp → List Message → List Message → Type 0
 AgreeBelow s a b = below s a ≡ below s b
 
--- two lists are the same in their first messages, so many, and differ in the next unless both end there
+-- two lists are the same in their first n messages, and differ in the next unless both end there
 pub record StartAlike (n : ℕ) (a b : List Message) : Type 0 where
   pub same : take n a ≡ take n b
   pub apart : slice_get a n ≡ slice_get b n → slice_get a n ≡ None

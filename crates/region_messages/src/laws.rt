@@ -2,12 +2,12 @@
 
 ghost use Rattle.region_messages.specs.Laws.{AgreeUpTo, AgreeUntilFirst, BelowIsBefore, AgreedPartIsKept, PartsMakeTheWhole};
 
-/// Two trails agree below a stamp exactly where the end of their agreement isn't before it.
+/// Two trails agree below a stamp if and only if the stamp isn't after the end of their agreement.
 pub fn agree_up_to()
     ensures { AgreeUpTo }
 {}
 
-/// They agree below a stamp exactly where the least stamp at which they disagree isn't before it.
+/// They agree below a stamp if and only if the stamp isn't after the least one at which they disagree.
 pub fn agree_until_first()
     ensures { AgreeUntilFirst }
 {}
@@ -17,7 +17,7 @@ pub fn below_is_before()
     ensures { BelowIsBefore }
 {}
 
-/// A trail that takes the messages of another, from where their agreement ends, becomes the other.
+/// If a trail takes the messages of another one from the end of their agreement on, it becomes the other.
 pub fn agreed_part_is_kept()
     ensures { AgreedPartIsKept }
 {}

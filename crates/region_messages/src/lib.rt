@@ -11,7 +11,7 @@ use std::marker::Model;
 #[derive(Drop)]
 pub struct Trail {
     messages: Vec<Message>,
-    // How many of the first ones have stood since the last mark.
+    // How many of the first messages haven't changed since the last mark.
     kept: usize,
     // How many messages the hearer had at the last mark.
     heard: usize,
@@ -74,7 +74,7 @@ impl Trail {
         self.messages.len()
     }
 
-    /// The message at a place, from 0 on; none exactly where there is none.
+    /// The message at a place, from 0 on; none if and only if there is none.
     pub fn get(&self, i: usize) -> Option<&Message>
         ensures value { option_copied result ≡ slice_get self.now i }
         ensures rises { Rises self.now }
@@ -82,7 +82,7 @@ impl Trail {
         self.messages.get(i)
     }
 
-    /// The message with this stamp; none exactly where no message has it.
+    /// The message with this stamp; none if and only if no message has it.
     pub fn at(&self, stamp: Stamp) -> Option<&Message>
         ensures { MatchOption (option_copied result) (IsFree stamp self.now) (λ m. IsAmong m self.now × (m.stamp ≡ stamp)) }
     {
@@ -120,7 +120,7 @@ impl Trail {
         self.heard = self.heard.saturating_sub(dropped);
     }
 
-    /// Takes the messages of `other` from the stamp `at` on, in place of its own from there on.
+    /// Takes the messages of `other` from the stamp `at` on; its own messages from there on go.
     ///
     /// # Errors
     /// Out of memory: its own messages before `at` stay.
@@ -133,7 +133,7 @@ impl Trail {
         self.messages.extend_from_slice(&other.messages[start..])
     }
 
-    /// Puts a message at its place, where no other has its stamp.
+    /// Puts a message at its place. No other message may have its stamp.
     ///
     /// # Errors
     /// Out of memory: the trail stays as it is.
@@ -148,8 +148,8 @@ impl Trail {
         Ok(())
     }
 
-    /// Marks what stands now: a hearer that has heard all of it needs to look at the rest alone
-    /// (see [`first_news`]). `heard` is how many messages the hearer has then.
+    /// Marks the messages that it has now: a hearer that has heard all of them needs to look only at what changes from
+    /// now on (see [`first_news`]). `heard` is how many messages the hearer has then.
     pub fn mark(&mut self, heard: usize)
         ensures { self.new ≡ self.old }
     {
@@ -157,9 +157,9 @@ impl Trail {
         self.heard = heard;
     }
 
-    /// Brings a copy of it up to date: from the first message on that hasn't stood since it was last marked, as it
-    /// is then. What the copy has from the stamp of that message on goes, so that its stamps rise whatever it was
-    /// a copy of.
+    /// Brings a copy of the trail up to date. The copy was made when the trail was last marked. Messages that haven't
+    /// changed since then stay in the copy, the others are copied again. From the stamp of the first of these on the
+    /// copy loses what it had, so its stamps rise, whatever it was a copy of.
     ///
     /// # Errors
     /// Out of memory: the copy lacks its last messages, and the mark stays.
@@ -176,7 +176,7 @@ impl Trail {
         Ok(())
     }
 
-    /// Forgets the last mark: nothing is taken to have stood since.
+    /// Forgets the last mark: all messages count as changed.
     pub fn forget(&mut self)
         ensures { self.new ≡ self.old }
     {
@@ -184,7 +184,7 @@ impl Trail {
         self.heard = 0;
     }
 
-    // Keeps its first messages, so many.
+    // Keeps the first `count` messages.
     fn keep_first(&mut self, count: usize)
         ensures first { self.new ≡ take count self.old }
         ensures rises { Rises self.new }
@@ -193,14 +193,14 @@ impl Trail {
         self.kept = self.kept.min(count);
     }
 
-    /// Whether the hearer of the last mark may find something new: a message that it hasn't, or one less.
+    /// Whether the hearer of the last mark may find something new: a message that it doesn't have, or one that is gone.
     pub fn has_news(&self) -> bool {
         self.kept < self.messages.len().max(self.heard)
     }
 }
 
-/// The first stamp at which the two differ: there only one of them has a message, or their messages have
-/// other rows. None where they are the same. Takes no memory.
+/// The first stamp at which the two differ: there only one of them has a message, or their messages have other rows.
+/// None if they are the same. Takes no memory.
 pub fn first_disagreement(a: &Trail, b: &Trail) -> Option<Stamp>
     ensures agree { MatchOption result (a.now ≡ b.now) (λ d. AgreesUpTo a.now b.now d) }
     ensures first { MatchOption result (a.now ≡ b.now) (IsFirstDisagreement a.now b.now) }
@@ -218,14 +218,15 @@ pub struct News {
     pub known: usize,
 }
 
-/// Where what is told begins to differ from what was heard, where both are taken to be the same in what
-/// has stood since `told` was marked, and in their first messages, so many as are `known`. None where
-/// nothing is new.
+/// Where what is told begins to differ from what was heard. None if nothing is new.
 ///
-/// `clock` is the stamp of the last entry of the region that tells. A message that was heard and isn't
-/// told any more counts once that region is past it: what was taken back mostly comes back the same, so
-/// until then it is waited for (lazy cancellation: Gafni, Rollback mechanisms for optimistic distributed
-/// simulation systems, 1988). Constant time where nothing is new.
+/// Two beginnings are taken to be the same in both: the messages of `told` that haven't changed since it was marked,
+/// and the first `known` messages.
+///
+/// `clock` is the stamp of the last entry of the region that tells. A message that was heard and isn't told any more
+/// counts once that region is past it. Until then the hearer waits for it, since what was taken back mostly comes back
+/// the same (lazy cancellation: Gafni, Rollback mechanisms for optimistic distributed simulation systems, 1988).
+/// Constant time if nothing is new.
 pub fn first_news(heard: &Trail, told: &Trail, clock: Option<Stamp>, known: usize) -> Option<News> {
     let known = told.kept.max(known).min(heard.len()).min(told.len());
     let old = &heard.messages[known..];
@@ -238,7 +239,7 @@ pub fn first_news(heard: &Trail, told: &Trail, clock: Option<Stamp>, known: usiz
     })
 }
 
-// A stamp, where a clock is after it.
+// A stamp, if a clock is after it.
 fn passed_by(clock: Option<Stamp>, stamp: Option<Stamp>) -> Option<Stamp> {
     match (clock, stamp) {
         (Some(clock), Some(stamp)) if stamp < clock => Some(stamp),
@@ -246,7 +247,7 @@ fn passed_by(clock: Option<Stamp>, stamp: Option<Stamp>) -> Option<Stamp> {
     }
 }
 
-// How many messages two lists have in common, from the front on.
+// How many messages two lists have in common at the front.
 fn count_same(a: &[Message], b: &[Message]) -> usize
     ensures { StartAlike result a.now b.now }
 {
@@ -263,7 +264,7 @@ fn count_same(a: &[Message], b: &[Message]) -> usize
     same
 }
 
-// The stamp of the message at a place, where there is one.
+// The stamp of the message at a place, if there is one.
 fn stamp_at(messages: &[Message], i: usize) -> Option<Stamp>
     ensures { result ≡ option_map (λ m. m.stamp) (slice_get messages.now i) }
 {
@@ -283,7 +284,7 @@ fn is_stamp(stamp: Option<Stamp>, at: &Stamp) -> bool
     }
 }
 
-// How many messages are before a stamp: looked for from the end on, since what is asked for is mostly near it.
+// How many messages are before a stamp. It searches from the end on, since the stamps asked for are mostly near it.
 fn count_below(messages: &[Message], at: Stamp) -> usize
     requires { Rises messages.now }
     ensures within { result ≤ length messages.now }

@@ -1,4 +1,4 @@
--- Messages that are given back: how many of a region's there are among some entries.
+-- Messages that are given back: how many messages of a region are among some entries.
 use Rattle.std.proofs.Common.{◌≡◌, ◌≢◌, inl, inr, ℕ, zero, suc, ◌+◌, ◌-◌, ◌<◌, ◌≤◌, List, [], ◌∷◌, ◌++◌, length, get_or, slice_set, slice_get, take, drop, Option, Some, None, sym, ap, subst, ◌∙◌, arith, refl}
 use Rattle.std.proofs.lemmas.List.{take-append-drop, get_or-set_same, get_or-set_other}
 use Rattle.std.proofs.lemmas.Option.{none-some, same_Some}
@@ -69,7 +69,7 @@ taken_else p q i log is other =
     by_entry (Heard k m) is = taken_from_other k q m (take i (entries_in log))
         (λ same. other (sym same ∙ same_Some k p is))
 
--- there is one to count where it is one of the entries before an end
+-- there is one to count if it is one of the entries before an end
 pub one_to_come : (counts : List ℕ) (q i end all : ℕ) (log : List Logged) →
     slice_get (senders_in log) i ≡ Some (Some q) → i < end → taken_of q (take end (entries_in log)) ≤ all →
     get_or counts q 0 + taken_of q (take i (entries_in log)) ≡ all → 1 ≤ get_or counts q 0

@@ -12,7 +12,7 @@ use Rattle.region_parts.specs.Inbox.{InboxData, next_from, taken_from, nearer_of
 use Rattle.region_messages.proofs.Order.{is_before_true, is_before_false}
 
 -- ---- the least of them
--- of the first messages of the regions below a number, none is before it; or there are none
+-- none of the first messages of the regions below a number is before it; or there are none
 abbrev pub IsLeastBelow : InboxData → ℕ → Option (ℕ × Stamp) → Type 0
 IsLeastBelow inbox n None = (q : ℕ) → q < n → next_from inbox q ≡ None
 IsLeastBelow inbox n (Some head) = IsHeadOf inbox head.0 head.1
@@ -88,7 +88,7 @@ pub none_in_nothing : (k : ℕ) → slice_get nothing_heard k ≡ None
 none_in_nothing zero = refl
 none_in_nothing (suc k) = refl
 
--- there are no first messages of regions that there aren't
+-- regions that don't exist have no first messages
 pub none_past : (inbox : InboxData) (q : ℕ) → length inbox.heard ≤ q → next_from inbox q ≡ None
 none_past inbox q le =
     ap (λ (ms : List Message). slice_get ms (taken_from inbox q)) (no_trail_past inbox.heard q le)
@@ -120,7 +120,7 @@ IsSharedBelow inbox n from s = (q : ℕ) × (m : Message) × (q < n) × (q ≢ f
 pub not_shared_below : (inbox : InboxData) (from : ℕ) (s : Stamp) → ¬ IsSharedBelow inbox 0 from s
 not_shared_below inbox from s (q, m, lt, other, next, is) = omega arith
 
--- nor is it shared at all, where there are no regions from that number on
+-- nor is it shared at all, if there are no regions from that number on
 pub none_shared : (inbox : InboxData) (n from : ℕ) (s : Stamp) → length inbox.heard ≤ n →
     ¬ IsSharedBelow inbox n from s → ¬ IsSharedHead inbox from s
 none_shared inbox n from s all none (q, m, other, next, is) = elim (below_or_past q n) [

@@ -9,7 +9,7 @@ use Rattle.local_run.specs.LocalRun.{Trails, trail_of}
 use Rattle.region_parts.specs.Inbox.{InboxData, inbox_of, taken_from, next_from, HasInboxSizes, HasHead, IsLeastHead}
 use Rattle.region_parts.proofs.Firsts.{below_or_past, no_trail_past, nothing_heard, none_past, none_in_nothing}
 
--- it was looked for in what is kept now, of as many regions
+-- it was searched for in what is kept now, with as many regions
 pub least_found : (regions : ℕ) (head : Option (ℕ × Stamp)) (old new : InboxData) (heard : Trails) (taken : List ℕ) →
     HasInboxSizes regions old → length new.heard ≡ length old.heard → length new.taken ≡ length old.taken →
     heard ≡ new.heard → taken ≡ new.taken → IsLeastHead (inbox_of heard taken) head → HasHead regions head new
@@ -19,7 +19,7 @@ least_found regions head old new heard taken sizes trails counts heard_is taken_
       (λ i. record { heard = heard_is i; taken = taken_is i }) least;
 }
 
--- there is none where nothing was heard
+-- there is none if nothing was heard
 nothing_there : (n q : ℕ) → trail_of (replicate n []) q ≡ []
 nothing_there n q = elim (below_or_past q n) [
   | inl lt ↦ get_or-replicate n q nothing_heard nothing_heard lt

@@ -52,7 +52,7 @@ second_valid rules grid [] d valid some = absurd (omega arith)
 second_valid rules grid (r ∷ []) d valid some = absurd (omega arith)
 second_valid rules grid (r ∷ s ∷ rows) d valid some = valid.2.1
 
--- the same of rows that lead back
+-- the same for rows that lead back
 by_placed : (rules : Rules) (grid : GridData) (o : Option Placed) →
     ((p : Placed) → o ≡ Some p → IsValidPlaced rules grid (Some p)) → IsValidPlaced rules grid o
 by_placed rules grid None valid = tt
@@ -82,7 +82,7 @@ second_back h (r ∷ s ∷ []) d are valid some = by_placed h.rules h.grid s.1
 second_back h (r ∷ s ∷ t ∷ rows) d are valid some = absurd are
 
 -- ---- the entries of a log one by one
--- where the test of each place from one on says so
+-- the test says so for each place from one on
 each_all : {A : Type 0} (P : A → Type 0) (xs : List A) →
     ((k : ℕ) → k < length xs → IfSome (slice_get xs k) P) → All P xs
 each_all P [] each k d lt = absurd (omega arith)
@@ -118,7 +118,7 @@ named_at rows (Some (Native x)) s is apart = λ i named.
     apart i (subst (λ (t : Stamp). Names t i) (sym (same_Some s (stamp_of x) is)) named)
 named_at rows (Some (Heard q m)) s is apart = absurd (none-some s (sym is))
 
--- what stands in two rows touches after a stamp alone, whichever of them is the first of the event
+-- the disks in two rows touch only after a stamp, whichever of them is the first of the event
 pub touch_after : (h : Home) (at : Stamp) (row other : ℕ × Option Placed) (p q : Placed) → row.1 ≡ Some p →
     other.1 ≡ Some q → ((s : Stamp) → IsOwnTouch h row.0 p other.0 q s → Before at s) →
     ((s : Stamp) → IsOwnTouch h other.0 q row.0 p s → Before at s) → TouchAfter h at row other
@@ -130,7 +130,7 @@ touch_after h at row other p q here there one two =
     each s (inl touch) = one s touch
     each s (inr touch) = two s touch
 
--- what stands nowhere touches nothing
+-- a row without a disk touches nothing
 pub none_touched : (h : Home) (at : Stamp) (row other : ℕ × Option Placed) → other.1 ≡ None →
     TouchAfter h at row other
 none_touched h at (i, None) other none = tt

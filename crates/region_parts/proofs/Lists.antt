@@ -1,4 +1,4 @@
--- Lists of which one element after the other is changed, and the list of entries.
+-- Lists whose elements are changed one after another, and the list of entries.
 use Rattle.std.proofs.Common.{◌≡◌, ℕ, zero, suc, ◌+◌, ◌<◌, List, [], ◌∷◌, ◌++◌, length, slice_set, get_or, take, drop, map, ap, ◌∙◌, refl, arith}
 use Rattle.std.proofs.lemmas.List.{set-get_or, length-map}
 use Rattle.event_log.specs.Logged.{Logged, entries_in}
@@ -17,7 +17,7 @@ get_left f [] k d lt = absurd (omega arith)
 get_left f (x ∷ xs) zero d lt = refl
 get_left f (x ∷ xs) (suc k) d lt = get_left f xs k d (omega arith)
 
--- where the first k are changed, and now the next one
+-- if the first k are changed, and now the next one
 pub one_more : {A : Type 0} (f : A → A) (xs items : List A) (k : ℕ) (d y : A) → k < length xs →
     items ≡ map f (take k xs) ++ drop k xs → y ≡ f (get_or items k d) →
     slice_set items k y ≡ map f (take (k + 1) xs) ++ drop (k + 1) xs

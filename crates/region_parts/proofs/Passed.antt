@@ -17,8 +17,8 @@ use Rattle.region_parts.specs.Aside.{IsOwnTouch, TouchAfter, IsLateAside, IsOutO
 use Rattle.region_parts.proofs.Lists.{as_many}
 use Rattle.region_parts.proofs.Hindrances.{all_from}
 
--- ---- what is far
--- what stands in cells that aren't adjacent has no event
+-- ---- far rows
+-- disks in cells that aren't adjacent have no event
 no_touch : (h : Home) (t : Stamp) (i j : ℕ) (p q : Placed) → (¬ IsAdjacent h.grid p.cell q.cell) → (s : Stamp) →
     IsOwnTouch h i p j q s ⊎ IsOwnTouch h j q i p s → Before t s
 no_touch h t i j p q away s (inl touch) = absurd (away touch.1.0)
@@ -74,7 +74,7 @@ passed_up_to h rows log kept next found passed far k lt le = elim (cases_lt k ne
   | inr from ↦ far_at h rows (slice_get log k) (far k from lt)
 ]
 
--- and that one, where it is tested
+-- and that one, if it is tested
 pub passed_more : (h : Home) (rows : RowList) (log : List Logged) (kept next i : ℕ) →
     ArePassed h rows log kept next → AllUpTo (IsFar h.grid rows) log next (Some i) →
     IfSome (slice_get log i) (IsOutOfWay h rows) → ArePassed h rows log kept (i + 1)

@@ -1,4 +1,4 @@
--- What holds of the value of a result.
+-- What holds for the value of a result.
 use Rattle.std.proofs.Common.{Result, Ok, Err}
 use Rattle.std.specs.Prelude.{IfOk, OnOk}
 

@@ -1,4 +1,4 @@
--- What tells that entries of a log have nothing to do with the rows of a message.
+-- How it is told that entries of a log have nothing to do with the rows of a message.
 use Rattle.std.specs.Prelude.{◌≡◌, ◌⊎◌, ℕ, ◌<◌, Option, None, Some, IfSome}
 use Rattle.event_stamps.specs.declared.Stamp.{Stamp}
 use Rattle.event_stamps.specs.Order.{Before}
@@ -12,25 +12,27 @@ use Rattle.local_run.specs.LocalRun.{IsInPlace}
 use Rattle.local_run.specs.Weaving.{IsApart, AreOthers}
 use Rattle.event_log.specs.Logged.{Logged, logged_stamp}
 
--- an event of two disks placed so, which the region runs
+-- an event of two disks placed like this, which the region runs
 abbrev pub IsOwnTouch : Home → ℕ → Placed → ℕ → Placed → Stamp → Type 0
 IsOwnTouch h i p j q s = (i < j) × IsNear h.rules h.grid i p j q s × Owns h.grid h.number p.cell
 
--- what stands in two rows has such an event after a stamp alone
+-- the disks in two rows have such an event only after a stamp
 abbrev pub TouchAfter : Home → Stamp → ℕ × Option Placed → ℕ × Option Placed → Type 0
 TouchAfter h t row other = IfSome row.1 (λ p. IfSome other.1 (λ q. (s : Stamp) →
     IsOwnTouch h row.0 p other.0 q s ⊎ IsOwnTouch h other.0 q row.0 p s → Before t s))
 
+-- the same for each row of one list with each row of the other
 abbrev pub AllTouchAfter : Home → Stamp → RowList → RowList → Type 0
 AllTouchAfter h t back rows = (row other : ℕ × Option Placed) → IsAmong row back → IsAmong other rows →
     TouchAfter h t row other
 
--- the rows that lead back from a step are of other disks, and what stood in them touches these after a stamp alone
+-- the rows that lead back over a step are of other disks, and the disks that stood in them touch these only after a
+-- stamp
 pub record IsStepAside (h : Home) (rows : RowList) (t : Stamp) (back : RowList) : Type 0 where
   pub others : AreOthers rows back
   pub later : AllTouchAfter h t back rows
 
--- so it is with the rows that lead back over an entry, up to its stamp
+-- the rows that lead back over an entry are so, up to the entry's stamp
 abbrev pub IsLateAside : Home → RowList → Logged → Type 0
 IsLateAside h rows l = IsStepAside h rows (logged_stamp l) l.1
 

@@ -1,4 +1,4 @@
--- Where nobody is told of what happens.
+-- The cells in which nobody is told of what happens.
 use Rattle.std.specs.Prelude.{◌≡◌, ◌↔◌, ℕ, ◌<◌, ◌≤◌, Option, None, IfSome}
 use Rattle.cell_grid.specs.Grid.{IsCell, IsRegion, Reaches, column_of}
 use Rattle.region_view.specs.declared.action.Placed.{Placed}
@@ -13,7 +13,7 @@ use Rattle.region_parts.specs.declared.border.Border.{Border}
 abbrev pub IsFarFromOthers : Home → ℕ → Type 0
 IsFarFromOthers h cell = (k : ℕ) → IsRegion h.grid k → Reaches h.grid k cell → k ≡ h.number
 
--- nor what stands there
+-- nor the cell of the disk that stands there, if one does
 abbrev pub IsFarRow : Home → Option Placed → Type 0
 IsFarRow h row = IfSome row (λ p. IsFarFromOthers h p.cell)
 

@@ -15,13 +15,15 @@ pub record InboxData : Type 0 where
 abbrev pub inbox_of : Trails → List ℕ → InboxData
 inbox_of heard taken = record { heard = heard; taken = taken }
 
--- so many of both
+-- both have this many
 abbrev pub HasInboxSizes : ℕ → InboxData → Type 0
 HasInboxSizes regions inbox = (length inbox.heard ≡ regions) × (length inbox.taken ≡ regions)
 
+-- the inbox for this many regions, with nothing heard
 abbrev pub empty_inbox : ℕ → InboxData
 empty_inbox regions = record { heard = replicate regions []; taken = replicate regions 0 }
 
+-- how many messages of a region were taken in
 abbrev pub taken_from : InboxData → ℕ → ℕ
 taken_from inbox q = get_or inbox.taken q 0
 
@@ -33,24 +35,25 @@ next_from inbox q = slice_get (trail_of inbox.heard q) (taken_from inbox q)
 abbrev pub IsHeadOf : InboxData → ℕ → Stamp → Type 0
 IsHeadOf inbox q s = (m : Message) × (next_from inbox q ≡ Some m) × (m.stamp ≡ s)
 
--- the lesser of two first messages; of one stamp, the one that was there
+-- the lesser of two first messages; if they have one stamp, the one that was there
 abbrev pub nearer_of : Option (ℕ × Stamp) → ℕ → Option Message → Option (ℕ × Stamp)
 nearer_of least from None = least
 nearer_of None from (Some m) = Some (from, m.stamp)
 nearer_of (Some head) from (Some m) =
     if is_before m.stamp head.1 then Some (from, m.stamp) else Some head
 
+-- there is a message, and it has this stamp
 abbrev pub HasStamp : Option Message → Stamp → Type 0
 HasStamp None s = ⊥
 HasStamp (Some m) s = m.stamp ≡ s
 
--- of the first messages of all regions, none is before it; or there are none
+-- none of the first messages of all regions is before it; or there are none
 abbrev pub IsLeastHead : InboxData → Option (ℕ × Stamp) → Type 0
 IsLeastHead inbox None = (q : ℕ) → next_from inbox q ≡ None
 IsLeastHead inbox (Some head) = IsHeadOf inbox head.0 head.1
     × ((q : ℕ) (m : Message) → next_from inbox q ≡ Some m → ¬ Before m.stamp head.1)
 
--- of so many regions, and this is the least of their first messages
+-- an inbox of this many regions, and this is the least of their first messages
 pub record HasHead (regions : ℕ) (head : Option (ℕ × Stamp)) (inbox : InboxData) : Type 0 where
   pub sizes : HasInboxSizes regions inbox
   pub least : IsLeastHead inbox head
@@ -67,6 +70,7 @@ with_taken inbox q = record {
   taken = slice_set inbox.taken q (taken_from inbox q + 1);
 }
 
+-- the stamp of a first message, if there is one
 abbrev pub head_stamp : Option (ℕ × Stamp) → Option Stamp
 head_stamp None = None
 head_stamp (Some head) = Some head.1

@@ -1,5 +1,5 @@
-//! What keeps a message from coming before entries of a log: that they have one of its disks, or change one that
-//! these would touch.
+//! What keeps a message from being put before some entries of a log: one of them has a disk of the message, or changes
+//! a disk that would touch one of these.
 
 ghost use Rattle.std.specs.Prelude.{◌≡◌, ◌<◌, ℕ, length, drop, slice_get, All, Option, None, Some, IfSome, false};
 ghost use Rattle.std.specs.List.{Contains};
@@ -19,8 +19,8 @@ use event_stamps::{Kind, Stamp, is_before};
 use local_run::{Entry, Home};
 use region_view::{Placed, Rows, near_event};
 
-/// The stamp of the first entry of a log from a place on that has one of the disks of some rows, or over which rows
-/// lead back that touch them.
+/// The stamp of the first entry of a log, from a place on, that is in the way of some rows: it has one of their disks,
+/// or a row that leads back over it would touch them.
 pub fn first_in_way(log: &EventLog, kept: usize, rows: &Rows, home: &Home) -> Option<Stamp>
     requires valid { All (λ l. IsValidBack home.now l.1) log.now }
     requires rows { MayStand home.now rows.now }
@@ -37,7 +37,8 @@ pub fn first_in_way(log: &EventLog, kept: usize, rows: &Rows, home: &Home) -> Op
     None
 }
 
-// Whether an entry of a log, by its place, has one of the disks of some rows, or rows lead back over it that touch them.
+// Whether an entry of a log, by its place, is in the way of some rows: it has one of their disks, or a row that leads
+// back over it would touch them.
 fn is_hindrance(log: &EventLog, i: usize, rows: &Rows, home: &Home) -> bool
     requires valid { All (λ l. IsValidBack home.now l.1) log.now }
     requires rows { MayStand home.now rows.now }
@@ -97,8 +98,7 @@ fn has_row(rows: &Rows, disk: u32) -> bool
     }
 }
 
-// Whether rows that lead back are of the same disks as some rows, or what stood in them would touch these up to a
-// stamp.
+// Whether rows that lead back have a disk of some rows, or would touch these up to a stamp.
 fn is_in_way(at: &Stamp, back: &Rows, rows: &Rows, home: &Home) -> bool
     requires back { IsValidBack home.now back.now }
     requires rows { MayStand home.now rows.now }
@@ -107,7 +107,7 @@ fn is_in_way(at: &Stamp, back: &Rows, rows: &Rows, home: &Home) -> bool
     have_common(rows, back) || is_one_touched(at, back, rows, home)
 }
 
-// Whether what stands in one of some rows would touch others up to a stamp.
+// Whether one of the rows that lead back would touch some others up to a stamp.
 fn is_one_touched(at: &Stamp, back: &Rows, rows: &Rows, home: &Home) -> bool
     requires back { IsValidBack home.now back.now }
     requires rows { MayStand home.now rows.now }
@@ -122,7 +122,7 @@ fn is_one_touched(at: &Stamp, back: &Rows, rows: &Rows, home: &Home) -> bool
     }
 }
 
-// Whether what stands in a row would touch one of some rows up to a stamp.
+// Whether a row would touch one of some rows up to a stamp.
 fn is_touched(at: &Stamp, row: (u32, Option<Placed>), rows: &Rows, home: &Home) -> bool
     requires row { IsValidPlaced home.now.rules home.now.grid row.1 }
     requires rows { MayStand home.now rows.now }
@@ -138,7 +138,7 @@ fn is_touched(at: &Stamp, row: (u32, Option<Placed>), rows: &Rows, home: &Home) 
     }
 }
 
-// Whether what stands in two rows would touch up to a stamp.
+// Whether two rows would touch up to a stamp.
 fn do_touch(
     at: &Stamp,
     row: (u32, Option<Placed>),

@@ -15,7 +15,7 @@ pub struct Border {
 }
 
 impl Border {
-    /// Those of a region: where there is a region beside it, that sees one column of it.
+    /// Those of a region. Each region beside it sees one column of it.
     pub fn new(home: &Home) -> Border
         requires { IsRegion home.now.grid home.now.number }
         ensures { IsBorderOf home.now result }

@@ -12,7 +12,7 @@ pub struct Inbox {
     regions: u32,
     heard: Vec<Trail>,
     taken: Vec<usize>,
-    // The least of the first messages, which each step asks for.
+    // The least of the first messages that wait, which each step asks for.
     head: Option<(u32, Stamp)>,
 }
 
@@ -36,7 +36,7 @@ use region_view::Message;
 use std::alloc::{AllocError, Global};
 
 impl Inbox {
-    /// Nothing heard, of so many regions.
+    /// Nothing heard from any of `regions` regions.
     ///
     /// # Errors
     /// Out of memory.
@@ -52,22 +52,22 @@ impl Inbox {
         })
     }
 
-    /// What was heard from a region, by number; none exactly where there is no such region.
+    /// What was heard from a region, by number; none if and only if there is no such region.
     pub fn heard(&self, from: u32) -> Option<&Trail>
         ensures { option_copied result ≡ slice_get self.now.heard from }
     {
         self.heard.get(from as usize)
     }
 
-    /// The first message of a region that wasn't taken in; none exactly where there is none.
+    /// The first message of a region that wasn't taken in; none if and only if there is none.
     pub fn next(&self, from: u32) -> Option<&Message>
         ensures { option_copied result ≡ next_from self.now from }
     {
         first_of(&self.heard, &self.taken, from)
     }
 
-    /// The least stamp of the first messages of all regions, with the region; of those with one stamp, the
-    /// least region.
+    /// The least stamp of the first messages of all regions, with the region; if several have that stamp, the least
+    /// region.
     #[inline(always)]
     pub fn least(&self) -> Option<(u32, Stamp)>
         ensures { IsLeastHead self.now result }
@@ -87,7 +87,7 @@ impl Inbox {
         false
     }
 
-    /// Takes in the first message of a region, which there is.
+    /// Takes in the first message of a region; there has to be one.
     pub fn take(&mut self, from: u32)
         requires waits { IsSome (next_from self.old from) }
         requires room { taken_from self.old from < MAX_ENTRIES }
@@ -98,7 +98,7 @@ impl Inbox {
     }
 }
 
-// The first message of a region that wasn't taken in, of what was heard and taken in of all.
+// The first message of a region that wasn't taken in, given what was heard from all regions and how much was taken in.
 #[inline(always)]
 fn first_of<'a>(heard: &'a [Trail], taken: &[usize], from: u32) -> Option<&'a Message>
     requires { length heard.now ≡ length taken.now }
@@ -108,7 +108,7 @@ fn first_of<'a>(heard: &'a [Trail], taken: &[usize], from: u32) -> Option<&'a Me
     heard.get(from as usize)?.get(*count)
 }
 
-// The least stamp of the first messages, by a look at each region, of which there are so many.
+// The least stamp of the first messages, by a look at each of `regions` regions.
 #[inline(never)]
 fn least_head(regions: u32, heard: &[Trail], taken: &[usize]) -> Option<(u32, Stamp)>
     requires { HasInboxSizes regions (inbox_of heard.now taken.now) }

@@ -1,5 +1,5 @@
-//! Parts of a region, each of which can be told without the others: its input queue, which of its columns no other
-//! region sees, what it sends of an action, and what keeps a late message from its place in a log.
+//! Parts of a region that can be described without the others: its input queue, the columns that no other region sees,
+//! the messages that it sends for an action, and what keeps a late message from its place in a log.
 //!
 //! Nothing here has to do with a region that runs: `region_core` puts these parts together.
 #![tactic(auto)]

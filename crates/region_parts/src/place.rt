@@ -1,5 +1,5 @@
-//! A region's place: whose run it is, which of its columns no other region sees, so that nobody is told of what happens
-//! there, and where its log begins.
+//! A region's place: the region whose run it is, the columns that no other region sees, so that nobody is told of what
+//! happens there, and the stamp at which its log begins.
 
 ghost use Rattle.std.specs.Prelude.{◌↔◌, IsTrue};
 ghost use Rattle.std.specs.FinMap as map;
@@ -20,7 +20,7 @@ use region_view::{Action, View};
 pub struct Place {
     /// The region, with the rules and the grid.
     pub home: Home,
-    /// Which of its columns no other region sees.
+    /// The columns that no other region sees.
     pub border: Border,
     /// The stamp from which on its log begins.
     pub floor: Stamp,
@@ -49,7 +49,7 @@ impl Place {
         self.is_far(cell) && self.is_far(other)
     }
 
-    /// Whether an action has to do with cells alone that no other region sees. Then nobody is told of it.
+    /// Whether an action concerns only cells that no other region sees. Then nobody is told of it.
     #[inline(always)]
     pub fn is_untold(&self, before: &View, action: &Action) -> bool
         requires place { IsPlace self.now }
@@ -71,7 +71,7 @@ impl Place {
         }
     }
 
-    // Whether no other region sees what stands at a number.
+    // Whether no other region sees the disk of a number, if there is one.
     #[inline(always)]
     fn is_far_at(&self, view: &View, disk: u32) -> bool
         requires place { IsPlace self.now }

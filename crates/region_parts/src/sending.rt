@@ -20,8 +20,8 @@ use region_messages::Trail;
 use region_view::{Action, Message, View, message_for};
 use std::alloc::AllocError;
 
-/// Sends the messages of an action, one to each region that is told of it, unless it is known that none is. Few actions
-/// are so near a border.
+/// Sends the messages of an action, one to each region that is told of it. If the action is known to be untold, nothing
+/// is done. Few actions are so near a border that they are told.
 ///
 /// # Errors
 /// Out of memory: what was sent is to be let go.
@@ -52,7 +52,7 @@ pub fn send_if_told(
     send(sent, home, before, action)
 }
 
-/// The same of a crossing.
+/// The same for a crossing.
 ///
 /// # Errors
 /// Out of memory: what was sent is to be let go.
@@ -76,7 +76,7 @@ pub fn send_crossing(
         ≡ trail_of sent.old.items to
         ++ prepended (message_of home.now.grid to (rows_in before.now) (Cross stamp.now cell)) []) }
 {
-    // The action is put together only where it is sent.
+    // The action is put together only if it is sent.
     if is_untold {
         return Ok(());
     }
@@ -84,7 +84,7 @@ pub fn send_crossing(
     send(sent, home, before, &Action::Cross { stamp, cell })
 }
 
-/// The same of a collision.
+/// The same for a collision.
 ///
 /// # Errors
 /// Out of memory: what was sent is to be let go.

@@ -1,4 +1,4 @@
-//! The trails of all regions, by number, at once.
+//! The trails of all regions at once, by number.
 
 ghost use Rattle.std.specs.Prelude.{◌≡◌, [], replicate, map, IfOk};
 ghost use Rattle.region_messages.specs.Trails.{below, from};
@@ -7,7 +7,7 @@ use event_stamps::Stamp;
 use region_messages::Trail;
 use std::alloc::{AllocError, Global};
 
-/// So many trails without messages.
+/// `count` trails without messages.
 ///
 /// # Errors
 /// Out of memory.

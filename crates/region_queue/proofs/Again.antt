@@ -27,7 +27,7 @@ two_of (x ∷ y ∷ []) e = refl
 two_of (x ∷ y ∷ z ∷ zs) e = absurd (omega arith)
 
 -- ---- one more disk
--- of the disks so far P holds, and each other one is as it was, or P holds of it too
+-- P holds for the disks so far, and each other one is as it was, or P holds for it too
 pub again_more : {A : Type 0} (P : ℕ → A → Type 0) (done : List ℕ) (id : ℕ) (old mid new : ℕ → A) →
     ((i : ℕ) → P i (mid i) ⊎ ((mid i ≡ old i) × ¬ Contains done i)) → P id (new id) →
     ((i : ℕ) → i ≢ id → new i ≡ mid i) →

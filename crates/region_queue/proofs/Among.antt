@@ -30,7 +30,7 @@ one_more finder view disk other done a b ha hb =
     (least_same (IsNativePair finder view disk other) (IsNativeWith finder view disk (λ i. other ≡ i)) b
     (λ s x. (other, refl, x)) (λ s x. subst (λ (i : ℕ). IsNativePair finder view disk i s) (sym x.1) x.2) hb)
 
--- ---- where they are
+-- ---- their places
 -- a disk that is listed in a block beside a cell is in a cell adjacent to it, and in a column of the block
 pub nearby_listed : (finder : Finder) (view : ViewData) (at other : ℕ) (block : Block) (whole : Bool) → IsReady finder view →
     AreListed view finder.lists.cells → IsBlockBeside finder.grid at block →
@@ -54,7 +54,7 @@ nearby_listed finder view at other block whole ready listed beside owned x q row
         (omega arith, omega arith)
 
 -- ---- all
--- those that are gathered where none were are those that are listed
+-- if none were gathered before, the disks gathered are those that are listed
 gathered_first : (ids : List ℕ) (old : List ℕ) (With : ℕ → Type 0) → old ≡ [] →
     ((i : ℕ) → Contains ids i ↔ (Contains old i ⊎ With i)) → (i : ℕ) → Contains ids i ↔ With i
 gathered_first ids old With none are i = (

@@ -14,7 +14,7 @@ use Rattle.region_queue.specs.Finding.{AreGiven}
 use Rattle.region_queue.specs.Covering.{IsKey, Covers}
 use Rattle.region_queue.proofs.Covered.{key_stays}
 
--- no disk of the one is a disk of the other
+-- the two have no disk in common
 abbrev pub AreApart : Stamp → Stamp → Type 0
 AreApart t s = (i : ℕ) → Names t i → ¬ Names s i
 
@@ -45,7 +45,7 @@ shared_or_apart t s = elim (names_decides s t.first) [
   ]
 ]
 
--- what names one disk alone, which isn't one of the event's, has no disk in common with it
+-- an event that names only one disk, which isn't one of the other event's, has no disk in common with that
 apart_alone : (t s : Stamp) (i : ℕ) → ¬ (t.kind ≡ Pair) → Names t i → ¬ Names s i → AreApart t s
 apart_alone t s i alone names not j other shared =
     not (subst (Names s) (sym (by_itself t j alone other) ∙ by_itself t i alone names) shared)
@@ -65,8 +65,8 @@ given_is_key D s i least names = record {
     named : (t : Stamp) → Some s ≡ Some t → Names t i
     named t e = subst (λ (u : Stamp). Names u i) (same t e) names
 
--- where an event is the least candidate and the key of its disks, and the candidates without them stay, the keys cover
--- the candidates
+-- if an event is the least candidate and the key of its disks, and the candidates without them stay, the keys cover the
+-- candidates
 pub covers_back : (C D : Stamp → Type 0) (s : Stamp) (old new : EntriesData) → Covers C old.keys old.bounds →
     ((t : Stamp) → AreApart t s → (C t ↔ D t)) → IsLeast D s → AreGiven s old new → Covers D new.keys new.bounds
 covers_back C D s old new covers stay least given = record {

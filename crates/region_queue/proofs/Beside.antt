@@ -46,7 +46,7 @@ cell_within grid block at row column is beside low high left right = (cell, besi
     within : IsWithinBlock grid block (row * grid.columns + column)
     within = rw (in_column, in_row) ((left, right), (low, high))
 
--- a disk that is listed in a cell stands in it
+-- a disk that is listed in a cell is in it
 pub nearby_in_cell : (finder : Finder) (view : ViewData) (at cell other : ℕ) (whole : Bool) → AreListed view finder.lists.cells →
     IsListed finder.lists cell other → IsAdjacent finder.grid at cell → (IsTrue whole ↔ Owns finder.grid finder.region cell) →
     IsNearby finder view at whole other
@@ -62,7 +62,7 @@ abbrev pub IsPlacedBeside : Finder → ViewData → ℕ → ℕ → Bool → Typ
 IsPlacedBeside finder view cell other home = (q : Placed) → rows_in view other ≡ Some q →
     IsAdjacent finder.grid cell q.cell × (IsTrue home ↔ Owns finder.grid finder.region q.cell)
 
--- whether the region owns the cell is known where it owns all, and else it was asked for
+-- whether the region owns the cell is known if it owns all, and else it was asked for
 pub placed_beside : (finder : Finder) (view : ViewData) (at other : ℕ) (q : Placed) (whole home : Bool) → rows_in view other ≡ Some q →
     (IsTrue whole × IsTrue home) ⊎ (IsTrue home ↔ Owns finder.grid finder.region q.cell) → IsNearby finder view at whole other →
     IsPlacedBeside finder view at other home
@@ -74,14 +74,14 @@ placed_beside finder view at other q whole home row known near p there =
     same = let e : Some q ≡ Some p = sym row ∙ there in cc
 
 -- ---- pairs
--- of disks in adjacent cells
+-- disks in adjacent cells
 near_only : (rules : Rules) (grid : GridData) (i j : ℕ) (p q : Placed) (o : Option Stamp) → IsAdjacent grid p.cell q.cell →
     MatchOption o ((s : Stamp) → IsPairEvent rules i p.disk j q.disk s → ⊥) (IsOnly (IsPairEvent rules i p.disk j q.disk)) →
     MatchOption o (HasNone (IsNear rules grid i p j q)) (IsOnly (IsNear rules grid i p j q))
 near_only rules grid i j p q None beside h = λ s n. h s n.1
 near_only rules grid i j p q (Some s) beside h = ((beside, h.0), λ t n. h.1 t n.1)
 
--- where the disk is the lower one
+-- if the disk is the lower one
 pub pair_as_lower : (finder : Finder) (view : ViewData) (disk other : ℕ) (p q : Placed) (home : Bool) (o : Option Stamp) → disk < other →
     rows_in view disk ≡ Some p → rows_in view other ≡ Some q → Owns finder.grid finder.region p.cell →
     IsPlacedBeside finder view p.cell other home →
@@ -91,7 +91,7 @@ pair_as_lower finder view disk other p q home o lt here there owns beside h =
     pair_low finder view disk other o lt (native_is finder view disk other p q o lt here there owns
     (near_only finder.rules finder.grid disk other p q o (beside q there).0 h))
 
--- where the other disk is
+-- if the other disk is
 pub pair_as_higher : (finder : Finder) (view : ViewData) (disk other : ℕ) (p q : Placed) (home : Bool) (o : Option Stamp) → other < disk →
     rows_in view disk ≡ Some p → rows_in view other ≡ Some q → IsTrue home →
     IsPlacedBeside finder view p.cell other home →
@@ -101,7 +101,7 @@ pair_as_higher finder view disk other p q home o lt here there is_home beside h 
     pair_high finder view disk other o lt (native_is finder view other disk q p o lt there here ((beside q there).1.0 is_home)
     (near_only finder.rules finder.grid other disk q p o (adjacent_back finder.grid p.cell q.cell (beside q there).0) h))
 
--- where the region doesn't own the cell of the lower one
+-- if the region doesn't own the cell of the lower one
 owned_first : (finder : Finder) (view : ViewData) (low high : ℕ) (p : Placed) (s : Stamp) → rows_in view low ≡ Some p →
     IsNativeOf finder view low high s → Owns finder.grid finder.region p.cell
 owned_first finder view low high p s at n =
@@ -115,7 +115,7 @@ pair_unowned finder view disk other p q own home here there owns beside neither 
 pair_unowned finder view disk other p q own home here there owns beside neither s (inr high) =
     neither (inr (native_order finder view other disk s high, (beside q there).1.1 (owned_first finder view other disk q s there high)))
 
--- of disks that never hit each other, in either order
+-- disks that never hit each other, in either order
 native_never : (finder : Finder) (view : ViewData) (low high : ℕ) (p q : Placed) → rows_in view low ≡ Some p → rows_in view high ≡ Some q →
     NeverHit finder.rules p.disk q.disk → HasNone (IsNativeOf finder view low high)
 native_never finder view low high p q at_low at_high never s n =

@@ -135,7 +135,7 @@ pub native_is : (finder : Finder) (view : ViewData) (low high : ℕ) (p q : Plac
 native_is finder view low high p q o lt at_low at_high owns h =
     only_least (IsNativeOf finder view low high) o (native_only finder view low high p q o lt at_low at_high owns h)
 
--- a stamp of a pair is that of a native candidate where both of its disks have rows, and it is that of their event
+-- if both disks of a stamp of a pair have rows, and it is that of their event, it is that of a native candidate
 pub event_found : (finder : Finder) (view : ViewData) (s : Stamp) (p q : Placed) → s.kind ≡ Pair → rows_in view s.first ≡ Some p →
     rows_in view s.second ≡ Some q → (IsPairPlaced finder s p q ↔ IsFound finder view s)
 event_found finder view s p q pair at_first at_second = (
@@ -297,7 +297,7 @@ row_more finder view disk block row a b low ha hb =
 pub adjacent_back : (grid : GridData) (a b : ℕ) → IsAdjacent grid a b → IsAdjacent grid b a
 adjacent_back grid a b h = ((h.0.1, h.0.0), (h.1.1, h.1.0))
 
--- where a view has the disk, it is listed
+-- if a view has the disk, it is listed
 pub listed_at : (view : ViewData) (lists : ListsData) (disk : ℕ) (p : Placed) → AreListed view lists.cells → rows_in view disk ≡ Some p →
     IsListed lists p.cell disk
 listed_at view lists disk p listed row = listed disk ∙ ap (option_map (λ (q : Placed). q.cell)) row
@@ -368,7 +368,7 @@ best_pairs finder view disk p block o ready row around listed h =
         let at = listed_beside finder view disk other.0 p block s ready row around listed x.0 x.1 other.1 in
         (other.0, (at.0.cell, at.2, at.3), pair_of finder view disk other.0 s x.0 x.1 other.1)
 
--- a candidate that names a disk is of the disk by itself or of a pair
+-- a candidate that names a disk is one of the disk by itself, or a pair
 pub best_of_both : (finder : Finder) (view : ViewData) (disk : ℕ) (a b : Option Stamp) → IsBestSingle finder view disk a →
     IsBestPair finder view disk b → IsBest finder view disk (earlier_of a b)
 best_of_both finder view disk a b ha hb =

@@ -1,4 +1,4 @@
--- Which keys have to be taken again, and why that is enough.
+-- The keys that have to be taken again, and why that is enough.
 use Rattle.std.proofs.Common.{◌≡◌, ◌⊎◌, ◌↔◌, inl, inr, ℕ, List, [], refl, sym, subst}
 use Rattle.std.specs.Prelude.{Some, None}
 use Rattle.std.specs.List.{Contains}
@@ -12,7 +12,7 @@ use Rattle.region_view.specs.Naming.{Names, NamesAny}
 use Rattle.region_view.proofs.Naming.{none_among, by_itself, is_pair_or_not, names_or_not, one_named, names_none}
 use Rattle.region_queue.specs.Covering.{IsKey, Covers}
 
--- a disk's candidates, those of it by itself, and its pairs
+-- a disk's candidates: those by itself, and its pairs
 abbrev pub CandidatesOf : (Stamp → Type 0) → ℕ → Stamp → Type 0
 CandidatesOf D i s = D s × Names s i
 
@@ -26,7 +26,7 @@ PairsOf D i s = D s × (s.kind ≡ Pair) × Names s i
 abbrev pub IsTakenOf : (Stamp → Type 0) → ℕ → Key × Key → Type 0
 IsTakenOf D i entry = IsLeastOf (CandidatesOf D i) entry.0 × IsLeastOf (PairsOf D i) entry.1
 
--- the entry is taken, or as it was where the disk isn't such a one
+-- the entry is taken again, or it is as it was if the disk isn't such a one
 abbrev pub IsRetaken : (Stamp → Type 0) → (ℕ → Type 0) → EntriesData → EntriesData → ℕ → Type 0
 IsRetaken D Such old new i = IsTakenOf D i (entry_at new i) ⊎ ((entry_at new i ≡ entry_at old i) × ¬ Such i)
 
@@ -49,7 +49,7 @@ taken_is_key D i key bound best pairs = record {
     below None none = tt
     below (Some t) least = least_not_after (CandidatesOf D i) key t best (least.0.0, least.0.2)
 
--- it stays where the disk's candidates by itself do
+-- it stays if the disk's candidates by itself do
 pub key_stays : (C D : Stamp → Type 0) (i : ℕ) (key bound : Key) → ((s : Stamp) → ¬ (s.kind ≡ Pair) → s.first ≡ i → (C s ↔ D s)) →
     IsKey C i key bound → IsKey D i key bound
 key_stays C D i key bound stay is = record {
@@ -60,8 +60,8 @@ key_stays C D i key bound stay is = record {
   below = is.below;
 }
 
--- ---- the theorem: where the keys of all touched disks are taken again, and the others are too or are kept, the keys cover
--- the candidates again
+-- ---- the theorem: if the keys of all touched disks are taken again, and the others are too or are kept, the keys
+-- cover the candidates again
 pub covers_again : (C D : Stamp → Type 0) (ids : List ℕ) (old new : EntriesData) → Covers C old.keys old.bounds →
     ((s : Stamp) → ¬ NamesAny s ids → (C s ↔ D s)) → ((i : ℕ) → IsRetaken D (λ n. Contains ids n) old new i) →
     Covers D new.keys new.bounds

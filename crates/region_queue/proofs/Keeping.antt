@@ -1,4 +1,4 @@
--- What is left of some disks, from the front of the list in which they are.
+-- The disks that are kept, at the front of the list in which they are.
 use Rattle.std.proofs.Common.{◌≡◌, ◌≢◌, inl, inr, ℕ, ◌+◌, ◌<◌, ◌≤◌, Bool, true, false, List, [], ◌∷◌, ◌++◌, length, take, set, get_or, arith, refl, sym, subst, ap, ◌∙◌}
 use mir.Val.{bool_byte}
 use Rattle.std.specs.Prelude.{ℤ, ◌*ℤ◌, Option, Some, None, IfSome, slice_index_or}
@@ -21,7 +21,7 @@ use Rattle.region_queue.proofs.Beside.{pair_never}
 use Rattle.region_queue.proofs.Candidates.{pair_without}
 
 -- ---- one after the other
--- of the disks so far some are left, at the front, and those that come next are where they were
+-- some of the disks so far are kept, at the front, and those that come next are as they were
 pub record IsKeeping (IsOut : ℕ → Type 0) (old now : List ℕ) (place kept : ℕ) : Type 0 where
   pub few : kept ≤ place
   pub count : length now ≡ length old
@@ -63,7 +63,7 @@ pub byte_small : (b : Bool) → bool_byte b ≤ 1
 byte_small true = omega arith
 byte_small false = omega arith
 
--- the next disk is put behind those that are left, and counted where it isn't out
+-- the next disk is put behind those that are kept, and counted if it isn't out
 pub keeping_more : (IsOut : ℕ → Type 0) (old now : List ℕ) (place kept disk : ℕ) (may : Bool) → place < length old →
     IsKeeping IsOut old now place kept → disk ≡ get_or now place 0 → (may ≡ false → IsOut disk) →
     IsKeeping IsOut old (set now kept disk) (place + 1) (kept + bool_byte may)
@@ -118,8 +118,8 @@ kept_as IsOut Has old new has are = record {
   out = λ i x. elim (are.out i x) [ inl y ↦ inl y | inr y ↦ inr (has i y) ];
 }
 
--- ---- what is out has no native event
--- what a test of two disks says holds of the disk of a row that is there
+-- ---- a disk that is out has no native event
+-- what a test of two disks tells holds for the disk of a row that is there
 pub missed_row : (disk other : Disk) (row : Option Placed) (may : Bool) → IfSome row (λ q. other ≡ q.disk) →
     ((rules : Rules) → IsSmallPair rules disk other → may ≡ false → NeverHit rules disk other) →
     ((rules : Rules) → IsSmallPair rules disk other → may ≡ false → NeverHit rules other disk) → may ≡ false →
@@ -129,7 +129,7 @@ missed_row disk other (Some q) may is never turned missed = λ rules pair.
     let before = subst (λ (d : Disk). IsSmallPair rules disk d) (sym is) pair in
     subst (λ (d : Disk). NeverMeet rules disk d) is (never rules before missed, turned rules before missed)
 
--- the same of a test by the square of the greatest diameter
+-- the same for a test by the square of the greatest diameter
 pub missed_row_greatest : (square : ℤ) (disk other : Disk) (row : Option Placed) (may : Bool) → IfSome row (λ q. other ≡ q.disk) →
     ((rules : Rules) → IsSmallPair rules disk other → square ≡ rules.diameter *ℤ rules.diameter → may ≡ false → NeverHit rules disk other) →
     ((rules : Rules) → IsSmallPair rules disk other → square ≡ rules.diameter *ℤ rules.diameter → may ≡ false → NeverHit rules other disk) →
@@ -184,7 +184,7 @@ none_by_greatest finder view disk p rows square ready small greatest here are ot
     none_missed finder view disk other p (slice_index_or rows other None) here (are other)
     (missed_greatest finder view disk other p (slice_index_or rows other None) square ready small greatest here (are other) by)
 
--- so the least event with one of those that are left is the least with one of all
+-- so the least event with one of those that are kept is the least with one of all
 pub least_of_all : (finder : Finder) (view : ViewData) (disk : ℕ) (old new : List ℕ) (o : Option Stamp) →
     AreKept (λ i. HasNone (IsNativePair finder view disk i)) old new →
     IsLeastOf (IsNativeWith finder view disk (λ i. Contains new i)) o → IsLeastOf (IsNativeWith finder view disk (λ i. Contains old i)) o

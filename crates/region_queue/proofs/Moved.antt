@@ -1,4 +1,4 @@
--- A disk that has come to another cell has the pairs that it had, but those with disks beyond the old cell.
+-- A disk that has come to another cell has the pairs that it had, and others only with disks beyond the old cell.
 use Rattle.std.proofs.Common.{◌≡◌, ◌≢◌, ◌⊎◌, ◌↔◌, inl, inr, ℕ, [], ◌∷◌, ◌<◌, ◌≤◌, arith, refl, sym, subst, ap, ◌∙◌}
 use Rattle.std.specs.Prelude.{Some, IfSome, option_map}
 use Rattle.std.specs.List.{Contains}
@@ -27,7 +27,7 @@ use Rattle.region_queue.proofs.Covered.{SinglesOf, PairsOf, least_not_after, key
 use Rattle.region_queue.proofs.Outside.{placed_in}
 use Rattle.region_queue.proofs.Unchanged.{all_but_moved, the_only}
 
--- ---- which pairs are new
+-- ---- the pairs that are new
 at_most_decides : (m n : ℕ) → (m ≤ n) ⊎ ¬ (m ≤ n)
 at_most_decides m n = elim (cases_lt n m) [ inl more ↦ inr (λ le. absurd (omega arith)) | inr le ↦ inl (omega arith) ]
 
@@ -47,7 +47,7 @@ same_disk disk before view p b moved now was =
     let e : Some p.disk ≡ Some b.disk =
     sym (ap (option_map (λ (x : Placed). x.disk)) now) ∙ moved.1 ∙ ap (option_map (λ (x : Placed). x.disk)) was in cc
 
--- the region owns the old cell of the disk where it owns the new one
+-- the region owns the old cell of the disk if and only if it owns the new one
 abbrev pub IsOwnerKept : Finder → ViewData → ℕ → ℕ → Type 0
 IsOwnerKept finder view disk cell = (p : Placed) → rows_in view disk ≡ Some p →
     (Owns finder.grid finder.region cell ↔ Owns finder.grid finder.region p.cell)
@@ -161,8 +161,8 @@ joined_is_key D i single bound least pair = record {
     alone s e not (inl same) = (subst (IsLeastOf (SinglesOf D i)) (sym same ∙ e) least).0.0
     alone s e not (inr same) = absurd (not (pair s (sym same ∙ e)).0)
 
--- ---- the theorem: where a disk's bound takes in the pairs that are new, and all other candidates were there, the keys cover
--- the candidates again
+-- ---- the theorem: if a disk's bound takes in the pairs that are new, and all other candidates were there, the keys
+-- cover the candidates again
 extended_covers : (C D B : Stamp → Type 0) (disk : ℕ) (single beyond : Key) (old new : EntriesData) → Covers C old.keys old.bounds →
     ((s : Stamp) → ¬ Names s disk → (C s ↔ D s)) → ((s : Stamp) → PairsOf D disk s → C s ⊎ B s) →
     ((s : Stamp) → B s → (s.kind ≡ Pair) × Names s disk) → IfSome (key_at old.bounds disk) (λ s. s.kind ≡ Pair) →
@@ -236,7 +236,7 @@ moved_covers finder before view disk cell old new moved at owner known is covers
     (λ s not. others_stay finder before view disk s moved not) (λ s pair. old_or_beyond finder before view disk cell s moved at owner pair)
     (λ s b. (b.1, names_pair s disk b.2.0 b.1 b.2.2)) known is.2 is.3 is.4
 
--- so do they where all of the disk is taken again
+-- the keys cover the candidates again also if the disk's key and bound are taken again
 pub taken_covers : (finder : Finder) (before view : ViewData) (disk : ℕ) (old new : EntriesData) → IsMoved disk before view →
     IsTakenAt finder view disk old new → Covers (IsFound finder before) old.keys old.bounds → Covers (IsFound finder view) new.keys new.bounds
 taken_covers finder before view disk old new moved is covers =

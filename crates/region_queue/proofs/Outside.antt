@@ -1,4 +1,4 @@
--- What of a block of cells is in no second block, as four blocks.
+-- The part of a block of cells outside a second block, as four blocks.
 use Rattle.std.proofs.Common.{◌≡◌, ◌⊎◌, ◌↔◌, inl, inr, ℕ, ◌<◌, ◌≤◌, max, min, arith, refl, sym, subst, ◌∙◌}
 use Rattle.std.proofs.lemmas.Bool.{cases_lt}
 use Rattle.std.specs.Prelude.{Option, Some, None, option_map}
@@ -17,8 +17,8 @@ use Rattle.region_queue.specs.Outside.{IsInBlock, IsPart, AreParts, IsListedOuts
 use Rattle.region_queue.specs.Finding.{IsReady, IsNativeWith, IsPairedBeyond, IsBestBeyond, IsBlockBeside, AreListed, cell_in}
 use Rattle.region_queue.proofs.Candidates.{IsAround, with_more, pair_found, pair_of, no_pair, listed_beside}
 
--- ---- the parts of a block, by where its sides cut a second one
--- the place of a side that is cut off where it is beyond a block's
+-- ---- the parts of a block, cut at the sides of a second one
+-- the place of a side, moved to the block's own side if it is beyond that
 cut_inside : (k low high n : ℕ) → low ≤ high → n ≡ max low (min k high) → (low ≤ n) × (n ≤ high)
 cut_inside k low high n order is = (omega arith, omega arith)
 

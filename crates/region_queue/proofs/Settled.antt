@@ -18,7 +18,7 @@ use Rattle.region_queue.proofs.Covered.{CandidatesOf, IsTakenOf, IsRetaken, cove
 after_other : (s t : Stamp) → ¬ Before t s → ¬ (s ≡ t) → Before s t
 after_other s t not ne = elim (before_decides s t) [ inl before ↦ before | inr back ↦ absurd (ne (same_stamp s t back not)) ]
 
--- where the disks that had the least key, which is no candidate, have their best ones
+-- if the disks that had the least key, which isn't a candidate, have their best ones
 pub rises : (C : Stamp → Type 0) (old new : EntriesData) (last : Stamp) (key : Key) → Covers C old.keys old.bounds → ¬ C last →
     IsLeastKey old.keys (Some last) → ((i : ℕ) → IsRetaken C (IsHolder old last) old new i) → IsLeastKey new.keys key → IfSome key (Before last)
 rises C old new last None covers none least kept is = tt

@@ -35,7 +35,7 @@ lists_again before after Such old new listed same again i = from (again i)
     from (inr k) = k.0 ∙ listed i ∙ sym (ap (option_map (λ (p : Placed). p.cell)) (same i k.1))
 
 -- ---- the queue
--- where the keys cover the candidates of a view, and are settled after that, the queue stands for it
+-- if the keys cover the candidates of a view, and are settled after that, the queue stands for it
 pub stands_settled : {E : Type 0} (done : Result ⊤ E) (finder : Finder) (view : ViewData) (mid new : EntriesData) →
     OnOk done (AreListed view finder.lists.cells → Covers (IsFound finder view) mid.keys mid.bounds → Covers (IsFound finder view) new.keys new.bounds) →
     OnOk done (AreListed view finder.lists.cells → Covers (IsFound finder view) mid.keys mid.bounds → IsSettled (IsFound finder view) new.keys) →
@@ -130,7 +130,7 @@ unfolding StandsFor
 stands_least queue view key stands least =
     settled_least (IsNative queue.rules queue.grid queue.region (rows_in view)) queue.keys queue.bounds key stands.1.0 stands.1.1 least
 
--- ---- what the lists are of stays the same
+-- ---- the grid and the columns of the lists stay the same
 pub sound_again : (rules : Rules) (grid : GridData) (region : ℕ) (strip : Strip) (old new : GridData) → new ≡ old →
     IsSoundQueue rules grid region strip old → IsSoundQueue rules grid region strip new
 sound_again rules grid region strip old new same = subst (IsSoundQueue rules grid region strip) (sym same)
@@ -147,7 +147,7 @@ ready_again finder view old same sound valid = record {
   valid = valid;
 }
 
--- the cells of a valid view are those of the grid that the lists are of
+-- the cells of a valid view are those of the grid of the lists
 pub cells_listed : (rules : Rules) (grid listed : GridData) (view : ViewData) → listed ≡ grid → IsValidPlacing rules grid (rows_in view) →
     (i : ℕ) (p : Placed) → rows_in view i ≡ Some p → IsCell listed p.cell
 cells_listed rules grid listed view same valid i p row = subst (λ (g : GridData). IsCell g p.cell) (sym same) (valid.cell i p row)

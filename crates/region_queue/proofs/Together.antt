@@ -15,7 +15,7 @@ use Rattle.region_queue.specs.declared.finder.Finder.{Finder}
 use Rattle.region_queue.specs.Finding.{IsReady, IsNativePair, IsNativeWith, IsPaired, IsBestPair, AreKept, AreListed, HasNearby, IsWider}
 use Rattle.region_queue.proofs.Candidates.{IsAround, listed_at, pair_found, pair_of, pair_beside, other_of, names_pair}
 
--- what is listed around a cell is gathered with a wider block
+-- a disk that is listed around a cell is gathered with a wider block
 pub near_gathered : (finder : Finder) (view : ViewData) (at : ℕ) (block wider : Block) (old near : List ℕ) → IsReady finder view →
     AreListed view finder.lists.cells → IsAround finder.grid at block → IsWider block wider →
     AreGathered finder.lists wider old near → HasNearby finder view at near
@@ -36,7 +36,7 @@ far_none finder view disk other p row far s n =
     (near_pair finder.rules finder.grid finder.region view s pair.0 pair.1) pair.2 in
     far beside.0 beside.1 beside.2
 
--- the least event with one of those that are left of all that are near is the least pair
+-- the least event with one of those kept of all that are near is the least pair
 pub best_kept : (finder : Finder) (view : ViewData) (disk : ℕ) (p : Placed) (near kept : List ℕ) (o : Option Stamp) →
     rows_in view disk ≡ Some p → HasNearby finder view p.cell near → AreKept (λ i. HasNone (IsNativePair finder view disk i)) near kept →
     IsLeastOf (IsNativeWith finder view disk (λ i. Contains kept i)) o → IsBestPair finder view disk o

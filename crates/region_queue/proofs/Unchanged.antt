@@ -1,4 +1,4 @@
--- Disks that a crossing and an event taken back leave as they were.
+-- Disks that stay as they were after a crossing and after an event is taken back.
 use Rattle.std.proofs.Common.{◌≡◌, inl, inr, ℕ, [], ◌∷◌, sym, subst}
 use Rattle.std.specs.List.{Contains}
 use Rattle.std.proofs.lemmas.List.Elements.{Contains-push, Contains-push_cases, Contains-append_left}

@@ -1,12 +1,12 @@
--- What the keys of the disks stand for.
+-- What the keys of the disks guarantee.
 use Rattle.std.specs.Prelude.{◌≡◌, ℕ, List, Some, IfSome}
 use Rattle.event_stamps.specs.declared.Stamp.{Stamp}
 use Rattle.event_stamps.specs.declared.Kind.TheVariants.{Pair}
 use Rattle.event_tree.specs.Keys.{Key, IsNotAfter, IsLeastKey, key_at}
 use Rattle.region_view.specs.Naming.{Names}
 
--- a disk's key, and the bound of its pairs, both of which name it: the key is a candidate unless it is of a pair, and is
--- after none of the disk's candidates by itself, nor after the bound
+-- a disk's key and the bound of its pairs: both name the disk; the key is a candidate unless it is that of a pair; and
+-- it is after none of the disk's candidates by itself, nor after the bound
 pub record IsKey (C : Stamp → Type 0) (disk : ℕ) (key bound : Key) : Type 0 where
   pub named : (s : Stamp) → key ≡ Some s → Names s disk
   pub bound_named : (s : Stamp) → bound ≡ Some s → Names s disk

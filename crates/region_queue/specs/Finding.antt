@@ -1,4 +1,4 @@
--- What is found and kept of one disk.
+-- What is found and kept for one disk.
 use Rattle.std.specs.Prelude.{◌≡◌, ◌≢◌, ◌⊎◌, ℕ, ◌<◌, ℤ, ◌*ℤ◌, Bool, IsTrue, List, Option, Some, IfSome, option_map}
 use Rattle.std.specs.Ordering.{nat_cmp}
 use Rattle.std.specs.FinMap as map
@@ -26,6 +26,7 @@ use Rattle.region_queue.specs.declared.finder.Finder.{Finder}
 use Rattle.region_view.specs.Naming.{Names, IsPairOf}
 
 -- ---- where disks are listed
+-- the cell of each listed disk, by its number
 abbrev pub Cells : Type 0
 Cells = map.FinMap nat_cmp ℕ
 
@@ -33,7 +34,7 @@ Cells = map.FinMap nat_cmp ℕ
 abbrev pub cell_in : ViewData → ℕ → Option ℕ
 cell_in view disk = option_map (λ p. p.cell) (rows_in view disk)
 
--- each disk is listed where the view has it
+-- each disk is listed in the cell in which the view has it
 abbrev pub AreListed : ViewData → Cells → Type 0
 AreListed view cells = (disk : ℕ) → map.get cells disk ≡ cell_in view disk
 
@@ -47,20 +48,21 @@ pub record IsTakenOff (disk : ℕ) (old new : ListsData) : Type 0 where
   pub free : IsUnlisted new disk
   pub others : (other : ℕ) → other ≢ disk → map.get new.cells other ≡ map.get old.cells other
 
--- one disk is listed where the view has it, and the others are where they were
+-- one disk is listed in the cell in which the view has it, and the others are as they were
 pub record IsRelisted (view : ViewData) (disk : ℕ) (old new : Cells) : Type 0 where
   pub listed : map.get new disk ≡ cell_in view disk
   pub others : (other : ℕ) → other ≢ disk → map.get new other ≡ map.get old other
 
--- such disks are, and each other one too, or is where it was
+-- such disks are listed so, and each other one is too, or is as it was
 abbrev pub AreRelistedOf : ViewData → (ℕ → Type 0) → Cells → Cells → Type 0
 AreRelistedOf view Such old new = (i : ℕ) →
     (map.get new i ≡ cell_in view i) ⊎ ((map.get new i ≡ map.get old i) × ¬ Such i)
 
+-- the same for the disks of a list
 abbrev pub AreRelisted : ViewData → List ℕ → Cells → Cells → Type 0
 AreRelisted view disks old new = AreRelistedOf view (λ i. Contains disks i) old new
 
--- ---- which candidates a disk has
+-- ---- the candidates of a disk
 
 -- a region of a grid of checked rules, its columns, lists of this grid, and a valid view
 pub record IsReady (finder : Finder) (view : ViewData) : Type 0 where
@@ -75,7 +77,7 @@ pub record IsReady (finder : Finder) (view : ViewData) : Type 0 where
 abbrev pub IsFound : Finder → ViewData → Stamp → Type 0
 IsFound finder view s = IsNative finder.rules finder.grid finder.region (rows_in view) s
 
--- the disk's event by itself, where the region owns its cell
+-- the disk's event by itself, if the region owns its cell
 abbrev pub IsAloneAt : Finder → ℕ → Placed → Stamp → Type 0
 IsAloneAt finder disk p s = IsAlone finder.rules finder.grid disk p s × Owns finder.grid finder.region p.cell
 
@@ -93,7 +95,7 @@ IsNativeOf finder view low high s =
 abbrev pub IsNativePair : Finder → ViewData → ℕ → ℕ → Stamp → Type 0
 IsNativePair finder view i j s = IsNativeOf finder view i j s ⊎ IsNativeOf finder view j i s
 
--- where the view has the disk, it is in an adjacent cell, and where `whole`, in a column that the region owns
+-- if the view has the disk, it is in an adjacent cell and, if `whole`, in a column that the region owns
 abbrev pub IsNearby : Finder → ViewData → ℕ → Bool → ℕ → Type 0
 IsNearby finder view cell whole other = (q : Placed) → rows_in view other ≡ Some q →
     IsAdjacent finder.grid cell q.cell × (IsTrue whole → Owns finder.grid finder.region q.cell)
@@ -106,7 +108,7 @@ IsBlockBeside grid cell block = (other : ℕ) → IsCell grid other → IsWithin
 abbrev pub AreAllWithin : ListsData → Block → List ℕ → Type 0
 AreAllWithin lists block disks = (i : ℕ) → Contains disks i → IsListedWithin lists block i
 
--- of the disks that the view has in cells adjacent to this one, each is among these
+-- each disk that the view has in a cell adjacent to this one is among these
 abbrev pub HasNearby : Finder → ViewData → ℕ → List ℕ → Type 0
 HasNearby finder view cell disks = (i : ℕ) (q : Placed) → rows_in view i ≡ Some q → IsAdjacent finder.grid cell q.cell → Contains disks i
 
@@ -118,20 +120,20 @@ IsWider block wider = (grid : GridData) (cell : ℕ) → IsWithinBlock grid bloc
 abbrev pub NeverMeet : Rules → Disk → Disk → Type 0
 NeverMeet rules disk other = NeverHit rules disk other × NeverHit rules other disk
 
--- a disk and what may stand at a number never do
+-- a disk never hits the one that may stand at a number
 abbrev pub IsMissed : Rules → Disk → Option Placed → Type 0
 IsMissed rules disk row = IfSome row (λ q. NeverMeet rules disk q.disk)
 
--- nor by any rules by which both are valid and products are small
+-- nor does it under any rules by which both are valid and products are small
 abbrev pub IsMissedBySmall : Disk → Option Placed → Type 0
 IsMissedBySmall disk row = IfSome row (λ q. (rules : Rules) → IsSmallPair rules disk q.disk → NeverMeet rules disk q.disk)
 
--- nor by any such rules whose greatest diameter has this square
+-- nor under any such rules whose greatest diameter has this square
 abbrev pub IsMissedByGreatest : ℤ → Disk → Option Placed → Type 0
 IsMissedByGreatest square disk row = IfSome row (λ q. (rules : Rules) → IsSmallPair rules disk q.disk →
     square ≡ rules.diameter *ℤ rules.diameter → NeverMeet rules disk q.disk)
 
--- of some disks these are left, and of each that was left out this holds
+-- some disks are left, and for each one left out this holds
 pub record AreKept (IsOut : ℕ → Type 0) (old new : List ℕ) : Type 0 where
   pub within : (i : ℕ) → Contains new i → Contains old i
   pub out : (i : ℕ) → Contains old i → Contains new i ⊎ IsOut i
@@ -140,7 +142,7 @@ pub record AreKept (IsOut : ℕ → Type 0) (old new : List ℕ) : Type 0 where
 abbrev pub IsNativeWith : Finder → ViewData → ℕ → (ℕ → Type 0) → Stamp → Type 0
 IsNativeWith finder view disk With s = (other : ℕ) × With other × IsNativePair finder view disk other s
 
--- the least native candidate that names the disk; none where there is none
+-- the least native candidate that names the disk; none if there is none
 abbrev pub IsBest : Finder → ViewData → ℕ → Key → Type 0
 IsBest finder view disk key = IsLeastOf (λ s. IsFound finder view s × Names s disk) key
 
@@ -161,17 +163,19 @@ abbrev pub IsPairedBeyond : Finder → ViewData → ℕ → ℕ → Stamp → Ty
 IsPairedBeyond finder view disk cell s = IsFound finder view s × (s.kind ≡ Pair)
     × ((other : ℕ) × IsBeyond finder view cell other × IsPairOf s disk other)
 
--- the least of each of these; none where there is none
+-- the least native candidate of the disk by itself; none if there is none
 abbrev pub IsBestSingle : Finder → ViewData → ℕ → Key → Type 0
 IsBestSingle finder view disk key = IsLeastOf (IsSingle finder view disk) key
 
+-- the least native pair that names the disk; none if there is none
 abbrev pub IsBestPair : Finder → ViewData → ℕ → Key → Type 0
 IsBestPair finder view disk key = IsLeastOf (IsPaired finder view disk) key
 
+-- the least native pair of the disk with one beyond those cells; none if there is none
 abbrev pub IsBestBeyond : Finder → ViewData → ℕ → ℕ → Key → Type 0
 IsBestBeyond finder view disk cell key = IsLeastOf (IsPairedBeyond finder view disk cell) key
 
--- these are the least candidates of the disk, where the disks are listed as the view has them
+-- these are the least candidates of the disk, if the disks are listed as the view has them
 abbrev pub IsBestOf : Finder → ViewData → ℕ → Best → Type 0
 IsBestOf finder view disk best = IsBestSingle finder view disk best.single
     × (AreListed view finder.lists.cells → IsBestPair finder view disk best.pair)
@@ -181,21 +185,22 @@ IsBestOf finder view disk best = IsBestSingle finder view disk best.single
 abbrev pub IsTaken : Finder → ViewData → ℕ → Key × Key → Type 0
 IsTaken finder view disk entry = IsBest finder view disk entry.0 × IsBestPair finder view disk entry.1
 
--- so is the entry of one disk, and the others have theirs
+-- that is the entry of one disk, and the others have theirs
 pub record IsTakenAt (finder : Finder) (view : ViewData) (disk : ℕ) (old new : EntriesData) : Type 0 where
   pub taken : IsTaken finder view disk (entry_at new disk)
   pub others : (other : ℕ) → other ≢ disk → entry_at new other ≡ entry_at old other
 
--- so are the entries of such disks, and those of others too or are as they were
+-- so are the entries of such disks; the other disks' entries are so too, or are as they were
 abbrev pub AreRetakenOf : Finder → ViewData → (ℕ → Type 0) → EntriesData → EntriesData → Type 0
 AreRetakenOf finder view Such old new = (i : ℕ) →
     IsTaken finder view i (entry_at new i) ⊎ ((entry_at new i ≡ entry_at old i) × ¬ Such i)
 
+-- the same for the disks of a list
 abbrev pub AreRetaken : Finder → ViewData → List ℕ → EntriesData → EntriesData → Type 0
 AreRetaken finder view disks old new = AreRetakenOf finder view (λ i. Contains disks i) old new
 
--- the disk's bound is the earlier of the old one and its least pair beyond the cells adjacent to this one, and its key
--- the earlier of that and its least candidate by itself
+-- the disk's new bound is the earlier of the old one and its least pair beyond the cells adjacent to this one, and its
+-- key is the earlier of the new bound and its least candidate by itself
 abbrev pub IsExtended : Finder → ViewData → ℕ → ℕ → EntriesData → EntriesData → Type 0
 IsExtended finder view disk cell old new = (single : Key) × (beyond : Key) × IsBestSingle finder view disk single
     × IsBestBeyond finder view disk cell beyond

@@ -1,4 +1,4 @@
--- What of a block of cells is in no second block.
+-- The part of a block of cells outside a second block.
 use Rattle.std.specs.Prelude.{◌⊎◌, ℕ, ◌<◌, ◌≤◌}
 use Rattle.cell_lists.specs.declared.near.Block.{Block}
 use Rattle.cell_lists.specs.Listing.{ListsData, IsListed}

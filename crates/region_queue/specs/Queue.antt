@@ -1,4 +1,4 @@
--- What a region's queue is seen as, and which view it stands for.
+-- What contracts see of a region's queue, and the view for which the queue stands.
 use Rattle.std.specs.Prelude.{◌≡◌, ℕ, List, refl}
 use Rattle.std.specs.Coded.{Coded, code_by, coded×, coded_ℕ}
 use Rattle.std.specs.FinMap as map
@@ -15,8 +15,8 @@ use Rattle.region_view.specs.Views.{ViewData, rows_in}
 use Rattle.region_queue.specs.Finding.{Cells, AreListed}
 use Rattle.region_queue.specs.Covering.{Covers, IsSettled}
 
--- what a queue is seen as: its region, the cell in which each disk is listed, and of each disk the key and the bound of
--- its pairs
+-- what contracts see of a queue: its region, the cell in which each disk is listed, and for each disk the key and the
+-- bound of its pairs
 pub record QueueData : Type 0 where
   pub rules : Rules
   pub grid : GridData
@@ -25,6 +25,7 @@ pub record QueueData : Type 0 where
   pub keys : List Key
   pub bounds : List Key
 
+-- the queue of these parts
 abbrev pub queue_of : Rules → GridData → ℕ → Cells → List Key → List Key → QueueData
 queue_of rules grid region cells keys bounds =
     record { rules = rules; grid = grid; region = region; cells = cells; keys = keys; bounds = bounds }
@@ -52,7 +53,8 @@ pub record IsOf (queue : QueueData) (r : Rules) (g : GridData) (k : ℕ) : Type 
   pub grid : queue.grid ≡ g
   pub region : queue.region ≡ k
 
--- disks are listed where the view has them, the keys cover the native candidates, and the least key is one
+-- disks are listed in the cells in which the view has them, the keys cover the native candidates, and the least key is
+-- one
 unfoldable pub StandsFor : QueueData → ViewData → Type 0
 StandsFor queue view = AreListed view queue.cells
     × (Covers (IsNative queue.rules queue.grid queue.region (rows_in view)) queue.keys queue.bounds

@@ -1,4 +1,4 @@
-//! The native candidates of two disks in adjacent cells, as two that have hit each other are.
+//! The native candidates of two disks in adjacent cells, like two that have just hit each other.
 
 ghost use Rattle.std.specs.Prelude.{◌≡◌, ◌↔◌, None, IsTrue, IfSome, false, slice_index_or};
 ghost use Rattle.std.specs.FinMap as map;
@@ -20,8 +20,8 @@ use fixed_motion::Disk;
 use region_view::{Compact, Placed, View};
 
 impl Finder {
-    // What `best` finds of each of two disks: those near either are gathered once, and tested with both. None says
-    // nothing: the two aren't alike, or too many disks are near, or one of those has begun its course later.
+    // What `best` finds for each of two disks: the disks near either are gathered once, and tested with both. None says
+    // nothing: the two aren't alike, or too many disks are near, or one of these has a later base tick.
     pub fn best_both(&self, view: &View, first: u32, second: u32) -> Option<(Best, Best)>
         requires { IsReady self.now view.now }
         ensures first { IfSome result (λ both. IsBestOf self.now view.now first both.0) }
@@ -55,8 +55,8 @@ impl Finder {
         ))
     }
 
-    // Whether two disks have the greatest diameter and one base tick and are in adjacent cells, as two mostly do that
-    // have hit each other, and products are small.
+    // Whether two disks have the greatest diameter and one base tick and are in adjacent cells, and products are small.
+    // That mostly holds for two disks that have just hit each other.
     #[inline(always)]
     fn are_alike(&self, one: &Placed, other: &Placed) -> bool
         requires checked { IsChecked self.now.rules }
@@ -72,7 +72,7 @@ impl Finder {
             && self.grid.adjacent(one.cell, other.cell)
     }
 
-    // Gathers the disks near either of two, if there are so few of them.
+    // Gathers the disks near either of two. False if there are too many.
     #[inline(always)]
     fn gather_both(&self, view: &View, one: &Placed, other: &Placed, near: &mut Gathered) -> bool
         requires ready { IsReady self.now view.now }
@@ -169,8 +169,8 @@ fn joined(a: Block, b: Block) -> Block
     }
 }
 
-// Leaves in one list those of some disks that the first of two disks may hit, and in another one those that the second may.
-// False says nothing: one of them has begun its course later than the two, which is seldom.
+// Keeps in one list those disks that the first of two disks may hit, and in another one those that the second may hit.
+// False says nothing: one of them has a later base tick than the two, which is rare.
 #[inline(never)]
 fn keep_both(
     rows: &[Compact],
@@ -221,7 +221,7 @@ fn may_reach_either(
     }
 }
 
-// Whether each of two disks may hit a third one. None says nothing: that has begun its course later.
+// Whether each of two disks may hit a third one. None says nothing: that has a later base tick.
 #[inline(always)]
 fn may_hit_either(one: Disk, other: Disk, third: &Disk, square: i64) -> Option<(bool, bool)>
     requires { one.base ≡ other.base }

@@ -31,7 +31,7 @@ use event_tree::Packed;
 use fixed_motion::{Disk, Rules};
 use region_view::{Compact, Placed, View, first_alone};
 
-// So many rows, half a mebibyte, mostly fit the second cache, from which a read doesn't hold up the next ones.
+// This many rows, half a mebibyte, mostly fit the second cache, from which a read doesn't hold up the next ones.
 const FEW_ROWS: usize = 1 << 14;
 
 // A region, and the disks of its view by cell.
@@ -45,17 +45,17 @@ pub(crate) struct Finder {
     pub lists: Lists,
 }
 
-// The least candidates that name a disk; none where there is none.
+// The least candidates that name a disk; none if there is none.
 #[derive(Clone, Copy)]
 pub(crate) struct Best {
-    // By itself.
+    // The least one by itself.
     pub single: Packed,
-    // With another one.
+    // The least one with another disk.
     pub pair: Packed,
 }
 
 impl Best {
-    // Of a disk that isn't there.
+    // The answer for a disk that isn't there.
     fn none() -> Best
         ensures single { result.single ≡ None }
         ensures pair { result.pair ≡ None }
@@ -85,8 +85,8 @@ impl Finder {
         }
     }
 
-    // The least native candidate of a disk by itself, and the least native pair of it with one in a cell that isn't
-    // adjacent to this one.
+    // The least native candidate of a disk by itself, and its least native pair with a disk in a cell that isn't
+    // adjacent to the cell `old`.
     pub fn best_beyond(&self, view: &View, disk: u32, old: u32) -> Best
         requires ready { IsReady self.now view.now }
         requires old { IsCell self.now.grid old }
@@ -105,7 +105,7 @@ impl Finder {
         }
     }
 
-    // Whether a stamp, where it is that of a pair, is that of a native candidate.
+    // Whether a stamp is that of a native candidate, if it is that of a pair.
     #[inline(always)]
     pub fn is_fresh(&self, view: &View, stamp: &Stamp) -> bool
         requires { IsReady self.now view.now }
@@ -130,7 +130,7 @@ impl Finder {
         self.is_event_of(stamp, &first, &second)
     }
 
-    // Whether a stamp of a pair is that of the native event of two disks, the rows of which are these.
+    // Whether a stamp of a pair is that of the native event of two disks with these rows.
     #[inline(always)]
     fn is_event_of(&self, stamp: &Stamp, first: &Placed, second: &Placed) -> bool
         requires checked { IsChecked self.now.rules }
@@ -162,7 +162,7 @@ impl Finder {
         self.strip.first <= column && column < self.strip.end
     }
 
-    // Whether the region owns all columns from one on, below another.
+    // Whether the region owns all columns from `left` on, below `right`.
     #[inline(always)]
     fn owns_columns(&self, left: u32, right: u32) -> bool
         ensures { IsTrue result ↔ ((self.now.strip.first ≤ left) × (right ≤ self.now.strip.end)) }
@@ -171,7 +171,7 @@ impl Finder {
     }
 
     // The least event of a disk by itself, if that is native. `own` tells whether the region owns its cell. Nearly
-    // always it is a crossing, which is told here; what is seldom asked is kept apart.
+    // always it is a crossing, which is found here; the rare cases are kept apart.
     #[inline(always)]
     pub fn best_alone(&self, view: &View, disk: u32, placed: &Placed, own: bool) -> Packed
         requires ready { IsReady self.now view.now }
@@ -243,7 +243,7 @@ impl Finder {
         }
     }
 
-    // The same of the cells of the block that are in no second one.
+    // The same for the cells of the block that aren't in the block `known`.
     fn best_outside(
         &self,
         view: &View,
@@ -290,7 +290,7 @@ impl Finder {
             && self.gather_part(parts.high, near)
     }
 
-    // The same of one part. Most parts have no cell.
+    // The same for one part. Most parts have no cell.
     #[inline(always)]
     fn gather_part(&self, part: Block, near: &mut Gathered) -> bool
         requires { IsBlock self.now.lists.grid part }
@@ -299,8 +299,8 @@ impl Finder {
         part.left >= part.right || part.low >= part.high || self.lists.gather(part, near)
     }
 
-    // The least native event of a disk with one of some others, which are listed in a block of cells beside
-    // its own. Of the others those are left that it may hit.
+    // The least native event of a disk with one of some others, which are listed in a block of cells beside its own.
+    // Keeps those of the others that the disk may hit.
     #[inline(always)]
     fn best_among(
         &self,
@@ -328,10 +328,10 @@ impl Finder {
         best
     }
 
-    // Leaves those of some disks with which a disk may have a native event, by their courses alone. Nearly all pairs
-    // that are looked at are told by this. Which of them may hit can't be foretold, so all are asked first, with no
-    // branch on the answers. For a disk of the greatest diameter it costs less to take all others for as great; for a
-    // smaller one that would leave too many.
+    // Keeps those of some disks with which a disk may have a native event, as far as their courses tell. This decides
+    // nearly all pairs that are looked at. Which of them may hit can't be predicted, so all are tested first, with no
+    // branch on the answers. For a disk of the greatest diameter it costs less to treat all others as that great; for a
+    // smaller one that would keep too many.
     #[inline(always)]
     fn keep_candidates(&self, view: &View, disk: u32, placed: &Placed, near: &mut Gathered)
         requires ready { IsReady self.now view.now }
@@ -351,7 +351,8 @@ impl Finder {
         }
     }
 
-    // Leaves those of some disks that a disk may hit. Seldom asked, since rows mostly are compact and products small.
+    // Keeps those of some disks that a disk may hit. It is seldom called, since rows mostly are compact and products
+    // small.
     #[inline(never)]
     fn keep_met_in(&self, view: &View, disk: &Disk, near: &mut Gathered)
         requires ready { IsReady self.now view.now }
@@ -381,8 +382,7 @@ impl Finder {
         }
     }
 
-    // The same as `best_within`, cell by cell. It is for crowded cells, and for great grids whose cells share
-    // lists.
+    // The same as `best_within`, cell by cell. It is for crowded cells, and for great grids whose cells share lists.
     fn best_by_rows(
         &self,
         view: &View,
@@ -406,7 +406,7 @@ impl Finder {
         best
     }
 
-    // The same of one row of the block.
+    // The same for one row of the block.
     fn best_in_row(
         &self,
         view: &View,
@@ -434,7 +434,7 @@ impl Finder {
         best
     }
 
-    // The same of one cell beside the disk's own.
+    // The same for one cell beside the disk's own.
     fn best_in_cell(&self, view: &View, disk: u32, placed: &Placed, own: bool, cell: u32) -> Packed
         requires ready { IsReady self.now view.now }
         requires placed { map.get view.now disk ≡ Some placed.now }
@@ -454,9 +454,9 @@ impl Finder {
         best
     }
 
-    // The native event of a disk with another in a cell adjacent to its own. Where `whole`, the region owns the
-    // column of this cell. Kept apart, and told of the other disk by its number alone, so that the loop over the
-    // disks beside one, few of which come here, keeps its numbers in registers.
+    // The native event of a disk with another in a cell adjacent to its own. `whole` says that the region owns the
+    // column of this cell. It is kept apart, and gets the other disk by its number alone, so that the loop over the
+    // disks beside one keeps its numbers in registers; few of these disks come here.
     #[inline(never)]
     pub fn key_beside(
         &self,
@@ -484,7 +484,7 @@ impl Finder {
         }
     }
 
-    // The same of any rows. Seldom asked, so it is kept apart, and is told nothing of what was found before.
+    // The same for any rows. It is seldom called, so it is kept apart, and gets nothing of what was found before.
     #[inline(never)]
     fn key_beside_in(
         &self,
@@ -504,7 +504,7 @@ impl Finder {
         Packed::new(self.pair_beside(view, disk, placed, own, other, whole))
     }
 
-    // The stamp of this event where rows are compact and products small, but for None, which says nothing: it is seldom.
+    // The stamp of this event if rows are compact and products small. None says nothing; it is rare.
     #[inline(always)]
     fn quick_pair_beside(
         &self,
@@ -563,8 +563,8 @@ impl Finder {
     }
 }
 
-// Leaves those of some disks that a disk may hit, by rows of which products are small. Kept apart, so that the loop
-// has all registers.
+// Keeps those of some disks that a disk may hit, given rows whose products are small. It is kept apart, so that the
+// loop has all registers.
 #[inline(never)]
 fn keep_met(rows: &[Compact], disk: &Disk, near: &mut Gathered)
     ensures { AreKept (λ i. IsMissedBySmall disk.now (slice_index_or rows.now i None)) near.old near.new }
@@ -590,8 +590,8 @@ fn may_meet_row(rows: &[Compact], disk: &Disk, other: u32) -> bool
     }
 }
 
-// The same as if all disks had the greatest diameter, of which this is the square. It is told, as it is multiplied
-// again at each disk otherwise.
+// The same as if all disks had the greatest diameter, whose square is given; else the loop would multiply it again for
+// each disk.
 #[inline(never)]
 fn keep_reached(rows: &[Compact], disk: &Disk, square: i64, near: &mut Gathered)
     ensures { AreKept (λ i. IsMissedByGreatest square disk.now (slice_index_or rows.now i None)) near.old near.new }
@@ -616,7 +616,7 @@ fn may_reach_row(rows: &[Compact], disk: &Disk, square: i64, other: u32) -> bool
     }
 }
 
-// What stands at a number, by rows.
+// What stands at a number in some rows.
 #[inline(always)]
 fn row_in(rows: &[Compact], disk: u32) -> Option<Placed>
     ensures { result ≡ slice_index_or rows.now disk None }
@@ -627,9 +627,10 @@ fn row_in(rows: &[Compact], disk: u32) -> Option<Placed>
     }
 }
 
-// Whether any number of some rows isn't 0, or there are none to look at. All rows are asked for without a branch on any
-// of the answers, so that they come side by side from memory before the first is looked at. That is its only
-// purpose: nothing need be known of the answer, and no clause speaks of it. Few rows are near in any case.
+// Reads all rows of the disks gathered, without a branch on any of the answers, so that they come from memory side by
+// side before the first is looked at. That is its only purpose. It answers whether any of the numbers read isn't 0, or
+// there was nothing to read; the proof needs to know nothing of that, and no clause speaks of it. If the view has few
+// rows, they are in a near cache in any case, and none is read.
 pub(crate) fn have_rows(view: &View, near: &Gathered) -> bool {
     let Some(rows) = view.compact() else {
         return true;
@@ -646,7 +647,7 @@ pub(crate) fn have_rows(view: &View, near: &Gathered) -> bool {
     asked != 0
 }
 
-// Whether the cell of the lower of two different disks is owned, by whether each one's is.
+// Whether the region owns the cell of the lower of two different disks, given whether it owns that of each.
 #[inline(always)]
 fn owns_lower(disk: u32, own: bool, other: u32, home: bool) -> bool
     ensures { IsTrue result ↔ (((disk < other) × IsTrue own) ⊎ ((other < disk) × IsTrue home)) }

@@ -39,7 +39,7 @@ pub(crate) fn take_keys(
     Ok(())
 }
 
-// Takes the keys of two disks again, as of two that have hit each other, by one look around both.
+// Takes the keys of two disks again that have just hit each other, by one look around both.
 pub(crate) fn take_both(
     alloc: Global,
     finder: &Finder,
@@ -80,7 +80,7 @@ fn take_key(
     set_best(alloc, keys, disk, best)
 }
 
-// Makes what is found of a disk its key and its bound.
+// Makes `best` the key and the bound of a disk.
 fn set_best(alloc: Global, keys: &mut Entries, disk: u32, best: Best) -> Result<(), AllocError>
     ensures { OnOk result ((finder : Finder) (view : ViewData) → IsBestSingle finder view disk best.single →
         IsBestPair finder view disk best.pair → IsTakenAt finder view disk keys.old keys.new) }
@@ -89,7 +89,7 @@ fn set_best(alloc: Global, keys: &mut Entries, disk: u32, best: Best) -> Result<
     keys.set(alloc, disk, key, best.pair)
 }
 
-// Takes the key again of a disk that was in this cell, or nowhere, and keeps its course.
+// Takes the key again of a disk that was in this cell before, or nowhere, and keeps its course.
 pub(crate) fn take_crossed(
     alloc: Global,
     finder: &Finder,
@@ -128,7 +128,7 @@ fn is_owner_kept(finder: &Finder, view: &View, disk: u32, cell: u32) -> bool
     }
 }
 
-// Whether a key is that of a pair, if it is there.
+// Whether a key is none, or that of a pair.
 fn is_pair_or_none(key: Packed) -> bool
     ensures { IsTrue result → IfSome key (λ s. s.kind ≡ Pair) }
 {
@@ -138,8 +138,8 @@ fn is_pair_or_none(key: Packed) -> bool
     }
 }
 
-// Takes in that a disk was in this cell, and keeps its course. Of its pairs with disks beside both cells nothing
-// has changed, so that only the others are looked for.
+// Extends the key of a disk that was in this cell before, and keeps its course. Its pairs with disks beside both cells
+// haven't changed, so only the others are looked for.
 fn extend_key(
     alloc: Global,
     finder: &Finder,
@@ -180,8 +180,8 @@ pub(crate) fn is_of_pair(event: &Stamp) -> bool
     event.kind == Kind::Pair
 }
 
-// Takes keys again until the least one is that of a native candidate. One that isn't is of a pair of which a
-// disk has changed; no candidate is before it, so that it was enough to look at it when it comes up.
+// Takes keys again until the least one is that of a native candidate. A least key that isn't one is that of a pair of
+// which a disk has changed since. No candidate is before it, so it is early enough to look at it when it is the least.
 pub(crate) fn settle(
     alloc: Global,
     finder: &Finder,

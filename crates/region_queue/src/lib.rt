@@ -1,13 +1,13 @@
-//! The next event of a region in its view, kept while disks change: the event queue of a logical process, as
-//! the literature on parallel simulation calls it.
+//! The next event of a region in its view, kept while disks change: the event queue of a logical process, as the
+//! literature on parallel simulation calls it.
 //!
-//! Each disk has one key, the least native candidate that names it, as of when the key was last taken. A
-//! candidate may be missing from the key of one of its two disks, never from both. The key of a disk whose
-//! partner has changed since isn't a candidate any more; it is left until it is the least of all, which is
-//! early enough, since no candidate is before the least key.
+//! Each disk has one key, the least native candidate that names it, as of when the key was last taken. A candidate may
+//! be missing from the key of one of its two disks, never from both. The key of a disk whose partner has changed since
+//! isn't a candidate any more; it is left until it is the least of all, which is early enough, since no candidate is
+//! before the least key.
 //!
-//! Beside its key a disk has a bound of its pairs, which it keeps where it comes to another cell: its pairs with
-//! disks that are beside both cells are those that they were, so that only the others are looked for.
+//! Beside its key a disk has a bound for its pairs. It keeps the bound when it comes to another cell: its pairs with
+//! disks that are beside both cells haven't changed, so only the others are looked for.
 #![tactic(auto)]
 
 mod both;

@@ -12,7 +12,7 @@ use event_stamps::Stamp;
 use region_view::View;
 use std::alloc::{AllocError, Global};
 
-// Lists these disks where a view has them, and nowhere else.
+// Lists these disks in the cells in which a view has them, and nowhere else.
 pub(crate) fn list_again(
     alloc: Global,
     lists: &mut Lists,
@@ -29,7 +29,7 @@ pub(crate) fn list_again(
     Ok(())
 }
 
-// Lists the disks of an event where a view has them, and nowhere else.
+// Lists the disks of an event in the cells in which a view has them, and nowhere else.
 pub(crate) fn list_event(
     alloc: Global,
     lists: &mut Lists,
@@ -47,7 +47,7 @@ pub(crate) fn list_event(
     }
 }
 
-// Lists one disk where a view has it, and nowhere else.
+// Lists one disk in the cell in which a view has it, and nowhere else.
 pub(crate) fn list_one(
     alloc: Global,
     lists: &mut Lists,

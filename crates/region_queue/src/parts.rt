@@ -1,24 +1,24 @@
-//! The cells of one block that are in no second one.
+//! The cells of one block that aren't in a second one.
 
 ghost use Rattle.std.specs.Prelude.{◌≤◌};
 ghost use Rattle.region_queue.specs.Outside.{AreParts};
 
 use cell_lists::Block;
 
-// Four blocks that make up what a block has outside a second one, none of them with a cell of another.
+// Four blocks that make up the part of a block outside a second one. No cell is in two of them.
 #[derive(Clone, Copy)]
 pub(crate) struct Parts {
     // The columns to the left of the second block.
     pub left: Block,
     // The columns to its right.
     pub right: Block,
-    // Of the other columns, the rows below it.
+    // The rows below it, in the other columns.
     pub low: Block,
-    // Of these columns, the rows above it.
+    // The rows above it, in these columns.
     pub high: Block,
 }
 
-// What a block has outside a second one.
+// The part of `block` outside `known`.
 pub(crate) fn parts_outside(block: Block, known: Block) -> Parts
     requires columns { block.left ≤ block.right }
     requires rows { block.low ≤ block.high }

@@ -12,15 +12,14 @@ use region_view::View;
 use std::alloc::{AllocError, Global};
 use std::marker::Model;
 
-/// The native candidates of a region in one view, of which it finds the least.
+/// The native candidates of a region in one view. It finds the least of them.
 ///
-/// Memory is taken for as many disks as the greatest number that the view ever had, or for up to twice as
-/// many.
+/// Memory is taken for as many disks as the greatest number that the view ever had, or for up to twice as many.
 #[derive(Drop)]
 pub struct Queue {
     finder: Finder,
-    // Of each disk: the least native candidate that names it, as of when it was last taken; and a stamp after none
-    // of its pairs, as of then, which is the least of them or one that has come before it.
+    // For each disk the key is the least native candidate that names it, as of when it was last taken. The bound is a
+    // stamp that isn't after any of its pairs, as of then: the least of them, or one that has come before it.
     keys: Entries,
 }
 
@@ -50,7 +49,7 @@ ghost use Rattle.region_queue.specs.Finding.{KeepCells};
 ghost use Rattle.region_queue.specs.Queue.{IsOf, StandsFor};
 
 impl Queue {
-    /// The queue of a region in a view, of valid rows.
+    /// The queue of a region in a view with valid rows.
     ///
     /// # Errors
     /// Out of memory.
@@ -72,7 +71,7 @@ impl Queue {
         Queue::empty(alloc, grid, rules, region)?.with(alloc, view, &disks)
     }
 
-    // With these disks taken in.
+    // The same queue with these disks taken in.
     fn with(mut self, alloc: Global, view: &View, disks: &[u32]) -> Result<Queue, AllocError>
         requires valid { IsValidPlacing self.rules self.grid (rows_in view.now) }
         ensures { IfOk result (λ queue. IsOf queue self.rules self.grid self.region
@@ -83,7 +82,7 @@ impl Queue {
         Ok(self)
     }
 
-    /// The stamp of the least native candidate; none where there is none. Takes constant time and no memory.
+    /// The stamp of the least native candidate; none if there is none. Takes constant time and no memory.
     pub fn least(&self) -> Option<Stamp>
         ensures { (view : ViewData) → StandsFor self.now view →
             IsLeastOf (IsNative self.now.rules self.now.grid self.now.region (rows_in view)) result }
@@ -91,7 +90,7 @@ impl Queue {
         self.keys.least()
     }
 
-    /// The same packed, to be compared at once.
+    /// The same, packed, for comparisons at once.
     #[inline(always)]
     pub fn top(&self) -> Packed
         ensures { (view : ViewData) → StandsFor self.now view →
@@ -100,8 +99,8 @@ impl Queue {
         self.keys.top()
     }
 
-    /// Takes in the changes of these disks, to what stands at their numbers in a view. The queue then stands
-    /// for this view where it stood for one that is the same at all other numbers.
+    /// Takes in the changes of these disks, to what stands at their numbers in a view. If the queue stood for a view
+    /// that is the same at all other numbers, it stands for this one then.
     ///
     /// # Errors
     /// Out of memory: the queue stands for no view that could be named, and has to be opened again.
@@ -116,8 +115,8 @@ impl Queue {
         settle(alloc, &self.finder, &mut self.keys, view)
     }
 
-    /// Takes in the changes of two disks that keep their cells, as those that hit each other do. The queue then
-    /// stands for this view where it stood for one that is the same at all other numbers.
+    /// Takes in the changes of two disks that keep their cells, as those that hit each other do. If the queue stood for
+    /// a view that is the same at all other numbers, it stands for this one then.
     ///
     /// # Errors
     /// Out of memory: the queue stands for no view that could be named, and has to be opened again.
@@ -137,8 +136,8 @@ impl Queue {
         settle(alloc, &self.finder, &mut self.keys, view)
     }
 
-    /// Takes in that a disk is in another cell of a view than it was, and keeps its course. The queue then
-    /// stands for this view where it stood for one that is the same at all other numbers.
+    /// Takes in that a disk is in another cell of a view than it was, and keeps its course. If the queue stood for a
+    /// view that is the same at all other numbers, it stands for this one then.
     ///
     /// # Errors
     /// Out of memory: the queue stands for no view that could be named, and has to be opened again.
@@ -154,8 +153,8 @@ impl Queue {
         settle(alloc, &self.finder, &mut self.keys, view)
     }
 
-    /// Takes back an event, which is the least native candidate of a view again. The queue then stands for
-    /// this view where it stood for one that is the same at all numbers but those of the event's disks.
+    /// Takes back an event, which becomes the least native candidate of a view again. If the queue stood for a view
+    /// that is the same at all numbers but those of the event's disks, it stands for this one then.
     ///
     /// # Errors
     /// Out of memory: the queue stands for no view that could be named, and has to be opened again.

@@ -1,4 +1,4 @@
--- What the steps make of a seat.
+-- A seat after its steps.
 use Rattle.std.proofs.Common.{◌≡◌, ℕ, zero, suc, ◌+◌, ◌-◌, ◌<◌, ◌≤◌, List, [], ◌∷◌, ◌++◌, map, length, take, drop, true, false, true≢false, refl, sym, ap, ◌∙◌, subst, ⊎_elim, eqb, not, arith, append_assoc, add-one, length-append}
 use Rattle.std.specs.Prelude.{All, Bool, Some, None, ◌==◌, slice_index}
 use Rattle.std.specs.List.{list_any, AllByRecursion, IsDistinct, remove}

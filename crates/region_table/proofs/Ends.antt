@@ -114,7 +114,7 @@ module _ (id : TableId) (opened : List RegionData) (rules : Rules) (grid : GridD
         (first.0, first.2, inr record { run = ap (λ z. z.run) is; number_is = ap (λ z. z.home.number) is }));
   }
 
-  -- who has all parts is alone
+  -- a seat that has all parts is alone
   alone : HasAll v → (i : ℕ) (u : TableView) → get_elem? f.0.views i ≡ some u → i ≢ seat → u ≡ no_view
   alone all i u e other =
       let r = f.1.0 in
@@ -126,7 +126,7 @@ module _ (id : TableId) (opened : List RegionData) (rules : Rules) (grid : GridD
   same_view : (i : ℕ) (u : TableView) → get_elem? f.0.views i ≡ some u → i ≡ seat → u ≡ v
   same_view i u e same = some-injective _ _ (sym e ∙ (ap (get_elem? f.0.views) same ∙ f.1.1))
 
-  -- and where it holds nothing, nothing is out
+  -- and if it holds nothing, nothing is out
   none_out : HasAll v → v.held ≡ [] → (k : ℕ) → k < length opened → IsHomeWord (slice_index f.0.words k)
   none_out all nothing k lt = dite (ℕ_discrete (slice_index f.0.words k % 2) 0)
       (λ even. even)

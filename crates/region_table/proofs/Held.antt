@@ -1,4 +1,4 @@
--- Which slots a view names as held.
+-- The slots that a view names as held.
 use Rattle.std.proofs.Common.{◌≡◌, ◌≢◌, ℕ, ◌<◌, List, [], ◌∷◌, set, true, false, true≢false, refl, sym, ap, ◌∙◌, subst, ⊎_elim, eqb, ◌||◌, length-set, get_or-set_other}
 use Rattle.std.specs.Prelude.{All, Bool}
 use Rattle.std.proofs.lemmas.List.Elements.{All-nil, All-cons, All-head, All-tail}

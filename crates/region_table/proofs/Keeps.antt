@@ -1,4 +1,4 @@
--- What keeps the rule, whatever the step.
+-- What keeps the rule at every step.
 use Rattle.std.proofs.Common.{◌≡◌, ◌≢◌, ℕ, ◌+◌, ◌*◌, ◌<◌, ◌≤◌, List, length, get_or, set, true, false, true≢false, refl, sym, ap, ◌∙◌, subst, ◌⊎◌, ⊎_elim, arith, length-set, get_or-set_other, get_or-set_same}
 use Rattle.std.specs.Prelude.{All, Bool, Some, slice_index}
 use mathlib.Core.Option.{Option, none, some}
@@ -22,7 +22,7 @@ up words k n inside more j = dite (ℕ_discrete j k)
     (subst (λ (z : ℕ). version_of (slice_index words k) ≤ version_of z) (sym (get_or-set_same words k n 0 inside)) more))
     (λ other. subst (λ (z : ℕ). version_of (slice_index words j) ≤ version_of z) (sym (get_or-set_other words k j n 0 other)) (omega arith))
 
--- what was past stays past
+-- what wasn't later than its word stays so
 pub past_up : (words : List ℕ) (k n : ℕ) (v : TableView) → k < length words → version_of (slice_index words k) ≤ version_of n → KnowsNoLater words v → KnowsNoLater (set words k n) v
 past_up words k n v inside more p = record {
   notes = λ a d l. let x : Note = get_or v.notes a d in let q : x.version ≤ version_of (slice_index words x.slot) = p.notes a d l in let u = up words k n inside more x.slot in omega (arith, q, u);
@@ -41,7 +41,7 @@ nobody opened s r k even i v e = by_test (is_held k v.held) refl
         let odd : slice_index s.words k ≡ 2 * h.0.version + 1 = ap (λ (z : ℕ). slice_index s.words z) (sym h.1) ∙ h.2.1 in
         absurd (omega (arith, odd, even))
 
--- one word changes, with what lies in its slot and with the view of the seat that changes it
+-- one word changes, with the content of its slot and with the view of the seat that changes it
 pub step_kept : (opened : List RegionData) (s : State Content TableView) (k id n : ℕ) (v w : TableView) (homes : List (Option Content))
     → Kept opened s → k < length opened → get_elem? s.views id ≡ some v
     → version_of (slice_index s.words k) ≤ version_of n

@@ -196,7 +196,7 @@ put_allowed opened slots id k me region inside count has few lies front s r wide
     let note : Note = record { slot = k; version = version_of n + 1; entries = count_of region } in
     let now : slice_index (set s.words k n') k ≡ n' = get_or-set_same s.words k n' 0 inside_words in
     let back : Rattle.atomic_table.specs.Table.put_back s.homes me.1 ≡ set s.homes k (some (Some region)) = ap (Rattle.atomic_table.specs.Table.put_back s.homes) front in
-    -- who noted a put of the slot noted an earlier version
+    -- the seat that noted a put of the slot noted an earlier version
     let earlier : (u : TableView) → KnowsNoLater s.words u → (version' : ℕ) → version' ≡ version_of n' → All (Tells k version' region) u.notes =
     λ u p version' is a d l same note_is.
     let q : (get_or u.notes a d).version ≤ version_of n = subst (λ (z : ℕ). (get_or u.notes a d).version ≤ version_of (slice_index s.words z)) same (p.notes a d l) in

@@ -18,7 +18,7 @@ set_there [] i v w e = absurd (some-ne-none v (sym e))
 set_there (x ∷ xs) zero v w e = refl
 set_there (x ∷ xs) (suc i) v w e = set_there xs i v w e
 
--- at the same place there is a view that has what was there, if the new one has it where the old one had
+-- a property of the view at a place stays after the change, if the new view has it whenever the old one had
 pub moved : (views : List TableView) (id : ℕ) (v w : TableView) (P : TableView → Type 0) → get_elem? views id ≡ some v → (P v → P w)
     → (i : ℕ) (u : TableView) → get_elem? views i ≡ some u → P u → (z : TableView) × (get_elem? (set views id w) i ≡ some z) × P z
 moved views id v w P at f i u e p = dite (ℕ_discrete i id)

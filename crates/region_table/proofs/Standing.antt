@@ -1,4 +1,4 @@
--- What lies in a slot stands where the region stood that was put there first.
+-- The region in a slot stands on the states on which the region stood that was put there first.
 use Rattle.std.proofs.Common.{◌≡◌, ℕ, List, subst, ⊎_elim}
 use Rattle.cell_sequence.specs.State.{CellStateData}
 use Rattle.local_run.specs.Opening.{RegionData}

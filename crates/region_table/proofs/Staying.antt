@@ -33,7 +33,7 @@ replaces first old new p = ⊎_elim
 pub lies_stay : (opened : List RegionData) (k : ℕ) (old new : RegionData) → MayLieIn opened k old → StaysOrSpent old new → MayLieIn opened k new
 lies_stay opened k old new p q = (p.0, p.1, replaces p.0 old new p.2 q)
 
--- where none is spent, each was run on
+-- if none is spent, each was run on
 pub alive_run_on : (given worked : List RegionData) → AreReplaced given worked → AreAlive worked → AreRunOn given worked
 alive_run_on given worked replaced alive k old new was now =
     let lies = replaced.each k new now in

@@ -12,14 +12,16 @@ use Rattle.region_table.specs.declared.rule.Note.{Note}
 use Rattle.region_table.specs.declared.rule.TableView.{TableView}
 use Rattle.region_table.specs.Bases.{MayLieIn, count_of, CountsAsOpened}
 
--- what a slot holds: nothing where a seat has taken the region out of it
+-- what a slot holds: nothing if a seat has taken the region out of it
 abbrev pub Content : Type 0
 Content = Option RegionData
 
 -- ---- words
+-- by this word, the slot isn't out
 abbrev pub IsHomeWord : ℕ → Type 0
 IsHomeWord word = word % 2 ≡ 0
 
+-- the version of a slot by its word
 abbrev pub version_of : ℕ → ℕ
 version_of word = word / 2
 
@@ -32,9 +34,11 @@ last_version = 2 ^ 63 - 1
 abbrev pub all_parts : ℕ
 all_parts = 2 ^ 127
 
+-- the seat has all parts of the table
 abbrev pub HasAll : TableView → Type 0
 HasAll v = v.parts ≡ all_parts
 
+-- the view of the first seat, which has all parts, and has seen, taken and put back nothing
 abbrev pub first_view : List RegionData → TableView
 first_view opened = record { opened = opened; seen = []; held = []; notes = []; parts = all_parts }
 
@@ -50,6 +54,7 @@ halved v = record { opened = v.opened; seen = v.seen; held = v.held; notes = v.n
 abbrev pub copied : TableView → TableView
 copied v = record { opened = v.opened; seen = v.seen; held = []; notes = []; parts = v.parts / 2 }
 
+-- the seat to which another is joined knows what both saw and noted, keeps its own slots, and has the parts of both
 abbrev pub joined_views : TableView → TableView → TableView
 joined_views v w = record {
   opened = v.opened;
@@ -59,6 +64,7 @@ joined_views v w = record {
   parts = v.parts + w.parts;
 }
 
+-- the numbers of the slots that are held
 abbrev pub slots_of : List Hold → List ℕ
 slots_of held = map (λ (h : Hold). h.slot) held
 
@@ -66,9 +72,11 @@ slots_of held = map (λ (h : Hold). h.slot) held
 abbrev pub is_held : ℕ → List Hold → Bool
 is_held k held = list_any (λ s. k == s) (slots_of held)
 
+-- the slots that are held, but for slot k
 abbrev pub without : ℕ → List Hold → List Hold
 without k held = filter (λ (h : Hold). not (k == h.slot)) held
 
+-- the view once the word was found in slot k
 abbrev pub seeing : TableView → ℕ → ℕ → TableView
 seeing v k word = record {
   opened = v.opened;
@@ -78,6 +86,7 @@ seeing v k word = record {
   parts = v.parts;
 }
 
+-- the view once slot k was taken out at the word
 abbrev pub holding : TableView → ℕ → ℕ → TableView
 holding v k word = record {
   opened = v.opened;
@@ -87,6 +96,7 @@ holding v k word = record {
   parts = v.parts;
 }
 
+-- the view once slot k was put back, at this version and with this many entries
 abbrev pub putting : TableView → ℕ → ℕ → ℕ → TableView
 putting v k version count = record {
   opened = v.opened;
@@ -96,6 +106,7 @@ putting v k version count = record {
   parts = v.parts;
 }
 
+-- the view once slot k isn't held any more, and nothing is noted
 abbrev pub undoing : TableView → ℕ → TableView
 undoing v k = record {
   opened = v.opened;
@@ -115,11 +126,11 @@ total [] = 0
 total (v ∷ vs) = v.parts + total vs
 
 -- ---- the rule
--- of a note of this slot and this version, the number of entries is that of the region
+-- if a note is of this slot and this version, its number of entries is that of the region
 abbrev pub Tells : ℕ → ℕ → RegionData → Note → Type 0
 Tells k version region note = note.slot ≡ k → note.version ≡ version → note.entries ≡ count_of region
 
--- the same of each put, at a version that is neither the first nor the last
+-- the same for each put, at a version that is neither the first nor the last
 abbrev pub TellsAll : ℕ → ℕ → RegionData → TableView → Type 0
 TellsAll k version region v = 0 < version → version < last_version → All (Tells k version region) v.notes
 
@@ -142,6 +153,7 @@ pub record KnowsNoLater (words : List ℕ) (v : TableView) : Type 0 where
 abbrev pub OneHas : List TableView → (TableView → Type 0) → Type 0
 OneHas views P = (i : ℕ) × (v : TableView) × (get_elem? views i ≡ some v) × P v
 
+-- what holds of words, homes and views at all times
 pub record Kept (opened : List RegionData) (s : State Content TableView) : Type 0 where
   pub words : length s.words ≡ length opened
   pub homes : length s.homes ≡ length opened
@@ -152,11 +164,11 @@ pub record Kept (opened : List RegionData) (s : State Content TableView) : Type 
   pub one : (i j : ℕ) (v w : TableView) (k : ℕ) → get_elem? s.views i ≡ some v → get_elem? s.views j ≡ some w
       → is_held k v.held ≡ true → is_held k w.held ≡ true → i ≡ j
   pub past : (i : ℕ) (v : TableView) → get_elem? s.views i ≡ some v → KnowsNoLater s.words v
-  -- who holds what is out, and who noted the last put
+  -- each slot that is out has a holder, and each last put was noted
   pub owner : (k : ℕ) → k < length opened → ¬ IsHomeWord (slice_index s.words k) → OneHas s.views (λ v. is_held k v.held ≡ true)
   pub writer : (k : ℕ) → k < length opened → 0 < version_of (slice_index s.words k)
       → OneHas s.views (λ v. is_noted k (version_of (slice_index s.words k)) v.notes ≡ true)
-  -- where no part is lost, a seat without one was joined to another
+  -- if no part is lost, a seat without one was joined to another
   pub whole : total s.views ≤ all_parts
   pub idle : total s.views ≡ all_parts → (i : ℕ) (v : TableView) → get_elem? s.views i ≡ some v → v.parts ≡ 0 → v ≡ no_view
 

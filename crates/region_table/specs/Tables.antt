@@ -1,4 +1,4 @@
--- What the table and its seats are seen as, and what their calls make of them.
+-- What contracts see of the table and its seats, and what their calls do to them.
 use Rattle.std.specs.Prelude.{◌≡◌, ℕ, ◌+◌, ◌<◌, ◌≤◌, ◌^◌, List, length, map, slice_get, slice_index, Some, None, IfSome, All, true, eqb, refl}
 use Rattle.std.specs.List.{IsDistinct}
 use Rattle.std.specs.Coded.{Coded, code_by, coded×, coded_list}
@@ -34,10 +34,12 @@ pub record SeatData : Type 0 where
   pub table : TableId
   pub view : TableView
 
+-- a table is stored as its two parts
 abbrev pub table_code : Coded RegionTableData
 table_code = code_by (TableId × List RegionData) (coded× table_id_coded (coded_list region_code))
     (λ t. (t.id, t.opened)) (λ p. record { id = p.0; opened = p.1 }) (λ _. refl)
 
+-- a seat is stored as its two parts
 abbrev pub seat_code : Coded SeatData
 seat_code = code_by (TableId × TableView) (coded× table_id_coded view.the_row.coded)
     (λ s. (s.table, s.view)) (λ p. record { table = p.0; view = p.1 }) (λ _. refl)
@@ -51,6 +53,7 @@ pub record IsSeatOf (table : RegionTableData) (seat : SeatData) : Type 0 where
 abbrev pub first_seat : RegionTableData → SeatData
 first_seat table = record { table = table.id; view = first_view table.opened }
 
+-- the seat with another view
 abbrev pub with_view : SeatData → TableView → SeatData
 with_view seat v = record { table = seat.table; view = v }
 
@@ -68,6 +71,7 @@ pub record IsKeptTable (id : TableId) (opened : List RegionData) (rules : Rules)
   pub in_time : ¬ Before (end_stamp rules.end) floor
 
 -- ---- what a seat keeps
+-- slot k with nothing in it
 abbrev pub emptied : ℕ → ℕ × Content
 emptied k = (k, None)
 
@@ -79,8 +83,8 @@ pub record IsKeptSeat (me : Me Content TableView) (order : List ℕ) : Type 0 wh
   pub fresh : All (λ (h : Hold). h.version < last_version) me.0.held
   pub few : All (λ (k : ℕ). k < MAX_REGIONS) order
 
--- ---- what the calls make of a seat
--- the answer by the word that was found
+-- ---- what the calls do to a seat
+-- the answer, given the word that was found
 abbrev pub AnswersTo : SeatData → ℕ → ℕ → TakeOut → SeatData → Type 0
 AnswersTo old k word (Out region) new = IsHomeWord word × (version_of word < last_version)
     × (new ≡ with_view old (holding old.view k word)) × IsFoundAtHome old.view k word region
@@ -88,24 +92,26 @@ AnswersTo old k word Away new = (¬ IsHomeWord word) × (new ≡ with_view old (
 AnswersTo old k word Worn new = IsHomeWord word × (version_of word ≡ last_version)
     × (new ≡ with_view old (seeing old.view k word))
 
+-- the seat found a word in slot k, not before what it knew, and answers by it
 pub record TakesOut (old : SeatData) (k : ℕ) (answer : TakeOut) (new : SeatData) : Type 0 where
   pub word : ℕ
   pub fits : word < 2 ^ 64
   pub later : IsNotBeforeKnown old.view k word
   pub answers : AnswersTo old k word answer new
 
+-- the seat puts the region back into slot k, one version after the one at which it took it
 pub record PutsBack (old : SeatData) (k : ℕ) (region : RegionData) (new : SeatData) : Type 0 where
   pub version : ℕ
   pub took : All (λ (h : Hold). h.slot ≡ k → h.version ≡ version) old.view.held
   pub puts : new ≡ with_view old (putting old.view k (version + 1) (count_of region))
 
--- what comes of slot k by its word and what it holds
+-- what is given back for slot k, by its word and what it holds
 abbrev pub ComesOfSlot : List ℕ → List Content → Rules → GridData → Stamp → ℕ → RegionData → Type 0
 ComesOfSlot words contents rules grid floor k region = (word : ℕ) (content : Content) → get_elem? words k ≡ some word → get_elem? contents k ≡ some content
     → (IsHomeWord word → IfSome content (λ (found : RegionData). region ≡ found))
     × ((¬ IsHomeWord word) → region ≡ record { home = record { number = k; rules = rules; grid = grid }; floor = floor; run = None })
 
--- what is found in slot k of a table that is closed: what lay at home, or a spent one in its place
+-- what is found in slot k of a table that is closed: the region that was at home, or a spent one in its place
 pub record ClosesAt (opened : List RegionData) (s : State Content TableView) (k : ℕ) (region : RegionData) : Type 0 where
   pub home : IsHomeWord (slice_index s.words k) → get_elem? s.homes k ≡ some (some (Some region))
   pub out : ¬ IsHomeWord (slice_index s.words k) → (first : RegionData) → slice_get opened k ≡ Some first → region ≡ spent first
@@ -119,6 +125,7 @@ pub record IsLeft (opened : List RegionData) (v : TableView) (k : ℕ) (region :
   pub latest : All (λ (n : Note). n.slot ≡ k → n.version ≤ version) v.notes
   pub noted : TellsAll k version region v
 
+-- the same for each of the regions
 abbrev pub AreLeft : List RegionData → TableView → List RegionData → Type 0
 AreLeft opened v regions = (k : ℕ) (region : RegionData) → slice_get regions k ≡ Some region → IsLeft opened v k region
 

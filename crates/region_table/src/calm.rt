@@ -1,4 +1,4 @@
-//! When no region of a table has anything to do any more.
+//! When no region of a table has anything left to do.
 
 ghost use Rattle.std.specs.Prelude.{◌<◌};
 
@@ -30,17 +30,17 @@ impl Changes {
     }
 }
 
-/// What a visit to a region came to.
+/// The result of a visit to a region.
 #[derive(Clone, Copy)]
 pub(crate) struct Visit {
-    /// Whether neither the region nor one that it hears was away.
+    /// Whether both the region and all that it hears were at home.
     pub is_whole: bool,
-    /// How many steps it made.
+    /// The number of steps that it made.
     pub steps: u32,
 }
 
-/// Which regions one worker found calm, in rounds that began after the last change by any worker: they made no step,
-/// and heard nothing new of any that they are linked with. If all are, nothing would ever change.
+/// The regions that one worker found calm, in rounds that began after the last change by any worker: they made no step,
+/// and heard nothing new from any linked region. If all are calm, nothing would ever change.
 #[derive(Drop)]
 pub(crate) struct Calm<'c> {
     changes: &'c Changes,
@@ -63,7 +63,7 @@ impl<'c> Calm<'c> {
         }
     }
 
-    /// Begins a round, whose bound is to be taken after that.
+    /// Begins a round. Its bound is to be taken after that.
     pub(crate) fn begin(&mut self) {
         let count = self.changes.count();
         if count != self.count {
@@ -81,8 +81,8 @@ impl<'c> Calm<'c> {
         self.steps = self.steps.max(visit.steps);
     }
 
-    /// How many steps the round counts as: the most that a region made, and one if none made any. So a worker that
-    /// finds all away hasn't soon made its turns.
+    /// How many steps the round counts as: the most that a region made, or one if none made any. So a worker that finds
+    /// all away isn't soon done with its turns.
     pub(crate) fn steps(&self) -> u32
         ensures { 0 < result }
     {

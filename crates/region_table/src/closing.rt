@@ -1,4 +1,4 @@
-//! What a closed table gives back.
+//! The regions that a closed table gives back.
 
 ghost use Rattle.std.specs.Prelude.{◌≡◌, ℕ, ◌<◌, ◌≤◌, [], length, slice_get, vec_capacity, Some, None, IfSome};
 ghost use Rattle.std.specs.Slots.{slots_items, slots_len, IsFull};
@@ -17,7 +17,7 @@ use fixed_motion::Rules;
 use region_core::Region;
 use std::alloc::Global;
 
-/// What lies in the slots of a closed table, with a spent region in the place of one that is out.
+/// The regions in the slots of a closed table, with a spent region in the place of one that is out.
 pub(crate) fn gather(
     mut closed: Closed<Option<Region>, Global>,
     mut regions: Vec<Region>,
@@ -46,7 +46,7 @@ pub(crate) fn gather(
     regions
 }
 
-// What comes of a slot: the region that lay at home there, or a spent one.
+// The region that was at home in a slot, or a spent one.
 fn region_of(
     content: Option<Region>,
     word: u64,

@@ -1,4 +1,4 @@
-//! What one worker does in a burst.
+//! The work of one worker in a burst.
 
 ghost use Rattle.std.specs.Prelude.{◌≡◌, ◌≢◌, ◌<◌, ◌==◌, ◌∷◌, [], not, length, false, true, IfNone, IfSome, OnOk};
 ghost use Rattle.std.specs.List.{filter, list_any};
@@ -25,7 +25,7 @@ pub(crate) struct TableJob<'a, G: Gate> {
     pub changes: &'a Changes,
     pub pace: &'a TablePace,
     pub worker: u32,
-    /// How many workers there are.
+    /// The number of workers.
     pub workers: u32,
     /// How many steps a turn has, at least 1.
     pub steps: u32,
@@ -99,7 +99,7 @@ impl<'a, G: Gate> TableJob<'a, G> {
         Ok(())
     }
 
-    // Lets a region run, and then hear those that it is linked with. What is away is passed over.
+    // Lets a region run, and then hear those that it is linked with. A region that is away is passed over.
     fn visit(
         &self,
         seat: &mut TableSeat,
@@ -147,7 +147,7 @@ impl<'a, G: Gate> TableJob<'a, G> {
         })
     }
 
-    // Lets a region run that is out with the seat, and puts it back. How many steps it made.
+    // Lets a region run that is out with the seat, and puts it back. The answer is the number of steps that it made.
     fn step_out(
         &self,
         seat: &mut TableSeat,
@@ -166,7 +166,8 @@ impl<'a, G: Gate> TableJob<'a, G> {
         done
     }
 
-    // Lets a region hear another, if both are at home; whether they were. The lower number is taken first.
+    // Lets a region hear another, if both are at home. The answer says whether they were. The lower number is taken
+    // first.
     fn hear(&self, seat: &mut TableSeat, hearer: u32, from: u32) -> Result<bool, AllocError>
         requires hearer { IsRegion self.now.grid.now hearer }
         requires from { IsRegion self.now.grid.now from }
@@ -306,8 +307,8 @@ fn hear(
     Ok(())
 }
 
-// How many entries a region has, the last one's stamp, and what is due there. If what it heard changes none of them, it
-// goes on as it would have.
+// The number of entries of a region, the last one's stamp, and the stamp that is due there. If what it heard changes
+// none of them, it goes on as it would have.
 fn standing(region: &Region) -> (usize, Option<Stamp>, Stamp) {
     (region.entries(), region.clock(), region.due())
 }

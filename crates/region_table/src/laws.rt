@@ -8,7 +8,7 @@ pub fn homes_still_stand()
     ensures { HomesStillStand }
 {}
 
-/// What a seat takes out of such a table stands on that state, unless it is spent.
+/// A region that a seat takes out of such a table stands on that state, unless it is spent.
 pub fn taken_still_stand()
     ensures { TakenStillStand }
 {}

@@ -32,15 +32,15 @@ pub(crate) struct TablePace {
 /// How far a region runs in a slice.
 #[derive(Drop)]
 pub(crate) struct TableSlice {
-    /// How many steps at most, at least 1.
+    /// The greatest number of steps, at least 1.
     pub steps: u32,
-    /// What is due has to be before it.
+    /// What is due has to be before this.
     pub bound: Stamp,
     ghost some_steps: { 0 < steps },
 }
 
 impl TablePace {
-    /// Of these regions.
+    /// The pace of these regions.
     ///
     /// # Errors
     /// Out of memory.

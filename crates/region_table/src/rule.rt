@@ -32,13 +32,13 @@ pub struct Note {
 pub struct TableView {
     /// The regions that the table was opened with.
     pub opened: LinkedList<Region>,
-    /// What its takes found, the latest first.
+    /// What it found when it took regions out, the latest first.
     pub seen: LinkedList<Sight>,
     /// The slots that it holds.
     pub held: LinkedList<Hold>,
     /// Its puts, the latest first.
     pub notes: LinkedList<Note>,
-    /// Its parts of the table. Who has all of them is the only one with a seat.
+    /// Its parts of the table. A seat that has all of them is the only one.
     pub parts: u128,
 }
 

@@ -1,4 +1,4 @@
-//! What a worker takes regions out with.
+//! The seat with which a worker takes regions out.
 
 use crate::rule::Token;
 use arrayvec::ArrayVec;
@@ -8,7 +8,7 @@ use std::marker::Model;
 /// The most slots that a seat holds: those of all regions of a grid.
 pub(crate) const MAX_HELD: usize = MAX_REGIONS as usize;
 
-/// What a worker takes regions out with. Contracts see the table's name, and what the seat knows of it.
+/// A seat, with which a worker takes regions out. Contracts see the table's name, and what the seat knows of the table.
 #[derive(Drop)]
 pub struct TableSeat {
     pub(crate) token: Token,

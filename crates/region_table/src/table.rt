@@ -94,7 +94,7 @@ impl RegionTable {
         }
     }
 
-    /// Ends a seat, and lets another know what it knew.
+    /// Ends a seat, and passes what it knew on to another.
     pub fn join(&self, seat: &mut TableSeat, other: TableSeat)
         requires seat { IsSeatOf self.now seat.old }
         requires other { IsSeatOf self.now other }
@@ -192,7 +192,7 @@ fn lay(alloc: Global, regions: Vec<Region>) -> Result<(Slots, Token), AllocError
     }
 }
 
-// What the slots hold at first.
+// The contents of the slots at first.
 fn in_slots(alloc: Global, regions: Vec<Region>) -> Result<Vec<Option<Region>>, AllocError>
     ensures { IfOk result (λ contents. contents.items ≡ map Some regions.items) }
 {

@@ -2,7 +2,7 @@
 
 use region_core::Region;
 
-/// What taking a region out answers.
+/// The answer when a region is to be taken out.
 #[derive(Drop)]
 pub enum TakeOut {
     /// The region, which is now out with the seat.

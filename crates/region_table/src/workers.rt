@@ -1,9 +1,9 @@
 //! Workers on regions in one table.
 //!
 //! The steps of a turn are made in slices. In a slice a worker goes through all regions: it takes one out, lets it run
-//! some steps, but not far ahead of the last one, puts it back, and lets it hear what is new of those that it is linked
-//! with. What another worker has out, it passes over. Once it found that no region has anything to do, the turns that it
-//! has left only pass the gate.
+//! some steps, but not far ahead of the last one, puts it back, and lets it hear what is new in those that it is linked
+//! with. It passes over a region that another worker has out. Once it found that no region has anything to do, the
+//! turns that it has left only pass the gate.
 
 ghost use Rattle.std.specs.Prelude.{◌≡◌, [], length, All, IfOk, IsFalse};
 ghost use Rattle.local_run.specs.Bursts.{AreTogether};
@@ -24,8 +24,8 @@ use std::sync::Wait;
 use std::thread;
 use std::thread::Threads;
 
-/// Lets workers work on the regions of a grid in a table, as a burst does that keeps them: gives back each at its place,
-/// run on. All threads that it starts have ended then.
+/// Lets workers work on the regions of a grid in a table, as a burst that keeps them: gives back each at its place, run
+/// on. All threads that it starts have ended then.
 ///
 /// # Errors
 /// Out of memory.
@@ -48,7 +48,7 @@ pub fn burst_in_table<R: Threads + Wait + Sync, G: Gate>(
     let (table, mut seat) = RegionTable::open(alloc, regions)?;
     run_jobs(workers, rt, alloc, &table, &grid, &pace, jobs, &mut seat)?;
     let worked = table.close(alloc, seat)?;
-    // A region is spent only for want of memory, and then a worker said so; but no slot tells.
+    // A region is spent only if memory ran out, and then a worker said so; but no slot tells that.
     if has_spent(&worked) {
         return Err(AllocError);
     }

@@ -1,7 +1,7 @@
-//! What single regions do, on scripts that were worked out by hand.
+//! Tests of single regions, on scripts that were worked out by hand.
 //!
-//! There is nothing here but tests: they stand beside the crate of regions, so that each is proved without the
-//! other.
+//! There is nothing here but tests. They are in a crate of their own, so that this crate and the crate of regions are
+//! proved without each other.
 #![tactic(auto)]
 
 #[cfg(test)]

@@ -1,4 +1,4 @@
-//! The scripts, and what plays them.
+//! The scripts, and the code that plays them.
 
 mod cases;
 mod logs;

@@ -40,7 +40,7 @@ same_added n rows i le =
     ap (λ (xs : SlotList). get_or (xs ++ none_at_all (n - length rows)) i None) (take_all n rows le)
     ∙ with_none rows (n - length rows) i
 
--- ---- slots after a call that adds some, or leaves them where there is no memory
+-- ---- slots after a call that adds some, or leaves them as they are if there is no memory
 pub few_more : {A E : Type 0} (r : Result A E) (rows more : SlotList) (n : ℕ) → OnOk r (more ≡ added n rows) →
     OnErr r (more ≡ rows) → length rows ≤ n → n ≤ 2 ^ 32 → AreFew rows → AreFew more
 few_more (Ok x) rows more n done left le few is =

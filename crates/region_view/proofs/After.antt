@@ -152,7 +152,7 @@ told_all grid q at view (r ∷ s ∷ []) lt is =
     (told_one grid q at (with_row at r.0 r.1) middle s (told_one grid q at at view r is refl) same)
 told_all grid q at view (r ∷ s ∷ t ∷ rows) h is = absurd h
 
--- by the message that there is, or isn't
+-- given the message, or that there is none
 by_message : (grid : GridData) (q : ℕ) (at : Placing) (view : ViewData) (s : Stamp) (told : RowList) →
     IsViewOf grid q at (set_rows view told) →
     MatchOption (message_with s told) (IsViewOf grid q at view)

@@ -48,7 +48,7 @@ wall_is_first rules grid i p wall none least =
     ])
     least
 
--- what two disks do with each other, where their cells are adjacent
+-- what two disks do with each other, if their cells are adjacent
 pub near_if_adjacent : (rules : Rules) (grid : GridData) (i : ℕ) (p : Placed) (j : ℕ) (q : Placed) (found : Option Stamp) →
     IsAdjacent grid p.cell q.cell →
     MatchOption found (HasNone (IsPairEvent rules i p.disk j q.disk)) (IsOnly (IsPairEvent rules i p.disk j q.disk)) →

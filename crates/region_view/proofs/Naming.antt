@@ -1,4 +1,4 @@
--- Which disks an event names, and why what names no changed disk stays a native candidate.
+-- The disks that an event names, and why an event that names no changed disk stays a native candidate.
 use Rattle.std.proofs.Common.{◌≡◌, ◌⊎◌, ◌↔◌, inl, inr, ℕ, ◌<◌, List, [], ◌∷◌, length, arith, refl, sym, subst, ap, ◌∙◌}
 use Rattle.std.specs.Prelude.{Some}
 use Rattle.std.specs.List.{Contains}
@@ -59,7 +59,7 @@ is_pair_or_not Cross = inr (λ e. cc)
 is_pair_or_not Wall = inr (λ e. cc)
 is_pair_or_not Pair = inl refl
 
--- ---- which disks an event names
+-- ---- the disks that an event names
 pub by_itself : (s : Stamp) (disk : ℕ) → ¬ (s.kind ≡ Pair) → Names s disk → s.first ≡ disk
 by_itself s disk alone (inl first) = first
 by_itself s disk alone (inr pair) = absurd (alone pair.0)
@@ -84,12 +84,12 @@ pub any_named : (s : Stamp) (ids : List ℕ) (i : ℕ) → Names s i → Contain
 any_named s ids i (inl first) among = inl (subst (λ (n : ℕ). Contains ids n) (sym first) among)
 any_named s ids i (inr pair) among = inr (pair.0, subst (λ (n : ℕ). Contains ids n) (sym pair.1) among)
 
--- what names one disk alone, which isn't touched, names none that is
+-- an event that names only one disk, which isn't touched, names none that is
 pub names_none : (s : Stamp) (ids : List ℕ) (i : ℕ) → ¬ (s.kind ≡ Pair) → Names s i → ¬ Contains ids i → ¬ NamesAny s ids
 names_none s ids i alone names not (inl first) = not (subst (λ (n : ℕ). Contains ids n) (by_itself s i alone names) first)
 names_none s ids i alone names not (inr pair) = alone pair.0
 
--- ---- what names no changed disk
+-- ---- events that name no changed disk
 moved_pair : (rules : Rules) (grid : GridData) (x y : ViewData) (s : Stamp) → rows_in y s.first ≡ rows_in x s.first →
     (s.kind ≡ Pair → rows_in y s.second ≡ rows_in x s.second) → IsNearPair rules grid (rows_in x) s → IsNearPair rules grid (rows_in y) s
 moved_pair rules grid x y s first second h =

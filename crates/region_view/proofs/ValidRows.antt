@@ -135,7 +135,7 @@ valid_hit rules grid at change valid first second =
     by_rows (Some b) (Some p) None k h l = (h.0, (first, h.2), tt)
     by_rows (Some b) (Some p) (Some q) k h l = (h.0, (first, h.2), (l.0, (k, l.2), tt))
 
--- ---- what events come to
+-- ---- the results of events
 cross_valid : (rules : Rules) (grid : GridData) (at : Placing) (s : Stamp) (a : Disk) (x : Action) →
     HasSizes grid → IsValidPlacing rules grid at → Ok x ≡ crossed rules grid s a →
     IsValidAction rules grid at s x

@@ -19,7 +19,7 @@ IsAlone rules grid i p s = IsCrossEvent rules grid i p.disk p.cell s
 abbrev pub IsNear : Rules → GridData → ℕ → Placed → ℕ → Placed → Stamp → Type 0
 IsNear rules grid i p j q s = IsAdjacent grid p.cell q.cell × IsPairEvent rules i p.disk j q.disk s
 
--- the stamp, of this kind, is that of an event of the placed disk, and of another where there is one
+-- the stamp, of this kind, is that of an event of the placed disk, and of another one if there is one
 abbrev pub IsEventBy : Rules → GridData → Stamp → Placed → Option Disk → Kind → Type 0
 IsEventBy rules grid s p b Cross = IsCrossEvent rules grid s.first p.disk p.cell s
 IsEventBy rules grid s p b Wall = IsEventOf rules s p.disk b

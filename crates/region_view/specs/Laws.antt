@@ -35,7 +35,7 @@ NativesAreHome = (rules : Rules) (grid : GridData) (k : ℕ) (at : Placing) (vie
     (IsNative rules grid k (rows_in view) s ↔
     (IsCellCandidate rules grid at s × IsHome grid at k s))
 
--- they come to the same in the view and in the state
+-- they do the same in the view as in the state
 abbrev pub NativesActAlike : Type 0
 NativesActAlike = (rules : Rules) (grid : GridData) (k : ℕ) (at : Placing) (view : ViewData) (s : Stamp)
     (r : Result Action Limit) → HasSizes grid →
@@ -49,7 +49,7 @@ abbrev pub SetRowsArePutOver : Type 0
 SetRowsArePutOver = (view : ViewData) (rows : RowList) (i : ℕ) →
     map.get (set_rows view rows) i ≡ get_over rows i (map.get view i)
 
--- what stood at the numbers of some rows undoes the setting of these
+-- setting some rows is undone by setting what stood at their numbers before
 abbrev pub SwapIsUndone : Type 0
 SwapIsUndone = (view : ViewData) (rows : RowList) →
     set_rows (set_rows view rows) (rows_at (rows_in view) rows) ≡ view
@@ -60,7 +60,7 @@ SettingKeepsValid = (rules : Rules) (grid : GridData) (view : ViewData) (rows : 
     IsValidPlacing rules grid (rows_in view) → AreValidRows rules grid rows →
     IsValidPlacing rules grid (rows_in (set_rows view rows))
 
--- ---- what events come to
+-- ---- the results of events
 -- the rows of an action are at most two, the lesser number first
 abbrev pub ActionsHaveRows : Type 0
 ActionsHaveRows = (at : Placing) (x : Action) → IsInOrder x → AreRows (rows_set at x)
@@ -73,20 +73,21 @@ pub record IsValidAction (rules : Rules) (grid : GridData) (at : Placing) (s : S
   pub cell : RecordsCell grid x
   pub rows : AreValidRows rules grid (rows_set at x)
 
--- what an event of a valid placing comes to is valid, also where disks overlap
+-- the result of an event of a valid placing is valid, also if disks overlap
 abbrev pub ActionsAreValid : Type 0
 ActionsAreValid = (rules : Rules) (grid : GridData) (at : Placing) (s : Stamp) (x : Action) →
     IsChecked rules → IsGridOf rules grid → IsValidPlacing rules grid at →
     IsCellCandidate rules grid at s → ActsAs rules grid at s (Ok x) → IsValidAction rules grid at s x
 
 -- ---- what is told
--- a message of this action: its rows are in order, and valid, where those of the action are
+-- a message of this action: its rows are in order, and they are valid if those of the action are
 pub record IsFaithful (rules : Rules) (grid : GridData) (at : Placing) (x : Action)
     (m : Message) : Type 0 where
   pub stamp : m.stamp ≡ stamp_of x
   pub order : IsInOrder x → AreRows m.rows
   pub valid : AreValidRows rules grid (rows_set at x) → AreValidRows rules grid m.rows
 
+-- each message of an action is faithful to it
 abbrev pub MessagesAreFaithful : Type 0
 MessagesAreFaithful = (rules : Rules) (grid : GridData) (q : ℕ) (at : Placing) (x : Action)
     (m : Message) → message_of grid q at x ≡ Some m → IsFaithful rules grid at x m
@@ -103,7 +104,7 @@ HomeSees = (grid : GridData) (k : ℕ) (at : Placing) (view : ViewData) (rows : 
     IsViewOf grid k at view → AreInReach grid k rows →
     IsViewOf grid k (put_over at rows) (set_rows view rows)
 
--- so do the rows that it is told, and where it is told nothing its view stays right
+-- so do the rows that it is told, and if it is told nothing its view stays right
 abbrev pub ToldSees : Type 0
 ToldSees = (grid : GridData) (q : ℕ) (at : Placing) (view : ViewData) (x : Action) →
     IsViewOf grid q at view → IsInOrder x →

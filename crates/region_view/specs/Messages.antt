@@ -21,7 +21,7 @@ abbrev pub sees : GridData → ℕ → Option Placed → Bool
 sees grid region None = false
 sees grid region (Some p) = reaches grid region p.cell
 
--- what the region sees of it
+-- what the region sees there
 abbrev pub seen_by : GridData → ℕ → Option Placed → Option Placed
 seen_by grid region o = if sees grid region o then o else None
 
@@ -31,6 +31,7 @@ told_row grid region before row =
     if sees grid region (before row.0) || sees grid region row.1
     then (row.0, seen_by grid region row.1) ∷ [] else []
 
+-- the same for each of the rows
 abbrev pub told_rows : GridData → ℕ → Placing → RowList → RowList
 told_rows grid region before [] = []
 told_rows grid region before (row ∷ rows) =
@@ -41,7 +42,7 @@ abbrev pub RecordsCell : GridData → Action → Type 0
 RecordsCell grid (Cross s cell) = IsCell grid cell
 RecordsCell grid (Hit change) = ⊤
 
--- so are the cells of these rows
+-- the cells of these rows are cells of the grid
 abbrev pub HaveCells : GridData → RowList → Type 0
 HaveCells grid [] = ⊤
 HaveCells grid (r ∷ rows) = IfSome r.1 (λ p. IsCell grid p.cell) × HaveCells grid rows
@@ -51,7 +52,7 @@ abbrev pub message_with : Stamp → RowList → Option Message
 message_with s [] = None
 message_with s (row ∷ rows) = Some (record { stamp = s; rows = row ∷ rows })
 
--- the message of an action to a region, by what stood where before it
+-- the message of an action to a region, given the placing before the action
 unfoldable pub message_of : GridData → ℕ → Placing → Action → Option Message
 message_of grid region before action =
     message_with (stamp_of action) (told_rows grid region before (rows_set before action))

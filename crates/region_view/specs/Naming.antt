@@ -1,4 +1,4 @@
--- Which disks an event has, and what a change of some disks leaves as it was.
+-- The disks of an event, and what a change of some disks leaves as it was.
 use Rattle.std.specs.Prelude.{◌≡◌, ◌≢◌, ◌⊎◌, ◌↔◌, ℕ, List, option_map}
 use Rattle.std.specs.List.{Contains}
 use Rattle.fixed_motion.specs.declared.rules.Rules.{Rules}
@@ -28,12 +28,12 @@ IsSameBut ids before after = (i : ℕ) → ¬ Contains ids i → rows_in after i
 abbrev pub IsSameButBy : Stamp → ViewData → ViewData → Type 0
 IsSameButBy s before after = (i : ℕ) → ¬ Names s i → rows_in after i ≡ rows_in before i
 
--- at other numbers the same stands before and after, and the disk has the same record
+-- at other numbers the same stands before and after, and this disk has the same record
 abbrev pub IsMoved : ℕ → ViewData → ViewData → Type 0
 IsMoved disk before after = ((i : ℕ) → i ≢ disk → rows_in after i ≡ rows_in before i)
     × (option_map (λ p. p.disk) (rows_in after disk) ≡ option_map (λ p. p.disk) (rows_in before disk))
 
--- what names no changed disk is native exactly where it was
+-- an event that names no changed disk is native if and only if it was
 abbrev pub NativesStay : Type 0
 NativesStay = (rules : Rules) (grid : GridData) (region : ℕ) (before after : ViewData) (ids : List ℕ) (s : Stamp) →
     IsSameBut ids before after → ¬ NamesAny s ids →

@@ -1,4 +1,4 @@
--- Which events placed disks may have next.
+-- The events that placed disks may have next.
 use Rattle.std.specs.Prelude.{◌≡◌, ◌⊎◌, ℕ, ◌<◌, Option, Some}
 use Rattle.fixed_motion.specs.declared.rules.Rules.{Rules}
 use Rattle.fixed_motion.specs.Motion.{IsValidDisk}

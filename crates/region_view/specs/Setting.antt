@@ -1,4 +1,4 @@
--- Rows that are set or taken away, and what they make of a view.
+-- Rows that are set or taken away, and the view after that.
 use Rattle.std.specs.Prelude.{◌≡◌, ℕ, ◌<◌, ◌==◌, if◌then◌else◌, List, [], ◌∷◌, map as each, fold, take, length, ⊤, Option, Some, None, IfSome}
 use Rattle.std.specs.FinMap as map
 use Rattle.fixed_motion.specs.declared.rules.Rules.{Rules}
@@ -26,10 +26,12 @@ AreRows (r ∷ s ∷ t ∷ rows) = ⊥
 abbrev pub numbers_of : RowList → List ℕ
 numbers_of rows = each (λ r. r.0) rows
 
+-- the view once a placed disk, or nothing, stands at a number
 abbrev pub put : ViewData → ℕ → Option Placed → ViewData
 put view i None = map.remove view i
 put view i (Some p) = map.insert view i p
 
+-- the view with one row set
 abbrev pub set_row : ViewData → ℕ × Option Placed → ViewData
 set_row view row = put view row.0 row.1
 
@@ -54,7 +56,7 @@ get_over (r ∷ rows) i before = get_over rows i (if i == r.0 then r.1 else befo
 abbrev pub put_over : Placing → RowList → Placing
 put_over at rows i = get_over rows i (at i)
 
--- of two rows that there are, the lesser number comes first
+-- if both rows are there, the lesser number comes first
 abbrev pub AreInOrder : Option (ℕ × Option Placed) → Option (ℕ × Option Placed) → Type 0
 AreInOrder None second = ⊤
 AreInOrder (Some r) None = ⊤
@@ -64,6 +66,7 @@ AreInOrder (Some r) (Some s) = r.0 < s.0
 abbrev pub after_action : ViewData → Action → ViewData
 after_action view action = set_rows view (rows_set (rows_in view) action)
 
+-- what stands there, if anything, has a valid record and a cell of the grid
 abbrev pub IsValidPlaced : Rules → GridData → Option Placed → Type 0
 IsValidPlaced rules grid None = ⊤
 IsValidPlaced rules grid (Some p) = IsValidDisk rules p.disk × IsCell grid p.cell
@@ -74,22 +77,23 @@ AreValidRows rules grid [] = ⊤
 AreValidRows rules grid (r ∷ rows) =
     (r.0 < 65536) × IsValidPlaced rules grid r.1 × AreValidRows rules grid rows
 
--- of two disks that a collision changes, the lesser number comes first
+-- if a collision changes two disks, the lesser number comes first
 abbrev pub IsInOrder : Action → Type 0
 IsInOrder (Cross s cell) = ⊤
 IsInOrder (Hit change) = IfSome change.second (λ _. change.stamp.first < change.stamp.second)
 
 -- ---- how rows are kept
+-- what stands in room without a row
 abbrev pub nothing : ℕ × Option Placed
 nothing = (0, None)
 
--- the rows with what fills their room for two
+-- the rows, with fillers up to two
 abbrev pub filled : RowList → RowList
 filled [] = nothing ∷ nothing ∷ []
 filled (r ∷ []) = r ∷ nothing ∷ []
 filled (r ∷ s ∷ rows) = r ∷ s ∷ []
 
--- the first of the items, so many, are rows in use
+-- the first `used` of the items are rows in use
 pub record AreRowsInUse (items : RowList) (used : ℕ) : Type 0 where
   pub rows : AreRows (take used items)
   pub few : used ≡ length (take used items)

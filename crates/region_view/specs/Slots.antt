@@ -16,11 +16,12 @@ pub record SlotsData : Type 0 where
   pub wide : Bool
   pub rows : SlotList
 
+-- what contracts see of either storage
 abbrev pub slots_in : Storage → SlotsData
 slots_in (Compact rows) = record { wide = false; rows = rows.items }
 slots_in (Wide rows) = record { wide = true; rows = rows.items }
 
--- the numbers have 32 bits
+-- the numbers fit 32 bits
 pub record AreFew (rows : SlotList) : Type 0 where
   pub few : length rows ≤ 2 ^ 32
 
@@ -33,14 +34,15 @@ pub record TakesRow (slots : SlotsData) (i : ℕ) (p : Placed) : Type 0 where
   pub within : i < length slots.rows
   pub form : IsTrue slots.wide ⊎ IsSmallRow p
 
--- what may be set at the number; where nothing stands there's no need of room
+-- what may be set at the number; if nothing stands there, no room is needed
 abbrev pub MaySet : SlotsData → ℕ → Option Placed → Type 0
 MaySet slots i row = IfSome row (TakesRow slots i)
 
+-- the slots with this at a number
 abbrev pub set_slot : SlotsData → ℕ → Option Placed → SlotsData
 set_slot slots i row = record { wide = slots.wide; rows = slice_set slots.rows i row }
 
--- the disks with their numbers, where the first slot is that of the number n
+-- the disks with their numbers; the first slot is that of number n
 abbrev pub numbered_rows : ℕ → SlotList → List (ℕ × Placed)
 numbered_rows n [] = []
 numbered_rows n (None ∷ rows) = numbered_rows (n + 1) rows

@@ -6,10 +6,11 @@ use Rattle.cell_grid.specs.Grid.{GridData, Reaches}
 use Rattle.region_view.specs.declared.action.Placed.{Placed}
 use Rattle.region_view.specs.Placing.{Placing}
 
--- what a view is seen as: placed disks by number
+-- what contracts see of a view: placed disks by number
 abbrev pub ViewData : Type 0
 ViewData = map.FinMap nat_cmp Placed
 
+-- what stands at each number in a view
 abbrev pub rows_in : ViewData → Placing
 rows_in view = map.get view
 
@@ -22,7 +23,7 @@ IsViewOf grid region at view = (i : ℕ) (p : Placed) →
 abbrev pub AreRowsOf : ViewData → List (Option Placed) → Type 0
 AreRowsOf view rows = (i : ℕ) → map.get view i ≡ slice_index_or rows i None
 
--- the row of the least number from this one on, where there is one
+-- the row of the least number from this one on, if there is one
 abbrev pub IsNextRow : ViewData → ℕ → Option (ℕ × Placed) → Type 0
 IsNextRow view from None = (i : ℕ) → from ≤ i → map.get view i ≡ None
 IsNextRow view from (Some row) =

@@ -4,16 +4,16 @@ use crate::Placed;
 use fixed_motion::Disk;
 use std::marker::Model;
 
-// How many marks a time tells apart, a power of two.
+// How many marks a time distinguishes, a power of two.
 const MARKS: u64 = 1 << 20;
 
-// How many base ticks, so few that each time is below that of no row.
+// How many base ticks it distinguishes: few enough that each time is below that of no row.
 const BASES: u64 = 1 << 43;
 
 // The time of no row.
 const NO_TIME: u64 = u64::MAX;
 
-/// What stands at a number, in narrow form: a placed disk of small numbers, or none.
+/// A row in narrow form: a placed disk of small numbers, or none.
 #[derive(Clone, Copy)]
 pub struct Compact {
     // The base tick and the mark.
@@ -94,7 +94,7 @@ impl Compact {
         }
     }
 
-    /// The same disk in another cell; none where there is none.
+    /// The same disk in another cell; none if there is no disk.
     #[inline(always)]
     pub fn with_cell(&self, cell: u32) -> Compact
         ensures { result ≡ recelled_row cell self.now }
@@ -113,7 +113,7 @@ impl Compact {
         }
     }
 
-    /// What stands there.
+    /// The row.
     // Nearly each look into a view comes here.
     #[inline(always)]
     pub fn get(&self) -> Option<Placed>
@@ -128,7 +128,7 @@ impl Compact {
         })
     }
 
-    /// The disk, with no question for whether there is one: where there is none, any disk.
+    /// The disk, without a test for whether there is one: if there is none, any disk.
     #[inline(always)]
     pub fn disk(&self) -> Disk
         ensures { IfSome self.now (λ row. result ≡ row.disk) }
@@ -144,8 +144,8 @@ impl Compact {
         }
     }
 
-    /// What stands on both sides of the middle, where the border of two lines of the cache may be: so all of the row comes
-    /// from memory, by one read. Nothing need be known of the answer.
+    /// The number on both sides of the middle of the row, where the border of two lines of the cache may be: so one
+    /// read brings all of the row from memory. The proof needs to know nothing of the answer.
     #[inline(always)]
     pub fn middle(&self) -> u64 {
         u64::from(self.y.cast_unsigned()) | u64::from(self.vx.cast_unsigned()) << 32
@@ -168,8 +168,8 @@ pub fn is_small(row: &Placed) -> bool
     has_small_course(&row.disk) && has_small_time(&row.disk)
 }
 
-// Whether the coordinates, the velocity and the size of a disk have 32 bits. They mostly do, so there is no branch
-// between.
+// Whether the coordinates, the velocity and the size of a disk fit 32 bits. They mostly do, so there is no branch
+// between the tests.
 fn has_small_course(disk: &Disk) -> bool
     ensures { IsTrue result ↔ HasSmallCourse disk.now }
 {
@@ -187,7 +187,7 @@ fn has_small_time(disk: &Disk) -> bool
     disk.base < BASES && (disk.mark as u64) < MARKS
 }
 
-// Whether a number has 32 bits.
+// Whether a number fits 32 bits.
 fn is_narrow(number: i64) -> bool
     ensures { IsTrue result ↔ IsNarrow number }
 {

@@ -17,8 +17,8 @@ use event_rules::{Limit, apply, first_wall, pair_event};
 use event_stamps::{Kind, Stamp};
 use fixed_motion::{Disk, Rules};
 
-/// The stamp of the first event of a placed disk by itself: it leaves its recorded cell, or hits a side of
-/// the box. `number` is the number of the disk. None where it has no such event.
+/// The stamp of the first event of a placed disk by itself: it leaves its recorded cell, or hits a side of the box.
+/// `number` is the number of the disk. None if it has no such event.
 pub fn first_alone(rules: &Rules, grid: &Grid, number: u32, row: &Placed) -> Option<Stamp>
     requires checked { IsChecked rules.now }
     requires grid { IsGridOf rules.now grid.now }
@@ -33,8 +33,8 @@ pub fn first_alone(rules: &Rules, grid: &Grid, number: u32, row: &Placed) -> Opt
     }
 }
 
-/// The stamp of the next event of two placed disks with each other, where their recorded cells are adjacent.
-/// `i` and `j` are the numbers of the disks. None where they have none, and where the cells aren't adjacent.
+/// The stamp of the next event of two placed disks with each other, if their recorded cells are adjacent. `i` and `j`
+/// are the numbers of the disks. None if they have no such event, and if the cells aren't adjacent.
 pub fn near_event(
     rules: &Rules,
     grid: &Grid,
@@ -59,7 +59,7 @@ pub fn near_event(
     }
 }
 
-/// Runs the event of this stamp on a placed disk, and on the other disk where there are two.
+/// Runs the event of this stamp on a placed disk, and on the other disk if there are two.
 ///
 /// # Errors
 /// The limit at which the event fails.
@@ -93,8 +93,8 @@ pub fn act(
     }
 }
 
-/// The cell to which a disk comes by the crossing of this stamp. None exactly where the round of the stamp is the
-/// round limit, at which the crossing fails.
+/// The cell that a disk enters by the crossing of this stamp. None if and only if the round of the stamp is the round
+/// limit, at which the crossing fails.
 ///
 /// The disk is inside the box at the tick of the stamp, which isn't before its base tick.
 #[inline(always)]

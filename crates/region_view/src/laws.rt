@@ -14,12 +14,12 @@ pub fn natives_are_home()
     ensures { NativesAreHome }
 {}
 
-/// Such an event comes to the same in the view and in the state.
+/// Such an event does the same in the view as in the state.
 pub fn natives_act_alike()
     ensures { NativesActAlike }
 {}
 
-/// What names no changed disk is a native candidate exactly where it was one before.
+/// An event that names no changed disk is a native candidate if and only if it was one before.
 pub fn natives_stay()
     ensures { NativesStay }
 {}
@@ -29,7 +29,7 @@ pub fn set_rows_are_put_over()
     ensures { SetRowsArePutOver }
 {}
 
-/// What stood at the numbers of some rows undoes the setting of these.
+/// Setting some rows is undone by setting what stood at their numbers before.
 pub fn swap_is_undone()
     ensures { SwapIsUndone }
 {}
@@ -44,23 +44,23 @@ pub fn actions_have_rows()
     ensures { ActionsHaveRows }
 {}
 
-/// What an event of valid placed disks comes to sets valid rows, also where disks overlap.
+/// The effect of an event of valid placed disks sets valid rows, also if disks overlap.
 pub fn actions_are_valid()
     ensures { ActionsAreValid }
 {}
 
-/// The rows of a message are in order, and valid, where those of its action are.
+/// The rows of a message are in order, and they are valid if those of its action are.
 pub fn messages_are_faithful()
     ensures { MessagesAreFaithful }
 {}
 
-/// A region that reaches all disks that an action changes sees what becomes of them.
+/// A region that reaches all disks that an action changes sees how they are changed.
 pub fn home_sees()
     ensures { HomeSees }
 {}
 
-/// A region that is told what it is to be told sees the state after the action, and so does one that is
-/// told nothing.
+/// A region that hears the message of an action sees the state after the action, and so does a region to which the
+/// action has no message.
 pub fn told_sees()
     ensures { ToldSees }
 {}

@@ -1,4 +1,4 @@
-//! The rows that an action sets, and what is told of them.
+//! The rows that an action sets, and what other regions are told of them.
 
 ghost use Rattle.std.specs.Prelude.{◌≡◌, map as each, IfSome, option_copied};
 ghost use Rattle.std.specs.Option.{option_to_list};
@@ -14,7 +14,7 @@ use crate::{Action, Message, Placed, Rows, View};
 use cell_grid::Grid;
 use fixed_motion::Disk;
 
-/// The rows that an action sets, by what stands where before it.
+/// The rows that an action sets, given the view before it.
 #[inline(always)]
 pub fn rows_of(before: &View, action: &Action) -> Rows
     requires order { IsInOrder action.now }
@@ -38,7 +38,7 @@ pub fn rows_of(before: &View, action: &Action) -> Rows
     }
 }
 
-// The row of a disk with this record, in the cell in which it stands.
+// The row of a disk with this record, in the cell in which the view has the disk.
 fn row_with(before: &View, number: u32, disk: Option<&Disk>) -> Option<(u32, Option<Placed>)>
     ensures row { option_to_list result ≡ each (λ r. (r.0, Some r.1))
         (redisked number (option_copied disk.entry) (map.get before.now number)) }
@@ -56,8 +56,8 @@ fn row_with(before: &View, number: u32, disk: Option<&Disk>) -> Option<(u32, Opt
     }
 }
 
-/// The message of an action to a region, by what stands where before it. None exactly where the region
-/// saw none of the disks that the action changes, and sees none of them after it.
+/// The message of an action to a region, given the view before the action. None if and only if the region saw none of
+/// the disks that the action changes, and sees none of them after it.
 pub fn message_for(before: &View, action: &Action, grid: &Grid, to: u32) -> Option<Message>
     requires order { IsInOrder action.now }
     requires cells { HasCells grid.now (rows_in before.now) }
@@ -75,7 +75,7 @@ pub fn message_for(before: &View, action: &Action, grid: &Grid, to: u32) -> Opti
     })
 }
 
-// What the region is told of rows that are set.
+// What the region is told of the rows that an action sets.
 fn told_rows(before: &View, changed: &Rows, grid: &Grid, to: u32) -> Rows
     requires cells { HasCells grid.now (rows_in before.now) }
     requires new_cells { HaveCells grid.now changed.now }
@@ -92,7 +92,7 @@ fn told_rows(before: &View, changed: &Rows, grid: &Grid, to: u32) -> Rows
     }
 }
 
-// What the region is told of a row that is set; none where it saw nothing there and sees nothing after.
+// What the region is told of a row that is set; none if it saw nothing there before and sees nothing after.
 fn told_row(
     before: &View,
     row: &(u32, Option<Placed>),
@@ -115,7 +115,7 @@ fn told_row(
     }
 }
 
-// Whether the region sees what stands somewhere.
+// Whether the region sees a row, if there is one.
 fn sees(grid: &Grid, region: u32, row: Option<&Placed>) -> bool
     requires cell { IfSome (option_copied row) (λ p. IsCell grid.now p.cell) }
     requires region { IsRegion grid.now region }

@@ -7,10 +7,10 @@ use std::marker::Model;
 
 /// Placed disks by number.
 ///
-/// Memory is taken for each number up to the greatest one that ever had a row, or for up to twice as many,
-/// and at the opening for those of all disks: 32 bytes a number. Where a row has a coordinate, a component of
-/// its velocity or a size that doesn't fit 32 bits with a sign, a base tick from 2^43 on or a mark from 2^20
-/// on, it is 72 bytes a number from then on. No valid disk has such numbers.
+/// Memory is taken for each number up to the greatest one that ever had a row, or for up to twice as many, and at the
+/// opening for those of all disks: 32 bytes a number. If a row has a coordinate, a component of its velocity or a size
+/// that doesn't fit 32 bits with a sign, a base tick from 2^43 on or a mark from 2^20 on, it is 72 bytes a number from
+/// then on. No valid disk has such numbers.
 #[derive(Drop)]
 pub struct View {
     slots: Slots,
@@ -43,7 +43,7 @@ use cell_grid::Grid;
 use std::alloc::{AllocError, Global};
 
 impl View {
-    /// The row of a disk; none exactly where there is none.
+    /// The row of a disk; none if and only if it has no row.
     #[inline(always)]
     pub fn get(&self, disk: u32) -> Option<Placed>
         ensures { result ≡ map.get self.now disk }
@@ -51,8 +51,8 @@ impl View {
         self.slots.get(disk)
     }
 
-    /// The row of a disk as it is kept. None where there is none, and where the view has a row whose numbers are
-    /// too great for the narrow form.
+    /// The row of a disk as it is kept. None if there is none, and if the view has a row whose numbers are too great
+    /// for the narrow form.
     #[inline(always)]
     pub fn narrow(&self, disk: u32) -> Option<Compact>
         ensures { IfSome result (IsRowThere (map.get self.now disk)) }
@@ -70,8 +70,8 @@ impl View {
         self.slots.set_narrow(disk, row)
     }
 
-    /// What stands at each number, as it is kept, up to the last number for which there is room. None where the view
-    /// has a row whose numbers are too great for the narrow form.
+    /// What stands at each number, as it is kept, up to the last number for which there is room. None if the view has a
+    /// row whose numbers are too great for the narrow form.
     #[inline(always)]
     pub fn compact(&self) -> Option<&[Compact]>
         ensures { IfSome result (λ rows. AreRowsOf self.now rows.now) }
@@ -99,17 +99,17 @@ impl View {
         })
     }
 
-    /// For how many numbers, from 0 on, memory is in use, whether there are rows or not: what a copy takes
-    /// time for. No disk from this number on has a row.
+    /// How many numbers, from 0 on, have memory in use, whether they have rows or not: a copy takes time for all of
+    /// them. No disk from this number on has a row.
     pub fn room(&self) -> usize
         ensures { (i : ℕ) → result ≤ i → map.get self.now i ≡ None }
     {
         self.slots.len()
     }
 
-    /// Sets these rows, and takes away what stands at the numbers of those that have no disk. Afterwards
-    /// `rows` holds what stood at these numbers before. Only a disk that had no row takes memory, and a row
-    /// that is the first whose numbers are too great for the narrow form.
+    /// Sets these rows, and takes away what stands at the numbers of those that have no disk. Afterwards `rows` holds
+    /// what stood at these numbers before. Memory is taken only for a disk that had no row, and for the first row whose
+    /// numbers are too great for the narrow form.
     ///
     /// # Errors
     /// Out of memory: the view and the rows stay as they are.
@@ -152,7 +152,7 @@ impl View {
         self.swap(&mut rows)
     }
 
-    // No row, with memory for those of the disks below a number.
+    // No row, with memory for those of the disks below `count`.
     fn with_capacity(alloc: Global, count: usize) -> Result<View, AllocError>
         ensures { IfOk result (λ view. view ≡ map.empty) }
     {
@@ -174,7 +174,7 @@ impl View {
             (λ rows. rows ≡ rows_at (rows_in self.old) (first ∷ second ∷ [])) }
         ensures unchanged { OnErr result (self.new ≡ self.old) }
     {
-        // Room for both comes first, so that nothing is set where memory runs out.
+        // Room for both is made first, so that nothing is set if memory runs out.
         self.slots.make_room(first.0, first.1.as_ref())?;
         self.slots.make_room(second.0, second.1.as_ref())?;
         let before = self.slots.replace(first.0, first.1);

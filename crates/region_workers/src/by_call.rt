@@ -14,7 +14,7 @@ use std::thread::Threads;
 #[derive(Drop)]
 pub struct ByCall<S: Beside<W>, W, C: Call<S, W>> {
     call: C,
-    // What is done beside, and what is lent to it.
+    // The work beside, and what is lent to it.
     of: PhantomData<S>,
     lent: PhantomData<W>,
 }

@@ -7,15 +7,15 @@ ghost use Rattle.local_run.specs.RunOn.{AreRunOn};
 use region_core::{Beside, Region};
 use std::alloc::AllocError;
 
-/// What is called to work on the regions of a grid while something is done beside, as any closure that takes and
-/// gives them.
+/// A call that works on the regions of a grid while something is done beside it, as any closure that takes and gives
+/// them.
 pub trait Call<S: Beside<W>, W> {
-    /// Whether it may be called with the regions of any grid, gives back each at its place, run on, and only goes on
-    /// with what is beside.
+    /// Whether it may be called with the regions of any grid, gives back each at its place, run on, and does nothing
+    /// with the work beside but go on with it.
     ghost keeping: { Self → Type 0 };
 
-    /// Works on the regions of a grid, none of which is spent, each at the place of its number, and gives back each
-    /// at its place, run on. Meanwhile it may go on with what is beside.
+    /// Works on the regions of a grid, none of which is spent, each at the place of its number, and gives back each at
+    /// its place, run on. Meanwhile it may go on with the work beside.
     ///
     /// # Errors
     /// Out of memory.

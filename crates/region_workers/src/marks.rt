@@ -15,14 +15,14 @@ use region_core::Region;
 use std::alloc::{AllocError, Global};
 use std::sync::atomic::{AtomicU64, Ordering};
 
-// How many disks of a region there are for each step of a slice: few disks are touched twice in one then.
+// The number of disks for each step of a slice: few disks are touched twice in one slice then.
 const DISKS_A_STEP: u64 = 32;
 
-/// How many steps of a region a slice has at least, however few disks there are. A slice without a bound, from which
-/// one learns how far to run, has no more.
+/// The least number of steps of a region in a slice, however few disks there are. A slice without a bound, which
+/// measures how far to run, has no more.
 pub const LEAST_STEPS: u32 = 16;
 
-// How many it has at most.
+// The greatest number of steps.
 const MOST_STEPS: u32 = 128;
 
 /// Stands for a lead that isn't known yet, and for a bound that comes of no other leads.
@@ -33,7 +33,7 @@ pub const UNKNOWN: u64 = u64::MAX;
 pub struct Marks {
     // For how many disks the regions have room, 1 at least.
     disks: u64,
-    // How many steps a region makes in a slice at most.
+    // The greatest number of steps that a region makes in a slice.
     steps: u32,
     // Padded, since workers write them side by side.
     marks: Vec<CachePadded<Mark>>,

@@ -16,7 +16,7 @@ use region_locks::RegionProgress;
 use std::alloc::{AllocError, Global};
 use std::sync::atomic::{AtomicU64, Ordering};
 
-// From how many disks on a region isn't held by a cache of a megabyte.
+// A region with this many disks or more doesn't fit a cache of a megabyte.
 const MANY_DISKS: u64 = 16_384;
 
 // A region without steps mustn't hold up the others for long.
@@ -36,9 +36,9 @@ pub struct Pace {
 /// How far a region runs in a slice.
 #[derive(Clone, Copy)]
 pub struct Slice {
-    /// How many steps at most, at least 1.
+    /// The greatest number of steps, at least 1.
     pub steps: u32,
-    /// What is due has to be before it, in parts of a tick.
+    /// What is due has to be before this, in parts of a tick.
     pub bound: u64,
 }
 

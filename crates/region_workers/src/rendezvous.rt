@@ -17,10 +17,10 @@ use std::sync::Wait;
 use std::sync::atomic::{AtomicU64, Ordering};
 use std::time::Duration;
 
-// How often a worker sleeps at one wait.
+// How often a worker sleeps in one wait.
 const SLEEPS: u32 = 100;
 
-// How long it sleeps at most; mostly it is woken before.
+// How long it sleeps each time at most; mostly it is woken before.
 const SLEEP_MILLIS: u64 = 1;
 
 /// Where the workers of a burst meet in each phase.
@@ -29,7 +29,7 @@ pub struct Rendezvous {
     // The word of the roll.
     roll: AtomicU64,
     sleepers: AtomicU64,
-    // In which phase each region is to be taken next. Padded, since mostly one worker takes a region.
+    // The phase in which each region is to be taken next. They are padded, since mostly one worker takes a region.
     untaken: Vec<CachePadded<AtomicU64>>,
 }
 
@@ -52,8 +52,8 @@ impl Rendezvous {
         Roll::of(self.roll.load(Ordering::SeqCst))
     }
 
-    /// Takes a region in a phase, and says whether it was to be had: nobody has taken it, and the phase isn't past.
-    /// Until the work on it is noted, the phase goes on.
+    /// Takes a region in a phase. False if somebody has taken it before, or the phase is past. Until the work on the
+    /// region is noted, the phase goes on.
     pub fn takes(&self, region: u32, phase: u32) -> bool {
         let Some(untaken) = self.untaken.get(region as usize) else {
             return false;

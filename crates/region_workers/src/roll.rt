@@ -20,18 +20,18 @@ const OVER: u32 = u32::MAX;
 /// How far the workers of a burst are.
 #[derive(Clone, Copy)]
 pub struct Roll {
-    /// What slice they are at, counted from 0 on.
+    /// The slice that they are at, counted from 0 on.
     pub phase: u32,
-    /// Of how many regions it is done.
+    /// The number of regions for which it is done.
     pub done: u32,
     /// Whether any of these heard anything new, or could go on.
     pub moved: bool,
 }
 
-/// What a worker did in a phase.
+/// A worker's share of a phase.
 #[derive(Clone, Copy)]
 pub struct Share {
-    /// Of how many regions it did the phase's work.
+    /// The number of regions for which it did the phase's work.
     pub regions: u32,
     /// Whether any of them heard anything new, or could go on.
     pub moved: bool,
@@ -46,7 +46,7 @@ impl Share {
         }
     }
 
-    /// One region more.
+    /// Adds one region.
     pub fn add(&mut self, moved: bool) {
         self.regions = self.regions.saturating_add(1);
         self.moved = self.moved || moved;
@@ -75,7 +75,7 @@ impl Roll {
         self.phase == OVER
     }
 
-    /// With a worker's share of the phase's work. One that is over stays so.
+    /// The roll after a worker's share of the phase's work. If the burst is over, the roll stays the same.
     pub fn with(self, share: &Share) -> Roll {
         if self.is_over() {
             return self;

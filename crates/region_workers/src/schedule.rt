@@ -1,14 +1,14 @@
-//! In which slices the turns of a burst are made.
+//! The slices in which the turns of a burst are made.
 
 ghost use Rattle.std.specs.Prelude.{◌<◌};
 
 use crate::pace::{Pace, Slice};
 use std::sync::atomic::{AtomicU64, Ordering};
 
-/// In how many slices the regions settle at most.
+/// The greatest number of slices in which the regions settle.
 pub(crate) const SETTLING_SLICES: u32 = 12;
 
-// How many steps a burst has at least before it ends early.
+// The least number of steps of a burst that ends early.
 const SHORT_STEPS: u64 = 256;
 
 // A burst that ends early makes at least one in this many of its steps: the turns that are left still pass the gate.
@@ -19,14 +19,14 @@ const SHORT_PART: u64 = 16;
 /// the farthest bound so far, so that hardly anything is left of which they disagree.
 #[derive(Drop)]
 pub(crate) struct Schedule {
-    // How many steps a turn has.
+    // The number of steps in a turn.
     steps: u32,
-    // How many steps there are before the regions settle, and how many of them come after the present slice.
+    // The number of steps before the regions settle, and how many of them come after the present slice.
     all: u64,
     left: AtomicU64,
     // The turn in which the present slice begins.
     turn: AtomicU64,
-    // In how many slices the regions have settled.
+    // The number of slices in which the regions have settled.
     settled: AtomicU64,
     // The slice: its steps and its bound.
     slice_steps: AtomicU64,
@@ -58,7 +58,7 @@ impl Schedule {
         self.turn.load(Ordering::SeqCst)
     }
 
-    /// Whether less than half of the steps before the regions settle is still to be made.
+    /// Whether fewer than half of the steps before the regions settle are left.
     pub(crate) fn is_half_made(&self) -> bool {
         self.left.load(Ordering::SeqCst) < self.all / 2
     }
@@ -74,7 +74,7 @@ impl Schedule {
         }
     }
 
-    /// Goes on to the next slice, and says whether there is one. Called by one worker alone, while no region runs.
+    /// Goes on to the next slice. False if there is none. It is called by one worker alone, while no region runs.
     pub(crate) fn go_on(&self, pace: &Pace) -> bool {
         let left = self.left.load(Ordering::SeqCst);
         let slice = if left > 0 {

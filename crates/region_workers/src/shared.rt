@@ -22,9 +22,9 @@ pub(crate) struct Shared<'g, G: Gate, O: Origin> {
     pub pace: Pace,
     pub schedule: Schedule,
     pub rendezvous: Rendezvous,
-    /// How many workers there are, 1 at least.
+    /// The number of workers, 1 at least.
     pub workers: u32,
-    /// How many steps of each region a turn has.
+    /// The number of steps of each region in a turn.
     pub steps: u32,
     ghost some_workers: { 0 < workers },
 }

@@ -11,9 +11,9 @@ use std::sync::{Mutex, Wait};
 pub(crate) struct Turns<'g, G: Gate> {
     gate: &'g G,
     workers: u32,
-    // How many turns each worker makes.
+    // The number of turns that each worker makes.
     turns: u32,
-    // How many each has begun. Padded, since mostly each worker takes its own lock.
+    // The number of turns that each has begun. They are padded, since mostly each worker takes its own lock.
     begun: Vec<CachePadded<Mutex<u32>>>,
 }
 
@@ -40,12 +40,12 @@ impl<'g, G: Gate> Turns<'g, G> {
         })
     }
 
-    /// How many turns each worker makes.
+    /// The number of turns that each worker makes.
     pub(crate) fn each(&self) -> u32 {
         self.turns
     }
 
-    /// Begins a turn of a worker, and says whether it was the next one of it: it may have been begun already.
+    /// Begins a turn of a worker. False if it isn't the next one of that worker: it may have been begun already.
     pub(crate) fn begin<R: Wait>(&self, rt: &R, worker: u32, turn: u32) -> bool {
         let Some(lock) = self.begun.get(worker as usize) else {
             return false;
@@ -59,7 +59,7 @@ impl<'g, G: Gate> Turns<'g, G> {
         true
     }
 
-    /// Lets the gate hold a worker up, which holds no region.
+    /// Lets the gate hold up a worker, which holds no region.
     pub(crate) fn pause(&self, worker: u32) {
         self.gate.pause(worker);
     }

@@ -1,8 +1,8 @@
 //! Virtual time in numbers.
 //!
 //! A tick has parts: crossings come in its first half, walls in the middle, and pairs in the second half, each in the
-//! order of the disks. What has a cause in its tick comes in the last part. So the order of parts is that of stamps,
-//! but for stamps in one part.
+//! order of the disks. An event with a cause in its own tick comes in the last part. So the order of parts is that of
+//! stamps, except for stamps in one part.
 
 use event_stamps::{Kind, Stamp};
 

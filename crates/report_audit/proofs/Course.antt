@@ -29,7 +29,7 @@ counts_line before after bytes Differs is h = h
 counts_line before after bytes Wrong is h = h
 counts_line before after bytes Failed is h = absurd is
 
--- ---- where all agrees so far
+-- ---- if all agrees so far
 pub place_further : (agreed other same : List ℕ) (old new : PlaceData) → other ≡ [] → old ≡ place_in agreed other →
     ((before : List ℕ) → old ≡ place_of before → new ≡ place_of (before ++ same)) →
     new ≡ place_in (agreed ++ same) other
@@ -45,7 +45,7 @@ place_differs agreed other same rest old new last none is passes e =
     (passes agreed (is ∙ ap (place_in agreed) none ∙ sym (placed agreed)))
     ∙ in_line_first (agreed ++ same) rest ∙ sym (ap (λ (l : List ℕ). place_in (agreed ++ same) (l ++ rest)) none)
 
--- where nothing differs yet
+-- if nothing differs yet
 pub course_further : (course : Course) (other rest : List ℕ) (left : Option (List ℕ)) → other ≡ [] →
     (course ≡ Differs → ⊥) → GoesOn course rest left → IsCourse course other left
 course_further Agrees other rest left none not h = none

@@ -8,7 +8,7 @@ use Rattle.report_audit.specs.Comparing.{Differ, IsCourse, HasNoWrongLine}
 use Rattle.report_audit.proofs.Linewise.{first_wrong}
 use Rattle.report_audit.proofs.Newlines.{newlines_add}
 
--- where the texts are the same up to a line that hasn't ended
+-- if the texts are the same up to a line that hasn't ended
 right_before : (agreed other left : List ℕ) → newlines other ≡ 0 → (other ≡ left) ⊎ Part other left →
     HasNoWrongLine (agreed ++ other) (agreed ++ left)
 right_before agreed other left none (inl e) =
@@ -21,7 +21,7 @@ same_or_parts : (left : List ℕ) → ([] ≡ left) ⊎ Part [] left
 same_or_parts [] = inl refl
 same_or_parts (c ∷ left) = inr tt
 
--- so it is where no line is known to be wrong
+-- that is so if no line is known to be wrong
 pub none_wrong : (course : Course) (agreed other claimed : List ℕ) (start left : Option (List ℕ)) →
     (course ≡ Agrees) ⊎ (course ≡ Differs) → IsCourse course other left → start ≡ Some claimed →
     Consumes start left agreed → HasNoWrongLine (agreed ++ other) claimed

@@ -1,4 +1,4 @@
--- The verdict, by the place at which a comparison has come.
+-- The verdict, given the line that a comparison has reached.
 use Rattle.std.proofs.Common.{◌≡◌, ◌⊎◌, inl, inr, ℕ, ◌+◌, ◌-◌, ◌^◌, ◌<◌, ◌≤◌, List, [], ◌∷◌, ◌++◌, append-nil, append_assoc, length, take, slice_get, option_map, Option, Some, None, sym, ap, ◌∙◌, subst, refl, arith}
 use Rattle.std.specs.Prelude.{min}
 use Rattle.std.specs.Io.KnownBytes.{Consumes, IsAtEnd}
@@ -14,7 +14,7 @@ use Rattle.report_audit.proofs.Newlines.{open_clear, newlines_second, text_clear
 counted : (n m : ℕ) → min n m < m → min n m ≡ n
 counted n m lt = omega arith
 
--- a text that goes on behind bytes parts from one that parts from them
+-- a text that goes on after some bytes parts from one that parts from them
 parts_still : (other more left : List ℕ) → 0 < length other → Part other left → Part (other ++ more) left
 parts_still [] more left some part = absurd (let some : 0 < 0 = some in omega arith)
 parts_still (b ∷ other) more [] some part = tt
@@ -30,7 +30,7 @@ some_behind [] (y ∷ ys) zs some = omega arith
 some_behind (x ∷ xs) ys zs some = omega arith
 
 -- ---- a line that is wrong
--- what is known of the line in which bytes stand
+-- what is known of the line in which bytes are
 record IsThere (text agreed told : List ℕ) : Type 0 where
   pub line : option_map text_of (slice_get (lines_of text) (newlines agreed)) ≡ Some (text_of told)
   pub short : take 128 (text_of told) ≡ text_of told
@@ -48,7 +48,7 @@ there agreed rest some short =
       short = take_long 128 (text_of told) few;
     }
 
--- a line that has ended, or isn't told on
+-- a line that has ended, or isn't told further
 text_alike : (line other more : List ℕ) → (0 < newlines other) ⊎ (more ≡ []) →
     text_of ((line ++ other) ++ more) ≡ text_of (line ++ other)
 text_alike line other more (inl lt) = text_ended (line ++ other) more (newlines_second line other lt)
@@ -137,7 +137,7 @@ longer agreed left v is some short =
     subst (IsVerdict (agreed ++ []) (agreed ++ left)) (sym verdict)
     (n, refl, first_wrong agreed [] left (parts_from_end left some), next_there agreed (open_line agreed) refl short)
 
--- the report as it was told, of which nothing differs
+-- the report as it was told, if nothing in it differs
 whole_told : (agreed other more : List ℕ) → other ≡ [] → more ≡ [] → (agreed ++ other) ++ more ≡ agreed ++ []
 whole_told agreed other more none end =
     ap (λ (l : List ℕ). (agreed ++ other) ++ l) end ∙ append-nil (agreed ++ other)

@@ -80,7 +80,7 @@ line_grows old bytes line new at lt is e =
     ∙ take_again 128 (old ++ take at bytes) (get_or bytes at 0 ∷ [])
     ∙ ap (take 128) (one_more old bytes at lt)
 
--- where the line ends
+-- if the line ends
 pub line_ends : (bytes : List ℕ) (at : ℕ) → at < length bytes → newlines (take at bytes) ≡ 0 → get_or bytes at 0 ≡ 10 →
     (text_of bytes ≡ take at bytes) × (0 < newlines bytes)
 line_ends bytes at lt none newline =

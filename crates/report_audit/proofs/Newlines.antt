@@ -212,7 +212,7 @@ line_after acc (b ∷ xs) r none = by_test (b == 10) refl (λ k ks. line_after k
         ∙ f (acc ++ b ∷ []) (newlines_none acc (b ∷ []) none (no_newline b e))
         ∙ ap (λ (l : List ℕ). slice_get (lines_of (open_line l ++ r)) 0) (append_assoc acc (b ∷ []) xs)
 
--- the line that follows so many newlines begins with the bytes after the last of them
+-- the line that follows this many newlines begins with the bytes after the last of them
 pub line_there : (xs r : List ℕ) →
     slice_get (lines_of (xs ++ r)) (newlines xs) ≡ slice_get (lines_of (open_line xs ++ r)) 0
 line_there xs r = line_after [] xs r refl

@@ -1,4 +1,4 @@
--- The place at which a report has come, after more of it.
+-- The line that a report has reached, after more of it.
 use Rattle.std.proofs.Common.{◌≡◌, ℕ, zero, suc, ◌+◌, ◌-◌, ◌^◌, true, false, List, [], ◌∷◌, ◌++◌, append-nil, append_assoc, take, sym, ap, ◌∙◌, refl, arith}
 use Rattle.std.specs.Prelude.{◌==◌, min}
 use Rattle.report_audit.specs.Compared.{text_of, newlines}
@@ -46,7 +46,7 @@ in_line_of agreed other more none =
     take_again 128 (text_of told) (text_of more) ∙ ap (take 128) whole in
     λ i. record { lines = min (newlines agreed) (2 ^ 128 - 1); line = line i }
 
--- where all agrees the line is that of the bytes
+-- if all agrees the line is that of the bytes
 pub placed : (agreed : List ℕ) → place_of agreed ≡ place_in agreed []
 placed agreed =
     let same : text_of (open_line agreed ++ []) ≡ open_line agreed =

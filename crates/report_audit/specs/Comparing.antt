@@ -7,27 +7,27 @@ use Rattle.report_audit.specs.declared.verdict.NoVerdict.{NoVerdict}
 use Rattle.report_audit.specs.declared.verdict.NoVerdict.TheVariants.{Unread, Unfinished}
 use Rattle.report_audit.specs.Compared.{Part, lines_of, newlines}
 
--- the claimed source when comparing began, the bytes of the report that were taken, how the comparison goes, and how many
--- calls failed
+-- the claimed source when the comparison began, the bytes of the report that were taken, how the comparison goes, and
+-- how many calls failed
 pub record ComparingData (C : Type 0) : Type 0 where
   pub given : C
   pub taken : List ℕ
   pub course : Course
   pub faults : ℕ
 
--- a report goes on where the claimed one, of which this is left, goes on otherwise or ends
+-- a report goes on, and the claimed one, of which this is left, goes on in another way or ends
 abbrev pub Differ : List ℕ → Option (List ℕ) → Type 0
 Differ rest None = 0 < length rest
 Differ rest (Some left) = (0 < length rest) × Part rest left
 
--- what is so of a report that goes on with these bytes where it has agreed so far, and of what is left of the claimed one
+-- what is so if a report, which has agreed so far, goes on with these bytes, given what is left of the claimed one
 abbrev pub IsCourse : Course → List ℕ → Option (List ℕ) → Type 0
 IsCourse Agrees rest left = rest ≡ []
 IsCourse Differs rest left = Differ rest left × (newlines rest ≡ 0)
 IsCourse Wrong rest left = Differ rest left × (0 < newlines rest)
 IsCourse Failed rest left = rest ≡ []
 
--- how a comparison goes on, of which so much of a piece agrees
+-- how a comparison goes on if this much of a piece agrees
 abbrev pub GoesOn : Course → List ℕ → Option (List ℕ) → Type 0
 GoesOn Agrees rest left = rest ≡ []
 GoesOn Differs rest left = Differ rest left
@@ -41,7 +41,7 @@ CountsCourse before after Differs = after ≡ before
 CountsCourse before after Wrong = after ≡ before
 CountsCourse before after Failed = (before ≤ after) × Rose before after
 
--- what was taken of a piece: all of it, or a front of it where the claimed source failed
+-- the part of a piece that was taken: all of it, or a front of it if the claimed source failed
 abbrev pub Grows : Course → List ℕ → List ℕ → List ℕ → Type 0
 Grows Agrees before after piece = after ≡ before ++ piece
 Grows Differs before after piece = after ≡ before ++ piece
@@ -62,7 +62,7 @@ CountsJudged before after (Ok a) = after ≡ before
 CountsJudged before after (Err Unread) = (before ≤ after) × Rose before after
 CountsJudged before after (Err Unfinished) = after ≡ before
 
--- what a piece does, by how the comparison went before and how it goes then: once a line is wrong nothing is taken
+-- the effect of a piece, given how the comparison went before and goes then: once a line is wrong nothing is taken
 abbrev pub Advances : Course → Course → List ℕ → List ℕ → List ℕ → Type 0
 Advances Agrees course before after piece = Grows course before after piece
 Advances Differs course before after piece = Grows course before after piece

@@ -1,4 +1,4 @@
--- The line at which a report has come.
+-- The line that a report has reached.
 use Rattle.std.specs.Prelude.{◌≡◌, ℕ, ◌+◌, ◌-◌, ◌^◌, ◌<◌, min, ◌==◌, List, [], ◌∷◌, ◌++◌, take, if◌then◌else◌, Option, Some, None}
 use Rattle.report_audit.specs.declared.verdict.TheConstants.{MAX_LINE}
 use Rattle.report_audit.specs.declared.verdict.Verdict.{Verdict}
@@ -39,12 +39,14 @@ abbrev pub some_line : List ℕ → Option (List ℕ)
 some_line [] = None
 some_line (b ∷ bs) = Some (b ∷ bs)
 
--- the verdict where a report that ends here is the claimed one, where the claimed one goes on, and where this line is wrong
+-- the verdict if a report that ends here is the claimed one
 abbrev pub IsSame : PlaceData → Verdict → Type 0
 IsSame p verdict = (p.lines < 2 ^ 128 - 1) × (verdict ≡ Same (p.lines + last_line p.line))
 
+-- the verdict if the report ends here, and the claimed one goes on
 abbrev pub IsLonger : PlaceData → Verdict → Type 0
 IsLonger p verdict = (p.lines < 2 ^ 128 - 1) × (verdict ≡ Line (p.lines + 1) (some_line p.line))
 
+-- the verdict if this line of the report isn't the claimed one
 abbrev pub IsWrong : PlaceData → Verdict → Type 0
 IsWrong p verdict = (p.lines < 2 ^ 128 - 1) × (verdict ≡ Line (p.lines + 1) (Some p.line))

@@ -11,21 +11,22 @@ use crate::ahead::Ahead;
 use crate::parted::Unread;
 use report_ports::{Source, Taken};
 
-/// How a comparison goes.
+/// How a comparison is going.
 #[derive(Clone, Copy)]
 pub enum Course {
-    /// All that was told agrees.
+    /// All that was told so far agrees.
     Agrees,
-    /// They differ, in a line of which more may be told.
+    /// They differ, and more of the line that differs may be told.
     Differs,
-    /// They differ, and the line was told to its end.
+    /// They differ, and the line that differs was told to its end.
     Wrong,
     /// The claimed source failed.
     Failed,
 }
 
-/// Compares a piece with what the source and what was read ahead have left, and answers how many of its bytes agree,
-/// and how the comparison goes on. What agrees is taken of the source.
+/// Compares a piece with the claimed bytes that are left, those read ahead and then those of the source. The answer
+/// says how many bytes of the piece agree, and how the comparison goes on. The bytes that agree are taken from the
+/// source.
 pub fn agree<C: Source>(claimed: &mut C, ahead: &mut Ahead, piece: &[u8]) -> (usize, Course)
     ensures most { result.0 ≤ length piece.now }
     ensures took { Consumes (all_left ahead.old (C.left claimed.old)) (all_left ahead.new (C.left claimed.new)) (take result.0 piece.now) }
@@ -53,7 +54,7 @@ pub fn agree<C: Source>(claimed: &mut C, ahead: &mut Ahead, piece: &[u8]) -> (us
     (at, Course::Agrees)
 }
 
-/// Whether something is left, of which some bytes were read ahead then.
+/// Whether any claimed byte is left. If so, some bytes are read ahead afterwards.
 ///
 /// # Errors
 /// The source failed.

@@ -17,15 +17,16 @@ use std::snapshot::Snapshot;
 
 /// A sink that compares a report with a claimed one while the report is told.
 ///
-/// It takes what agrees. In the first line that differs it takes the rest of the line too, and then fails: what is told
-/// further can't change the verdict. It keeps the beginning of one line and what it has read ahead, and no more.
+/// It takes what agrees. In the first line that differs it takes the rest of the line too, and then fails, since what
+/// is told after that can't change the verdict. It keeps only the beginning of one line and what it has read ahead.
 #[derive(Drop)]
 pub struct Comparing<C: Source> {
     claimed: C,
-    // The claimed source when comparing began. It takes no place, and is there to say what was left of it then.
+    // The claimed source as it was when the comparison began. It takes no memory, and only says what the source had
+    // left then.
     given: Snapshot<C>,
     ahead: Ahead,
-    // What agrees of the bytes that were taken, and the others.
+    // Of the bytes that were taken, those that agree, and then the others.
     agreed: Told,
     other: Told,
     place: Place,
@@ -57,7 +58,7 @@ impl<C: Source> Model for Comparing<C> {
 }
 
 impl<C: Source> Comparing<C> {
-    /// One that has taken nothing.
+    /// A comparison that has taken nothing.
     pub fn new(claimed: C) -> Comparing<C>
         ensures given { result.given ≡ claimed }
         ensures taken { result.taken ≡ [] }
@@ -76,7 +77,7 @@ impl<C: Source> Comparing<C> {
         }
     }
 
-    // Compares a piece, where all agrees so far.
+    // Compares a piece, if all agrees so far.
     fn compare(&mut self, piece: &[u8])
         requires { self.old.course ≡ Course.Agrees }
         ensures grows { Grows self.new.course self.old.taken self.new.taken piece.now }
@@ -119,7 +120,7 @@ impl<C: Source> Comparing<C> {
         }
     }
 
-    /// The verdict on the report, of which all or a front was told, and the source, which is given back.
+    /// The verdict on the report, of which all or a front was told. The source is given back.
     ///
     /// # Errors
     /// The source failed, or no line is known to be wrong, though the report isn't told to its end.

@@ -43,7 +43,7 @@ pub fn in_line(place: &mut Place, bytes: &[u8]) -> Course
     }
 }
 
-/// The verdict on a report, by the place in it at which the comparison has come and how it went.
+/// The verdict on a report, given the line that the comparison has reached and how it went.
 ///
 /// # Errors
 /// The source failed, or no line is known to be wrong, though the report isn't told to its end.

@@ -1,11 +1,11 @@
 //! Whether a claimed report is the report.
 //!
-//! [`Parted`] makes two parts of one source: the bytes before the first line that is exactly `===`,
-//! which is the parting line, and those after it. [`Comparing`] is a sink that compares a report with a
-//! claimed one while it is told, and finds the first line at which they differ.
+//! [`Parted`] splits one source in two: the bytes before the first line that is exactly `===`, which is the parting
+//! line, and those after it. [`Comparing`] is a sink that compares a report with a claimed one while it is told, and
+//! finds the first line at which they differ.
 //!
-//! A line includes its newline, and a last part without one is a line too. So the parting line may be
-//! the last bytes of the source, and `===` before a carriage return is none.
+//! A line includes its newline, and a last part without one is a line too. So the parting line may be the last bytes of
+//! the source, and `===` before a carriage return is no parting line.
 #![tactic(auto)]
 
 mod agreeing;

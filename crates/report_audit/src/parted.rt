@@ -20,19 +20,19 @@ pub struct Unread;
 /// How far a parted source has come.
 #[derive(Clone, Copy)]
 pub enum Stage {
-    /// Before the parting line; tells whether a line starts with the next byte.
+    /// Before the parting line; true if the next byte starts a line.
     Front(bool),
-    /// At the front's end: the parting line was passed, or the end was met.
+    /// At the front's end: the parting line was passed, or the source ended.
     Met,
-    /// Turned; tells whether the front's end was met before.
+    /// Turned; true if the front's end was met before.
     Rest(bool),
 }
 
-/// A source over a lent one, of the bytes before the first line that is exactly `===`, and after it is
-/// turned of the bytes that follow that line.
+/// A source over a lent one. At first it gives the bytes before the first line that is exactly `===`; once it is
+/// turned, it gives the bytes after that line.
 ///
-/// One value serves for both, as it holds the loan: who lent the source then knows that all was taken of it.
-/// Its calls take no memory; what it reads ahead is kept in an array.
+/// One value serves for both, since it holds the loan: so the lender knows afterwards that all was taken from the
+/// source. Its calls take no memory; bytes that are read ahead are kept in an array.
 #[derive(Drop)]
 pub struct Parted<'s, S: Source> {
     source: &'s mut S,
@@ -41,7 +41,7 @@ pub struct Parted<'s, S: Source> {
 }
 
 impl<'s, S: Source> Parted<'s, S> {
-    /// The bytes before the parting line, of what the source has left.
+    /// The bytes that the source has left before the parting line.
     pub fn new(source: &'s mut S) -> Parted<'s, S>
         ensures loan { result.source.ghost_name ≡ source.entry.ghost_name }
         ensures source { result.source.now ≡ source.entry.now }
@@ -57,8 +57,8 @@ impl<'s, S: Source> Parted<'s, S> {
         }
     }
 
-    /// Turns to the bytes after the parting line, or to none where there is no such line. What was left
-    /// before the line is passed over. Where it is turned already, nothing happens.
+    /// Turns to the bytes after the parting line, or to none if there is no such line. What was left before the line is
+    /// skipped. If it is turned already, nothing happens.
     ///
     /// # Errors
     /// The source failed. The call may be made again, and goes on where this one broke off.
@@ -83,7 +83,7 @@ impl<'s, S: Source> Parted<'s, S> {
         Ok(())
     }
 
-    // Goes on to the front's end, and tells whether it came there.
+    // Goes on to the front's end. True if it came there.
     fn skip(&mut self) -> Result<bool, Unread>
         ensures met { IfOk result (λ met. met ≡ true →
             IsRestNext self.new.stage (all_left self.new.ahead (S.left self.new.source.now))) }
@@ -107,7 +107,7 @@ impl<'s, S: Source> Parted<'s, S> {
         Ok(met)
     }
 
-    // Passes a line of the front, and tells whether the front's end is met.
+    // Skips a line of the front. True if the front's end is met.
     fn skip_line(&mut self) -> Result<bool, Unread>
         ensures met { IfOk result (λ met. met ≡ true →
             IsRestNext self.new.stage (all_left self.new.ahead (S.left self.new.source.now))) }
@@ -144,7 +144,7 @@ impl<'s, S: Source> Parted<'s, S> {
         }
     }
 
-    // Gives bytes of one line of the front at most. At its end it answers that nothing is left.
+    // Gives bytes of at most one line of the front. At the front's end it answers that nothing is left.
     fn take_line(&mut self, starts: bool, into: &mut [u8]) -> Taken
         requires stage { self.old.stage ≡ Stage.Front starts }
         requires room { 0 < length into.old }
@@ -197,7 +197,7 @@ impl<'s, S: Source> Parted<'s, S> {
 impl<'s, S: Source> Source for Parted<'s, S> {
     ghost Lasting = { GName × Option (List ℕ) × S.Lasting };
 
-    // Which loan it holds, what comes after the parting line while it isn't turned, and what lasts of the
+    // The loan that it holds, the bytes after the parting line as long as it isn't turned, and what lasts of the
     // source.
     ghost lasting = { λ p. (
       p.source.ghost_name,
@@ -214,8 +214,7 @@ impl<'s, S: Source> Source for Parted<'s, S> {
         self.source.faults()
     }
 
-    /// Gives bytes of one line at most before it is turned, and at the parting line answers that nothing is
-    /// left.
+    /// Before it is turned, it gives bytes of at most one line, and answers at the parting line that nothing is left.
     fn take(&mut self, into: &mut [u8]) -> Taken {
         match self.stage {
             Stage::Front(starts) => self.take_line(starts, into),
@@ -225,7 +224,7 @@ impl<'s, S: Source> Source for Parted<'s, S> {
     }
 }
 
-// Gives up the bytes of the first line, and answers how many, and whether the line ends with them.
+// Drops the bytes of the first line. The answer says how many these were, and whether the line ends with them.
 fn pass_line(ahead: &mut Ahead) -> (usize, bool)
     requires { 0 < length ahead.old }
     ensures least { 1 ≤ result.0 }

@@ -1,4 +1,4 @@
-//! The line at which a report has come.
+//! The line that a report has reached.
 
 ghost use Rattle.std.specs.Prelude.{◌≡◌, ◌<◌, ◌+◌, ◌-◌, ◌^◌, ℕ, List, ◌++◌, ◌∷◌, [], true, false, IfOk};
 ghost use Rattle.report_audit.specs.Compared.{newlines};
@@ -12,9 +12,9 @@ use std::marker::Model;
 #[derive(Clone, Copy, Debug, PartialEq, Eq)]
 pub struct Uncounted;
 
-/// How many lines a report has ended, and the line after them, as far as it was told: its first 128 bytes.
+/// How many lines of a report have ended, and the first 128 bytes of the line after them, as far as it was told.
 ///
-/// The count of lines stands still at 2^128 - 1.
+/// The count of lines stops at 2^128 - 1.
 #[derive(Drop)]
 pub struct Place {
     lines: u128,
@@ -40,7 +40,7 @@ impl Place {
         }
     }
 
-    /// Goes on behind these bytes.
+    /// Goes on past these bytes.
     pub fn pass(&mut self, bytes: &[u8])
         ensures { (before : List ℕ) → self.old ≡ place_of before → self.new ≡ place_of (before ++ bytes.now) }
     {
@@ -62,7 +62,7 @@ impl Place {
         }
     }
 
-    /// Goes on to the end of the line, if these bytes have it, and says whether they do.
+    /// Goes on to the end of the line, if it is in these bytes. The answer says whether it is.
     pub fn end(&mut self, bytes: &[u8]) -> bool
         ensures line { self.new ≡ in_line self.old bytes.now }
         ensures ended { result ≡ true → 0 < newlines bytes.now }
@@ -95,7 +95,7 @@ impl Place {
         Ok(Verdict::Same { lines: next })
     }
 
-    /// The verdict that the claimed report goes on where the report ends.
+    /// The verdict that the claimed report goes on after the report's end.
     ///
     /// # Errors
     /// Its lines weren't counted.

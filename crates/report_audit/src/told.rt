@@ -5,7 +5,7 @@ ghost use Rattle.std.specs.Borrow.{ftrue};
 
 use std::marker::Model;
 
-/// Bytes that only clauses read: a history. It takes no place, and its calls do nothing when the program runs.
+/// Bytes that only clauses read: a history. It takes no memory, and its calls do nothing when the program runs.
 #[derive(Drop)]
 pub struct Told {
     pub ghost bytes: { List ℕ },
@@ -23,7 +23,7 @@ impl Told {
         Told {}
     }
 
-    /// The bytes of a piece, after those before.
+    /// Adds the bytes of a piece after the others.
     pub fn add(&mut self, _piece: &[u8])
         ensures { self.new.bytes ≡ self.old.bytes ++ _piece.now }
     {}

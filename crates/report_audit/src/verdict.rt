@@ -1,4 +1,4 @@
-//! What a comparison says.
+//! The verdict of a comparison.
 
 ghost use Rattle.std.specs.Prelude.{◌≡◌, ◌≤◌, ◌++◌, ◌∷◌, [], take, length};
 ghost use Rattle.report_audit.specs.declared.verdict.TheConstants.{MAX_LINE};
@@ -37,7 +37,7 @@ impl Line {
         Line { bytes, size }
     }
 
-    /// Puts a byte behind it, unless it has [`MAX_LINE`] of them.
+    /// Appends a byte, unless it has [`MAX_LINE`] of them.
     pub fn push(&mut self, byte: u8)
         ensures { self.new ≡ take 128 (self.old ++ byte ∷ []) }
     {
@@ -56,7 +56,7 @@ impl Line {
     }
 }
 
-/// What a comparison of a report with a claimed one says.
+/// The verdict of a comparison of a report with a claimed one.
 #[derive(Drop)]
 pub enum Verdict {
     /// They are the same, and have this number of lines.

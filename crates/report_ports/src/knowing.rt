@@ -1,14 +1,15 @@
-//! Whether a source over a reader, and a sink over a writer, tell the bytes that are known of these.
+//! Whether a source over a reader, and a sink over a writer, tell the bytes of that reader or writer, if these are
+//! known.
 
 ghost use Rattle.std.specs.Prelude.{Bool, true, false};
 
 /// Whether known bytes are told.
 pub trait Tells {
-    /// They are.
+    /// Whether they are.
     ghost tells: { Bool };
 }
 
-/// Known bytes are told. Whoever tells them knew them from the beginning.
+/// Known bytes are told. A source or sink that tells them has known them from the beginning.
 pub struct Known;
 
 impl Tells for Known {

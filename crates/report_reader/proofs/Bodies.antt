@@ -49,7 +49,7 @@ both_go_on : (a b : List (List (List ℕ))) → GoOn a → GoOn b → GoOn (a ++
 both_go_on [] b h k = k
 both_go_on (row ∷ rows) b h k = (h.0, h.1, both_go_on rows b h.2 k)
 
--- the rows of a text, the events that they say and the places
+-- the rows of a text, and the events and the places that they say
 pub record IsBody (text : List ℕ) (events : List Said) (spots : List Spot) : Type 0 where
   pub rows : List (List (List ℕ))
   pub whole : text ≡ flat_map line_of rows
@@ -262,7 +262,7 @@ energy_body before after h k =
     refl refl refl refl
 
 -- ---- blocks
--- the rows of a text say no events, and whatever places
+-- the rows of a text say no events, and some places
 abbrev pub IsQuiet : List ℕ → Type 0
 IsQuiet text = (spots : List Spot) × IsBody text [] spots
 
@@ -298,7 +298,7 @@ blocks_quiet rules (Some every) disks from to checked valid =
     block_quiet rules disks (k * every) checked valid (omega arith))
 
 -- ---- changes
--- the rows of a text say these events, and whatever places
+-- the rows of a text say these events, and some places
 abbrev pub Says : List ℕ → List Said → Type 0
 Says text events = (spots : List Spot) × IsBody text events spots
 

@@ -12,11 +12,12 @@ use Rattle.collision_report.specs.declared.format.Format.TheVariants.{Lines}
 use Rattle.collision_report.specs.Report.{report}
 use Rattle.report_reader.specs.Reader.{Said, SaidRun, read_report}
 
--- the same event, so many ticks later
+-- the same event, this many ticks later
 abbrev pub said_later : ℕ → Said → Said
 said_later by s = record s { stamp = later_stamp by s.stamp }
 
--- the events of a first part, then those of the rest so many ticks later, and the end of the rest so many ticks later
+-- the events of a first part, then those of the rest this many ticks later, and the end of the rest this many ticks
+-- later
 abbrev pub said_together : ℕ → SaidRun → SaidRun → SaidRun
 said_together at first rest = record {
   events = first.events ++ map (said_later at) rest.events;

@@ -3,18 +3,18 @@
 ghost use Rattle.report_reader.specs.Reader.{ReportsReadBack, ReportsSayRuns};
 ghost use Rattle.report_reader.specs.Parts.{PartsReadAsOne};
 
-/// The stamps and velocities of a run and how it ends are read back from the text of its report.
+/// The stamps and velocities of a run, and how it ends, are read back from the text of its report.
 pub fn reports_read_back()
     ensures { ReportsReadBack }
 {}
 
-/// Two runs with the same report, of whatever scenes, have the same stamps and velocities and the same end.
+/// Two runs with the same report, whatever their scenes are, have the same stamps and velocities and the same end.
 pub fn reports_say_runs()
     ensures { ReportsSayRuns }
 {}
 
-/// What is read of the report of a run up to a tick, and then of that of the rest with its ticks raised, is what
-/// is read of the report of the whole run.
+/// Read the report of a run up to a tick, and then that of the rest with its ticks raised: that gives what the report
+/// of the whole run gives.
 pub fn parts_read_as_one()
     ensures { PartsReadAsOne }
 {}

@@ -27,7 +27,7 @@ use Rattle.resume.proofs.Rebased.{HasStarted, wall_tick_same, contact_tick_same}
 use Rattle.resume.proofs.Resumed.{NoneBefore}
 
 -- ---- candidates
--- of the candidates of a run that ends at another tick, those before its end
+-- the candidates of a run that ends at another tick which are before its end
 candidate_ending : (rules : Rules) (e : ℕ) (xs : List Disk) (s : Stamp) → s.tick < e →
     IsCandidate rules xs s → IsCandidate (ending_at e rules) xs s
 candidate_ending rules e xs s lt h = elim h [
@@ -191,7 +191,7 @@ state_after at xs c cs lt =
     ∙ ap (λ (b : Bool). cond b (c ∷ take_while (is_before at) cs) []) e)
 
 -- ---- runs
--- what a run up to a tick leads to
+-- the state to which a run up to a tick leads
 pub record LeadsTo (rules : Rules) (at : ℕ) (xs : List Disk) (cs : List Change) (spots : List Spot) : Type 0 where
   pub ends : List Disk
   pub places : spots ≡ spots_of at ends

@@ -14,7 +14,7 @@ use Rattle.resume.proofs.Beginnings.{sizes}
 use Rattle.resume.proofs.InParts.{first_part, before_valid, parts_make_runs, runs_have_parts}
 
 -- ---- the disks that are left
--- of the disks that start at these spots the sizes alone are used again
+-- only the sizes of the disks that start at these spots are used again
 from_both : (ds ys : List Disk) (at : ℕ) (later : List Spot) → sizes ys ≡ sizes ds →
     disks_from (disks_from ds (spots_of at ys)) later ≡ disks_from ds later
 from_both [] ys at later e = refl

@@ -1,4 +1,4 @@
--- A disk's record, and the record that it has in a run that starts so many ticks later.
+-- A disk's record, and the record that it has in a run that starts some ticks later.
 use Rattle.std.proofs.Common.{◌≡◌, ℕ, ◌+◌, ◌-◌, ◌<◌, ◌≤◌, max, sym, ap, ◌∙◌, subst, refl, arith}
 use Rattle.std.specs.Prelude.{ℤ, pos, ◌+ℤ◌, ◌*ℤ◌}
 use Rattle.std.proofs.lemmas.Int.{ints}
@@ -16,7 +16,7 @@ use Rattle.event_rules.specs.Run.{spot_of}
 use Rattle.resume.specs.Shift.{later_stamp, later_disk}
 use Rattle.resume.specs.Parts.{ending_at, started}
 
--- b is the record, in a run that starts so many ticks later, of the disk whose record is a
+-- b is the record, in a run that starts this many ticks later, of the disk whose record is a
 pub record IsRebased (at : ℕ) (a b : Disk) : Type 0 where
   pub size : a.size ≡ b.size
   pub vx : a.vx ≡ b.vx
@@ -45,7 +45,7 @@ rebased_later at a = record {
   mark = λ t. later_mark a at t;
 }
 
--- a disk whose course has begun at the tick, and of whose last event nothing is left there
+-- a disk whose course has begun at the tick, and whose last event has left nothing there
 pub record HasStarted (at : ℕ) (a : Disk) : Type 0 where
   pub begun : a.base ≤ at
   pub mark : mark_at a at ≡ 0
@@ -76,7 +76,7 @@ started_mark at a t le mark = grind arith
 none_marked : (a : Disk) (t : ℕ) → a.mark ≡ 0 → mark_at a t ≡ 0
 none_marked a t e = grind arith
 
--- the record of a disk that starts where another one is
+-- the record of a disk that starts at the place of another one
 pub rebased_start : (at : ℕ) (d a : Disk) → d.size ≡ a.size → HasStarted at a →
     IsRebased at a (started (d, spot_of at a))
 rebased_start at d a size has =

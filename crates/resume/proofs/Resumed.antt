@@ -1,4 +1,4 @@
--- The run of the rest, so many ticks later, goes on with the run.
+-- The run of the rest, with its ticks raised, goes on with the run.
 use Rattle.std.proofs.Common.{◌≡◌, ◌⊎◌, inl, inr, ℕ, zero, suc, ◌+◌, ◌-◌, ◌<◌, ◌≤◌, Bool, true, false, List, [], ◌∷◌, sym, ap, ◌∙◌, subst, refl, arith, Option, Some, None, Result, Ok, Err, slice_get, slice_set, option_map}
 use Rattle.std.specs.Prelude.{◌==◌, if◌then◌else◌, ⊤}
 use Rattle.std.specs.Ordering.{nat_cmp, ordering_then}
@@ -85,7 +85,7 @@ set_some_rebased at xs ys i None h = h
 set_some_rebased at xs ys i (Some b) h =
     set_rebased at xs ys i (later_disk at b) b h (rebased_later at b)
 
--- a change, and the same change so many ticks later
+-- a change, and the same change some ticks later
 effect_rebased : (at : ℕ) (xs ys : List Disk) (c : Change) → AreRebased at xs ys →
     AreRebased at (effect xs (later_change at c)) (effect ys c)
 effect_rebased at xs ys c h =
@@ -198,7 +198,7 @@ none_at_all rules at xs ys h none never t candidate =
     let u = earlier_stamp at t in
     never u (candidate_earlier rules at xs ys u h (subst (IsCandidate rules xs) (sym back) candidate))
 
--- ---- what an event comes to
+-- ---- the result of an event
 later_result : ℕ → Result Change Limit → Result Change Limit
 later_result at (Ok c) = Ok (later_change at c)
 later_result at (Err limit) = Err (later_limit at limit)
@@ -280,7 +280,7 @@ applied_later rules e at s a b o p h k =
     by_tests false false c = refl
 
 -- ---- the next event
--- what the event of a state comes to, where its disks have begun
+-- the result of the event of a state whose disks have begun
 partner_later : (at : ℕ) (xs ys : List Disk) → AreRebased at xs ys → (k : Kind) (i : ℕ) →
     IsPartner at (partner_of k xs i) (partner_of k ys i)
 unfolding IsPartner

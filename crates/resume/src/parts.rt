@@ -23,8 +23,8 @@ pub fn before(alloc: Global, scene: &Scene, at: u64) -> Result<Scene, AllocError
     Ok(Scene::new(rules, disks, scene.every))
 }
 
-/// What is left of a scene after a tick, as a scene that starts there: `state` is where its disks are
-/// at the tick. The states of all disks aren't asked for there, since their ticks are others.
+/// The rest of a scene after a tick, as a scene that starts there. `state` says where its disks are at the tick. The
+/// rest doesn't ask for the states of all disks, since its ticks are others.
 ///
 /// # Errors
 /// Out of memory.

@@ -81,7 +81,7 @@ committed old new regions left batch is commits = subst IsCellState (sym commits
     (sym (rules_after batch old)) commits.is_horizon.bound.end)
     (subst (λ (v : CellStateData). HasNoneBelow v commits.horizon) commits.state commits.none_below))
 
--- it isn't empty where an event is below the horizon
+-- it isn't empty if an event is below the horizon
 not_empty : (old new : CellStateData) (regions left : List RegionData) (batch : List Action) (s : Stamp)
     (commits : Commits old regions batch new left) → IsCandidateOf old s → Before s commits.horizon →
     batch ≢ []
@@ -123,7 +123,7 @@ module _ (old : CellStateData) (runs : LocalRuns) (f : Stamp) (first : Leads old
       ⊎ (HasNone (IsCandidateOf old) × (dues k ≡ end_stamp old.rules.end))
   next = least_due_is_next (raised f old) fresh dues k here (cell_laws (raised f old) here) all least
 
-  -- where a step has something due, it is the next event
+  -- if a step has something due, it is the next event
   next_at : (t : Stamp) → IsOffered (home_of old k) (now_of (fresh k)) t → IsNextAt (raised f old) k (dues k)
   next_at t off = elim next [
     | inl is ↦ is

@@ -156,7 +156,7 @@ heard_stands state k old from new (Later at) hears h =
 heard_stands state k old from new (Rewound at) hears h =
     heard_another_stands state k old from new (Rewound at) hears h
 
--- what stands at each place goes on standing, where one region is set
+-- the region at each place goes on standing, if one region is set
 set_stands : (regions : List RegionData) (place : ℕ) (old new : RegionData) →
     slice_get regions place ≡ Some old →
     ((state : CellStateData) (k : ℕ) → StandsOn state k old → StandsOn state k new) →
@@ -205,7 +205,7 @@ plays_stand regions after (c ∷ cs) answers (mid, first, rest, one, others, is)
     λ state i k region at h. let now = one_stands regions mid c first one state i k region at h in
     plays_stand mid after cs rest others state i k now.0 now.1 now.2
 
--- ---- memory is wanting
+-- ---- memory runs out
 pub on_err : {T E : Type 0} (r : Result T E) (P : Type 0) → P → OnErr r P
 on_err (Ok x) P p = tt
 on_err (Err e) P p = p

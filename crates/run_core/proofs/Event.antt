@@ -175,7 +175,7 @@ module _ (state : CellStateData) (k : ℕ) (x : Action) (fresh after : LocalRuns
   sent q = ap (λ (v : Local). sent_to state.grid q v.base v.log) one.home_ran
       ∙ ap (sent_to state.grid q (fresh k).base) (at_end (fresh k) (Native x) home_fresh.log)
 
-  -- what a linked region makes of it
+  -- how a linked region takes it in
   abbrev Told : ℕ → Type 0
   Told q = IsTold state k x (fresh k).base q (fresh q) (after q)
       ⊎ IsKept state k x (fresh k).base q (fresh q) (after q)
@@ -242,7 +242,7 @@ module _ (state : CellStateData) (k : ℕ) (x : Action) (fresh after : LocalRuns
       by_message (Some m) msg = by_some m msg takes.answer
           (heard (m ∷ []) (ap (λ (v : Option Message). prepended v []) msg)) takes.steps
 
-  -- what becomes of each region
+  -- each region afterwards
   abbrev Became : ℕ → Type 0
   Became q = ((q ≡ k) × (after q ≡ with_entry (fresh k) (Native x))) ⊎ Told q
 

@@ -151,7 +151,7 @@ fresh_still state k run f = subst (IsStill state k) (sym (fresh_now run f.log)) 
 abbrev pub IsNextAt : CellStateData → ℕ → Stamp → Type 0
 IsNextAt state k s = IsNextOf state s × IsHomeOf state s k
 
--- the least that fresh regions have due is the next event, or the end where no event is left
+-- the least that fresh regions have due is the next event, or the end if no event is left
 pub least_due_is_next : (state : CellStateData) (runs : LocalRuns) (dues : ℕ → Stamp) (k : ℕ) →
     IsCellState state → CellLaws state → AllFresh state runs → IsLeastDue state runs dues k →
     IsNextAt state k (dues k)

@@ -134,7 +134,7 @@ heard_before k q sent r new m news rises among lt = elim (same_or_other q k) [
       (among_below news.at sent m (subst Rises new_at rises) (subst (IsAmong m) new_at among) lt)))
 ]
 
--- before the news nothing is due that wasn't
+-- before the news nothing is due that wasn't due before
 due_before : (h : Home) (k : ℕ) (sent : List Message) (r new : Local) (s : Stamp) → IsRight h r →
     IsRight h new → (news : News k sent r new) → Before s news.at → IsOffered h (now_of new) s →
     IsOffered h (now_of r) s
@@ -177,7 +177,7 @@ due_before h k sent r new s right new_right news lt off =
         ]
 
 -- ---- what was sent
--- where d isn't before h, what is before h of the entries before d is what is before h of all
+-- if d isn't before h, what is before h of the entries before d is what is before h of all
 below_below : (h d : Stamp) (ms : List Message) → ¬ Before d h → below h (below d ms) ≡ below h ms
 below_below h d [] late = refl
 below_below h d (m ∷ ms) late = elim (before_decides m.stamp d) [

@@ -31,7 +31,7 @@ use Rattle.run_core.proofs.Fresh.{AllFresh, IsNextAt, RunsNext, pass_makes_fresh
 use Rattle.run_core.proofs.Passed.{is_pass}
 use Rattle.run_core.proofs.Standing.{HasStepped, has_stepped, all_rewound}
 
--- what was taken back and then heard
+-- a region that was taken back and then heard
 pub refreshed : (state : CellStateData) (regions back fresh : List RegionData) (more : Bool) →
     AllStand state regions → AllKept regions → back ≡ map (rewound state.floor) regions →
     Heard state back fresh more (AllHearUpTo state state.grid.regions) → Refreshed state regions fresh

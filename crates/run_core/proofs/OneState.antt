@@ -27,7 +27,7 @@ use Rattle.run_core.proofs.Advancing.{rules_after}
 use Rattle.run_core.proofs.Simulating.{grid_after}
 
 -- ---- a row
--- where any of some regions begins with a row of a disk, and no other begins with another one
+-- some region begins with a row of a disk, and no other begins with another one
 row_of_any : (regions : List RegionData) (i : ℕ) (p : Placed) →
     ((k : ℕ) (region : RegionData) (q : Placed) → slice_get regions k ≡ Some region →
     first_row region i ≡ Some q → q ≡ p) → (k : ℕ) (region : RegionData) → slice_get regions k ≡ Some region →
@@ -64,7 +64,7 @@ row_past (r ∷ regions) (suc k) i past = row_past regions k i (omega arith)
 
 module _ (state : CellStateData) (regions : List RegionData) (is : IsCellState state)
     (stand : AllStand state regions) where
-  -- a region that stands begins with rows of the state alone
+  -- a region that stands begins only with rows of the state
   begins_with : (k : ℕ) (region : RegionData) (i : ℕ) (p q : Placed) → slice_get state.placed i ≡ Some p →
       slice_get regions k ≡ Some region → first_row region i ≡ Some q → q ≡ p
   begins_with k region i p q here at has =
@@ -112,7 +112,7 @@ row_there earlier last floor regions state goes i lt =
     let here = slice_get-get_or state.placed i no_row lt in
     row_is state regions goes.is goes.stand i (get_or state.placed i no_row) here ∙ sym here
 
--- with the rows of the state, what the earlier one goes on to is the state
+-- with the rows of the state, the state that the earlier one goes on to is the state
 pub with_rows : (earlier : CellStateData) (last : Option Stamp) (floor : Stamp) (regions : List RegionData)
     (state : CellStateData) → GoesOnTo earlier last floor regions state → (rows : List Placed) →
     rows ≡ state.placed → later earlier rows last floor ≡ state
@@ -144,7 +144,7 @@ count_after [] state = refl
 count_after (x ∷ xs) state = count_after xs (followed state x)
     ∙ length_put (new_rows (slice_get state.placed) x) state.placed
 
--- where there is an action, the last one's stamp is known
+-- if there is an action, the last one's stamp is known
 last_of_some : (x : Action) (xs : List Action) (a b : Option Stamp) →
     option_or (last_stamp (x ∷ xs)) a ≡ option_or (last_stamp (x ∷ xs)) b
 last_of_some x [] a b = refl

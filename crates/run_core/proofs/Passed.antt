@@ -61,7 +61,7 @@ pub still_on : (grid : GridData) (old new : List RegionData) (state : CellStateD
     AllStand state new → StandOn grid new state
 still_on grid old new state on stand = record { grid_is = on.grid_is; stand = stand }
 
--- what holds up to the last region holds of all
+-- what holds up to the last region holds for all
 pub up_to_all : (grid : GridData) (regions : List RegionData) (state : CellStateData) (P : ℕ → Type 0) (n : ℕ) →
     StandOn grid regions state → n ≡ grid.regions → P n → P state.grid.regions
 up_to_all grid regions state P n on is p = subst P (is ∙ ap (λ (g : GridData). g.regions) (sym on.grid_is)) p
@@ -71,7 +71,7 @@ pub heard_none : (state : CellStateData) (regions : List RegionData) (P : List C
 heard_none state regions P stand covers =
     record { calls = []; hearings = λ x. refl; tells = refl; stand = stand; covers = covers }
 
--- what calls made, and then others
+-- calls, and then others
 heard_join : (state : CellStateData) (old mid new : List RegionData) (a b : Bool)
     (P Q R : List Call → Type 0) → ((xs ys : List Call) → P xs → Q ys → R (xs ++ ys)) →
     Heard state old mid a P → Heard state mid new b Q → Heard state old new (a || b) R

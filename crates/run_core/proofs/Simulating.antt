@@ -103,7 +103,7 @@ module _ {M : Type 0} (after : M → Change → M) (torn : M → Change → M �
           (told_in_turn after old mid new (hits so_far.done) (hits untold) so_far.told told);
     }
 
-    -- where the telling of it breaks off
+    -- if the telling of it breaks off
     pub untold_cut : (fault : RunFault) (new : Option M) → HitsCutShort after torn untold fault mid new →
         StepsCutShort after torn (bare_scene scene.rules scene.disks) fault old new
     untold_cut Listener new cut = (

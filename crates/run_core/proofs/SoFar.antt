@@ -54,13 +54,13 @@ module _ {M : Type 0} {after : M → Change → M} (torn : M → Change → M �
     awaits_now awaits each =
         awaits_untold after torn scene asked valid some state untold old mid told awaits each
 
-    -- where the telling of it breaks off
+    -- if the telling of it breaks off
     pub cut_so_far : (new : Option M) (fault : RunFault) → HitsCutShort after torn untold fault mid new →
         RunCutShort after torn scene fault old new
     cut_so_far new fault cut = cut_short after torn scene fault old new valid
         (untold_cut after torn scene asked valid some state untold old mid told fault new cut)
 
-    -- where memory is wanting
+    -- if memory runs out
     pub all_so_far : RunCutShort after torn scene NoMemory old mid
     all_so_far = cut_so_far mid NoMemory (0, told_none after mid)
 
@@ -103,7 +103,7 @@ pub cell_at_start : (scene : SceneData) (asked : ℕ) (start : CellStateData) �
 cell_at_start scene asked start valid some is =
     subst IsCellState (sym is) (start_is scene asked valid some)
 
--- less is left where it isn't the last
+-- less is left if it isn't the last
 pub less_left : {state later : CellStateData} {answer : Advance} {batch : List Action} → IsCellState state →
     Advances state answer later → answer ≡ Raised batch → work_left later < work_left state
 less_left {state} {later} {batch = batch} cell advance is =

@@ -1,4 +1,4 @@
--- The rows of a cell state one after the other, and where its disks are in the end.
+-- The rows of a cell state one after the other, and the spots of its disks at the end.
 use Rattle.std.proofs.Common.{◌≡◌, ℕ, ◌+◌, ◌<◌, List, [], ◌∷◌, ◌++◌}
 use Rattle.std.proofs.Common.{length, take, get_or, slice_get, sym, ap, ◌∙◌, refl, Some}
 use Rattle.std.specs.Prelude.{option_map}

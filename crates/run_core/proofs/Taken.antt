@@ -90,7 +90,7 @@ module _ (state : CellStateData) (old mid : List RegionData) (k q : ℕ) (answer
 below_or_last : (q i : ℕ) → q < i + 1 → (q < i) ⊎ (q ≡ i)
 below_or_last q i lt = grind arith
 
--- what region q makes of it depends on the teller and on q alone
+-- how region q takes it in depends only on the teller and on q
 took_from : (state : CellStateData) (runs mid : LocalRuns) (k q : ℕ) (after : Local) → mid k ≡ runs k →
     mid q ≡ runs q → TookIn state mid k q after → TookIn state runs k q after
 took_from state runs mid k q after teller same (inl (linked, takes)) = inl (

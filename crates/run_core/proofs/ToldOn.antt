@@ -1,4 +1,4 @@
--- What was told of what is untold, beside a burst and after it.
+-- What was told of the untold actions, beside a burst and after it.
 use Rattle.std.proofs.Common.{◌≡◌, Err, ℕ, List, [], ◌++◌, append-nil, take, sym, ap, ◌∙◌, subst}
 use Rattle.std.proofs.Common.{Option, Some, None}
 use Rattle.event_rules.specs.declared.change.Change.{Change}
@@ -13,7 +13,7 @@ use Rattle.cell_sequence.proofs.Joins.{hits_join}
 use Rattle.commit_horizon.specs.Telling.{HitsCutShort}
 use Rattle.commit_horizon.specs.TellingOn.{TellsFirst, TellsTorn, TellsOn, AwaitsUntold}
 
--- where no refusal is kept, what is untold has to be awaited
+-- if no refusal is kept, what is untold has to be awaited
 pub fits_unheard : {M : Type 0} (after : M → Change → M) (awaits : M → Change → Type 0) (untold : List Action)
     (fault : Option Deaf) (m : Option M) → fault ≡ None → AwaitsAll after awaits m (hits untold) →
     AwaitsUntold after awaits untold fault m
@@ -22,7 +22,7 @@ fits_unheard after awaits untold (Some deaf) m heard each = tt
 
 module _ {M : Type 0} (after : M → Change → M) (torn : M → Change → M → Type 0) where
   -- ---- the first of some actions
-  -- all, where none is left
+  -- all, if none is left
   pub first_all : (old new : List Action) (m n : Option M) (f g : ℕ) → TellsFirst after old m f new n g → new ≡ [] →
       Told after m (hits old) n
   first_all old new m n f g (gone, is, told, count) none =

@@ -46,7 +46,7 @@ pub at_fault : {T E : Type 0} (P : Result T E → Type 0) (r : Result T E) (e fa
     P (Err fault) → P r
 at_fault P r e fault is known holds = subst P (sym (is ∙ ap Err known)) holds
 
--- a count of refusals where a call breaks off, whatever it would have answered
+-- a count of refusals if a call breaks off, whatever it would have answered
 pub counts_of_err : (S T : Type 0) (before after : ℕ) (fault : RunFault) →
     CountsRun {T = S} before after (Err fault) → CountsRun {T = T} before after (Err fault)
 counts_of_err S T before after Listener h = h
@@ -57,7 +57,7 @@ if_ok_goes (Ok x) f p = f x p
 if_ok_goes (Err e) f p = tt
 
 -- ---- the second part
--- regions on a state that comes of an earlier one are regions of its grid
+-- regions on a state that comes from an earlier one are regions of its grid
 pub stand_on_cells : (earlier : CellStateData) (grid : GridData) (floor : Stamp) (regions : List RegionData)
     (state : CellStateData) → grid ≡ earlier.grid → ComesOf earlier floor regions state →
     StandOnCells grid regions state

@@ -49,8 +49,8 @@ pub record FirstPart (old : CellStateData) (runs : LocalRuns) (batch : List Acti
   pub hear : Passes old runs passes (runs_of heard)
   pub commits : Commits old heard batch new left
 
--- region k, whose due stamp s is the least, makes a step: it runs the event, those linked to it take it in,
--- and there is a commit; or no event is left; or the event fails a limit
+-- region k, whose due stamp s is the least, makes a step: it runs the event, those linked to it take it in, and there
+-- is a commit; or no event is left; or the event fails a limit
 abbrev pub SecondAnswers : CellStateData → LocalRuns → ℕ → Stamp → Advance → CellStateData →
     List RegionData → Type 0
 SecondAnswers old fresh k s (Raised batch) new left = (ran : LocalRuns) × (after : List RegionData)
@@ -61,8 +61,8 @@ SecondAnswers old fresh k s (End batch) new left =
 SecondAnswers old fresh k s (Limit batch limit) new left = ((kept : Local)
     × StepsTo (home_of old k) (fresh k) (Halted limit) kept) × (batch ≡ []) × (new ≡ old)
 
--- the second part: all are taken back to the floor and hear each other, and the one with the least that is
--- due makes a step
+-- the second part: all are taken back to the floor and hear each other, and the region whose due stamp is the least
+-- makes a step
 pub record SecondPart (old : CellStateData) (runs : LocalRuns) (answer : Advance) (new : CellStateData)
     (left : List RegionData) : Type 0 where
   pub back : LocalRuns
@@ -76,7 +76,7 @@ pub record SecondPart (old : CellStateData) (runs : LocalRuns) (answer : Advance
   pub least : IsLeastDue old fresh dues home
   pub answers : SecondAnswers old fresh home (dues home) answer new left
 
--- the first part, where it commits an action; or the second part after a first that commits none
+-- the first part, if it commits an action; or the second part after a first that commits none
 abbrev pub Works : CellStateData → LocalRuns → Advance → CellStateData → List RegionData → Type 0
 Works old runs answer new left =
     ((batch : List Action) × FirstPart old runs batch new left × (batch ≢ []) × (answer ≡ Raised batch))

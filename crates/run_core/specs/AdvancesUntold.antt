@@ -1,4 +1,4 @@
--- What an advance comes to whose batch is left to be told.
+-- The result of an advance whose batch is left to be told.
 use Rattle.std.specs.Prelude.{◌≡◌, List}
 use Rattle.region_view.specs.declared.action.Action.{Action}
 use Rattle.cell_sequence.specs.State.{CellStateData, followed_by, raised, last_stamp}
@@ -18,7 +18,7 @@ answer_with GoesOn batch = Raised batch
 answer_with Ends batch = End batch
 answer_with (Fails limit) batch = Limit batch limit
 
--- the second part of an advance, with this batch, and what is answered of the state that comes of it
+-- the second part of an advance, with this batch, and what is answered about the new state
 pub record EventMade (old : CellStateData) (regions : List RegionData) (kind : AdvanceKind) (batch : List Action)
     (made : Final) (left : List RegionData) : Type 0 where
   pub new : CellStateData
@@ -27,7 +27,7 @@ pub record EventMade (old : CellStateData) (regions : List RegionData) (kind : A
   pub is_last : made.last ≡ last_stamp batch
   pub stand : AllStand new left
 
--- an advance with this batch, and what is answered of the state that comes of it
+-- an advance with this batch, and what is answered about the new state
 pub record AdvanceMade (old : CellStateData) (regions : List RegionData) (kind : AdvanceKind) (batch : List Action)
     (made : Final) (left : List RegionData) : Type 0 where
   pub new : CellStateData

@@ -21,7 +21,7 @@ pub record Call : Type 0 where
 abbrev pub sent_by : CellStateData → LocalRuns → ℕ → ℕ → List Message
 sent_by state runs k q = sent_to state.grid q (runs k).base (runs k).log
 
--- what a call makes of the regions: the hearer hears what the sender sent, and the others stay
+-- the regions after a call: the hearer hears what the sender sent, and the others stay
 pub record Hears (state : CellStateData) (runs : LocalRuns) (c : Call) (after : LocalRuns) : Type 0 where
   pub hearer : IsRegion state.grid c.hearer
   pub sender : IsRegion state.grid c.sender
@@ -30,7 +30,7 @@ pub record Hears (state : CellStateData) (runs : LocalRuns) (c : Call) (after : 
       (after c.hearer)
   pub others : (x : ℕ) → x ≢ c.hearer → after x ≡ runs x
 
--- what calls make of them, one after the other
+-- the regions after some calls, one after the other
 abbrev pub Hearings : CellStateData → LocalRuns → List Call → LocalRuns → Type 0
 Hearings state runs [] after = (x : ℕ) → after x ≡ runs x
 Hearings state runs (c ∷ cs) after =
@@ -42,6 +42,7 @@ abbrev pub IsPass : CellStateData → List Call → Type 0
 IsPass state cs = (k q : ℕ) → IsRegion state.grid k → IsRegion state.grid q → AreLinked state.grid k q →
     (a : Hearing) × IsAmong (record { hearer = q; sender = k; answer = a }) cs
 
+-- 1 if the hearer was rewound, else 0
 abbrev pub one_if_rewound : Hearing → ℕ
 one_if_rewound Same = 0
 one_if_rewound (Rewound d) = 1

@@ -30,7 +30,7 @@ abbrev pub PassesEndInAgreement : Type 0
 PassesEndInAgreement = (state : CellStateData) (runs after : LocalRuns) (ps : List (List Call)) →
     Passes state runs ps after → AllHeard state after
 
--- there are at most as many passes as the regions had entries, and one
+-- there are at most as many passes as the regions had entries, plus one
 abbrev pub PassesEnd : Type 0
 PassesEnd = (state : CellStateData) (runs after : LocalRuns) (ps : List (List Call)) →
     Passes state runs ps after → length ps ≤ 1 + entry_count state.grid.regions runs

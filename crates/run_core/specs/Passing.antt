@@ -21,7 +21,7 @@ is_rewound (Rewound d) = true
 is_rewound (Later d) = false
 is_rewound Apart = false
 
--- calls, of which P holds, made this of the regions; `more` says whether one rewound its hearer
+-- calls, for which P holds, led from these regions to those; `more` says whether one rewound its hearer
 pub record Heard (state : CellStateData) (old new : List RegionData) (more : Bool)
     (P : List Call → Type 0) : Type 0 where
   pub calls : List Call
@@ -30,7 +30,7 @@ pub record Heard (state : CellStateData) (old new : List RegionData) (more : Boo
   pub stand : AllStand state new
   pub covers : P calls
 
--- region q hears region k, where they are linked
+-- region q hears region k, if they are linked
 abbrev pub HearsOne : CellStateData → ℕ → ℕ → List Call → Type 0
 HearsOne state q k calls = AreLinked state.grid k q →
     (a : Hearing) × IsAmong (record { hearer = q; sender = k; answer = a }) calls
@@ -43,12 +43,12 @@ HearsUpTo state q j calls = (k : ℕ) → k < j → HearsOne state q k calls
 abbrev pub AllHearUpTo : CellStateData → ℕ → List Call → Type 0
 AllHearUpTo state i calls = (q : ℕ) → q < i → HearsUpTo state q state.grid.regions calls
 
--- passes, of which the last alone rewinds none, made this of the regions
+-- passes, of which only the last rewinds none, led from these regions to those
 pub record Agrees (state : CellStateData) (old new : List RegionData) : Type 0 where
   pub passes : List (List Call)
   pub hear : Passes state (runs_of old) passes (runs_of new)
 
--- so they did, and stand on the state still
+-- they did so, and still stand on the state
 pub record AgreeAndStand (state : CellStateData) (old new : List RegionData) : Type 0 where
   pub agree : Agrees state old new
   pub stand : AllStand state new

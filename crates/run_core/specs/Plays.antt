@@ -31,6 +31,7 @@ PlaysOne regions (Hear k q) answer after =
     ((h : Hearing) × ArePair regions k q × Meets regions k q h after × (answer ≡ Some (Heard h)))
     ⊎ ((¬ ArePair regions k q) × IsPassedOver regions answer after)
 
+-- the answer, if there is one, as a list
 abbrev pub answers_of : Option Answer → List Answer
 answers_of None = []
 answers_of (Some answer) = answer ∷ []
@@ -46,7 +47,7 @@ Plays regions (c ∷ cs) answers after =
 abbrev pub SpendsOneAtMost : List RegionData → List RegionData → Type 0
 SpendsOneAtMost regions after = (after ≡ regions) ⊎ ((k : ℕ) × SpendsOne regions k after)
 
--- the first calls, so many, and then memory was wanting: at most one region is spent by that
+-- the first n calls were made, and then memory ran out: at most one region is spent by that
 pub record PlaysSome (regions : List RegionData) (calls : List CoreStep) (after : List RegionData) :
     Type 0 where
   pub count : ℕ
@@ -55,7 +56,7 @@ pub record PlaysSome (regions : List RegionData) (calls : List CoreStep) (after 
   pub plays : Plays regions (take count calls) answers mid
   pub left : SpendsOneAtMost mid after
 
--- where the region at a place stands on a state, by whatever number, what is at that place goes on standing on it by that
+-- if the region at a place stands on a state, by any number, the region at that place goes on standing on it by that
 -- number
 abbrev pub GoOnStanding : List RegionData → List RegionData → Type 0
 GoOnStanding old new = (state : CellStateData) (i k : ℕ) (region : RegionData) →

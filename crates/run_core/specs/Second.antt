@@ -18,7 +18,7 @@ use Rattle.run_core.specs.Hearings.{sent_by}
 abbrev pub rewound_to : Stamp → Local → Local
 rewound_to s run = record run { log = entries_below s run.log }
 
--- of what the regions have due, what region k has is the least
+-- region k's due stamp is the least of all
 pub record IsLeastDue (state : CellStateData) (runs : LocalRuns) (dues : ℕ → Stamp) (k : ℕ) : Type 0 where
   pub within : IsRegion state.grid k
   pub due : (q : ℕ) → IsRegion state.grid q → IsDueOrEnd (home_of state q) (now_of (runs q)) (dues q)
@@ -31,7 +31,7 @@ StepsIfLater state q (Rewound d) mid after = after ≡ mid
 StepsIfLater state q (Later d) mid after = (step : Step) × StepsTo (home_of state q) mid step after
 StepsIfLater state q Apart mid after = after ≡ mid
 
--- region q hears what region k sent, and makes a step where that is new
+-- region q hears what region k sent, and makes a step if that is new
 pub record TakesIn (state : CellStateData) (runs : LocalRuns) (k q : ℕ) (after : Local) : Type 0 where
   pub answer : Hearing
   pub mid : Local

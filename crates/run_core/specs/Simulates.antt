@@ -16,7 +16,7 @@ batch_of (Raised batch) = batch
 batch_of (End batch) = batch
 batch_of (Limit batch limit) = batch
 
--- a number that is less for the stamps before it, and least where there is none
+-- a number that is less for lesser stamps, and least if there is none
 abbrev pub rank_of : Option Stamp → ℕ
 rank_of None = 0
 rank_of (Some s) = rank s + 1

@@ -13,7 +13,7 @@ abbrev pub row_among : List RegionData → ℕ → Option Placed
 row_among [] i = None
 row_among (region ∷ regions) i = option_or (first_row region i) (row_among regions i)
 
--- those of the first disks, so many
+-- the rows of the first n disks
 unfoldable pub rows_among : List RegionData → ℕ → List Placed
 rows_among regions zero = []
 rows_among regions (suc n) = rows_among regions n ++ option_to_list (row_among regions n)
@@ -22,8 +22,8 @@ rows_among regions (suc n) = rows_among regions n ++ option_to_list (row_among r
 abbrev pub seen_as : CellStateData → Option Stamp → Stamp → List RegionData → CellStateData
 seen_as earlier last floor regions = later earlier (rows_among regions (length earlier.placed)) last floor
 
--- a state on which the regions stand, to which the run goes on from an earlier one; the floor is this, and the last
--- action has this stamp, where there is any
+-- a state on which the regions stand, to which the run goes on from an earlier one; it has this floor, and the last
+-- action has this stamp, if there is any
 pub record GoesOnTo (earlier : CellStateData) (last : Option Stamp) (floor : Stamp) (regions : List RegionData)
     (state : CellStateData) : Type 0 where
   pub is : IsCellState state

@@ -1,4 +1,4 @@
--- What regions have due, and what the others make of one region's step.
+-- What regions have due, and how the others take in one region's step.
 use Rattle.std.specs.Prelude.{◌≡◌, ◌≢◌, ◌⊎◌, ℕ, ◌<◌, List, Some, length, slice_get}
 use Rattle.event_stamps.specs.declared.Stamp.{Stamp}
 use Rattle.event_stamps.specs.Order.{Before}
@@ -18,7 +18,7 @@ use Rattle.run_core.specs.Second.{rewound_to, TakesIn, AllTakeIn}
 use Rattle.run_core.specs.Turns.{Turns}
 
 -- ---- what is due
--- of what the first n regions have due, the one at a place has the least, and none before it has that
+-- of what the first n regions have due, the one at a place has the least, and none before it has the same
 pub record IsFirstDue (regions : List RegionData) (n home : ℕ) (stamp : Stamp) : Type 0 where
   pub dues : ℕ → Stamp
   pub due : (k : ℕ) (region : RegionData) → k < n → slice_get regions k ≡ Some region →
@@ -28,7 +28,7 @@ pub record IsFirstDue (regions : List RegionData) (n home : ℕ) (stamp : Stamp)
   pub least : (k : ℕ) → k < n → ¬ Before (dues k) stamp
   pub first : (k : ℕ) → k < home → Before stamp (dues k)
 
--- the same of all regions
+-- the same for all regions
 abbrev pub IsNextHome : List RegionData → ℕ → Type 0
 IsNextHome regions home = (stamp : Stamp) × IsFirstDue regions (length regions) home stamp
 
@@ -71,13 +71,13 @@ pub record Refreshed (state : CellStateData) (regions fresh : List RegionData) :
   pub hear : Hearings state back pass (runs_of fresh)
   pub stand : AllStand state fresh
 
--- where the step of region k ran the event, all regions took in what it sent; else they are as it left them
+-- if the step of region k ran the event, all regions took in what it sent; else they are as the step left them
 abbrev pub TakenIfRan : CellStateData → List RegionData → ℕ → Step → List RegionData → Type 0
 TakenIfRan state stepped k (Ran s) left = AllTookIn state stepped k left
 TakenIfRan state stepped k _ left = left ≡ stepped
 
--- regions that stand ran the next event: all were taken back to the floor and heard each other, and the one with the
--- least that is due made a step
+-- regions that stand ran the next event: all were taken back to the floor and heard each other, and the region whose
+-- due stamp is the least made a step
 pub record RunsEvent (state : CellStateData) (regions : List RegionData) (step : Step) (left : List RegionData) :
     Type 0 where
   pub fresh : List RegionData

@@ -1,4 +1,4 @@
-//! How the state on which regions stand goes on, while what is committed is left to be told.
+//! How the state on which regions stand goes on, while the committed actions are left to be told.
 
 ghost use Rattle.std.specs.Prelude.{◌≡◌, [], IfOk};
 ghost use Rattle.cell_sequence.specs.State.{CellStateData};
@@ -17,8 +17,8 @@ use event_stamps::Stamp;
 use region_core::{Region, Step};
 use std::alloc::{AllocError, Global};
 
-/// Makes final what [`advance`](crate::advance) does. The batch is untold then, and the rows of the state stay with the
-/// regions.
+/// Makes final what [`advance`](crate::advance) makes final. The batch is untold then, and the rows of the state stay
+/// with the regions.
 ///
 /// # Errors
 /// Out of memory.
@@ -41,7 +41,7 @@ pub(crate) fn advance_untold(
     Ok((kind, standing))
 }
 
-/// The same of the regions themselves, which stand on a state with the rules and the grid of an earlier one.
+/// The same for the regions themselves, which stand on a state with the rules and the grid of an earlier one.
 ///
 /// # Errors
 /// Out of memory.

@@ -1,9 +1,9 @@
-//! What an advance of the committed state answers.
+//! The answers of an advance of the committed state.
 
 use commit_horizon::Batch;
 use event_rules::Limit;
 
-/// What an advance answers.
+/// The answer of an advance.
 #[derive(Drop)]
 pub enum Advance {
     /// Some actions were committed.
@@ -14,7 +14,7 @@ pub enum Advance {
     Limit(Batch, Limit),
 }
 
-/// What an advance comes to, whatever it committed.
+/// The kind of an advance, whatever it committed.
 #[derive(Clone, Copy)]
 pub(crate) enum AdvanceKind {
     /// Some actions were committed.

@@ -2,18 +2,18 @@
 
 ghost use Rattle.run_core.specs.Laws.{HearingsKeepBounds, PassesEnd, PassesEndInAgreement, AdvancesEnd, LimitsEndTheRun};
 
-/// Whatever regions that stand on a state hear from each other, they go on standing on it, and each bound of
-/// theirs stays a bound: so hearing never lowers the commit horizon.
+/// Regions that stand on a state go on standing on it whatever they hear from each other, and each of their bounds
+/// stays a bound: so hearing never lowers the commit horizon.
 pub fn hearings_keep_bounds()
     ensures { HearingsKeepBounds }
 {}
 
-/// Passes of hearings, up to the first that rewinds none, end: each that rewinds takes an entry.
+/// Passes of hearings, up to the first that rewinds none, end: each pass that rewinds takes an entry away.
 pub fn passes_end()
     ensures { PassesEnd }
 {}
 
-/// After them each region has heard from each that is linked with it just what that one sent.
+/// After them each region has heard from each linked one exactly what that one sent.
 pub fn passes_end_in_agreement()
     ensures { PassesEndInAgreement }
 {}
@@ -23,8 +23,8 @@ pub fn advances_end()
     ensures { AdvancesEnd }
 {}
 
-/// The limit that an advance answers is the one at which the cell run ends, right after the actions that it
-/// committed: none that a region met on its own way.
+/// The limit that an advance answers is the one at which the cell run ends, right after the actions that it committed.
+/// It is never one that a region met only on its own way.
 pub fn limits_end_the_run()
     ensures { LimitsEndTheRun }
 {}

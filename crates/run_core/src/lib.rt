@@ -1,4 +1,4 @@
-//! The run over all regions: they hear each other, and what they did before the commit horizon is taken over.
+//! The run over all regions: they hear each other, and what they did before the commit horizon is committed.
 #![tactic(auto)]
 
 mod advance_untold;

@@ -1,4 +1,4 @@
-//! Regions with the one cell state on which they stand.
+//! Regions together with the cell state on which they stand.
 
 use commit_horizon::Committed;
 use event_stamps::Stamp;
@@ -203,7 +203,7 @@ impl Standing {
         Ok(placed)
     }
 
-    /// Where all disks are in the end.
+    /// The spots of all disks at the end.
     ///
     /// # Errors
     /// Out of memory.
@@ -226,7 +226,7 @@ impl Standing {
         self.earlier.state().placed().len()
     }
 
-    // The row of a disk in the state: that of any region that begins with one, as all of them have the state's.
+    // The row of a disk in the state: that of any region that begins with one, since all of them have the state's row.
     fn row(&self, disk: usize) -> Placed
         requires { disk < length self.now.placed }
         ensures value { slice_get self.now.placed disk ≡ Some result }
@@ -236,7 +236,7 @@ impl Standing {
     }
 }
 
-// Where a disk is in the end.
+// The spot of a disk at the end.
 fn spot_at_end(rules: &Rules, disk: &Disk) -> Spot
     requires checked { IsChecked rules.now }
     requires valid { IsValidDisk rules.now disk.now }

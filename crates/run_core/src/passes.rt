@@ -27,7 +27,7 @@ pub(crate) fn agree(alloc: Global, grid: &Grid, regions: &mut [Region]) -> Resul
     }
 }
 
-/// Each region hears each that is linked with it; whether that took back what one of them had done.
+/// Each region hears each that is linked with it. The answer says whether any of them was rewound.
 ///
 /// # Errors
 /// Out of memory.
@@ -43,7 +43,7 @@ pub(crate) fn pass(alloc: Global, grid: &Grid, regions: &mut [Region]) -> Result
     Ok(more)
 }
 
-// One region hears each that is linked with it; whether it was rewound.
+// One region hears each that is linked with it. The answer says whether it was rewound.
 fn hear_all(
     alloc: Global,
     grid: &Grid,

@@ -3,7 +3,7 @@
 use region_core::{Hearing, Step};
 use std::marker::Model;
 
-/// A call on one region of some, by their places.
+/// A call on some regions, which are named by their places.
 #[derive(Clone, Copy, Debug, PartialEq, Eq)]
 pub enum CoreStep {
     /// This region makes a step.
@@ -17,16 +17,16 @@ pub enum CoreStep {
     },
 }
 
-/// What a call answered.
+/// The answer of a call.
 #[derive(Clone, Copy, Debug, PartialEq, Eq)]
 pub enum Answer {
-    /// That of a step.
+    /// The answer of a step.
     Step(Step),
-    /// That of a hearing.
+    /// The answer of a hearing.
     Hearing(Hearing),
 }
 
-/// The answers of calls, in order; one that was passed over has none.
+/// The answers of calls, in order; a call that was passed over has none.
 #[derive(Drop)]
 pub struct Played {
     answers: Vec<Answer>,
@@ -57,8 +57,8 @@ impl Played {
     }
 }
 
-/// Makes calls on some regions, in the order of a list. One that names a place where there is no region, or
-/// the same place twice, is passed over.
+/// Makes calls on some regions, in the order of a list. A call is passed over if there is no region at a place that it
+/// names, or if it names the same place twice.
 ///
 /// # Errors
 /// Out of memory: the first calls were made, and at most one region was spent.

@@ -63,8 +63,8 @@ pub fn simulate<B: Burst<Telling, L>, R: Threads + Wait + Sync, L: Listener>(
     }
 }
 
-// Lets a burst work on regions, beside which what is untold is told, and advances by those that stand on their state.
-// What was untold is told then, and what this made final is untold.
+// Lets a burst work on regions, while actions that are untold are told beside it, and then advances. All that was
+// untold before is told then, and what the advance made final is untold.
 fn work<B: Burst<Telling, L>, R: Threads + Wait + Sync, L: Listener>(
     rt: &R,
     alloc: Global,
@@ -90,7 +90,7 @@ fn work<B: Burst<Telling, L>, R: Threads + Wait + Sync, L: Listener>(
             let advanced = advance_untold(alloc, worked, &mut telling.untold)?;
             Ok(advanced)
         }
-        // A refusal comes first: once it is counted, want of memory isn't the answer.
+        // A refusal comes first: once it is counted, running out of memory isn't the answer.
         Err(_) => match telling.fault {
             Some(_) => Err(RunFault::Listener),
             None => Err(RunFault::NoMemory),

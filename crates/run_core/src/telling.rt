@@ -1,4 +1,4 @@
-//! What is told beside a burst.
+//! Telling what is final beside a burst.
 
 ghost use Rattle.std.specs.Prelude.{◌≡◌, [], None, Some, OnOk, IfErr};
 ghost use Rattle.commit_horizon.specs.TellingOn.{AwaitsUntold, TellsOn};
@@ -17,7 +17,7 @@ const MOST_AT_ONCE: u32 = 16;
 pub struct Telling {
     /// The actions that are still to be told.
     pub untold: Untold,
-    /// That the listener refused one: nothing is told any more.
+    /// Set if the listener refused one: nothing is told any more.
     pub fault: Option<Deaf>,
 }
 

@@ -1,8 +1,8 @@
-//! Runs of whole scenes below the program: those over regions, whatever works on these, and the cell run, beside
-//! the runs of the engine that looks at all pairs.
+//! Tests of runs of whole scenes below the program: runs over regions with all kinds of bursts, and the cell run,
+//! compared with the runs of the engine that looks at all pairs.
 //!
-//! There is nothing here but tests: they stand beside the crates that they are of, so that each is proved without
-//! the other.
+//! There is nothing here but tests. They are in a crate of their own, so that this crate and the crates that it tests
+//! are proved without each other.
 #![tactic(auto)]
 
 #[cfg(test)]

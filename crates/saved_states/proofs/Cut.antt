@@ -1,4 +1,4 @@
--- What stays of kept views where those after a position, or before it, are dropped.
+-- The views that stay if those after a position, or before it, are dropped.
 use Rattle.std.proofs.Common.{◌≡◌, List, ◌-◌, ◌++◌, subst, ℕ, zero, suc, ◌<◌, ◌≤◌, true, false, [], ◌∷◌, length, get_or, take, drop, sym, ap, ◌∙◌, refl, arith}
 use Rattle.std.specs.Prelude.{nat_le}
 use Rattle.std.proofs.Math.Seq.{take-append_seam}
@@ -31,7 +31,7 @@ later_up_to position (suc n) view (step ∷ steps) h =
     let more = later_up_to position n view steps (next_place position step steps n h) in
     rw within (λ i. (step.0, here i) ∷ more i)
 
--- What is left where a list is turned by its first elements, and then as many are dropped from its end.
+-- What is left if a list is rotated by its first elements, and then as many are dropped from its end.
 pub turned : {A : Type 0} (n count : ℕ) (l : List A) → count ≡ length l →
     take (count - n) (drop n l ++ take n l) ≡ drop n l
 turned n count l e =
@@ -47,8 +47,7 @@ cut position n first view steps h =
     let more = later_up_to position n view steps h in
     λ i. (first, here i) ∷ more i
 
--- where the steps from n on are undone in a copy of the newest view, what comes of it is the last view up
--- to the position
+-- if the steps from n on are undone in a copy of the newest view, the result is the last view up to the position
 pub restored : (position n first : ℕ) (newest copied view : ViewData) (steps whole : StepList)
     (saved : SavedData) → IsPlace position steps n → rebuilt first newest steps ≡ saved → whole ≡ steps →
     copied ≡ newest → view ≡ view_before copied (take (length whole - n) (drop n whole)) →
@@ -79,7 +78,7 @@ dropped position (suc n) first view (step ∷ steps) h =
     rw within (dropped position n step.0 view steps (next_place position step steps n h))
 
 -- ---- steps that are undone one by one
--- of the steps those from n on were undone, and the others are left
+-- the steps from n on were undone, and the others are left
 pub record AreUndone (n : ℕ) (old : StepList) (newest : ViewData) (left : StepList) (before : ViewData) :
     Type 0 where
   pub within : n ≤ length old

@@ -1,4 +1,4 @@
--- The rows of the first view, told by the newest one and the rows that lead back from it.
+-- The rows of the first view, given the newest one and the rows that lead back from it.
 use Rattle.std.proofs.Common.{◌≡◌, ◌≢◌, ℕ, suc, ◌+◌, ◌<◌, Bool, true, false, [], ◌∷◌, ◌++◌, length, get_or, take, drop, sym, ap, ◌∙◌, refl, arith, Option}
 use Rattle.std.specs.Prelude.{◌==◌, if◌then◌else◌}
 use Rattle.std.specs.FinMap as map

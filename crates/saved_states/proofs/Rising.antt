@@ -5,7 +5,7 @@ use Rattle.std.proofs.lemmas.Option.{none-some, same_Some, slice_get_within, sli
 use Rattle.region_view.specs.Setting.{RowList}
 use Rattle.saved_states.specs.Steps.{StepList, RiseAfter, last_position}
 
--- the first steps, so many, are at positions up to this one, and the others after it
+-- the first n steps are at positions up to this one, and the others after it
 abbrev pub IsPlace : ℕ → StepList → ℕ → Type 0
 IsPlace position steps n =
     IsPartitionPoint (λ step. step.0 ≤ position) (λ step. position < step.0) steps n

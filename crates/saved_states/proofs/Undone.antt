@@ -42,7 +42,7 @@ get_other (row ∷ rows) view i not =
     get_other rows (put view row.0 row.1) i (λ h. not (inr h))
     ∙ get_put_other view row.0 row.1 i (λ e. not (inl e))
 
--- a view that differs from another at the numbers of these rows alone
+-- a view that differs from another only at the numbers of these rows
 get_back : (rows : RowList) (view other : ViewData) →
     ((i : ℕ) → ¬ HasRow i rows → map.get other i ≡ map.get view i) → (i : ℕ) →
     map.get (set_rows other (rows_at (rows_in view) rows)) i ≡ map.get view i

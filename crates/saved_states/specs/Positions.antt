@@ -4,7 +4,7 @@ use Rattle.std.specs.FinMap as map
 use Rattle.region_view.specs.Views.{ViewData}
 use Rattle.region_view.specs.Setting.{RowList, set_rows}
 
--- the state of a region after so many steps, in the order of their numbers
+-- the state of a region after each number of steps that is kept, in the order of the numbers
 abbrev pub SavedData : Type 0
 SavedData = List (ℕ × ViewData)
 
@@ -18,16 +18,17 @@ abbrev pub AreSaved : SavedData → Type 0
 AreSaved [] = ⊥
 AreSaved (pair ∷ pairs) = PositionsRiseAfter pair.0 pairs
 
--- the first position; of no pairs, 0
+-- the first position; if there are no pairs, 0
 abbrev pub first_position : SavedData → ℕ
 first_position [] = 0
 first_position (pair ∷ pairs) = pair.0
 
--- the first view; of no pairs, one without rows
+-- the first view; if there are no pairs, one without rows
 abbrev pub first_saved : SavedData → ViewData
 first_saved [] = map.empty
 first_saved (pair ∷ pairs) = pair.1
 
+-- the last pair, or the one given if there are no others
 abbrev pub last_pair : ℕ × ViewData → SavedData → ℕ × ViewData
 last_pair pair [] = pair
 last_pair pair (next ∷ pairs) = last_pair next pairs

@@ -13,7 +13,7 @@ abbrev pub RiseAfter : ℕ → StepList → Type 0
 RiseAfter n [] = ⊤
 RiseAfter n (step ∷ steps) = (n < step.0) × RiseAfter step.0 steps
 
--- the position of the last step; of no steps, the first one
+-- the position of the last step; if there are no steps, the first one
 abbrev pub last_position : ℕ → StepList → ℕ
 last_position first [] = first
 last_position first (step ∷ steps) = last_position step.0 steps

@@ -51,7 +51,7 @@ sent_drawn number draws = omega (arith, ints)
 abbrev pub disk : ℤ → ℤ → ℤ → ℤ → Disk
 disk x y vx vy = record { x = x; y = y; vx = vx; vy = vy; size = pos 1024; base = 0; mark = 0 }
 
--- the disk that the code makes of two draws after those of the disks before it
+-- the disk that the code makes from two draws after those of the disks before it
 pub disk_drawn : (number side index state next : ℕ) (x y vx vy : ℤ) →
     x ≡ pos (1024 + 2048 * (index % side)) → y ≡ pos (1024 + 2048 * (index / side)) →
     state ≡ state_after number (2 * index) → next ≡ state_after state 1 → vx ≡ drawn state 1 → vy ≡ drawn next 1 →

@@ -35,7 +35,7 @@ pub cast_line : (before after key : List ℕ) (n : ℕ) → n < 2 ^ 63 →
     after ≡ before ++ key_line key (to_z w64 n) → after ≡ before ++ key_line key (pos n)
 cast_line before after key n small line = line ∙ ap (λ (z : ℤ). before ++ key_line key z) (to_z_pos w64 n small)
 
--- three pieces, one after another, where there was nothing
+-- three pieces, one after another, in an empty text
 pub joined : (a b c d x y z : List ℕ) → a ≡ [] → b ≡ a ++ x → c ≡ b ++ y → d ≡ c ++ z → d ≡ x ++ (y ++ z)
 joined a b c d x y z h k l m =
     m ∙ ap (λ (v : List ℕ). v ++ z) l ∙ append_assoc b y z ∙ ap (λ (v : List ℕ). v ++ (y ++ z)) (k ∙ ap (λ (v : List ℕ). v ++ x) h)

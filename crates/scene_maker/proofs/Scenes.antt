@@ -41,7 +41,7 @@ pub one_more_disk : (number side index : ℕ) (disks later : List Disk) (disk : 
 one_more_disk number side index disks later disk e f g =
     g ∙ (λ i. e i ++ f i ∷ []) ∙ sym (map-range_with_len_more (made_disk number side) 0 index index (omega arith))
 
--- what the code makes once its index has come to the number of disks
+-- what the code makes once its index has reached the number of disks
 pub made_of : (number side count index : ℕ) (rules : Rules) (disks : List Disk) → IsSide count side → index ≡ count →
     rules ≡ made_rules side → disks ≡ made_disks number side index →
     IsMade number count (record { rules = rules; disks = disks; every = None })

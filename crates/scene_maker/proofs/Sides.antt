@@ -1,10 +1,10 @@
--- The side of the smallest square with room for so many.
+-- The side of the smallest square with room for this many disks.
 use Rattle.std.proofs.Common.{◌≡◌, ℕ, zero, suc, ◌*◌, ◌<◌, ◌≤◌, ◌⊎◌, inl, inr, arith}
 use Rattle.std.proofs.lemmas.Bool.{cases_lt}
 use Rattle.std.proofs.Math.Nat.{eq-or-lt_of_le}
 use Rattle.scene_maker.specs.Made.{IsSide}
 
--- there is room for so many in a square of 256
+-- a square of 256 has room for this many
 pub side_most : (count side : ℕ) → count ≤ 65536 → IsSide count side → side ≤ 256
 side_most count side h k = k.least 256 (omega arith) (omega arith)
 

@@ -12,6 +12,7 @@ use Rattle.fixed_motion.specs.Scene.{SceneData}
 abbrev pub key_line : List ℕ → ℤ → List ℕ
 key_line key value = ended (key ++ (codes " = " ++ signed_decimal value))
 
+-- the rules, a line for each number
 abbrev pub rules_text : Rules → List ℕ
 rules_text rules =
     key_line (codes "width") rules.width
@@ -21,7 +22,7 @@ rules_text rules =
     ++ (key_line (codes "round_limit") (pos rules.round_limit)
     ++ key_line (codes "end") (pos rules.end)))))
 
--- a line where the state of all disks is asked for
+-- a line, if the state of all disks is asked for
 abbrev pub every_text : Option ℕ → List ℕ
 every_text None = []
 every_text (Some ticks) = key_line (codes "every") (pos ticks)

@@ -4,12 +4,13 @@ use Rattle.fixed_motion.specs.declared.rules.Rules.{Rules}
 use Rattle.fixed_motion.specs.declared.disk.Disk.{Disk}
 use Rattle.fixed_motion.specs.Scene.{SceneData}
 
--- the least side, at least 1, of a square that has room for so many
+-- the least side, at least 1, of a square that has room for this many disks
 pub record IsSide (count : ℕ) (side : ℕ) : Type 0 where
   pub some : 1 ≤ side
   pub room : count ≤ side * side
   pub least : (other : ℕ) → 1 ≤ other → count ≤ other * other → side ≤ other
 
+-- the rules of a square with this side
 abbrev pub made_rules : ℕ → Rules
 made_rules side = record {
   width = pos (2048 * side);
@@ -20,7 +21,7 @@ made_rules side = record {
   end = 1000;
 }
 
--- the state of the generator, a linear congruential one, after so many draws
+-- the state of the generator, a linear congruential one, after this many draws
 unfoldable pub state_after : ℕ → ℕ → ℕ
 state_after number zero = number
 state_after number (suc draws) = (6364136223846793005 * state_after number draws + 1442695040888963407) % 2 ^ 64
@@ -41,6 +42,7 @@ made_disk number side i = record {
   mark = 0;
 }
 
+-- this many disks on a square, with drawn velocities
 pub record IsMade (number : ℕ) (count : ℕ) (scene : SceneData) : Type 0 where
   pub side : ℕ
   pub is_side : IsSide count side

@@ -12,16 +12,15 @@ const DIAMETER: i64 = 1_024;
 // The side of the square that each disk has for itself, in units of length.
 const SPACING: i64 = 2_048;
 
-/// The scene of a number, with so many disks, [`MAX_DISKS`](fixed_motion::MAX_DISKS) at most.
+/// The scene of a number, with `count` disks, at most [`MAX_DISKS`](fixed_motion::MAX_DISKS).
 ///
-/// The disks stand in a square lattice, row after row from the bottom, each from left to right. Each
-/// has a diameter of 1,024 units of length and stands in the middle of a square of 2,048 units, so
-/// neighbours are 1,024 units apart and the walls 512 away. The box is the smallest square of such
-/// squares that has room for all disks, and has at least one. The velocity components are whole
-/// numbers from -64 to 64 units of length per tick, which a linear congruential generator draws:
-/// its state begins with the number, and each disk in its turn takes one draw for its velocity to
-/// the right and then one for its velocity upwards. The speed limit is 512, the round limit is 64,
-/// the run ends at tick 1,000, and the state of all disks is asked for at no tick between.
+/// The disks stand in a square lattice, row after row from the bottom, each from left to right. Each has a diameter of
+/// 1,024 units of length and stands in the middle of a square of 2,048 units, so neighbours are 1,024 units apart and
+/// the walls 512 away. The box is the smallest square of such squares that has room for all disks, and has at least
+/// one. The velocity components are whole numbers from -64 to 64 units of length per tick, which a linear congruential
+/// generator draws: its state begins with the number, and each disk in its turn takes one draw for its velocity to the
+/// right and then one for its velocity upwards. The speed limit is 512, the round limit is 64, the run ends at tick
+/// 1,000, and the state of all disks is asked for at no tick between.
 ///
 /// # Errors
 /// Out of memory.
@@ -38,7 +37,7 @@ pub fn make(alloc: Global, number: u64, count: u32) -> Result<Scene, AllocError>
     Ok(Scene::new(rules_of(side), disks, None))
 }
 
-// How many disks a row has room for in the smallest lattice for so many disks, at least 1.
+// How many disks a row has room for in the smallest lattice for `count` disks, at least 1.
 fn side_for(count: u32) -> u32
     requires { count ≤ MAX_DISKS }
     ensures is_side { IsSide count result }
@@ -86,7 +85,7 @@ impl Generator {
         ((self.state >> 32) % 129) as i64 - 64
     }
 
-    // The disk of an index, where those before it have had their components.
+    // The disk of an index, after those before it have had their components.
     fn next_disk(&mut self, side: u32, index: u32) -> Disk
         requires some { 1 ≤ side }
         requires index { index < MAX_DISKS }

@@ -58,7 +58,7 @@ fn push_rules(bytes: &mut Vec<u8>, rules: &Rules) -> Result<(), AllocError>
     push_limits(bytes, rules)
 }
 
-// The lines of the last three rules, in a function of their own to keep both chains short.
+// The lines of the last three rules, in a function of their own to keep both chains of calls short.
 fn push_limits(bytes: &mut Vec<u8>, rules: &Rules) -> Result<(), AllocError>
     requires { IsChecked rules.now }
     ensures { OnOk result (bytes.new.items ≡ bytes.old.items
@@ -110,7 +110,7 @@ fn push_row(bytes: &mut Vec<u8>, rules: &Rules, disk: &Disk) -> Result<(), Alloc
     push_text(bytes, "],\n")
 }
 
-// Two numbers of a row after some text, in a function of their own to keep the row's chain short.
+// Two numbers of a row after some text, in a function of their own to keep the row's chain of calls short.
 fn push_pair(bytes: &mut Vec<u8>, before: &str, first: i64, second: i64) -> Result<(), AllocError>
     ensures { OnOk result (bytes.new.items ≡ bytes.old.items
         ++ (before.now ++ (signed_decimal first ++ (codes ", " ++ signed_decimal second)))) }

@@ -1,4 +1,4 @@
--- The values at the keys three at a time, and the numbers before what else has a type.
+-- The values at the keys three at a time, and the numbers before the values of other types.
 use Rattle.std.proofs.Common.{◌≡◌, ℤ, Option, Result, Ok, Err, refl}
 use Rattle.toml.specs.Data.{Data, Items, Members, get_member, as_array}
 use Rattle.fixed_motion.specs.Rules.{Numbers}

@@ -1,4 +1,4 @@
--- The trials of single disks.
+-- The tests of single disks.
 use Rattle.std.specs.Prelude.{Bool}
 use Rattle.fixed_motion.specs.declared.rules.Rules.{Rules}
 use Rattle.fixed_motion.specs.declared.disk.Disk.{Disk}
@@ -7,6 +7,7 @@ use Rattle.fixed_motion.specs.Motion.{is_inside, is_slow, centre_of, velocity_of
 use Rattle.scene_reader.specs.declared.disks.Trial.{Trial}
 use Rattle.scene_reader.specs.declared.disks.Trial.TheVariants.{Size, Place, Speed}
 
+-- the disk passes the test
 abbrev pub passes : Rules → Trial → Disk → Bool
 passes rules Size disk = is_size rules.diameter disk.size
 passes rules Place disk = is_inside rules disk (centre_of disk)

@@ -6,7 +6,7 @@ use crate::numbers::DrawnNumbers;
 use crate::texts::scene;
 use std::alloc::{AllocError, Global};
 
-/// The text of a scene of up to five disks in a box of up to eight columns and five rows, with sizes.
+/// The text of a scene of up to five disks of various sizes in a box of up to eight columns and five rows.
 pub fn generated(alloc: Global, numbers: &mut DrawnNumbers) -> Result<String, AllocError> {
     let width = numbers.next(20, 60);
     let height = numbers.next(8, 40);
@@ -90,8 +90,8 @@ fn field_rows(
     Ok(rows)
 }
 
-// The row of the disk at a place, from 0 on: 24 fields side by side, and the next ones 20 units above them. In its field
-// the disk is at one of so many heights.
+// The row of the disk at a place, from 0 on: 24 fields side by side, and the next ones 20 units above them. In its
+// field the disk is at one of `heights` heights.
 fn field_row(
     alloc: Global,
     numbers: &mut DrawnNumbers,

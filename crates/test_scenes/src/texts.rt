@@ -1,4 +1,4 @@
-//! Texts of scenes, and the scenes that they are.
+//! Texts of scenes, and the scenes that they say.
 
 use fixed_motion::Scene;
 use report_ports::MemorySource;
@@ -23,15 +23,15 @@ pub const SLOW_CROSSING: &str = "width = 400\n\
 /// One disk, which goes up and down in the small box: it hits a side at every other tick.
 pub const BOUNCING: &str = "[10, 10, 0, 8]";
 
-/// Four disks of a long box, of which each hands on its velocity to the next.
+/// Four disks of a long box, each of which passes its velocity on to the next.
 pub const FOUR_IN_A_ROW: &str = "[80, 10, 8, 0], [120, 10, 0, 0], [240, 10, 0, 0], [340, 10, 0, 0]";
 
-/// Of four regions of a long box: disk 1 goes up and down in region 1, at the border of region 2, and disk 0 comes
+/// For four regions of a long box: disk 1 goes up and down in region 1, at the border of region 2, and disk 0 comes
 /// from region 0.
 pub const ROLLED_BACK: &str = "[96, 10, 1, 0], [190, 10, 0, 8]";
 
-/// Of four regions of a long box: disks 1 and 2 hit each other in region 0, and disk 0 comes towards them from
-/// region 1.
+/// For four regions of a long box: disks 1 and 2 hit each other in region 0, and disk 0 comes towards them from region
+/// 1.
 pub const MISLED: &str = "[120, 6, -8, 1], [84, 9, 8, 1], [90, 9, 0, 1]";
 
 /// The text of a scene with the speed limit 8.
@@ -47,7 +47,7 @@ pub fn scene(
     )
 }
 
-/// The scene of a text; none where it is refused.
+/// The scene of a text; none if it is refused.
 pub fn scene_of(alloc: Global, text: &str) -> Result<Option<Scene>, AllocError> {
     let mut source = MemorySource::new(alloc, text.as_bytes(), &[])?;
     match read_scene(alloc, &mut source) {

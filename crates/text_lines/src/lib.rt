@@ -72,7 +72,7 @@ impl TextLine {
         self.len += 1;
     }
 
-    // Appends the digits of a number, for which there is room. They are written where they stand.
+    // Appends the digits of a number, for which there is room. They are written directly into the line.
     #[inline(always)]
     fn push_digits(&mut self, n: u64)
         requires { length self.old + length (decimal n) ≤ 256 }
@@ -174,7 +174,7 @@ impl TextLine {
     }
 }
 
-// How many digits a number has, as they are when it is written.
+// How many digits a number has when it is written.
 #[inline(always)]
 fn digit_count(n: u64) -> usize
     ensures value { result ≡ length (decimal n) }
@@ -189,7 +189,7 @@ fn digit_count(n: u64) -> usize
     count + short_count(left)
 }
 
-// The same of a number below 10,000.
+// The same for a number below 10,000.
 #[inline(always)]
 fn short_count(n: u64) -> usize
     requires { n < 10000 }

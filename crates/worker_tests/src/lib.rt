@@ -1,8 +1,8 @@
-//! What keeps workers apart and together: the locks of regions or the table that they lie in, the pace of a burst, and
+//! Tests of what keeps workers apart and together: the locks of regions, the table of regions, the pace of a burst, and
 //! scopes that lend.
 //!
-//! There is nothing here but tests: they stand beside the crates that they call, so that these are proved once, and
-//! without them.
+//! There is nothing here but tests. They are in a crate of their own, so that the crates that they call are proved
+//! once, and without them.
 #![tactic(auto)]
 
 #[cfg(test)]

@@ -31,13 +31,13 @@ fn runs_one_event_after_the_other(rt: HostRuntime) {
     }
 }
 
-// None where the scene is refused, or has no such step.
+// None if the scene is refused, or has no such step.
 fn step_of(alloc: Global, text: &str, number: u32) -> Option<Step> {
     let mut state = opened(alloc, text, 1)?;
     step_after(&mut state, number)
 }
 
-// The step after so many others.
+// The step after `others` other ones.
 fn step_after(state: &mut CellState, others: u32) -> Option<Step> {
     for _ in 0..others {
         run_next(state)?;

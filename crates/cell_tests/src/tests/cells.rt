@@ -44,11 +44,11 @@ fn disk_of((x, y, vx, vy, base, mark): Record) -> Disk {
     }
 }
 
-// A tick and a round, where there is an event.
+// A tick and a round, if there is an event.
 type Event = Option<(u64, u32)>;
 
-// When the disk 7 leaves a cell, and what is told of that at once, if it is; none where the rules, the disk or the cell
-// are not valid.
+// When disk 7 leaves a cell, and the answer of `leaving` about that, if it isn't `Unknown`; none if the rules, the disk
+// or the cell aren't valid.
 fn crossing_of(rules: &Rules, a: &Disk, cell: u32) -> Option<(Event, Option<Event>)> {
     match rules.check() {
         Ok(()) => {
@@ -107,7 +107,7 @@ const CROSSINGS: &[CrossingRow] = &[
         Some((4, 0)),
         true,
     ),
-    // at rest, in the cell and in another one, of which it has left the recorded cell at once
+    // at rest: in the recorded cell, and in another one, so that it has left the recorded cell at once
     (LONG, (100, 10, 0, 0, 3, 2), 5, None, false),
     (LONG, (100, 10, 0, 0, 3, 2), 4, Some((3, 2)), false),
     // into the recorded cell at tick 4, and out of it at tick 24
@@ -120,7 +120,7 @@ const CROSSINGS: &[CrossingRow] = &[
     ),
     // away from the recorded cell, and past it
     (LONG, (96, 10, -1, 0, 2, 1), 5, Some((2, 1)), false),
-    // through the recorded cell, and out of it where it is out of the box too
+    // through the recorded cell, and out of it when it is out of the box too
     (BLOCK, (18, 14, 1, 8, 1, 1), 4, None, true),
     // past the row of the recorded cell before it comes to its column
     (BLOCK, (12, 14, 1, 8, 1, 1), 4, Some((1, 1)), false),
@@ -166,7 +166,8 @@ fn event_of(found: Option<Stamp>) -> Event {
     Some((stamp.tick, stamp.round))
 }
 
-// Generated disks; each leaves its box, and so its cell, within so many ticks, or stands still.
+// The number of generated disks, the least number of these that cross, and a number of ticks within which each leaves
+// its box, and so its cell, unless it stands still.
 const DISKS: u32 = 2_000;
 
 const LEAST_CROSSINGS: u32 = 1_000;
@@ -202,7 +203,8 @@ fn generated(numbers: &mut DrawnNumbers) -> (Rules, Disk) {
     (rules, disk_of((x, y, vx, vy, base, 0)))
 }
 
-// The numbers are small, so nothing wraps, and nothing has to be proved of it.
+// The tick at which a disk leaves a cell, found by trying each one. The numbers are small, so nothing wraps, and
+// nothing has to be proved about that.
 fn crossing_by_trying(rules: &Rules, disk: &Disk, cell: u32) -> Event {
     let mut left = 0;
     for ticks in 0..TICKS {
@@ -218,7 +220,7 @@ fn crossing_by_trying(rules: &Rules, disk: &Disk, cell: u32) -> Event {
     }
 }
 
-// The cell of the disk; none outside of the box. The bounds of the cells are written out, where `crossing` divides.
+// The cell of the disk; none outside the box. Here the bounds of the cells are written out, and `crossing` divides.
 fn cell_after(disk: &Disk, ticks: u64) -> Option<u32> {
     let ticks = ticks.cast_signed();
     let x = disk.x.wrapping_add(disk.vx.wrapping_mul(ticks));
@@ -288,7 +290,7 @@ fn strips_own_and_reach_cells(rt: HostRuntime) {
     }
 }
 
-// The owner of a cell, and whether the region reaches it; none where the grid has no such cell or region.
+// The owner of a cell, and whether the region reaches it; none if the grid has no such cell or region.
 fn strip_of(cell: u32, region: u32) -> Option<(u32, bool)> {
     let grid = Grid::new(&LONG, 4);
     if cell < grid.columns() * grid.rows() && region < grid.regions() {
@@ -305,7 +307,7 @@ fn links_regions_that_reach_a_cell_in_common(rt: HostRuntime) {
     }
 }
 
-// Whether two regions are linked; none where the grid can't have so many, or not these.
+// Whether two regions are linked; none if the grid can't have that many regions, or doesn't have these.
 fn link_of(asked: u32, a: u32, b: u32) -> Option<bool> {
     if asked < 1 || asked > 64 {
         return None;
@@ -318,8 +320,8 @@ fn link_of(asked: u32, a: u32, b: u32) -> Option<bool> {
     }
 }
 
-// What is found of a disk that is listed: the first in its cell; how many are gathered around its cell and the first
-// of them, and whether the gathering came to its end; and the first in its cell once it is taken off.
+// What is found for a disk that is listed: the first in its cell; how many are gathered around its cell and the first
+// of them, and whether the gathering came to its end; and the first in its cell once the disk is taken off.
 type Listed = (Option<u32>, usize, Option<u32>, bool, Option<u32>);
 
 // No clause says that anything is ever gathered.

@@ -1,4 +1,4 @@
-//! What several tests ask of a cell state, and how what is found is compared.
+//! Calls on a cell state that several tests make, and the comparison of what is found with what is wanted.
 
 ghost use Rattle.std.specs.Prelude.{◌≡◌, IfOk};
 ghost use Rattle.cell_grid.specs.Grid.{IsAsked, IsRegion};
@@ -13,12 +13,12 @@ use std::fmt::Debug;
 use std::process::Abort;
 use test_scenes::scene_of;
 
-/// What is found in a row has to be what is wanted.
+/// The value found for a row has to be the one wanted.
 pub fn expect<V: PartialEq + Debug + Copy>(rt: &impl Abort, row: usize, found: V, wanted: V) {
     assert!(rt; found == wanted, "row {row}: {found:?}, not {wanted:?}");
 }
 
-/// The cell state at the start of the scene of a text; none where the text is refused, or memory runs out.
+/// The cell state at the start of the scene of a text; none if the text is refused, or memory runs out.
 pub fn opened(alloc: Global, text: &str, regions: u32) -> Option<CellState>
     requires { IsAsked regions }
 {
@@ -29,7 +29,7 @@ pub fn opened(alloc: Global, text: &str, regions: u32) -> Option<CellState>
 /// A tick, a round, a kind, two numbers, and the new cell of a crossing.
 pub type Step = (u64, u32, Kind, u32, u32, Option<u32>);
 
-/// The next event, which is run; none where there is none, and where it fails at a limit.
+/// Runs the next event, and answers it; none if there is none, and if it fails at a limit.
 pub fn run_next(state: &mut CellState) -> Option<Step>
     ensures rules { state.new.rules ≡ state.old.rules }
     ensures grid { state.new.grid ≡ state.old.grid }

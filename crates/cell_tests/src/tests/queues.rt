@@ -1,5 +1,5 @@
-//! Queues of regions that are kept while a cell run goes on, beside queues that are opened again, and beside rows worked out by
-//! hand.
+//! Queues of regions that are kept while a cell run goes on, compared with queues that are opened again, and with rows
+//! worked out by hand.
 
 ghost use Rattle.std.specs.Prelude.{◌≡◌, IfOk};
 ghost use Rattle.cell_grid.specs.Grid.{IsRegion};
@@ -74,8 +74,8 @@ const ROWS: &[Row] = &[
     ),
 ];
 
-// What a queue finds at the start, what it finds once it has taken in the first event, and what one opened anew finds
-// then.
+// What a queue finds at the start, what it finds once it has taken in the first event, and what a queue opened again
+// finds then.
 type Found = (Event, Event, Event);
 
 #[test]
@@ -86,7 +86,7 @@ fn queues_find_what_was_worked_out_by_hand(rt: HostRuntime) {
     }
 }
 
-// None where the scene is refused, or the grid has no such region.
+// None if the scene is refused, or the grid has no such region.
 fn found_of(alloc: Global, text: &str, region: u32) -> Option<Found> {
     let mut state = opened(alloc, text, REGIONS)?;
     found_in(alloc, &mut state, region)
@@ -102,7 +102,7 @@ fn found_in(alloc: Global, state: &mut CellState, region: u32) -> Option<Found> 
     Some((before, kept, anew))
 }
 
-// What a queue finds that has taken in the next event of the run.
+// What a queue finds after it has taken in the next event of the run.
 fn least_kept(alloc: Global, state: &mut CellState, region: u32) -> Result<Event, AllocError>
     requires { IsRegion state.old.grid region }
     ensures { state.new.grid ≡ state.old.grid }
@@ -115,7 +115,7 @@ fn least_kept(alloc: Global, state: &mut CellState, region: u32) -> Result<Event
     Ok(found)
 }
 
-// What a queue finds that is opened anew.
+// What a queue finds that is opened again.
 fn least_anew(alloc: Global, state: &CellState, region: u32) -> Result<Event, AllocError>
     requires { IsRegion state.now.grid region }
 {
@@ -139,7 +139,7 @@ fn queue_of(alloc: Global, state: &CellState, region: u32) -> Result<Queue, Allo
     Queue::open(alloc, &view, state.grid(), state.rules(), region)
 }
 
-// Runs the next event, and has the queue take in what it changed, by the call for its kind; says whether there was one.
+// Runs the next event, and has the queue take in what it changed, by the call for its kind. False if there was none.
 fn take_in_next(
     alloc: Global,
     state: &mut CellState,
@@ -158,7 +158,8 @@ fn take_in_next(
     match kind {
         Kind::Pair => queue.struck(alloc, &view, first, second)?,
         Kind::Cross => queue.crossed(alloc, &view, first)?,
-        // A wall's number may be that of a disk that didn't change, at which the queue looks in vain.
+        // The number of a side may also be the number of a disk that didn't change: the queue looks at that disk in
+        // vain.
         Kind::Wall => queue.touched(alloc, &view, &[first, second])?,
     }
     Ok(true)
@@ -222,8 +223,8 @@ const MOST_EVENTS: u32 = 10_000;
 
 const LEAST_CALLS: u32 = 2_000;
 
-// How many changes a queue took in, and after how many of these it found an event, up to where it found another one
-// than a queue opened anew; what both found there.
+// The number of changes that a queue took in, and the number of these after which it found an event, up to the change
+// after which a queue opened again found another event; and what both found there.
 type Course = (u32, u32, Option<(Event, Event)>);
 
 #[test]
@@ -243,7 +244,7 @@ fn queues_that_are_kept_find_what_queues_opened_anew_find(rt: HostRuntime) -> Re
     Ok(())
 }
 
-// No calls where the scene is refused, or the grid has no such region.
+// No calls if the scene is refused, or the grid has no such region.
 fn course_of(alloc: Global, text: &str, region: u32) -> Result<Course, AllocError> {
     match opened(alloc, text, REGIONS) {
         Some(mut state) if region < state.grid().regions() => follow(alloc, &mut state, region),

@@ -70,11 +70,11 @@ const UP: Action = Action::Hit(Change {
     second: None,
 });
 
-// The stamp of a message, how many rows it tells, and the number and cell of the disk in its first row; no cell
-// where nothing is to stand there.
+// The stamp of a message, how many rows it tells, and the number and cell of the disk in its first row; no cell if the
+// row says that nothing stands there.
 type Told = Option<(Stamp, usize, u32, Option<u32>)>;
 
-// An action, its home, another region, what that one is told, and what it then sees.
+// An action, its home, another region, what that region is told, and what it then sees.
 type ActionRow = (Action, u32, u32, Told, Seen);
 
 const ACTIONS: &[ActionRow] = &[
@@ -102,7 +102,7 @@ fn regions_see_what_is_in_their_reach(rt: HostRuntime) {
     }
 }
 
-// None where the scene is refused, or the grid has no such region.
+// None if the scene is refused, or the grid has no such region.
 fn seen_at_the_start(alloc: Global, region: u32) -> Option<Seen> {
     let state = opened(alloc, SLOW_CROSSING, REGIONS)?;
     seen_after(alloc, &state, region, None)
@@ -116,8 +116,8 @@ fn regions_are_told_what_they_see(rt: HostRuntime) {
     }
 }
 
-// What a region is told of an action, and what it sees then; none where the scene is refused, or the grid has no
-// such region, or not the new cell.
+// What a region is told of an action, and what it sees then; none if the scene is refused, or the grid doesn't have
+// such a region or the new cell.
 fn heard(alloc: Global, action: &Action, home: u32, region: u32) -> Option<(Told, Seen)> {
     let state = opened(alloc, SLOW_CROSSING, REGIONS)?;
     let message = sent(alloc, &state, action, home, region)?;

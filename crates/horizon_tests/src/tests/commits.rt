@@ -1,4 +1,4 @@
-//! Commits between steps and hearings that are drawn, against the cell run.
+//! Commits between steps and hearings that are drawn, compared with the cell run.
 
 ghost use Rattle.std.specs.Prelude.{◌<◌};
 ghost use Rattle.cell_grid.specs.Grid.{IsAsked};
@@ -13,20 +13,20 @@ use std::alloc::{AllocError, Global};
 use std::test::Fail;
 use test_scenes::{DrawnNumbers, scene_of, wide};
 
-// From which number on a scene and its calls are drawn, and how many regions are asked for: the last are more than
-// the columns of a scene.
+// The number from which on a scene and its calls are drawn, and how many regions are asked for. The last rows ask for
+// more regions than a scene has columns.
 const DRAWN: &[(u64, u32)] = &[(1, 1), (2, 2), (3, 4), (4, MAX_REGIONS), (7, MAX_REGIONS)];
 
 const COMMITS: u32 = 24;
 
-// How many calls are made before each commit.
+// The number of calls before each commit.
 const CALLS: u32 = 300;
 
-// How many actions the commits of a scene make final at least.
+// The least number of actions that the commits of a scene make final.
 const LEAST_COMMITTED: usize = 20;
 
-// How many actions the commits of a scene made final that the cell run does next as well; and, if there is one, the
-// first that it doesn't, with what it does in its place.
+// How many actions the commits of a scene made final that the cell run does next as well; and the first one that it
+// doesn't, if there is one, with what it does instead.
 #[derive(Drop)]
 struct Commits {
     same: usize,
@@ -36,7 +36,7 @@ struct Commits {
 type Other = (Action, Option<Action>);
 
 impl Commits {
-    // Goes on by a batch, unless something else was found before.
+    // Goes on by a batch, unless a difference was found before.
     fn add(&mut self, sequence: &mut CellState, batch: &Batch) {
         for action in batch.as_slice() {
             if self.other.is_none() {
@@ -54,17 +54,17 @@ impl Commits {
     }
 }
 
-// What a cell run does next, if anything; it has then done it.
+// The next action of a cell run, if there is one; the run has then done it.
 fn next_of(sequence: &mut CellState) -> Option<Action> {
     sequence.next()?;
     sequence.run_next().ok()
 }
 
-// What the commits of a scene come to: their actions that the cell run does as well, no more of them than are wanted,
-// and the first that it doesn't.
+// What was found in the commits of a scene: how many of their actions the cell run does as well, counted up to the
+// number wanted, and the first that it doesn't.
 type Seen = (usize, Option<Other>);
 
-// The commits of the scene that is drawn from a number on; none where it is refused.
+// The commits of the scene that is drawn from a number on; none if it is refused.
 fn commits_of(alloc: Global, seed: u64, asked: u32) -> Result<Option<Seen>, AllocError> {
     let mut numbers = DrawnNumbers { state: seed };
     let text = wide(alloc, &mut numbers)?;
@@ -106,7 +106,7 @@ fn commits_beside(
     Ok((commits.same.min(LEAST_COMMITTED), commits.other))
 }
 
-// What a commit makes final after calls that are drawn.
+// The actions that a commit makes final after calls that are drawn.
 fn batch_drawn(
     alloc: Global,
     committed: &mut Committed,
@@ -117,7 +117,7 @@ fn batch_drawn(
     committed.commit(alloc, &mut regions)
 }
 
-// Steps and hearings of regions near each other, in an order of no meaning; two of three calls are steps.
+// Steps and hearings of regions near each other, in an arbitrary order; two of three calls are steps.
 fn drawn(
     alloc: Global,
     numbers: &mut DrawnNumbers,
@@ -139,7 +139,7 @@ fn drawn_call(numbers: &mut DrawnNumbers, regions: usize) -> Call {
     (1, place, if is_step { None } else { Some(from) })
 }
 
-// One of so many places; 0 where there is none.
+// One of `count` places; 0 if there is none.
 fn place_below(numbers: &mut DrawnNumbers, count: usize) -> usize {
     let number = numbers.next(0, 1_024).unsigned_abs() as usize;
     number.checked_rem(count).unwrap_or(0)

@@ -47,18 +47,18 @@ const ROWS: &[Row] = &[
     ),
 ];
 
-// What is committed, and nothing after it: the horizon is at the crossing.
+// The actions that are committed, and nothing after them: the horizon is at the crossing.
 const COMMITTED: [Option<Key>; 3] = [
     Some((1, 0, Kind::Wall, 1, 3)),
     Some((3, 0, Kind::Wall, 1, 2)),
     None,
 ];
 
-// How many regions there are, what the first four have due, the horizon, and the first of what a commit makes final
+// The number of regions, what the first four have due, the horizon, and the first actions that a commit makes final
 // then.
 type Found = (usize, [Option<Key>; 4], Key, [Option<Key>; 3]);
 
-// What is found after some calls; none where the scene is refused.
+// What is found after some calls; none if the scene is refused.
 fn found_after(alloc: Global, calls: &[Call]) -> Result<Option<Found>, AllocError> {
     match committed_of(alloc, ROLLED_BACK, 20, 4)? {
         Some(mut committed) => Ok(Some(found_by(alloc, &mut committed, calls)?)),
@@ -89,7 +89,7 @@ fn found_in(
     Ok((regions.len(), due, horizon, keys))
 }
 
-// What the region at a place has due.
+// The stamp that the region at a place has due.
 fn due_at(regions: &[Region], place: usize) -> Option<Key> {
     let region = regions.get(place)?;
     Some(key_of(&region.due()))

@@ -1,4 +1,4 @@
-//! Committed states at the start, calls on regions, and how what is found is compared.
+//! Committed states at the start, calls on regions, and the comparison of what is found with what is wanted.
 
 ghost use Rattle.std.specs.Prelude.{IfOk};
 ghost use Rattle.cell_grid.specs.Grid.{IsAsked};
@@ -11,7 +11,7 @@ use std::fmt::Debug;
 use std::process::Abort;
 use test_scenes::{LONG, scene, scene_of};
 
-/// What is found in a case has to be what is wanted.
+/// The value found in a case has to be the one wanted.
 pub fn expect<C: Debug + Copy, V: PartialEq + Debug + Copy>(
     rt: &impl Abort,
     case: C,
@@ -37,7 +37,7 @@ pub fn committed_of(
     }
 }
 
-/// How often a region, by number, steps or hears another one.
+/// How often a region, by number, makes a step or hears another one.
 pub type Call = (u32, usize, Option<usize>);
 
 /// The regions of a committed state after some calls; they still stand on it.
@@ -62,7 +62,7 @@ fn make_calls(alloc: Global, regions: &mut [Region], calls: &[Call]) -> Result<(
     Ok(())
 }
 
-// Lets the region at a place hear the one at another, or step where there is no other.
+// Lets the region at a place hear the one at another, or make a step if there is no other.
 fn act(
     alloc: Global,
     regions: &mut [Region],

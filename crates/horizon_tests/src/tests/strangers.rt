@@ -1,4 +1,4 @@
-//! What is taken over of regions of other scenes.
+//! The taking over of regions of other scenes.
 
 ghost use Rattle.cell_grid.specs.Grid.{IsRegion};
 
@@ -55,7 +55,8 @@ const ROW_0: Place = (FOUR_IN_A_ROW, 40, 0);
 // what was done to it.
 type Given = (&'static str, u32, u32, u32, Form);
 
-// In what it doesn't stand there, if it doesn't: the first of several.
+// What a row shows, a place, a region given for it, and the first thing in which the region doesn't stand there, if it
+// doesn't.
 const GIVEN: &[(&str, Place, Given, Option<Differs>)] = &[
     ("it stands", LEFT_1, (LEFT, 20, 4, 1, Form::Opened), None),
     (
@@ -105,7 +106,7 @@ const GIVEN: &[(&str, Place, Given, Option<Differs>)] = &[
     ),
 ];
 
-// The region that is given; none where there is no such one.
+// The region that is given; none if there is no such one.
 fn given_region(
     alloc: Global,
     &(disks, end, asked, number, form): &Given,
@@ -122,14 +123,14 @@ fn given_region(
     region_of(alloc, committed.state(), number, form)
 }
 
-// A commit of what regions did that did nothing: the floor is raised to what is due first.
+// A commit of regions that did nothing: the floor is raised to what is due first.
 fn raise(alloc: Global, committed: &mut Committed) -> Result<(), AllocError> {
     let mut regions = committed.open_all(alloc)?;
     committed.commit(alloc, &mut regions)?;
     Ok(())
 }
 
-// The region of a number that is opened in a state, in a form; none where there is no such one.
+// The region of a number that is opened in a state, in a form; none if there is no such one.
 fn region_of(
     alloc: Global,
     state: &CellState,
@@ -160,7 +161,7 @@ fn spent(region: &Region) -> Region {
     Region::spent(region.number(), rules, grid, region.floor())
 }
 
-// What is found where a region is to be adopted; none where there is no region or no such place.
+// What is found when a region is to be adopted; none if there is no region or no such place.
 fn adopted(
     alloc: Global,
     &(disks, end, number): &Place,
@@ -197,7 +198,7 @@ fn differs_of(
 {
     let adopted = committed.adopt(alloc, number, region)?;
     let differs = differs(&adopted);
-    // By a call: where it goes out of scope, each of its parts would be let go, and proved, on its own.
+    // This is a call: if the region went out of scope, each of its parts would be dropped, and proved, on its own.
     drop(adopted);
     Ok(differs)
 }

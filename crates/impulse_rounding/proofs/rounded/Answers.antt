@@ -1,4 +1,4 @@
--- The nearest impulse is taken where the two then recede.
+-- The nearest impulse is taken if the two recede after it.
 use Rattle.std.proofs.Common.{◌≡◌, true, false, rules, arith}
 use Rattle.std.specs.Prelude.{ℤ, pos, FitsSigned, ◌<ℤ◌, ◌≤ℤ◌}
 use Rattle.std.proofs.lemmas.Int.{ints, to_z-of_z}

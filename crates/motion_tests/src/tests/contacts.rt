@@ -14,7 +14,7 @@ const FAST: u64 = 2097152;
 
 const WIDE: i64 = 2147483648;
 
-// A separation, a relative velocity, a diameter, a span, and what `contact` answers.
+// A separation, a relative velocity, a diameter, a span, and the answer of `contact`.
 type ContactRow = ((i64, i64), (i64, i64), i64, u64, Option<u64>);
 
 const CONTACTS: &[ContactRow] = &[
@@ -74,7 +74,7 @@ fn is_near(a: Vector, most: u64) -> bool
     a.x.unsigned_abs() <= most && a.y.unsigned_abs() <= most
 }
 
-// An error where the numbers are none that `contact` takes.
+// An error if `contact` doesn't take these numbers.
 fn contact_of(
     (rx, ry): (i64, i64),
     (ux, uy): (i64, i64),
@@ -99,7 +99,7 @@ fn contact_of(
     Ok(contact(rx, ry, ux, uy, diameter, span))
 }
 
-// Two bounds, a coordinate, a velocity, and what `stay` answers.
+// Two bounds, a coordinate, a velocity, and the answer of `stay`.
 type StayRow = (i64, i64, i64, i64, Option<u64>);
 
 const STAYS: &[StayRow] = &[
@@ -129,7 +129,7 @@ fn finds_how_long_a_coordinate_stays(rt: HostRuntime) {
     }
 }
 
-// An error where the numbers are none that `stay` takes.
+// An error if `stay` doesn't take these numbers.
 fn stay_of(lo: i64, hi: i64, x: i64, v: i64) -> Result<Option<u64>, ()> {
     if -WIDE <= lo && lo <= x && x <= hi && hi <= WIDE && -WIDE <= v && v <= WIDE {
         Ok(stay(lo, hi, x, v))

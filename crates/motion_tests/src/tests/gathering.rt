@@ -1,4 +1,4 @@
-//! Pieces that are gathered over a sink of which one call fails: what is answered, and what is written.
+//! Pieces that are gathered over a sink of which one call fails: the answers, and what is written.
 
 use super::rows::expect;
 use gathered_sink::GatheringSink;

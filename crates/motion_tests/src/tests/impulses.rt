@@ -8,7 +8,7 @@ fn rounds_the_exact_impulse(rt: HostRuntime) {
     let cases = [
         // 14.03 and 5.26
         (impulse(-8, -3, 16, 0), (-14, -5)),
-        // 0.24 and 0.42: rounded to nearest the two wouldn't part
+        // 0.24 and 0.42: rounded to nearest, the two wouldn't recede
         (impulse(-5, -9, 1, 0), (-1, -1)),
         // head on
         (impulse(-4, 0, 2, 0), (-2, 0)),

@@ -32,7 +32,7 @@ fn a_disk_has_a_place_from_its_base_to_the_side(rt: HostRuntime) {
     }
 }
 
-// The place of a disk of that size that was at (10, 5) at tick 2; none where it or the tick is not valid.
+// The place of a disk of that size that was at (10, 5) at tick 2; none if the disk or the tick isn't valid.
 fn place_of(size: i64, tick: u64) -> Option<Option<(i64, i64)>> {
     let disk = Disk {
         x: 10,

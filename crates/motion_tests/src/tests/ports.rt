@@ -133,7 +133,7 @@ fn a_piece_is_written_and_flushed(rt: HostRuntime) {
     }
 }
 
-// What comes of a piece, the faults that are counted, and how often the writer was flushed.
+// The answer for a piece, the faults that are counted, and how often the writer was flushed.
 fn given_to(mut writer: FailingWriter, piece: &[u8]) -> (Given, u64, u32) {
     let (given, faults) = give_to(&mut writer, piece);
     (given, faults, writer.flushes)

@@ -1,4 +1,4 @@
-//! When disks hit each other and the sides of the box next, and what comes of it.
+//! When disks hit each other and the sides of the box next, and what the hits change.
 
 ghost use Rattle.std.specs.Prelude.{IsTrue};
 ghost use Rattle.fixed_motion.specs.Rules.{IsChecked};
@@ -21,7 +21,7 @@ const RULES: Rules = Rules {
     end: 5,
 };
 
-// A tick and a round, where there is an event.
+// A tick and a round, if there is an event.
 type Event = Option<(u64, u32)>;
 
 fn event_of(found: Option<Stamp>) -> Event {
@@ -101,7 +101,7 @@ fn finds_when_two_disks_meet(rt: HostRuntime) {
     }
 }
 
-// Whether products are small, and when the disks hit each other; none where the rules or the disks are not valid.
+// Whether products are small, and when the disks hit each other; none if the rules or the disks aren't valid.
 type Meeting = Option<(bool, Event)>;
 
 fn meeting(rules: &Rules, a: &Disk, b: &Disk) -> Meeting {
@@ -232,7 +232,7 @@ fn small_and_great(sizes: Sizes, a: &Disk, b: &Disk) -> (bool, Meeting, Meeting)
     )
 }
 
-// Two disks of one base tick, a third one, and which of the two may hit that if all have the diameter 4.
+// Two disks of one base tick, a third one, and which of the two may hit the third if all have the diameter 4.
 type AtOnceRow = (Record, Record, Record, (bool, bool));
 
 const AT_ONCE: &[AtOnceRow] = &[
@@ -340,7 +340,7 @@ fn head_on(sizes: Sizes, diameter: i64, apart: i64, speed: i64) -> (Meeting, Mee
     )
 }
 
-// That of two disks of another size.
+// The meeting of two disks of another size.
 fn meeting_of_size(rules: &Rules, diameter: i64, a: Disk, b: Disk) -> Meeting {
     let rules = Rules { diameter, ..*rules };
     let a = Disk {
@@ -354,7 +354,7 @@ fn meeting_of_size(rules: &Rules, diameter: i64, a: Disk, b: Disk) -> Meeting {
     meeting(&rules, &a, &b)
 }
 
-// The rules of a box that is higher by so much.
+// The rules of a box that is higher by `more`.
 fn rules_of((width, height, speed_limit): Sizes, more: i64) -> Rules {
     Rules {
         width,
@@ -404,7 +404,7 @@ fn finds_when_a_disk_hits_each_side(rt: HostRuntime) {
     }
 }
 
-// None where the rules, the disk or the side are not valid.
+// None if the rules, the disk or the side aren't valid.
 fn hit(end: u64, a: &Disk, side: u32) -> Option<Event> {
     let rules = Rules { end, ..RULES };
     if !is_valid(&rules, a) {
@@ -458,7 +458,7 @@ fn changes_velocities_or_meets_a_limit(rt: HostRuntime) {
     expect(&rt, 1, collision(1, &a, &b), Some(Err(limit)));
 }
 
-// What the disks 0 and 1 come to; none where the rules or the disks are not valid, or don't meet.
+// The collision of the disks 0 and 1; none if the rules or the disks aren't valid, or the disks don't meet.
 fn collision(round_limit: u32, a: &Disk, b: &Disk) -> Option<Result<Change, Limit>> {
     let rules = Rules {
         round_limit,

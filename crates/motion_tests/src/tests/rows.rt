@@ -1,4 +1,4 @@
-//! Rows of tables, each of which says what is to be found.
+//! Rows of tables, each with the values that have to be found.
 
 ghost use Rattle.std.specs.Prelude.{IsTrue};
 ghost use Rattle.fixed_motion.specs.Rules.{IsChecked};
@@ -8,7 +8,7 @@ use fixed_motion::{Disk, Rules};
 use std::fmt::Debug;
 use std::process::Abort;
 
-/// What is found in a row has to be what is wanted.
+/// The value found for a row has to be the one wanted.
 pub(super) fn expect<V: PartialEq + Debug + Copy>(
     rt: &impl Abort,
     row: usize,

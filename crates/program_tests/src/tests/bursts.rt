@@ -1,4 +1,4 @@
-//! An audit and a cut over bursts of a test's own, which may do with the regions what they will.
+//! An audit and a cut over bursts that a test brings, which may do anything with the regions.
 
 ghost use Rattle.cell_grid.specs.Grid.{IsAsked};
 
@@ -19,7 +19,7 @@ use std::test::Fail;
 use std::thread::Threads;
 use test_scenes::{FOUR_IN_A_ROW, LONG, MISLED, scene, scene_of};
 
-// How many regions there are.
+// The number of regions.
 const REGIONS: u32 = 4;
 
 // Region 1 runs before region 0 sends it disk 0, and then takes back what it did.
@@ -30,7 +30,7 @@ const CALLS: &[CoreStep] = &[
     CoreStep::Hear { hearer: 1, from: 0 },
 ];
 
-// What is left of four disks in a row at tick 20.
+// The rest of four disks in a row at tick 20.
 const LEFT: &str = "width = 400\n\
     height = 20\n\
     diameter = 4\n\
@@ -86,7 +86,7 @@ fn replace(
     Ok(())
 }
 
-// Counts what it is told.
+// A listener that counts what it is told.
 #[derive(Drop)]
 struct Count(u64);
 
@@ -129,7 +129,7 @@ fn valid(rt: &impl Abort, alloc: Global, rows: &str) -> Result<Scene, AllocError
     Ok(scene)
 }
 
-// Stops a test where the four disks, with their report or with another one, have another verdict over this burst.
+// Stops a test if the four disks, with their report or with another one, have another verdict over this burst.
 fn expect_verdicts<B: Burst<Idle, ()>>(
     rt: &(impl Threads + Wait + Sync + Abort),
     alloc: Global,
@@ -161,7 +161,7 @@ fn verdict_on<B: Burst<Idle, ()>>(
     }
 }
 
-// Stops a test where the four disks, cut at tick 20, tell other than two changes, or leave another scene.
+// Stops a test if the four disks, cut at tick 20, tell something else than two changes, or leave another scene.
 fn expect_rest<B: Burst<Idle, ()>>(
     rt: &(impl Threads + Wait + Sync + Abort),
     alloc: Global,

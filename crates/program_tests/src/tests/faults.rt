@@ -35,7 +35,7 @@ const AUDITED: &str = "width = 40\n\
     disk 0 11 10 -1 0\n\
     disk 1 19 10 1 0\n";
 
-// The words, the input, and the output where no call fails.
+// The words, the input, and the output if no call fails.
 type TakeRow = (&'static [&'static str], &'static str, &'static str);
 
 const TAKES: &[TakeRow] = &[
@@ -65,7 +65,7 @@ fn expect_all_taken(
     expect_taken(rt, alloc, words, text, calls + 1, Status::Done, want)
 }
 
-// Stops a test where the call with an input, of which this take fails, comes to something else.
+// Stops a test if the call with an input, of which this take fails, has another result.
 fn expect_taken(
     rt: &(impl Threads + Wait + Sync + Abort),
     alloc: Global,
@@ -154,7 +154,7 @@ fn expect_text(
     Ok(())
 }
 
-// What is written of a text to a sink of so much room, where these calls of the source and of the sink fail, and the
+// What is written of a text to a sink with this room, if these calls of the source and of the sink fail, and the
 // status.
 fn output_with(
     rt: &(impl Threads + Wait + Sync),

@@ -1,4 +1,4 @@
-//! Output that is gathered: what is written where a call of the sink fails, and what at which time.
+//! Output that is gathered: what is written if a call of the sink fails, and what is written at which time.
 
 use super::helpers::{
     AMPLE_ROOM, BOTH_ENGINES, MEETING, MEETING_REPORT, PLAIN, StandingClock, expect, first_lines,
@@ -71,8 +71,8 @@ fn expect_rows(
     Ok(())
 }
 
-// What is written of the meeting through so much room, where these calls of the source and this one of the sink fail,
-// and the status. No time goes by.
+// What is written of the meeting through this room, if these calls of the source and this one of the sink fail, and the
+// status. No time passes.
 fn gathered_output(
     rt: &(impl Threads + Wait + Sync),
     alloc: Global,
@@ -88,8 +88,8 @@ fn gathered_output(
     Ok((sink, status))
 }
 
-// The words, the calls of the source that fail, the status where the first call of the sink fails, and the status and
-// the output where none does.
+// The words, the calls of the source that fail, the status if the first call of the sink fails, and the status and the
+// output if none does.
 type EndRow = (
     &'static [&'static str],
     &'static [u64],
@@ -137,7 +137,7 @@ fn expect_end(
     Ok(())
 }
 
-// How many bytes are held at most where time goes by: five pieces.
+// The greatest number of bytes that are held while time passes: five pieces.
 const ROOM: usize = 25;
 
 // When a piece of five bytes comes, in microseconds, and how many bytes the sink below has then.
@@ -150,11 +150,11 @@ const TIMES: &[TimeRow] = &[
     (100_000, 20),
     (100_001, 20),
     (199_999, 20),
-    // Where no piece came, nothing was given either.
+    // If no piece came, nothing was given either.
     (350_000, 35),
     (449_999, 35),
     (450_000, 45),
-    // A clock that goes back is waited for.
+    // If the clock goes back, nothing is given until it has caught up.
     (1_000, 45),
     (549_999, 45),
     (550_000, 60),
@@ -197,7 +197,7 @@ fn first_wrong(alloc: Global) -> Result<Option<TimeRow>, AllocError> {
     Ok(None)
 }
 
-// How many bytes the sink below has after the piece of this number, or more than it can have where a call failed.
+// How many bytes the sink below has after the piece of this number, or more than it can have if a call failed.
 fn given_until(alloc: Global, last: usize) -> Result<usize, AllocError> {
     let clock = StandingClock::new();
     let below = MemorySink::new(alloc, &[], AMPLE_ROOM)?;

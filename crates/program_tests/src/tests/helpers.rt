@@ -63,15 +63,15 @@ pub const AMPLE_ROOM: usize = 65_536;
 // How many microseconds each sleep takes.
 const SLEEP: u64 = 50;
 
-/// A clock that stands still but while somebody sleeps.
+/// A clock that stands still except while somebody sleeps.
 #[derive(Drop)]
 pub struct StandingClock {
-    /// What it shows.
+    /// The time that it shows.
     pub micros: AtomicU64,
 }
 
 impl StandingClock {
-    /// One that shows 0.
+    /// A clock that shows 0.
     pub fn new() -> StandingClock {
         StandingClock {
             micros: AtomicU64::new(0),
@@ -93,7 +93,7 @@ impl Clock for StandingClock {
     }
 }
 
-/// What gives the scene of four disks in a row.
+/// A source that gives the scene of four disks in a row.
 pub fn row_source(alloc: Global) -> Result<MemorySource, AllocError> {
     let text = scene(alloc, LONG, 8, 40, FOUR_IN_A_ROW)?;
     MemorySource::new(alloc, text.as_bytes(), &[])
@@ -133,12 +133,12 @@ pub fn first_lines(alloc: Global, text: &str, count: usize) -> Result<String, Al
     Ok(lines)
 }
 
-// What a call wrote.
+// The text that a call wrote.
 fn written(found: &(MemorySink, Status)) -> &str {
     str::from_utf8(found.0.bytes()).unwrap_or("no text")
 }
 
-/// Stops a test where a call ended with another status than this, or wrote another text.
+/// Stops a test if a call ended with another status than this, or wrote another text.
 pub fn expect(
     rt: &impl Abort,
     case: &impl Debug,

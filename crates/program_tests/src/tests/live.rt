@@ -143,7 +143,7 @@ fn neither_number_falls_while_a_run_goes_on(rt: HostRuntime) -> Result<(), Fail>
     Ok(())
 }
 
-// The status of the run, and what another thread saw last that looked meanwhile; none where a number fell.
+// The status of the run, and what another thread that looked meanwhile saw last; none if a number fell.
 fn watched_from_aside<R: Threads + Wait + Sync>(
     rt: &R,
     alloc: Global,
@@ -213,7 +213,7 @@ fn run_made<R: Threads + Wait + Sync>(
     ))
 }
 
-// Looks until the run is over, and once more; none where a number falls.
+// Looks until the run is over, and once more; none if a number falls.
 fn rising<R: Wait>(rt: &R, board: &Board, mut glass: Glass, over: &AtomicBool) -> Option<Progress>
     requires { glass.board ≡ board.now }
 {

@@ -1,4 +1,4 @@
-//! What a glass sees, which no clause ties to the moment of its look.
+//! What a glass sees; no clause ties it to the moment of its look.
 
 use live_progress::{Board, Progress};
 use std::alloc::{AllocError, Global};

@@ -1,4 +1,4 @@
-//! When a worker gives its processor away, by a clock that stands still but while somebody sleeps.
+//! When a worker gives its processor away, by a clock that stands still except while somebody sleeps.
 
 use super::helpers::StandingClock;
 use hard_disks::TimeSharing;
@@ -6,7 +6,7 @@ use region_core::Gate;
 use std::alloc::Global;
 use std::sync::atomic::Ordering;
 
-// What a worker comes to the gate for: a turn, of this number, or a phase.
+// Why a worker comes to the gate: for a turn of this number, or for a phase.
 #[derive(Clone, Copy, Debug, PartialEq, Eq)]
 enum Coming {
     Turn(u32),
@@ -15,7 +15,7 @@ enum Coming {
 
 use Coming::{Phase, Turn};
 
-// The worker, what it comes for, when, in microseconds, and whether it sleeps then.
+// The worker, why it comes, when, in microseconds, and whether it sleeps then.
 type ComingRow = (u32, Coming, u64, bool);
 
 const COMINGS: &[ComingRow] = &[
@@ -25,14 +25,14 @@ const COMINGS: &[ComingRow] = &[
     (0, Phase, 11_800, false),
     (0, Phase, 12_700, false),
     (0, Phase, 13_600, false),
-    // It comes late, so somebody does.
+    // It comes late, so somebody else does.
     (0, Phase, 15_600, false),
     (0, Phase, 16_500, false),
     (0, Phase, 17_400, false),
     (0, Phase, 18_300, false),
     (0, Phase, 18_600, false),
     (0, Phase, 18_601, true),
-    // It has been given it again.
+    // It has been given one again.
     (0, Phase, 19_600, false),
     (0, Phase, 20_600, false),
     (0, Phase, 21_600, false),
@@ -42,12 +42,12 @@ const COMINGS: &[ComingRow] = &[
     (0, Turn(0), 24_000, false),
     (0, Phase, 24_702, false),
     (0, Phase, 24_703, true),
-    // Some time after it was late last, nobody is taken to want it any more.
+    // Some time after it was late last, nobody is taken to want the processor any more.
     (0, Turn(0), 115_000, false),
     (0, Phase, 115_599, true),
     (0, Turn(0), 119_000, false),
     (0, Phase, 119_100, false),
-    // Another worker is a thread that has been given one for the burst.
+    // Another worker is a thread that has been given a processor for the burst.
     (1, Turn(0), 30_000, false),
     (1, Phase, 31_001, false),
     (1, Turn(0), 33_000, false),
@@ -56,7 +56,7 @@ const COMINGS: &[ComingRow] = &[
     (1, Phase, 35_700, false),
     (1, Phase, 36_000, false),
     (1, Phase, 36_001, true),
-    // A later turn is no matter: it came late to this phase.
+    // A later turn makes no difference: the worker came late to this phase.
     (1, Turn(1), 36_900, false),
     (1, Phase, 37_052, false),
     (1, Phase, 38_000, false),
@@ -64,7 +64,7 @@ const COMINGS: &[ComingRow] = &[
     (1, Phase, 39_950, false),
     (1, Phase, 40_052, false),
     (1, Phase, 40_053, true),
-    // The last of all workers, and one that there can't be.
+    // The last of all workers, and one that can't exist.
     (63, Phase, 200_000, false),
     (63, Phase, 200_900, false),
     (63, Phase, 201_800, false),
@@ -79,7 +79,7 @@ fn a_processor_is_given_away_in_time(rt: HostRuntime) {
     assert_eq!(rt; first_wrong(rt.alloc()), None);
 }
 
-// The first row at which a worker sleeps that shouldn't, or the other way round.
+// The first row at which a worker sleeps that shouldn't, or doesn't sleep though it should.
 fn first_wrong(alloc: Global) -> Option<ComingRow> {
     let clock = StandingClock::new();
     let gate = TimeSharing::new(&clock, alloc);

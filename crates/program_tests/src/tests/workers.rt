@@ -1,4 +1,4 @@
-//! What workers do, which their gates see.
+//! What workers do, as far as their gates see it.
 
 use super::helpers::{AMPLE_ROOM, FOUR_IN_A_ROW_REPORT, expect, output_through, row_source};
 use hard_disks::Status;
@@ -12,7 +12,7 @@ use std::test::Fail;
 use std::thread;
 use std::thread::Threads;
 
-// Stops a test where the four disks don't write their report with these words and through this gate.
+// Stops a test if the four disks don't write their report with these words and through this gate.
 fn expect_report_through<G: Gate>(
     rt: &(impl Threads + Wait + Sync + Abort),
     alloc: Global,
@@ -36,7 +36,8 @@ fn output_of_row<G: Gate>(
     Ok(output_through(rt, alloc, words, source, sink, gate))
 }
 
-// Worker 0 waits before its first turn until worker 1 has come to one of its own, and notes whether it has.
+// A gate at which worker 0 waits before its first turn until worker 1 has come to one of its own, and notes whether it
+// has.
 #[derive(Drop)]
 struct Meeting {
     first: AtomicBool,
@@ -86,7 +87,7 @@ fn two_workers_work_at_once(rt: HostRuntime) -> Result<(), Fail> {
     Ok(())
 }
 
-// Counts the turns.
+// A gate that counts the turns.
 #[derive(Drop)]
 struct TurnCounter {
     turns: AtomicU64,
@@ -98,8 +99,8 @@ impl Gate for TurnCounter {
     }
 }
 
-// The steps of a turn, where a burst has one turn, and the least and the greatest number of bursts. The run has
-// 16 actions, so in steps of one it can't do with fewer than ten bursts, and in one burst it is done.
+// The steps of a turn, if a burst has one turn, and the least and the greatest number of bursts. The run has 16
+// actions, so in steps of one it needs at least ten bursts, and with many steps one burst is enough.
 const BURSTS: &[(&str, u64, u64)] = &[("4096", 1, 2), ("1", 10, 17)];
 
 #[test]
@@ -114,7 +115,7 @@ fn bursts_do_the_work(rt: HostRuntime) -> Result<(), Fail> {
     Ok(())
 }
 
-// How many bursts of one turn with so many steps there are.
+// How many bursts of one turn with `steps` steps there are.
 fn turns_with(
     rt: &(impl Threads + Wait + Sync + Abort),
     alloc: Global,

@@ -14,9 +14,9 @@ use event_stamps::Stamp;
 use std::alloc::{AllocError, Global};
 
 impl Region {
-    /// Raises the floor to a stamp, which isn't before it nor after the end, and before which no message
-    /// waits. What the region did and heard before it is final, and goes: the run begins with the view after
-    /// that. A spent region stays spent.
+    /// Raises the floor to a stamp, which is neither before the floor nor after the end, and before which no message
+    /// waits. What the region did and heard before the stamp is final, and is let go: the run begins with the view
+    /// after it. A spent region stays spent.
     ///
     /// # Errors
     /// Out of memory: the region is spent.
@@ -36,8 +36,8 @@ impl Region {
         Ok(())
     }
 
-    /// Raises the floor as [`raise_floor`](Region::raise_floor) does, and the entries before it go into a log, in
-    /// place of what is there: of a spent region, none.
+    /// Raises the floor as [`raise_floor`](Region::raise_floor) does, and puts the entries before it into a log, whose
+    /// own entries go. A spent region puts none there.
     ///
     /// # Errors
     /// Out of memory: the region is spent.

@@ -19,11 +19,11 @@ use fixed_motion::MAX_DISKS;
 use region_view::Placed;
 
 impl Region {
-    /// Whether it stands on a cell state with a number: it is the region of this number, with the rules, the
-    /// grid and the floor of the state, and begins in the view that it has of the state.
+    /// Whether it stands on a cell state with a number: it is the region of this number, with the rules, the grid and
+    /// the floor of the state, and begins in this region's view of the state.
     ///
     /// # Errors
-    /// The first that differs, in the order of [`Differs`].
+    /// The first difference, in the order of [`Differs`].
     pub fn stands_on(&self, state: &CellState, number: u32) -> Result<(), Differs>
         ensures value { TellsStanding state.now number self.now result }
         ensures kept { IsKept self.now }
@@ -59,7 +59,8 @@ impl Region {
     }
 }
 
-// The least number at which the view at the floor isn't what a region sees of placed disks; none where it is that.
+// The least number at which the view at the floor isn't what a region sees of placed disks; none if the two are the
+// same.
 fn first_apart(live: &Live, placed: &[Placed], grid: &Grid, number: u32) -> Option<u32>
     requires region { IsRegion grid.now number }
     requires cells { HasCells grid.now (slice_get placed.now) }
@@ -68,7 +69,7 @@ fn first_apart(live: &Live, placed: &[Placed], grid: &Grid, number: u32) -> Opti
     ensures { MatchOption result (IsViewOf grid.now number (slice_get placed.now) (base_in live.now))
         (IsUnseenFirst grid.now number (slice_get placed.now) (base_in live.now)) }
 {
-    // Once for all rows, since these take divisions and the rows are many.
+    // These are computed once for all rows, since they take divisions and there are many rows.
     let strip = grid.strip(number);
     let factor = u32::MAX / grid.columns();
     for (i, row) in placed.iter().enumerate() {
@@ -98,14 +99,14 @@ fn next_first_row(live: &Live, from: usize) -> Option<(u32, Placed)>
     None
 }
 
-// Whether what stands at a number is what is seen there.
+// Whether a row is the one that is seen there.
 fn is_same(row: Option<Placed>, seen: Option<&Placed>) -> bool
     ensures { IsTrue result ↔ (row ≡ option_copied seen.entry) }
 {
     row == seen.copied()
 }
 
-// What the region of a strip sees of a row: the row, or none where it doesn't reach its cell.
+// What the region of a strip sees of a row: the row, or none if the region doesn't reach its cell.
 fn seen_of<'a>(row: &'a Placed, grid: &Grid, strip: Strip, factor: u32) -> Option<&'a Placed>
     requires sizes { HasSizes grid.now }
     requires cell { IsCell grid.now row.now.cell }
@@ -129,8 +130,8 @@ fn reaches(strip: Strip, grid: &Grid, factor: u32, cell: u32) -> bool
     strip.first <= column + 1 && column <= strip.end
 }
 
-// The column of a cell. With the factor 2^32 by the number of columns, rounded down, the row is mostly found by
-// a product; of another factor nothing need be known, since a wrong row is seen.
+// The column of a cell. If the factor is 2^32 by the number of columns, rounded down, the row is mostly found by a
+// product. The proof needs to know nothing of the factor, since a wrong row is noticed.
 fn column_by(grid: &Grid, factor: u32, cell: u32) -> u32
     requires { IsCell grid.now cell }
     ensures value { result ≡ column_of grid.now cell }

@@ -14,12 +14,12 @@ use std::sync::atomic::Ordering;
 use std::sync::{Mutex, MutexGuard, Wait};
 
 impl<O: Origin> Locks<O> {
-    /// Under the lock of a region, has it hear what others posted to it; lets it run up to so many steps while what is
-    /// due there is before a bound; and has it post what it sends. Says how far it came. Where the region was taken
-    /// back, it makes no step, and due is the first stamp of all.
+    /// Under the lock of a region, has it hear what others posted to it; lets it run up to `steps` steps while what is
+    /// due there is before a bound; and has it post what it sends. The answer says how far it came. If the region was
+    /// taken back, it makes no step, and the first stamp of all counts as due.
     ///
-    /// A post is taken while the region's lock is held, and no other lock while a post is, so that no two threads wait
-    /// for each other. In a burst in which regions post nobody is to call [`Locks::meet`]: it marks as heard what
+    /// A post is taken while the region's lock is held, and no other lock while a post is held, so that no two threads
+    /// wait for each other. [`Locks::meet`] isn't to be called in a burst in which regions post: it marks as heard what
     /// wasn't posted yet.
     ///
     /// # Errors
@@ -45,7 +45,7 @@ impl<O: Origin> Locks<O> {
         })
     }
 
-    // Has a region, whose lock is held, hear what others posted to it. Whether anything was new.
+    // Has a region, whose lock is held, hear what others posted to it. The answer says whether anything was new.
     fn hear_posts<R: Wait>(
         &self,
         rt: &R,
@@ -87,8 +87,8 @@ impl<O: Origin> Locks<O> {
         Ok(is_new)
     }
 
-    // A region, whose lock is held, brings those posts up to date that lack something, and those in which there is
-    // something new still, since their hearers may wait for its clock.
+    // Brings the posts of a region, whose lock is held, up to date: those that lack something, and those in which
+    // something is still new, since their hearers may wait for its clock.
     fn post_all<R: Wait>(&self, rt: &R, number: u32, held: &mut Held<O>) -> Result<(), AllocError>
         requires { number < self.now }
     {
@@ -115,7 +115,7 @@ impl<O: Origin> Locks<O> {
         };
         let mut post = take_post(rt, lock);
         held.bring(&mut post)?;
-        // Written where it changed alone, since others have its line of the cache.
+        // The bit is only written if it changes, since other workers have its line of the cache.
         if post.has_news() && !self.has_news(number, to) {
             self.regions[number as usize]
                 .news
@@ -131,7 +131,7 @@ impl<O: Origin> Locks<O> {
         self.regions[from as usize].news.load(Ordering::SeqCst) & bit(to) != 0
     }
 
-    // What a region posts to another; none where the two are too far apart to be linked.
+    // The post of a region to another; none if the two are too far apart to be linked.
     fn post(&self, from: u32, to: u32) -> Option<&Mutex<Post<O>>>
         requires { from < self.now }
     {
@@ -157,7 +157,7 @@ fn take_post<'a, O: Origin, R: Wait>(rt: &R, lock: &'a Mutex<Post<O>>) -> MutexG
     lock.lock(rt)
 }
 
-// The bit of a number; more numbers than bits share them, and are then told of each other's news.
+// The bit of a number. If there are more numbers than bits, some share a bit, and look for each other's news.
 fn bit(number: u32) -> u64 {
     1 << (number % 64)
 }

@@ -1,4 +1,4 @@
-//! What a rollback and a hearing make of the input queue.
+//! How a rollback and a hearing change the input queue.
 
 ghost use Rattle.std.specs.Prelude.{◌≡◌, ◌↔◌, ℕ, ◌+◌, ◌<◌, ◌≤◌, length, get_or, slice_set, take, drop, map, MatchOption, OnOk, IsTrue};
 ghost use Rattle.region_messages.specs.Trails.{AgreesUpTo, IsFree, with_message, from};
@@ -17,7 +17,7 @@ use region_view::Message;
 use std::alloc::{AllocError, Global};
 
 impl Inbox {
-    /// Takes back that the entries of a log from a place on took messages in: these wait again.
+    /// Takes back the messages that the entries of a log from a place on took in: they wait again.
     pub fn give_back(&mut self, log: &EventLog, kept: usize)
         requires kept { kept ≤ length log.now }
         requires taken { (q : ℕ) → taken_of q (drop kept (entries_in log.now)) ≤ taken_from self.old q }
@@ -30,7 +30,7 @@ impl Inbox {
         self.head = least_head(self.regions, &self.heard, &self.taken);
     }
 
-    /// Takes away the messages before a stamp, those that the first entries of a log, so many, took in.
+    /// Takes away the messages before a stamp, which the first `gone` entries of a log took in.
     pub fn drop_before(&mut self, to: Stamp, log: &EventLog, gone: usize)
         requires gone { gone ≤ length log.now }
         requires taken { (q : ℕ) → taken_of q (take gone (entries_in log.now)) ≤ taken_from self.old q }
@@ -44,7 +44,7 @@ impl Inbox {
         self.head = least_head(self.regions, &self.heard, &self.taken);
     }
 
-    /// From which stamp on what a region sends differs from what was heard from it; none where it is the
+    /// The stamp from which on the messages that a region sends differ from those heard from it; none if they are the
     /// same.
     pub fn first_new(&self, from: u32, sent: &Trail) -> Option<Stamp>
         requires { from < length self.now.heard }
@@ -54,9 +54,8 @@ impl Inbox {
         first_disagreement(&self.heard[from as usize], sent)
     }
 
-    /// From which stamp on it differs, where what stood of `sent` when it was last marked is taken
-    /// to be heard, and what is missing is waited for until the other's `clock` is past it; none
-    /// where nothing is new.
+    /// The same, but messages that haven't changed since `sent` was last marked are taken to be heard, and a message
+    /// that is missing counts only once the other's `clock` is past it. None if nothing is new.
     pub fn first_news(
         &self,
         from: u32,
@@ -97,7 +96,7 @@ impl Inbox {
         Ok(())
     }
 
-    /// Hears from a region what it sends from a stamp on, in place of what was heard from there on.
+    /// Hears from a region what it sends from a stamp on; what was heard from it from there on goes.
     ///
     /// # Errors
     /// Out of memory: what is heard of that region is only a part of it.
@@ -113,8 +112,8 @@ impl Inbox {
     }
 }
 
-// Counts one less for each message that the entries of a log from a place on and before another took in, by the
-// number of the region.
+// Counts one less for each message that the entries of a log took in, those from the place `from` on and before `end`,
+// by the number of the region.
 fn count_down(counts: &mut [usize], log: &EventLog, from: usize, end: usize)
     requires order { from ≤ end }
     requires within { end ≤ length log.now }

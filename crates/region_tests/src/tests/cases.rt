@@ -1,9 +1,9 @@
-//! Cases of tests, and what has to be found in them.
+//! Cases of tests, and the values that have to be found in them.
 
 use std::fmt::Debug;
 use std::process::Abort;
 
-/// What is found in a case has to be what is wanted.
+/// The value found in a case has to be the one wanted.
 pub fn expect<C: Debug + Copy, V: PartialEq + Debug + Copy>(
     rt: &impl Abort,
     case: C,

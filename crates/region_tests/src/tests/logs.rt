@@ -1,4 +1,4 @@
-//! A log beside a view, and a log by itself.
+//! A log together with a view, and a log by itself.
 
 ghost use Rattle.std.specs.Prelude.{IsTrue};
 ghost use Rattle.region_view.specs.Setting.{IsInOrder};
@@ -44,7 +44,7 @@ const RISING: Disk = Disk {
     mark: 1,
 };
 
-// So far away that it has no narrow form.
+// A disk so far away that it has no narrow form.
 const FAR: Disk = Disk {
     x: 1_000_000_000_000,
     y: 10,
@@ -55,7 +55,7 @@ const FAR: Disk = Disk {
     mark: 1,
 };
 
-// What a message says of disks 0 and 1.
+// The stamp of a message about disks 0 and 1.
 const TOLD: Stamp = Stamp {
     tick: 1,
     round: 0,
@@ -124,7 +124,7 @@ const FAR_HIT: Action = Action::Hit(Change {
 // One action of each form that entries are kept in.
 const ACTIONS: &[Action] = &[CROSSING, HIT, BOTH_HIT, FAR_HIT];
 
-// What region 1 tells of both disks.
+// The message of region 1 about both disks.
 fn message() -> Entry {
     Entry::Heard {
         from: 1,
@@ -139,7 +139,7 @@ fn both_rows() -> Rows {
     Rows::two((0, Some(FIRST)), (1, Some(SECOND)))
 }
 
-// A view of no disk; none where the rules are refused.
+// A view of no disk; none if the rules are refused.
 fn empty_view(alloc: Global) -> Result<Option<View>, AllocError> {
     match RULES.check() {
         Ok(()) => Ok(Some(opening(alloc, &[], &Grid::new(&RULES, 1), 0)?)),
@@ -159,7 +159,7 @@ fn is_in_order(action: &Action) -> bool
     }
 }
 
-// Hears the message, and then runs the actions: whether there was room for all.
+// Hears the message, and then runs the actions. False if there wasn't room for all.
 fn run_all(log: &mut EventLog, view: &mut View) -> Result<bool, AllocError> {
     if log.len() >= MAX_ENTRIES {
         return Ok(false);
@@ -174,7 +174,8 @@ fn run_all(log: &mut EventLog, view: &mut View) -> Result<bool, AllocError> {
     Ok(true)
 }
 
-// What is taken back last, if anything, and what the view then says of disks 0 and 1, and of disk 0 before the log.
+// The entry that is taken back last, if any, and what the view then says of disks 0 and 1, and of disk 0 before the
+// log.
 type Taken = (
     Option<Entry>,
     Option<Placed>,
@@ -182,7 +183,7 @@ type Taken = (
     Option<Placed>,
 );
 
-// What there is after so many are taken back; none where the rules are refused, or there is no room.
+// What there is after `times` entries are taken back; none if the rules are refused, or there is no room.
 fn taken_back(alloc: Global, times: usize) -> Result<Option<Taken>, AllocError> {
     match empty_view(alloc)? {
         Some(mut view) => taken_from(alloc, &mut view, times),
@@ -208,7 +209,7 @@ fn take_back(log: &mut EventLog, view: &mut View, times: usize) -> Result<Taken,
     Ok((entry, view.get(0), view.get(1), before))
 }
 
-// What there has to be after none is taken back, after one, and so on.
+// What there has to be after no entry is taken back, after one, and so on.
 fn all_taken() -> [Taken; 7] {
     let far = Some(Placed { disk: FAR, cell: 2 });
     let rising = Some(Placed {
@@ -251,7 +252,7 @@ fn taking_back_leads_to_the_first_view(rt: HostRuntime) -> Result<(), Fail> {
     Ok(())
 }
 
-// Appends a crossing out of a cell, and puts the message before it: whether there was room for both.
+// Appends a crossing out of a cell, and puts the message before it. False if there wasn't room for both.
 fn put_both(log: &mut EventLog) -> Result<bool, AllocError> {
     if log.len() >= MAX_ENTRIES {
         return Ok(false);
@@ -264,7 +265,7 @@ fn put_both(log: &mut EventLog) -> Result<bool, AllocError> {
     Ok(true)
 }
 
-// The last two entries, with what leads back over them, and how many are left when they are taken off.
+// The last two entries, with the rows that lead back over them, and how many entries are left when they are taken off.
 type Dropped = (Option<(Entry, Rows)>, Option<(Entry, Rows)>, usize);
 
 fn dropped(log: &mut EventLog) -> Dropped {
@@ -273,7 +274,7 @@ fn dropped(log: &mut EventLog) -> Dropped {
     (last, first, log.len())
 }
 
-// What comes of a log into which a message came late; none where there is no room.
+// The end of a log into which a message came late; none if there is no room.
 fn put_late(alloc: Global) -> Result<Option<Dropped>, AllocError> {
     let mut log = EventLog::new(alloc);
     if put_both(&mut log)? {

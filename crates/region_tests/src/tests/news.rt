@@ -1,4 +1,4 @@
-//! What a region makes of it, in a burst, that another takes back what it sent, or tells it late.
+//! What a region does in a burst when another takes back what it sent, or tells it late.
 
 use super::scripts::Answer::{Entries, Heard, News, Ran, Same};
 use super::scripts::Call::{CatchesUp, HasNews, Hears, Rewinds, Runs};

@@ -66,7 +66,7 @@ fn regions_roll_back_and_go_on(rt: HostRuntime) -> Result<(), Fail> {
 
 const MOST_ENTRIES: u32 = 4_096;
 
-// The middle of a full log: what is to be taken back begins there.
+// The middle of a full log, from which on entries are to be taken back.
 const MIDDLE: Key = (4_097, 0, Wall, 0, UP);
 
 const FULL_LOG: &[Script] = &[(
@@ -95,7 +95,7 @@ const RIGHT: &str = "[210, 10, 0, 8]";
 // A disk at rest in region 0, and one in region 1.
 const AT_REST: &str = "[50, 10, 0, 0], [102, 10, 0, 0]";
 
-// A disk that comes from region 0 to where that one lies.
+// A disk that comes from region 0 to the place of that one.
 const COMING: &str = "[96, 10, 1, 0], [300, 10, 0, 0]";
 
 const TOP: Key = (1, 0, Wall, 0, UP);

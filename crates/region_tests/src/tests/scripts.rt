@@ -1,4 +1,4 @@
-//! Scripts: what is asked of a few regions, call by call, and what each call has to answer.
+//! Scripts: calls on a few regions, and what each call has to answer.
 
 ghost use Rattle.cell_grid.specs.Grid.{IsRegion};
 
@@ -12,7 +12,7 @@ use std::process::Abort;
 use std::test::Fail;
 use test_scenes::{LONG, scene, scene_of};
 
-/// A tick, a round, a kind and two numbers: a stamp, in the room of a row.
+/// A tick, a round, a kind and two numbers: a stamp, short enough for a row.
 pub type Key = (u64, u32, Kind, u32, u32);
 
 /// A disk hits the upper side of the box.
@@ -24,16 +24,16 @@ pub const DOWN: u32 = 2;
 /// One of the four regions of a box of 20 columns: the disks, the end, its number, and whether it is spent.
 pub type Member = (&'static str, u32, u32, bool);
 
-/// What is asked of a region. Other regions are named by their places among the members.
+/// A call on a region. Other regions are named by their places among the members.
 #[derive(Clone, Copy)]
 pub enum Call {
     /// A step.
     Steps,
-    /// So many steps.
+    /// This many steps.
     Runs(u32),
     /// To hear another.
     Hears(usize),
-    /// To hear what is new of another.
+    /// To hear what is new in another.
     CatchesUp(usize),
     /// To take back what it did from a stamp on.
     Rewinds(Key),
@@ -60,13 +60,13 @@ pub enum Answer {
     Other,
 }
 
-/// The place of a region, what is asked of it, and what it has to answer.
+/// The place of a region, the call on it, and what it has to answer.
 pub type Row = (usize, Call, Answer);
 
 /// What a script shows, its regions, and its rows.
 pub type Script = (&'static str, &'static [Member], &'static [Row]);
 
-// What an answer is named, its stamps, and its number: what can be compared and shown.
+// An answer's name, its stamps, and its number: what can be compared and shown.
 type Plain = (&'static str, Option<Key>, Option<Key>, usize);
 
 fn plain(answer: Answer) -> Plain {
@@ -96,7 +96,7 @@ pub fn play(rt: &impl Abort, alloc: Global, scripts: &[Script]) -> Result<(), Fa
     Ok(())
 }
 
-// The first row of a script that is answered otherwise: its number, from 0 on, and what was answered.
+// The first row of a script whose answer is another one: its number, from 0 on, and what was answered.
 fn first_wrong_row(
     alloc: Global,
     members: &[Member],
@@ -112,7 +112,7 @@ fn first_wrong_row(
     Ok(None)
 }
 
-// The regions that there are of the members.
+// The regions of those members that exist.
 fn opened(alloc: Global, members: &[Member]) -> Result<Vec<Region>, AllocError> {
     let mut regions = Vec::new(alloc);
     for member in members {
@@ -165,7 +165,7 @@ fn state_of(alloc: Global, disks: &str, end: u32) -> Result<Option<CellState>, A
     }
 }
 
-// What the region at a place answers.
+// The answer of the region at a place.
 fn answer_to(
     alloc: Global,
     regions: &mut [Region],
@@ -183,7 +183,7 @@ fn answer_to(
     }
 }
 
-// What a region answers to what is asked of it alone.
+// The answer of a region to a call on it alone.
 fn answer_alone(alloc: Global, region: &mut Region, call: Call) -> Result<Answer, AllocError> {
     match call {
         Call::Steps => Ok(answer_of_step(&region.step(alloc)?)),
@@ -199,7 +199,7 @@ fn rewind(alloc: Global, region: &mut Region, at: Stamp) -> Result<Answer, Alloc
     Ok(Answer::Entries(region.entries()))
 }
 
-// What the region at the first of two places answers to what is asked of it and the one at the second.
+// The answer of the region at the first of two places to a call on it and the region at the second.
 fn answer_of_two(
     alloc: Global,
     regions: &mut [Region],

@@ -1,4 +1,4 @@
-//! Messages that come late, beside regions that heard the same before they ran.
+//! Messages that come late, and a comparison with regions that heard the same before they ran.
 
 use super::cases::expect;
 use super::scripts::region_in;
@@ -18,18 +18,18 @@ const REGIONS: u32 = 4;
 // How often each region runs and catches up with the others.
 const TURNS: u32 = 28;
 
-// How many messages come late at least.
+// The least number of messages that come late.
 const LEAST_LATE: usize = 2_000;
 
-// How many regions are compared at least.
+// The least number of regions that are compared.
 const LEAST_ALIKE: usize = 700;
 
-// What came of late messages.
+// What was seen of late messages.
 #[derive(Drop)]
 struct Seen {
-    // How many there were.
+    // The number of late messages.
     late: usize,
-    // How often a region caught up with another one that had some, and how often it took nothing back then.
+    // How often a region caught up with another one that had late messages, and how often it took nothing back then.
     times: usize,
     kept: usize,
     // How many regions were as if they had heard all before they ran, and the first scene and region that weren't.
@@ -44,7 +44,7 @@ struct OpenedScene {
     regions: Vec<Region>,
 }
 
-// The scene that is drawn from a number on; none where it is refused.
+// The scene that is drawn from a number on; none if it is refused.
 fn scene_from(
     alloc: Global,
     numbers: &mut DrawnNumbers,
@@ -178,12 +178,12 @@ fn compare_with_first(
         return Ok(None);
     };
     let are_alike = is_as_if_in_time(alloc, region, &mut first, &scene.regions);
-    // By a call: where it goes out of scope, each of its parts would be let go, and proved, on its own.
+    // This is a call: if the region went out of scope, each of its parts would be dropped, and proved, on its own.
     drop(first);
     Ok(Some(are_alike?))
 }
 
-// Whether a region did what one does that hears all others first.
+// Whether a region did the same as one that hears all others first.
 fn is_as_if_in_time(
     alloc: Global,
     region: &Region,
@@ -209,12 +209,12 @@ fn has_heard_all_of(region: &Region, others: &[Region]) -> bool {
     true
 }
 
-// Whether what a region heard of another is what that one sends to it now.
+// Whether what a region heard from another is what that one sends to it now.
 fn has_heard_all(region: &Region, other: &Region) -> bool {
     are_alike(region.heard(other.number()), other.sent(region.number()))
 }
 
-// Whether there are the same messages.
+// Whether both trails have the same messages.
 fn are_alike(trail: Option<&Trail>, other: Option<&Trail>) -> bool {
     match (trail, other) {
         (Some(trail), Some(other)) => trail.len() == other.len() && goes_on_as(trail, other),
@@ -280,7 +280,7 @@ fn turn(
     Ok(())
 }
 
-// Takes in how the region at a place of a scene compared.
+// Notes how the region at a place of a scene compared.
 fn note(alike: Option<bool>, seed: u64, place: usize, seen: &mut Seen) {
     match alike {
         Some(true) => seen.alike = seen.alike.wrapping_add(1),

@@ -1,4 +1,4 @@
-//! Runs over regions, whatever works on these between two commits.
+//! Runs over regions, with various bursts between two commits.
 
 ghost use Rattle.std.specs.Prelude.{◌≡◌, length, None, IfOk};
 ghost use Rattle.cell_grid.specs.Grid.{IsAsked};
@@ -25,20 +25,20 @@ use test_scenes::{
     BOUNCING, DrawnNumbers, FOUR_IN_A_ROW, LONG, MISLED, ROLLED_BACK, USUAL, generated, scene_of,
 };
 
-// What is done to the regions in a burst. What names a place where there is no region does nothing.
+// What is done to the regions in a burst. If a deed names a place where there is no region, it does nothing.
 #[derive(Clone, Copy)]
 enum Deed {
-    // This call is made so many times.
+    // This call is made this many times.
     Repeat(u32, CoreStep),
     // Two regions change places.
     Swap(u32, u32),
     // A region is spent.
     Spend(u32),
-    // The region of another state with its number comes in the place of one.
+    // The region of another state, with its number, takes the place of one.
     Replace(u32),
 }
 
-// Goes on with what is beside and does the same deeds in each burst.
+// Goes on with the work beside and does the same deeds in each burst.
 #[derive(Drop)]
 struct Tampering<'a> {
     deeds: &'a [Deed],
@@ -131,8 +131,8 @@ fn replace(
     Ok(())
 }
 
-// What the run over so many regions tells, on which a burst works. Stops a test where the engine that looks at all
-// pairs tells something else.
+// What the run over `regions` regions tells, on which a burst works. Stops a test if the engine that looks at all pairs
+// tells something else.
 fn run_beside<B: Burst<Telling, Summing>>(
     rt: &(impl Threads + Wait + Sync + Abort),
     alloc: Global,
@@ -162,14 +162,15 @@ fn told_over<B: Burst<Telling, Summing>>(
     told_of(&listener, &outcome)
 }
 
-// What a burst gives back.
+// The regions that a burst gives back.
 type Worked = Result<Vec<Region>, AllocError>;
 
 // The sizes, the end and the disks of a scene.
 type Sketch = (&'static str, u32, &'static str);
 
-// How many changes the run of a scene over so many regions tells, to which this is done in each burst, and whether who
-// does it says that it keeps them. Stops a test where the run tells something else than the plain one.
+// How many changes the run of a scene over `regions` regions tells, if these deeds are done to the regions in each
+// burst, and whether the burst says that it keeps them. Stops a test if the run tells something else than the plain
+// one.
 fn run_under(
     rt: &(impl Threads + Wait + Sync + Abort),
     alloc: Global,
@@ -191,7 +192,7 @@ fn keeps<B: Burst<Telling, Summing>>(burst: &B) -> bool {
     burst.keeps()
 }
 
-// The same of a scene that is opened; the other state is the start of the same disks with a later end.
+// The same for a scene that is opened; the other state is the start of the same disks with a later end.
 fn count_under(
     rt: &(impl Threads + Wait + Sync + Abort),
     alloc: Global,
@@ -223,7 +224,7 @@ fn state_of(
 
 const FOUR: Sketch = (LONG, 40, FOUR_IN_A_ROW);
 
-// How many regions there are of the four disks' scene, and what is done to them.
+// The number of regions for the four disks' scene, and what is done to them.
 type DeedRow = (u32, &'static [Deed]);
 
 fn expect_rows(
@@ -284,7 +285,7 @@ fn regions_of_another_scene_tell_the_plain_run(rt: HostRuntime) -> Result<(), Fa
     Ok(())
 }
 
-// How many steps a region runs in a burst of the workers, and of those who swap two of them afterwards.
+// How many steps a region makes in a burst of the workers, and in one of the workers that swap two regions afterwards.
 const STEPS: u32 = 8;
 
 const RUN_AND_SWAPPED: &[Deed] = &[
@@ -295,7 +296,7 @@ const RUN_AND_SWAPPED: &[Deed] = &[
     Deed::Swap(0, 1),
 ];
 
-// Whether workers say that they keep the four regions over which a run tells what the plain one does.
+// Whether the workers say that they keep the four regions, in a run that tells what the plain one does.
 fn workers_keep<R: Threads + Wait + Sync + Abort>(
     rt: &R,
     alloc: Global,
@@ -357,8 +358,8 @@ fn call_keeps<C: Call<Telling, Summing> + Drop>(
 
 const KEPT_OR_SWAPPED: &[Sketch] = &[FOUR, (LONG, 20, ROLLED_BACK)];
 
-// Of workers the regions are taken over as they come, and of those who swap them only where they stand; nobody who
-// is told of the run sees a difference.
+// The regions of workers that keep them are taken over as they come; those of workers that swap two only if they stand.
+// A listener sees no difference.
 #[test]
 fn bursts_that_keep_and_that_swap_are_told_apart_by_nothing(rt: HostRuntime) -> Result<(), Fail> {
     for (number, &row) in KEPT_OR_SWAPPED.iter().enumerate() {
@@ -368,7 +369,7 @@ fn bursts_that_keep_and_that_swap_are_told_apart_by_nothing(rt: HostRuntime) -> 
     Ok(())
 }
 
-// Whether the workers say that they keep the regions, and whether those who swap them do.
+// Whether the workers say that they keep the regions, and whether those that swap two do.
 fn keep_and_swap<R: Threads + Wait + Sync + Abort>(
     rt: &R,
     alloc: Global,
@@ -457,7 +458,7 @@ fn told_by_script(
     Ok(run_beside(rt, alloc, case, scene, 4, &mut burst)?.0.0)
 }
 
-// Steps and hearings in an order of no meaning; some regions are swapped, spent or replaced.
+// Steps and hearings in an arbitrary order; some regions are swapped, spent or replaced.
 const HOSTILE: &[Deed] = &[
     Deed::Repeat(3, CoreStep::Turn(2)),
     Deed::Repeat(1, CoreStep::Hear { hearer: 1, from: 2 }),
@@ -473,7 +474,7 @@ const HOSTILE: &[Deed] = &[
     Deed::Repeat(1, CoreStep::Hear { hearer: 3, from: 0 }),
 ];
 
-// How many generated scenes are run; others are refused.
+// The number of generated scenes that are run; others are refused.
 const GENERATED: u64 = 20;
 
 const MOST_TRIED: u32 = 100;
@@ -491,7 +492,7 @@ fn hostile_bursts_tell_the_plain_run(rt: HostRuntime) -> Result<(), Fail> {
     Ok(())
 }
 
-// Runs the next generated scene under hostile bursts; says no where it is refused.
+// Runs the next generated scene under hostile bursts. False if it is refused.
 fn is_run(
     rt: &(impl Threads + Wait + Sync + Abort),
     alloc: Global,

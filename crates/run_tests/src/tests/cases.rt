@@ -1,4 +1,4 @@
-//! Cases of tests, and what has to be found in them.
+//! Cases of tests, and the values that have to be found in them.
 
 use std::fmt::Debug;
 use std::process::Abort;
@@ -6,7 +6,7 @@ use std::process::Abort;
 /// The number of a row, and the disks or the text of its scene.
 pub type Case<'a> = (usize, &'a str);
 
-/// What is found in a case has to be what is wanted.
+/// The value found in a case has to be the one wanted.
 pub fn expect<C: Debug + Copy, V: PartialEq + Debug + Copy>(
     rt: &impl Abort,
     case: C,

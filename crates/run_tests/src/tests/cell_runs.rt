@@ -17,7 +17,7 @@ use test_scenes::{FOUR_IN_A_ROW, LONG, ROLLED_BACK, USUAL};
 // More actions than the cell run of a test has.
 const MOST_ACTIONS: u32 = 10_000;
 
-// How many crossings a cell run has, and what else it comes to.
+// The number of crossings of a cell run, and all else that it tells.
 type CellRun = (u32, Told);
 
 fn cell_run(alloc: Global, scene: &Scene, regions: u32) -> Result<CellRun, AllocError>
@@ -45,7 +45,7 @@ fn run_through(state: &mut CellState, end: u64) -> CellRun {
     )
 }
 
-// The next action, or the limit that it passes; none where nothing is left to be done.
+// The next action, or the limit that it passes; none if no event is left.
 fn next_action(state: &mut CellState) -> Option<Result<Action, Limit>> {
     match state.next() {
         Some(_) => Some(state.run_next()),
@@ -53,7 +53,7 @@ fn next_action(state: &mut CellState) -> Option<Result<Action, Limit>> {
     }
 }
 
-// The sum of where all disks are at a tick.
+// The sum over the spots of all disks at a tick.
 fn sum_at(rows: &[Placed], tick: u64) -> i64 {
     let mut sum = 0;
     for row in rows {
@@ -62,7 +62,7 @@ fn sum_at(rows: &[Placed], tick: u64) -> i64 {
     sum
 }
 
-// The numbers are small, so nothing wraps, and nothing has to be proved of it.
+// The spot of a disk at a tick. The numbers are small, so nothing wraps, and nothing has to be proved about that.
 fn spot_at(disk: &Disk, tick: u64) -> Spot {
     let ticks = tick.wrapping_sub(disk.base).cast_signed();
     Spot {
@@ -75,8 +75,8 @@ fn spot_at(disk: &Disk, tick: u64) -> Spot {
 
 const CORNER: &str = "[3, 3, -2, -2]";
 
-// What stands before the limits of a scene, its round limit, its end, its disks, and how many crossings
-// and collisions its cell run has.
+// The text before the limits of a scene, its round limit, its end, its disks, and how many crossings and collisions its
+// cell run has.
 type RunRow = (&'static str, u32, u32, &'static str, (u32, usize));
 
 const RUNS: &[RunRow] = &[
@@ -109,7 +109,7 @@ fn counts_of(
     Ok((crossings, told.0.0))
 }
 
-// The cell run of a scene, which has to come to what the engine that looks at all pairs tells.
+// The cell run of a scene. It has to tell what the engine that looks at all pairs tells.
 fn run_beside(
     rt: &impl Abort,
     alloc: Global,

@@ -14,7 +14,7 @@ use std::test::Fail;
 use std::thread::Threads;
 use test_scenes::{FOUR_IN_A_ROW, LONG, ROLLED_BACK};
 
-// Counts in a word that others read how often it was told, and refuses one of the tellings.
+// A listener that counts, in a word that others read, how often it was told, and refuses one of the tellings.
 #[derive(Drop)]
 struct Ear<'a> {
     told: &'a AtomicU64,
@@ -61,7 +61,7 @@ impl<'a> Listener for Ear<'a> {
     }
 }
 
-// Reads that word before and after it goes on with what is beside, and counts how often it was called.
+// A burst that reads that word before and after it goes on with the work beside, and counts how often it was called.
 #[derive(Drop)]
 struct Reading<'a> {
     told: &'a AtomicU64,
@@ -88,11 +88,11 @@ impl<'a, S: Beside<W>, W> Burst<S, W> for Reading<'a> {
     }
 }
 
-// Whether a run was cut short that was listened to, how often the burst was called, how many changes had been told at
-// its last call, and how many were told beside.
+// Whether the run was cut short, how often the burst was called, how many changes had been told at its last call, and
+// how many were told beside.
 type Listened = (bool, u32, u64, u64);
 
-// Runs a scene over four regions, where the ear refuses this telling.
+// Runs a scene over four regions, with an ear that refuses this telling.
 fn listen(
     rt: &(impl Threads + Wait + Sync),
     alloc: Global,
@@ -112,7 +112,7 @@ fn listen(
     (is_cut_short, burst.calls, burst.last, burst.beside)
 }
 
-// What a run comes to with an ear that refuses nothing, and with one that refuses the second telling.
+// The run with an ear that refuses nothing, and the run with one that refuses the second telling.
 fn whole_and_part(
     rt: &(impl Threads + Wait + Sync + Abort),
     alloc: Global,
@@ -139,7 +139,7 @@ fn what_is_final_is_told_beside_the_next_burst(rt: HostRuntime) -> Result<(), Fa
     Ok(())
 }
 
-// Lets the only region step until nothing is due, and counts how often it was called.
+// A burst that lets the only region step until nothing is due, and counts how often it was called.
 #[derive(Drop)]
 struct CallCounter {
     calls: u32,

@@ -5,7 +5,7 @@ use std::alloc::{AllocError, Global};
 use std::process::Abort;
 use test_scenes::{scene, scene_of};
 
-/// The scene of some disks, with these sizes and limits. Stops a test where a rule refuses it.
+/// The scene of some disks, with these sizes and limits. Stops a test if a rule refuses it.
 pub fn valid_scene(
     rt: &impl Abort,
     alloc: Global,

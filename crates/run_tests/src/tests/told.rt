@@ -1,7 +1,8 @@
 //! What a run tells, and how it ends.
 //!
-//! A report is a function of the scene, of the changes of its run and of how that ends: runs that come to the same
-//! have the same report. Changes and disks are summed up as they come, in order, so that none has to be kept.
+//! A report is a function of the scene, of the changes of its run and of how the run ends: if two runs have the same
+//! changes and end, they have the same report. Changes and disks are summed up as they come, in order, so that none has
+//! to be kept.
 
 use super::cases::{Case, expect};
 use all_pairs::simulate_plain;
@@ -13,8 +14,8 @@ use std::process::Abort;
 /// How many changes a run told, the last of them, and the sum of all.
 pub type Changes = (usize, Option<Change>, i64);
 
-/// The changes of a run, the limit at which it ended, if it did at one, and else the sum of where all disks are in the
-/// end.
+/// The changes of a run, the limit at which it ended, if it did at one, and else the sum over the spots of all disks at
+/// the end.
 pub type Told = (Changes, Option<Limit>, i64);
 
 /// Sums up the changes that it is told.
@@ -35,7 +36,7 @@ impl Summing {
         }
     }
 
-    /// One change more.
+    /// Adds one change.
     pub fn add(&mut self, change: &Change) {
         self.count = self.count.wrapping_add(1);
         self.last = Some(*change);
@@ -97,12 +98,12 @@ fn with_disk(sum: i64, disk: &Disk) -> i64 {
     )
 }
 
-/// The sum where a disk more is in the end.
+/// The sum with one more disk at the end.
 pub fn with_spot(sum: i64, spot: &Spot) -> i64 {
     with_all(sum, &[spot.x, spot.y, spot.vx, spot.vy])
 }
 
-// The sum with numbers more, of which the order counts.
+// The sum with more numbers; their order counts.
 fn with_all(sum: i64, numbers: &[i64]) -> i64 {
     let mut sum = sum;
     for number in numbers {
@@ -111,7 +112,7 @@ fn with_all(sum: i64, numbers: &[i64]) -> i64 {
     sum
 }
 
-/// What a listener was told in a run that came to this.
+/// What a listener was told in a run with this end.
 pub fn told_of(
     listener: &Summing,
     outcome: &Result<Outcome, RunFault>,
@@ -119,7 +120,7 @@ pub fn told_of(
     match outcome {
         Ok(Outcome::Done(state)) => Ok((listener.changes(), None, sum_of(state.as_slice()))),
         Ok(Outcome::Limit(limit)) => Ok((listener.changes(), Some(*limit), 0)),
-        // Only for want of memory is a run cut short to which `Summing` listens.
+        // A run that tells `Summing` is cut short only if memory runs out.
         Err(_) => Err(AllocError),
     }
 }
@@ -132,7 +133,7 @@ fn sum_of(spots: &[Spot]) -> i64 {
     sum
 }
 
-/// Stops a test where a run of a scene told something else than the engine that looks at all pairs tells.
+/// Stops a test if a run of a scene told something else than the engine that looks at all pairs tells.
 pub fn expect_plain(
     rt: &impl Abort,
     alloc: Global,

@@ -36,7 +36,7 @@ fn opened(rt: &impl Abort, alloc: Global, end: u32, disks: &str) -> Result<Vec<R
     committed.open_all(alloc)
 }
 
-// Regions after a burst by one worker, of so many turns with so many steps.
+// Regions after a burst by one worker, of `turns` turns with `steps` steps.
 fn after_turns<R: Threads + Wait + Sync>(
     rt: &R,
     alloc: Global,
@@ -68,7 +68,8 @@ fn seen(region: &Region) -> Seen {
     (region.entries(), region.clock(), heard)
 }
 
-// Region 0 has made its step, region 1 has heard of it before its own step and taken it in, and there is nothing else.
+// Region 0 has made its step, region 1 has heard of it before its own step and taken it in, and nothing else has
+// happened.
 const ONE_STEP_ON: &[Seen] = &[
     (1, Some(CROSSING), None),
     (1, Some(CROSSING), Some(1)),
@@ -85,7 +86,7 @@ fn a_worker_steps_and_hears(rt: HostRuntime) -> Result<(), Fail> {
     Ok(())
 }
 
-// How many regions there are after the burst, and one of them; none where there is no such region.
+// How many regions there are after the burst, and one of them; none if there is no such region.
 fn seen_after_one_step<R: Threads + Wait + Sync + Abort>(
     rt: &R,
     alloc: Global,
@@ -107,7 +108,7 @@ const BOUNCING_APART: &str = "[50, 10, 0, 8], [150, 10, 0, 8], [250, 10, 0, 8], 
 // Most of the steps of four turns with 64 steps, and more than any two slices have.
 const MOST: usize = 150;
 
-// Where a burst ended early, or left a region out of its slices, one of them would have made fewer steps.
+// If a burst ended early, or left a region out of its slices, a region would have made fewer steps.
 #[test]
 fn each_region_goes_on_to_the_end_of_a_burst(rt: HostRuntime) -> Result<(), Fail> {
     let found = least_after_turns(&rt, rt.alloc())?;
@@ -120,7 +121,7 @@ fn each_region_goes_on_to_the_end_of_a_burst(rt: HostRuntime) -> Result<(), Fail
     Ok(())
 }
 
-// The least number of entries that a region has after four turns with 64 steps; none where there is no region.
+// The least number of entries that a region has after four turns with 64 steps; none if there is no region.
 fn least_after_turns<R: Threads + Wait + Sync + Abort>(
     rt: &R,
     alloc: Global,
@@ -139,8 +140,8 @@ fn least_entries(regions: &[Region]) -> Option<usize> {
     least
 }
 
-// Worker 0 waits in its first turn until worker 1 was here, and notes whether it was. All turns are counted, and it is
-// noted whether a worker came to be held up.
+// A gate at which worker 0 waits in its first turn until worker 1 was here, and notes whether it was. It counts all
+// turns, and notes whether a worker could have been held up.
 #[derive(Drop)]
 struct Meeting {
     came: AtomicBool,
@@ -170,8 +171,8 @@ impl Gate for Meeting {
     }
 }
 
-// How many regions come back from a burst by two workers, whether these met, how many turns they began, and whether one
-// could have been held up.
+// How many regions two workers give back, whether the workers met, how many turns they began, and whether one could
+// have been held up.
 type Met = (usize, bool, u32, bool);
 
 #[test]
@@ -197,8 +198,8 @@ fn met<R: Threads + Wait + Sync + Abort>(rt: &R, alloc: Global) -> Result<Met, A
     ))
 }
 
-// How many regions two workers give back that pass a gate. With no disk there is nothing to do, so these turns would
-// take minutes if they did more than that.
+// How many regions two workers give back that pass a gate. Without disks there is nothing to do, so these turns would
+// take minutes only if they did more than pass the gate.
 fn count_after<R: Threads + Wait + Sync + Abort>(
     rt: &R,
     alloc: Global,

@@ -1,4 +1,4 @@
-//! That workers go on with what is beside a burst.
+//! Workers go on with the work beside a burst.
 
 ghost use Rattle.std.specs.Prelude.{IfSome};
 ghost use Rattle.local_run.specs.Bursts.{AreTogether};
@@ -18,7 +18,7 @@ use test_scenes::{LONG, scene, scene_of};
 // One disk in each region that bounces up and down, every other tick or so.
 const BOUNCING_APART: &str = "[50, 10, 0, 8], [150, 10, 0, 8], [250, 10, 0, 8], [350, 10, 0, 8]";
 
-// Work of so many pieces, of which some are done.
+// Work of `all` pieces, some of which are done.
 #[derive(Drop)]
 struct Pieces {
     done: u32,
@@ -42,7 +42,7 @@ impl Beside<()> for Pieces {
     }
 }
 
-// Has two workers make a burst beside which there are so many pieces to do.
+// Has two workers make a burst with this many pieces of work beside it.
 fn burst_beside<R: Threads + Wait + Sync>(
     rt: &R,
     alloc: Global,
@@ -73,7 +73,7 @@ fn burst_beside<R: Threads + Wait + Sync>(
     Ok(())
 }
 
-// How many of so many pieces are done after a burst; none where there is no scene.
+// How many of `all` pieces are done after a burst; none if there is no scene.
 fn done_beside<R: Threads + Wait + Sync>(
     rt: &R,
     alloc: Global,
@@ -88,7 +88,7 @@ fn done_beside<R: Threads + Wait + Sync>(
     Ok(Some(pieces.done))
 }
 
-// In the second half of a burst these come before the first worker's own regions, so that it does all of them.
+// In the second half of a burst the pieces come before the first worker's own regions, so it does all of them.
 #[test]
 fn workers_go_on_with_what_is_beside(rt: HostRuntime) -> Result<(), Fail> {
     let found = done_beside(&rt, rt.alloc(), 8)?;

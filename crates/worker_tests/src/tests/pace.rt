@@ -1,4 +1,4 @@
-//! How far regions run, and where a burst stands.
+//! How far regions run, and how far a burst is.
 
 use super::cases::expect;
 use super::regions::{RULES, empty_scene, opened};
@@ -10,10 +10,10 @@ use region_workers::roll::{Roll, Share};
 use region_workers::virtual_time::{from_parts, to_parts};
 use std::alloc::{AllocError, Global};
 
-// The work on so many regions, and whether any of them moved.
+// A number of regions whose work is done, and whether any of them moved.
 type ShareRow = (u32, bool);
 
-// The phase, of how many regions it is done, and whether any of them moved.
+// The phase, the number of regions for which it is done, and whether any of them moved.
 type RollRow = (u32, u32, bool);
 
 // Shares of the work on four regions, and what the roll says after each.
@@ -33,7 +33,7 @@ const COURSES: &[Course] = &[
         ((1, true), (u32::MAX, 0, false)),
     ],
     &[
-        // Before the first phase nothing was posted that one could have heard.
+        // Before the first phase nothing was posted that a region could have heard.
         ((4, false), (1, 0, false)),
         // The last one moved.
         ((3, false), (1, 3, false)),
@@ -42,7 +42,7 @@ const COURSES: &[Course] = &[
     ],
 ];
 
-// What a word keeps of a roll after a share of the work on four regions.
+// The roll that a word keeps after a share of the work on four regions.
 fn kept(roll: Roll, &(regions, moved): &ShareRow) -> Roll {
     let with = roll.with(&Share { regions, moved });
     Roll::of((if with.done == 4 { with.next() } else { with }).word())
@@ -59,7 +59,7 @@ fn a_phase_ends_when_it_is_done_of_all_regions(rt: HostRuntime) {
     }
 }
 
-// Of how many regions a phase is done, where that is told after a share of the work on one of three.
+// The number of regions for which a phase is done, if the answer tells it after a share of the work on one of three.
 fn done_after_one(meeting: &Rendezvous) -> Option<u32> {
     let share = Share {
         regions: 1,
@@ -68,7 +68,7 @@ fn done_after_one(meeting: &Rendezvous) -> Option<u32> {
     meeting.note(&share).map(|done| done.done)
 }
 
-// What is told after each of three shares.
+// The answers after each of three shares.
 fn done_in_turn(alloc: Global) -> Result<[Option<u32>; 3], AllocError> {
     let meeting = Rendezvous::new(alloc, 3)?;
     let first = done_after_one(&meeting);
@@ -96,8 +96,8 @@ const RISING: &[(u64, u32, Kind, u32)] = &[
     (1 << 40, 0, Kind::Cross, 999),
 ];
 
-// The first row whose part is before that of the row above it, or which isn't before the part after its own, where
-// there are so many disks.
+// The first row whose part is before that of the row above it, or which isn't before the part after its own, if there
+// are `disks` disks.
 fn first_out_of_order(disks: u64) -> Option<usize> {
     let mut before = 0;
     for (row, &(tick, round, kind, first)) in RISING.iter().enumerate() {
@@ -124,7 +124,8 @@ fn parts_are_in_the_order_of_stamps(rt: HostRuntime) {
     }
 }
 
-// A region that made so many steps, where what is due was at a tick, and is at another then.
+// The progress of a region that made `steps` steps. Before them the end stamp of the tick `began` was due there, after
+// them that of `due`.
 fn progress(steps: u32, began: u64, due: u64) -> RegionProgress {
     RegionProgress {
         heard_news: false,
@@ -141,7 +142,8 @@ fn seen(pace: &Pace, slice: &Slice) -> Seen {
     (slice.steps, pace.bound(slice))
 }
 
-// The next slice when the first steps are made, where a message made an earlier stamp due, and to settle.
+// The next slice once the first steps are made, the next one after a message made an earlier stamp due, and one in
+// which the regions settle.
 fn later_slices(pace: &Pace) -> (Seen, Seen, Seen) {
     pace.ran(0, &progress(16, 2, 10));
     pace.ran(1, &progress(0, 20, 20));
@@ -151,8 +153,8 @@ fn later_slices(pace: &Pace) -> (Seen, Seen, Seen) {
     (next, earlier, seen(pace, &pace.settling_slice(5)))
 }
 
-// The steps of the first slice of four regions without disks, whether it ends after they do, and later slices; none
-// where the rules are refused.
+// The steps of the first slice of four regions without disks, whether it goes past their end, and later slices; none if
+// the rules are refused.
 type Slices = ((u32, bool), (Seen, Seen, Seen));
 
 fn slices(alloc: Global) -> Result<Option<Slices>, AllocError> {
@@ -169,7 +171,7 @@ fn slices(alloc: Global) -> Result<Option<Slices>, AllocError> {
 fn a_slice_goes_as_far_as_its_steps_took_lately(rt: HostRuntime) -> Result<(), AllocError> {
     // Nothing is known at first.
     let first = (16, true);
-    // Sixteen steps took eight ticks, so that the next go seven ticks on. A region without events is no matter.
+    // Sixteen steps took eight ticks, so that the next go seven ticks on. A region without events makes no difference.
     let next = (3, Stamp::end_of(17));
     // A message makes an earlier stamp due.
     let earlier = (16, Stamp::end_of(16));

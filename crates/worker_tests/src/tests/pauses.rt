@@ -5,13 +5,13 @@ use region_locks::Pause;
 use std::io;
 use std::time::Clock;
 
-// They take some 140 milliseconds, and two where the divisions of a pause are left out.
+// These take some 140 milliseconds, and two if the divisions of a pause are left out.
 const PAUSES: u32 = 2_000_000;
 
-// What they take at least, however quickly a processor divides.
+// The least time that they take, however quickly a processor divides.
 const LEAST_MILLIS: u128 = 10;
 
-// Whether each of so many pauses went as it should.
+// Whether each of `pauses` pauses went as it should.
 fn wait_often(pauses: u32) -> bool {
     let mut pause = Pause::new();
     for _ in 0..pauses {
@@ -22,7 +22,7 @@ fn wait_often(pauses: u32) -> bool {
     true
 }
 
-// Whether pauses went as they should, and whether they took the time that they take at least.
+// Whether pauses went as they should, and whether they took at least the least time.
 fn timed_pauses<R: Clock>(rt: &R) -> io::Result<(bool, bool)> {
     let before = rt.monotonic()?;
     let went = wait_often(PAUSES);

@@ -18,7 +18,7 @@ pub const RULES: Rules = Rules {
     end: 20,
 };
 
-/// A scene without disks; none where its rules are refused.
+/// A scene without disks; none if its rules are refused.
 pub fn empty_scene(alloc: Global) -> Option<Scene> {
     match RULES.check() {
         Ok(()) => Some(Scene::new(RULES, Vec::new(alloc), None)),
@@ -26,7 +26,7 @@ pub fn empty_scene(alloc: Global) -> Option<Scene> {
     }
 }
 
-/// How many regions are asked for.
+/// The number of regions that are asked for.
 pub const REGIONS: u32 = 4;
 
 /// The regions with which the run of a scene begins.

@@ -9,7 +9,7 @@ use std::sync::atomic::{AtomicU64, Ordering};
 use std::thread;
 use std::thread::Threads;
 
-// Adds to a number. The answer is its own, so that it is seen to come through.
+// Adds to a number. It answers something else than the number, so that a test sees that the answer comes through.
 fn add(total: &mut u64, more: u64) -> u64
     requires { total.old + more < 2 ^ 64 }
     ensures total { total.new ≡ total.old + more }
@@ -20,7 +20,7 @@ fn add(total: &mut u64, more: u64) -> u64
     before
 }
 
-// Adds to a number in a scope, where a thread counts beside it; the answer is what the number was.
+// Adds to a number in a scope, in which a thread counts too; the answer is what the number was.
 fn add_in_scope<R: Threads + Wait + Sync>(
     rt: &R,
     total: &mut u64,

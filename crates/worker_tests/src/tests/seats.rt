@@ -1,4 +1,4 @@
-//! What seats take out of a table and put back.
+//! Seats take regions out of a table and put them back.
 
 ghost use Rattle.std.specs.Prelude.{◌≡◌, ◌<◌, ◌∷◌, [], length, IfSome, OnOk};
 ghost use Rattle.local_run.specs.Bursts.{AreTogether};
@@ -30,7 +30,7 @@ const THIRD_HIT: Stamp = Stamp {
     second: 3,
 };
 
-// What a seat is answered: with how many entries the region comes, or why it doesn't.
+// The answer to a seat: with how many entries the region comes, or why it doesn't.
 #[derive(Clone, Copy, Debug, PartialEq)]
 enum Answer {
     Entries(usize),
@@ -49,7 +49,7 @@ fn give_back(table: &RegionTable, seat: &mut TableSeat, region: u32, value: Regi
     table.put_back(seat, region, value);
 }
 
-// Asks for a region, and gives it back where it comes.
+// Asks for a region, and gives it back if it comes.
 fn ask(table: &RegionTable, seat: &mut TableSeat, region: u32) -> Answer
     requires region { region < length table.now.opened }
     requires seat { IsSeatOf table.now seat.old }
@@ -68,18 +68,18 @@ fn ask(table: &RegionTable, seat: &mut TableSeat, region: u32) -> Answer
     }
 }
 
-// Lets a region run three steps, and says what the last one answers.
+// Lets a region make three steps, and gives the answer of the last one.
 fn step_thrice(alloc: Global, region: &mut Region) -> Result<Step, AllocError>
     ensures { OnOk result (BeginsAs region.old region.new) }
 {
     region.run(alloc, 3)
 }
 
-// What the last of a region's steps answers, and what seats are answered that ask for it and for another.
+// The answer of the last of a region's steps, and the answers to seats that ask for it and for another.
 type Shared = (Step, [Answer; 3]);
 
-// A seat takes a region out, steps it and puts it back; meanwhile another asks for it and for the next one.
-// The last answer is to the first seat, which asks for the region again.
+// A seat takes a region out, steps it and puts it back; meanwhile another asks for it and for the next one. The last
+// answer is to the first seat, which asks for the region again.
 fn share(
     alloc: Global,
     table: &RegionTable,
@@ -101,7 +101,7 @@ fn share(
     Ok(Some((last, [while_out, beside, back])))
 }
 
-// None where there are not four regions.
+// None if there aren't four regions.
 fn share_all(alloc: Global, regions: Vec<Region>) -> Result<Option<Shared>, AllocError>
     requires { AreTogether regions.items }
 {
@@ -113,7 +113,7 @@ fn share_all(alloc: Global, regions: Vec<Region>) -> Result<Option<Shared>, Allo
     share(alloc, &table, &mut seat, &mut other)
 }
 
-// None where the scene is refused, too.
+// None also if the scene is refused.
 fn shared(alloc: Global) -> Result<Option<Shared>, AllocError> {
     match scene_of(alloc, SLOW_CROSSING)? {
         Some(scene) => share_all(alloc, opened(alloc, &scene)?),

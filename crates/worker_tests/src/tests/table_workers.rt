@@ -43,7 +43,7 @@ fn row_scene(alloc: Global) -> Result<Option<Scene>, AllocError> {
 // Whether a region is spent, the number of its entries and its clock, and how many messages it heard from region 0.
 type Seen = (bool, usize, Option<Stamp>, Option<usize>);
 
-// Region 0 has made its step, region 1 has heard of it, and there is nothing else.
+// Region 0 has made its step, region 1 has heard of it, and nothing else has happened.
 const ONE_STEP_ON: [Option<Seen>; 5] = [
     Some((false, 1, Some(CROSSING), None)),
     Some((false, 0, None, Some(1))),
@@ -61,7 +61,7 @@ fn seen_at(regions: &[Region], place: usize) -> Option<Seen> {
     Some((region.is_spent(), region.entries(), region.clock(), heard))
 }
 
-// The regions of the scene after a burst by one worker, of one turn with one step; none where the scene is refused.
+// The regions of the scene after a burst by one worker, of one turn with one step; none if the scene is refused.
 fn after_one_step<R: Threads + Wait + Sync>(
     rt: &R,
     alloc: Global,
@@ -102,7 +102,7 @@ fn a_worker_steps_and_hears(rt: HostRuntime) -> Result<(), Fail> {
     Ok(())
 }
 
-// At worker 0's first call it waits until worker 1 was there, for a while, and notes whether it was.
+// A gate at which worker 0, when it first comes, waits for a while until worker 1 was there, and notes whether it was.
 #[derive(Drop)]
 struct Meeting {
     came: AtomicBool,
@@ -129,7 +129,7 @@ impl Gate for Meeting {
     }
 }
 
-// Counts the changes that it is told.
+// A listener that counts the changes that it is told.
 #[derive(Drop)]
 struct Counter {
     changes: u32,
@@ -160,7 +160,7 @@ impl Listener for Counter {
     }
 }
 
-// How many changes a run tells over which workers work; none where it is cut short.
+// How many changes a run tells over which workers work; none if it is cut short.
 fn changes_by<R: Threads + Wait + Sync, G: Gate>(
     rt: &R,
     alloc: Global,
@@ -181,7 +181,7 @@ fn changes_by<R: Threads + Wait + Sync, G: Gate>(
     )
 }
 
-// What a burst gives back.
+// The regions that a burst gives back.
 type Worked = Result<Vec<Region>, AllocError>;
 
 // Lets workers work on the regions of a grid, and does nothing beside.
@@ -217,7 +217,7 @@ fn changes_by_call<R: Threads + Wait + Sync, C: Call<Telling, Counter> + Drop>(
     }
 }
 
-// How many changes a run tells over which two workers work, and whether these met; none where the scene is refused.
+// How many changes a run tells over which two workers work, and whether these met; none if the scene is refused.
 fn met<R: Threads + Wait + Sync>(
     rt: &R,
     alloc: Global,

@@ -1,4 +1,4 @@
--- What was read is what points there.
+-- The pointer that was read is the one at that place.
 use Rattle.std.proofs.Common.{◌≡◌, ◌<◌, length, sym, subst}
 use Rattle.std.specs.Prelude.{ℕ, Option, IfSome}
 use Rattle.cell_lists.specs.Chain.{pointer_from}

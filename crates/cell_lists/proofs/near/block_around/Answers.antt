@@ -1,4 +1,4 @@
--- A cell of the grid is adjacent where its column and its row are at most one from those of the cell.
+-- A cell of the grid is adjacent if its column and its row are at most one from those of the cell.
 use Rattle.std.proofs.Common.{◌≡◌, ℕ, ◌/◌, ◌<◌, ap, arith}
 use Rattle.std.proofs.lemmas.Nat.{div_below, mod_below}
 use Rattle.cell_grid.specs.Grid.{column_of, row_of}

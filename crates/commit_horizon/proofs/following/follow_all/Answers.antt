@@ -5,7 +5,7 @@ use Rattle.cell_sequence.specs.Run.{CellSteps}
 use Rattle.cell_sequence.specs.State.{CellStateData, followed_by}
 use Rattle.commit_horizon.proofs.following.follow_all.Goals as goal
 
--- the steps of what is untold, where it begins with an action
+-- the steps over the untold actions, if there is a first one
 steps_of : (state : CellStateData) (xs rest : List Action) (x : Action) → xs ≡ x ∷ rest →
     (later : List Placed) × CellSteps state.rules state.grid state.placed xs later →
     (later : List Placed) × CellSteps state.rules state.grid state.placed (x ∷ rest) later

@@ -1,4 +1,4 @@
--- The paths meet then alone.
+-- The paths meet at that tick alone.
 use Rattle.std.proofs.Common.{arith}
 use Rattle.std.proofs.lemmas.Bool.{both_ways}
 use Rattle.event_rules.proofs.Separations.{touch_from, no_touch}

@@ -1,4 +1,4 @@
--- The event comes to what its two tests say.
+-- The two tests decide the event's result.
 use Rattle.std.proofs.Common.{sym}
 use Rattle.std.specs.Option.{option_copied}
 use Rattle.event_rules.proofs.Valid.{within_valid, applied_last, applied_slow, applied_fast}

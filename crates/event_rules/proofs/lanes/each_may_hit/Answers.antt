@@ -1,4 +1,4 @@
--- Each lane has the quadratic of the separation turned round.
+-- Each lane has the quadratic of the separation reversed.
 use Rattle.std.proofs.Common.{◌≡◌, subst, ℕ, ◌≤◌, ◌^◌}
 use Rattle.std.specs.Prelude.{pos, ◌-ℤ◌}
 use Rattle.std.specs.Int.{int_wrap, w64}

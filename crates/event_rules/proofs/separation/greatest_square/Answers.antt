@@ -1,4 +1,4 @@
--- The product has 64 bits.
+-- The product fits 64 bits.
 use Rattle.event_rules.proofs.SmallProducts.{square_of}
 use Rattle.event_rules.proofs.separation.greatest_square.Goals as goal
 

@@ -14,11 +14,11 @@ use Rattle.event_rules.proofs.Separations.{small_same}
 use Rattle.event_rules.proofs.separation.places_apart.Goals as goal
 use Rattle.event_rules.proofs.separation.places_apart.Goals.{then-lead-lt0, else-lead-lt0}
 
--- the code's vector, where the disk that moves has this velocity
+-- the code's vector, if the disk that moves has this velocity
 abbrev told : Disk → Disk → ℤ → Vector → Vector
 told a b lead v = vector (int_wrap w64 ((a.x -ℤ b.x) -ℤ (v.x *ℤ lead))) (int_wrap w64 ((a.y -ℤ b.y) -ℤ (v.y *ℤ lead)))
 
--- what the code's calls tell, of disks of those sizes
+-- what the code's calls tell of disks of those sizes
 one_way : (x y v lead out : ℤ) → nat_abs x ≤ 2 ^ 30 → nat_abs y ≤ 2 ^ 30 → nat_abs v ≤ 2 ^ 20 → FitsSigned w64 lead → FitsSigned w64 out →
     out ≡ int_wrap w64 ((sent x -ℤ sent y) -ℤ (sent v *ℤ sent lead)) → sent out ≡ int_wrap w64 ((x -ℤ y) -ℤ (v *ℤ lead))
 one_way x y v lead out hx hy hv fl fo e =

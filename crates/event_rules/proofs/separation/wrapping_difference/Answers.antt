@@ -1,4 +1,4 @@
--- Each component is told so.
+-- This is told of each component.
 use Rattle.std.proofs.Common.{rules, ◌≡◌, ◌+◌, ◌-◌, ◌%◌, FitsSigned, to_z, of_z}
 use Rattle.std.specs.Prelude.{ℤ, ◌-ℤ◌}
 use Rattle.std.specs.Int.{int_wrap, w64}

@@ -1,4 +1,4 @@
--- The key is set where the disk is. That is said here, so that another key is refused as soon as this fails.
+-- The key is set for the disk. That is said here, so that another key is refused as soon as this fails.
 use Rattle.std.proofs.Common.{rules, arith, ap, sym, ◌∙◌}
 use Rattle.std.specs.Prelude.{is_some}
 use Rattle.event_tree.specs.Keys.{Key}

@@ -1,4 +1,4 @@
--- What has been written where the rest isn't given, or can't be.
+-- What has been written if the rest isn't given, or can't be.
 use Rattle.std.proofs.Common.{◌≤◌, inr, refl, sym, subst, arith, Option, List, ℕ}
 use Rattle.gathered_sink.specs.Gathered.{IsFront}
 use Rattle.hard_disks.proofs.PassedOn.{IsWriting, answered_torn, counted_torn, writes}

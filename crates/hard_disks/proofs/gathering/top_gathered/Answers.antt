@@ -1,4 +1,4 @@
--- What the top call over a sink that gathers comes to at the sink below.
+-- The result of the top call over a sink that gathers, at the sink below.
 use Rattle.std.proofs.Common.{map, ap, ◌∙◌}
 use Rattle.command_words.specs.Words.{settings_of}
 use Rattle.hard_disks.proofs.OneOutput.{words_in_range}

@@ -1,5 +1,5 @@
--- One that is spent is none, and another place isn't the next. That is said here, so that others are refused as soon as
--- this fails.
+-- A spent one is no next one, and neither is one of another place. That is said here, so that others are refused as
+-- soon as this fails.
 use Rattle.std.proofs.Common.{rules}
 use Rattle.region_locks.proofs.locks.is_next.Goals as goal
 

@@ -29,7 +29,7 @@ invariant_of-self c =
     (subst Rises (sym all) (rises_replaced t c.args.self.now others
     (subst Rises kept c.self.invariant) c.other.invariant)))
 
--- where either all was taken or nothing: what is there after an `Ok`, and after an `Err`
+-- either all was taken or nothing: what is there after an `Ok`, and after an `Err`
 all_taken : {T E : Type 0} (r : Result T E) (now kept all wanted : List Message) →
     now ≡ (if is_ok r then all else kept) → all ≡ wanted → OnOk r (now ≡ wanted)
 all_taken (Ok x) now kept all wanted is same = is ∙ same

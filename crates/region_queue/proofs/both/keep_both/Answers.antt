@@ -1,4 +1,4 @@
--- The next disk is left or out of each list.
+-- The next disk is kept in each list or left out.
 use Rattle.std.proofs.Common.{◌≡◌, ℕ, ◌+◌, ◌<◌, ◌≤◌, List, length, take, get_or, arith, sym, subst, ◌∙◌, w64, to_z, of_z}
 use mir.Val.{bool_byte}
 use Rattle.std.proofs.lemmas.Int.{to_z-of_z}

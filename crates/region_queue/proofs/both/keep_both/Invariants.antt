@@ -1,4 +1,4 @@
--- Of the disks so far those are left in each list that may hit.
+-- Those disks so far that may hit are kept in each list.
 use Rattle.std.specs.Prelude.{None, slice_index_or}
 use Rattle.region_queue.specs.Finding.{IsMissedByGreatest}
 use Rattle.region_queue.proofs.Keeping.{IsKeeping}

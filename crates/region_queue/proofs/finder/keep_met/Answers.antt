@@ -1,4 +1,4 @@
--- The next disk is left or out.
+-- The next disk is kept or left out.
 use Rattle.std.proofs.Common.{ℕ, ◌+◌, ◌<◌, ◌≤◌, List, length, arith, sym, subst}
 use mir.Val.{bool_byte}
 use Rattle.std.specs.Prelude.{None, slice_index_or}

@@ -1,4 +1,4 @@
--- Of the disks so far those are left that may hit.
+-- Those disks so far that may hit are kept.
 use Rattle.std.specs.Prelude.{None, slice_index_or}
 use Rattle.region_queue.specs.Finding.{IsMissedBySmall}
 use Rattle.region_queue.proofs.Keeping.{IsKeeping}

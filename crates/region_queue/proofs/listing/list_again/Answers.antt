@@ -1,4 +1,4 @@
--- One more disk is listed anew.
+-- One more disk is listed again.
 use Rattle.std.proofs.Common.{◌≡◌, ◌<◌, List, ℕ, take, length, get_or, arith, refl, sym, subst, ◌∙◌}
 use Rattle.std.specs.FinMap as map
 use Rattle.std.proofs.lemmas.List.{take_more}

@@ -1,4 +1,4 @@
--- The disks so far are listed where the view has them.
+-- The disks so far are listed in the cells in which the view has them.
 use Rattle.std.proofs.Common.{◌≡◌, take}
 use Rattle.region_queue.specs.Finding.{AreRelisted}
 use Rattle.region_queue.proofs.listing.list_again.Given as goal

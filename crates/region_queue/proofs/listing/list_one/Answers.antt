@@ -1,4 +1,4 @@
--- The disk is listed anew, unless it keeps its cell.
+-- The disk is listed again, unless it keeps its cell.
 use Rattle.std.proofs.Common.{◌≡◌, sym, subst, ◌∙◌}
 use Rattle.std.specs.Prelude.{Some}
 use Rattle.cell_grid.specs.Grid.{GridData, IsCell}

@@ -1,4 +1,4 @@
--- The block is cut where the sides of the second one are, or at its own where those are beyond.
+-- The block is cut at the sides of the second one, or at its own if those are beyond it.
 use Rattle.region_queue.proofs.Outside.{parts_cut}
 use Rattle.region_queue.proofs.parts.parts_outside.Goals as goal
 

@@ -1,4 +1,4 @@
--- What isn't a crossing is a hit.
+-- An event that isn't a crossing is a hit.
 use Rattle.std.proofs.Common.{◌≡◌, inl, inr, subst, sym, ap, ◌∙◌, Option}
 use Rattle.std.specs.Prelude.{◌⊎◌}
 use Rattle.fixed_motion.specs.declared.rules.Rules.{Rules}

@@ -1,4 +1,4 @@
--- The size after a comma, where it isn't the rules' diameter.
+-- The size after a comma, if it isn't the rules' diameter.
 use Rattle.std.proofs.Common.{◌≡◌, ◌++◌, ◌∙◌, List, ℕ, ℤ, ap, sym, subst, codes, w64, FitsSigned, rules}
 use Rattle.std.specs.Fmt.{signed_decimal}
 use Rattle.std.specs.Result.{OnOk}

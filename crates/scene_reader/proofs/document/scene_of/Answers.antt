@@ -21,14 +21,14 @@ pub check_disks-requires-clause-count : goal.check_disks-requires-clause-count
 check_disks-requires-clause-count c =
     rw c.as_slice.ensures.value (disks_new c.in_ok-rules.rules.diameter (items_view c.args.parts.now.rows.now) c.in_ok-disks.disks.items c.in_ok-disks.ensures).1
 
--- what is passed doesn't lack memory
+-- a step that passed didn't run out of memory
 passed_in_memory : (r : Result ⊤ SceneFault) → r ≡ Ok tt → r ≡ Err NoMemory → ⊥
 passed_in_memory r passed memory = cc
 
 passes : (rules : Rules) (disks given : List Disk) (r : Result ⊤ SceneFault) → given ≡ disks → (r ≢ Err NoMemory → r ≡ disks_pass rules given) → r ≡ Ok tt → disks_pass rules disks ≡ Ok tt
 passes rules disks given r e h passed = ap (disks_pass rules) (sym e) ∙ sym (h (passed_in_memory r passed)) ∙ passed
 
--- the scene, where all but the disks' tests is known
+-- the scene, if all but the disks' tests is known
 with_tests : (parts : Parts) (rules : Rules) (every : Option ℕ) (disks : List Disk) (tests : Result ⊤ SceneFault) → rules_of parts.numbers ≡ Ok rules → every_of parts.every ≡ Ok every
     → disks_of_rows rules.diameter parts.rows ≡ Ok disks → disks_pass rules disks ≡ tests → scene_of parts ≡ (tests >> Ok (record { rules = rules; disks = disks; every = every }))
 with_tests parts rules every disks tests e f g h = rw (e, f, g, h)

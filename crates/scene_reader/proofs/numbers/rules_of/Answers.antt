@@ -1,4 +1,4 @@
--- A number that has no place in the rules is out of its range, and so is what stands for it.
+-- A number that doesn't fit the rules is out of its range, and so is the one that replaces it.
 use Rattle.std.proofs.Common.{◌≡◌, ◌^◌, ℤ, pos, negsuc, Bool, true, false, Some, Ok, Err, refl, ap, sym, ◌∙◌, arith}
 use Rattle.std.specs.Prelude.{nat_lt, if◌then◌else◌}
 use Rattle.std.proofs.lemmas.Int.{ints}

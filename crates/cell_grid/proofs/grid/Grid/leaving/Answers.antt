@@ -1,4 +1,4 @@
--- A crossing is due where the disk is inside the box when it leaves the cell, and that is before the end.
+-- A crossing is due if the disk is inside the box when it leaves the cell, and that is before the end.
 use Rattle.std.proofs.Common.{arith, sym, subst}
 use Rattle.std.proofs.lemmas.Bool.{both_ways}
 use Rattle.plane_vectors.specs.declared.Vector.{Vector}

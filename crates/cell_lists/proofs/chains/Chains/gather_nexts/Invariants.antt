@@ -1,4 +1,4 @@
--- What is to come is there, or comes after the disks at places that are pending.
+-- Each disk still to be gathered is there, or comes after a disk at a place that is pending.
 use Rattle.std.proofs.Common.{◌≡◌, ◌-◌, ◌≤◌, length, take}
 use Rattle.cell_lists.specs.declared.gathered.TheConstants.{MOST_GATHERED}
 use Rattle.cell_lists.proofs.Walks.{IsFollowing}

@@ -1,4 +1,4 @@
--- Where there is room for the disk, nothing changes.
+-- If there is room for the disk, nothing changes.
 use Rattle.std.proofs.Common.{length, refl, arith}
 use Rattle.cell_lists.proofs.Nodes.{count_seen}
 use Rattle.cell_lists.proofs.chains.Chains.make_room.Goals as goal

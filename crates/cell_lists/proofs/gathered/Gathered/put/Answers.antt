@@ -1,4 +1,4 @@
--- What is set below the count is set among those that are gathered.
+-- A disk that is set below the count is among those that are gathered.
 use Rattle.std.proofs.Common.{◌≡◌, ℕ, zero, suc, List, [], ◌∷◌, take, set, refl, ap, ◌∙◌}
 use Rattle.cell_lists.proofs.gathered.Gathered.put.Goals as goal
 

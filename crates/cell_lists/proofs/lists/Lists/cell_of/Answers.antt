@@ -1,4 +1,4 @@
--- The lists are seen as the map that the chains say.
+-- Contracts see the lists as the map that the chains say.
 use Rattle.std.proofs.Common.{sym, ap, ◌∙◌}
 use Rattle.std.specs.FinMap as map
 use Rattle.cell_lists.specs.Listing.{ListsData}

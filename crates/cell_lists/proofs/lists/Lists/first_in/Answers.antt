@@ -1,4 +1,4 @@
--- The lists are seen as the map that the chains say.
+-- Contracts see the lists as the map that the chains say.
 use Rattle.cell_lists.proofs.Listed.{first_seen}
 use Rattle.cell_lists.proofs.lists.Lists.first_in.Goals as goal
 

@@ -1,4 +1,4 @@
--- The lists are seen as the map that the chains say.
+-- Contracts see the lists as the map that the chains say.
 use Rattle.cell_lists.proofs.Listed.{gathered_seen}
 use Rattle.cell_lists.proofs.lists.Lists.gather.Goals as goal
 

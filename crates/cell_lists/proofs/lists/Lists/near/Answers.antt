@@ -1,4 +1,4 @@
--- After the last disk the list goes on with none; what is in the block around the cell is near it.
+-- After the last disk the list goes on with none; the disks in the block around the cell are near it.
 use Rattle.std.proofs.Common.{◌≡◌, ◌↔◌, ℕ, ◌+◌, ◌^◌, ◌<◌, List, [], arith, sym, ap, subst}
 use Rattle.std.specs.Prelude.{Option}
 use Rattle.std.proofs.lemmas.List.{append-nil}

@@ -1,4 +1,4 @@
--- The list goes on with all disks from a number on, of which the next is the first.
+-- The list goes on with all disks from a number on, the first of which is the next one.
 use Rattle.std.proofs.Common.{ℕ}
 use Rattle.cell_lists.specs.Firsts.{IsFirstOf}
 use Rattle.cell_lists.proofs.Firsts.{ascent, GoesOn}

@@ -1,4 +1,4 @@
--- The lists are seen as the map that the chains say.
+-- Contracts see the lists as the map that the chains say.
 use Rattle.std.proofs.Common.{◌+◌}
 use Rattle.std.specs.Prelude.{Some}
 use Rattle.cell_lists.proofs.Listed.{cell_seen, first_seen}

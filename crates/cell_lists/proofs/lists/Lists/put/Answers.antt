@@ -1,4 +1,4 @@
--- The lists are seen as the map that the chains say.
+-- Contracts see the lists as the map that the chains say.
 use Rattle.std.proofs.Common.{ap, sym, subst, ◌≡◌, ◌∙◌}
 use Rattle.std.specs.Prelude.{Some, None}
 use Rattle.std.proofs.lemmas.Option.{same_Some}

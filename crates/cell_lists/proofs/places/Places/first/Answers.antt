@@ -1,4 +1,4 @@
--- The lowest bit of a word that isn't 0 is where its zeros end.
+-- The lowest bit of a word that isn't 0 is at the end of its zeros.
 use Rattle.std.proofs.Common.{◌<◌, arith}
 use Rattle.std.specs.Int.{w32}
 use Rattle.std.proofs.lemmas.Nat.Bits.{bit_at-trailing_zeros}

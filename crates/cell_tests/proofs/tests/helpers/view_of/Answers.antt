@@ -1,4 +1,4 @@
--- What stands in a cell state is valid, and so is what a region sees of it.
+-- The rows of a cell state are valid, and so is what a region sees of them.
 use Rattle.std.proofs.Common.{◌≤◌, List, length, slice_get, sym, subst}
 use Rattle.cell_grid.specs.Grid.{GridData}
 use Rattle.region_view.specs.declared.action.Placed.{Placed}

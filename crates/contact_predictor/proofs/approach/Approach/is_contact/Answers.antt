@@ -1,4 +1,4 @@
--- The quadratic is that of the disks, and so is the next one of the next tick.
+-- The quadratic is that of the disks, and the next one is that of the next tick.
 use Rattle.std.proofs.Common.{arith}
 use Rattle.std.specs.Prelude.{ℤ, pos, ◌≤ℤ◌, ◌<ℤ◌}
 use Rattle.std.proofs.lemmas.Int.{ints, by_lt_z}

@@ -16,7 +16,7 @@ item_is (Some l) e back he hb =
     let rows = same_Some l.1 back hb in
     λ i. Some (sym entry i, sym rows i)
 
--- an entry and what leads back over it are an item of the log
+-- an entry and the rows that lead back over it are an item of the log
 both_are : (log : List Logged) (i : ℕ) (e : Entry) (back : RowList) → slice_get (entries_in log) i ≡ Some e →
     slice_get (backs_in log) i ≡ Some back → Some (e, back) ≡ slice_get log i
 both_are log i e back he hb =

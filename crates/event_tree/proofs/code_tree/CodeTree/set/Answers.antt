@@ -1,4 +1,4 @@
--- The key stands among the leaves, which no playing changes.
+-- The key is among the leaves, which no playing changes.
 use Rattle.std.proofs.Common.{ap, drop, set, ◌+◌, ◌∙◌, arith}
 use Rattle.std.specs.Vec.{with_item}
 use Rattle.std.proofs.lemmas.List.{drop-set-add, with_items_is}

@@ -1,4 +1,4 @@
--- The key is that of the form which holds.
+-- The key is that of the form that is in use.
 use Rattle.std.proofs.Common.{ap, ◌∙◌}
 use Rattle.event_tree.specs.Keys.{key_at}
 use Rattle.event_tree.specs.Entries.{EntriesData}

@@ -1,4 +1,4 @@
--- The key is that which is packed.
+-- The key is the one that is packed.
 use Rattle.event_tree.proofs.entries.Entries.least.Goals as goal
 
 pub returns-clause-least : goal.returns-clause-least

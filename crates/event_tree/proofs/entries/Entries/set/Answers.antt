@@ -1,4 +1,4 @@
--- The narrow form takes the entry in, where it fits.
+-- The narrow form takes the entry in, if it fits.
 use Rattle.event_tree.proofs.Forms.{none_there, entered_narrow}
 use Rattle.event_tree.proofs.entries.Entries.set.Goals as goal
 

@@ -1,4 +1,4 @@
--- The least is that of the form which holds.
+-- The least key is that of the form that is in use.
 use Rattle.std.proofs.Common.{sym, subst}
 use Rattle.event_tree.specs.Keys.{Key, IsLeastKey}
 use Rattle.event_tree.specs.Entries.{EntriesData}

@@ -1,4 +1,4 @@
--- What there was stays in the wider room, and the entry is put there.
+-- The old entries stay in the wider room, and the new one is put there.
 use Rattle.event_tree.proofs.Groups.{entered_after}
 use Rattle.event_tree.proofs.narrow.Narrow.set_beyond.Goals as goal
 

@@ -1,4 +1,4 @@
--- The rules and the disk were looked at before.
+-- The rules and the disk were checked before.
 use Rattle.motion_tests.proofs.tests.motion.place_of.Goals as goal
 
 pub place-requires-clause-valid : goal.place-requires-clause-valid

@@ -1,4 +1,4 @@
--- The rules and the disks were looked at before.
+-- The rules and the disks were checked before.
 use Rattle.std.proofs.Common.{◌≡◌, Some, subst}
 use Rattle.fixed_motion.specs.declared.rules.Rules.{Rules}
 use Rattle.fixed_motion.specs.declared.disk.Disk.{Disk}

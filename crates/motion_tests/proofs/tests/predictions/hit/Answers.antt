@@ -1,4 +1,4 @@
--- The rules and the disk were looked at before.
+-- The rules and the disk were checked before.
 use Rattle.motion_tests.proofs.tests.predictions.hit.Goals as goal
 
 pub wall_event-requires-clause-checked : goal.wall_event-requires-clause-checked

@@ -1,4 +1,4 @@
--- The rules and the disks were looked at before.
+-- The rules and the disks were checked before.
 use Rattle.motion_tests.proofs.tests.predictions.meeting.Goals as goal
 
 pub pair_event-requires-clause-checked : goal.pair_event-requires-clause-checked

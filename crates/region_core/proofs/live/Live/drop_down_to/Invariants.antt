@@ -1,4 +1,4 @@
--- What is to be left is there still, with its view and its queue.
+-- The entries that are to be left are still there, with their view and their queue.
 use Rattle.std.proofs.Common.{◌≡◌, length, take}
 use Rattle.region_core.specs.Live.{base_in, IsAlong}
 use Rattle.region_core.proofs.live.Live.drop_down_to.Given as goal

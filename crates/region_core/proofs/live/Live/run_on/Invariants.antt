@@ -1,5 +1,5 @@
--- The region is right, no message waits before the limit, what comes next is known and in turn, and what ran so far are
--- steps for which the log has room.
+-- The region is right, no message waits before the limit, what comes next is known and in turn, and the events that ran
+-- so far are steps for which the log has room.
 use Rattle.std.specs.Prelude.{◌+◌, ◌-◌, ◌≤◌, length, IfSome}
 use Rattle.event_stamps.specs.Least.{IsLeastOf}
 use Rattle.local_run.specs.declared.entry.TheConstants.{MAX_ENTRIES}

@@ -1,4 +1,4 @@
--- One more of the disks that are left; those that are out have no key.
+-- One more of the disks that are kept; those that are out have no key.
 use Rattle.std.proofs.Common.{ℕ, ◌+◌, ◌<◌, List, [], take, length, get_or, arith, sym, subst}
 use Rattle.std.specs.Prelude.{Option}
 use Rattle.std.specs.List.{Contains}

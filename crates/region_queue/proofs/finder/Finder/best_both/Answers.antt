@@ -1,4 +1,4 @@
--- Each disk has its own list of those that are left of all that are near either.
+-- Each disk has its own list of the disks kept of all that are near either.
 use Rattle.std.proofs.Common.{◌≡◌, sym, arith, w64, FitsSigned, to_z, of_z}
 use Rattle.std.proofs.lemmas.Int.{ints, to_z-of_z}
 use Rattle.std.specs.Prelude.{None, slice_index_or}

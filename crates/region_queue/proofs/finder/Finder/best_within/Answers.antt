@@ -1,4 +1,4 @@
--- What is gathered is what is listed in the block.
+-- The disks gathered are those listed in the block.
 use Rattle.std.proofs.Common.{sym, subst}
 use Rattle.cell_grid.specs.Grid.{GridData}
 use Rattle.cell_lists.specs.Nearby.{IsBlock, IsListedWithin}

@@ -1,4 +1,4 @@
--- The two disks are where the view has them.
+-- The two disks are those that the view has.
 use Rattle.std.proofs.Common.{sym}
 use Rattle.std.proofs.lemmas.Bool.{false≢true}
 use Rattle.region_queue.proofs.Candidates.{event_found, none_without_first, none_without_second}

@@ -1,4 +1,4 @@
--- The disk is where its row says.
+-- The disk is in the cell that its row says.
 use Rattle.std.proofs.Common.{◌≡◌, Some, true, true≢false, sym, subst, ◌∙◌}
 use Rattle.cell_grid.specs.Grid.{IsAdjacent}
 use Rattle.region_view.specs.declared.action.Placed.{Placed}

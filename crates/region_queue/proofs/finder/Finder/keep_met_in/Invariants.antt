@@ -1,4 +1,4 @@
--- Of the disks so far those are left that may hit.
+-- Those disks so far that may hit are kept.
 use Rattle.std.specs.FinMap as map
 use Rattle.region_queue.specs.Finding.{IsMissed}
 use Rattle.region_queue.proofs.Keeping.{IsKeeping}

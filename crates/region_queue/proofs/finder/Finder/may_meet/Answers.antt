@@ -1,4 +1,4 @@
--- The other disk is where the view has it.
+-- The other disk is the one that the view has.
 use Rattle.std.proofs.Common.{Option, sym, subst, ◌∙◌}
 use Rattle.region_view.specs.declared.action.Placed.{Placed}
 use Rattle.region_queue.specs.Finding.{IsMissed}

@@ -1,4 +1,4 @@
--- Both disks are listed where they were, and their keys are taken again.
+-- Both disks are listed in the cells in which they were, and their keys are taken again.
 use Rattle.std.proofs.Common.{[], ◌∷◌, subst, ap, refl}
 use Rattle.std.specs.Prelude.{OnOk}
 use Rattle.region_view.specs.Views.{ViewData}
