@@ -80,7 +80,7 @@ pub fn run_process_over<
     (status, sink.into_writer())
 }
 
-/// Does what [`run_process_over`] does where standard error is no terminal. `is_terminal` says whether the writer is one.
+/// Does what [`run_process_over`] does if standard error is no terminal. `is_terminal` says whether the writer is one.
 pub fn run_streams<R: AllocGlobal + Threads + Wait + Clock + Sync, I: Read + Drop, O: Write + Drop>(
     rt: &R,
     words: &[&str],
@@ -122,7 +122,7 @@ fn room_of(is_terminal: bool) -> usize {
     if is_terminal { 0 } else { ROOM }
 }
 
-// The top call as the process makes it, with the line where standard error is a terminal.
+// The top call as the process makes it, with the line if standard error is a terminal.
 fn run_over<
     R: AllocGlobal + Eprint + Threads + Wait + Clock + Sync,
     S: Source + Drop,
