@@ -1,7 +1,7 @@
 //! A sink over another, which holds the bytes that it is given until there are enough.
 
 ghost use Rattle.std.specs.Prelude.{◌≡◌, ◌⊎◌, ◌<◌, ◌≤◌, [], length, is_some};
-ghost use Rattle.report_ports.specs.Ports.{Gives, CountsGive};
+ghost use Rattle.report_ports.specs.Ports.{Gives, CountsGive, MayTake};
 ghost use Rattle.gathered_sink.specs.Gathered.{IsFront, LeavesGiven, LeavesFlushed};
 
 use report_ports::{Given, Sink};
@@ -29,9 +29,10 @@ pub struct GatheringSink<K: Sink> {
 impl<K: Sink> Model for GatheringSink<K> {
     ghost use Rattle.std.specs.Prelude.{◌≡◌, ◌≤◌, length, vec_capacity};
     ghost use Rattle.std.specs.Io.KnownBytes.{append_known};
+    ghost use Rattle.report_ports.specs.Ports.{MayTake};
     ghost use Rattle.gathered_sink.specs.Gathered.{GatheredData, IsFront};
 
-    ghost Value = { GatheredData };
+    ghost Value = { GatheredData K };
 
     ghost view = { λ g. record {
       told = append_known (K.taken g.seen.value) g.held.items;
@@ -40,6 +41,7 @@ impl<K: Sink> Model for GatheringSink<K> {
       room = g.room;
       faults = g.faults;
       faults_below = K.faults g.sink;
+      below = g.sink;
     } };
 
     ghost invariant = { λ g. (length g.held.items ≤ g.room)
@@ -47,7 +49,8 @@ impl<K: Sink> Model for GatheringSink<K> {
         × (g.faults ≡ 0 → K.taken g.seen.value ≡ K.taken g.sink)
         × (g.faults ≡ 0 → K.faults g.sink ≡ 0)
         × (1 ≤ g.faults → 1 ≤ K.faults g.sink)
-        × IsFront (K.taken g.sink) (append_known (K.taken g.seen.value) g.held.items) };
+        × IsFront (K.taken g.sink) (append_known (K.taken g.seen.value) g.held.items)
+        × (g.faults ≡ 0 → MayTake (K.allows (K.lasting g.sink)) (K.taken g.sink) g.held.items) };
 }
 
 impl<K: Sink> GatheringSink<K> {
@@ -62,6 +65,7 @@ impl<K: Sink> GatheringSink<K> {
         ensures room { (result.room ≡ room) ⊎ (result.room ≡ 0) }
         ensures faults { result.faults ≡ 0 }
         ensures faults_below { result.faults_below ≡ 0 }
+        ensures below { result.below ≡ sink }
     {
         let seen = Snapshot::of(&sink);
         let (held, room) = match Vec::with_capacity(alloc, room) {
@@ -84,6 +88,7 @@ impl<K: Sink> GatheringSink<K> {
         ensures leaves { LeavesFlushed self.old self.new result }
         ensures counts { CountsGive self.old.faults self.new.faults result }
         ensures room { self.new.room ≡ self.old.room }
+        ensures lasts { K.lasting self.new.below ≡ K.lasting self.old.below }
     {
         if self.faults > 0 {
             self.faults = self.faults.saturating_add(1);
@@ -119,11 +124,13 @@ impl<K: Sink> GatheringSink<K> {
         requires none { self.old.held ≡ [] }
         requires whole { self.old.faults ≡ 0 }
         requires great { self.old.room < length piece.now }
+        requires allowed { MayTake (K.allows (K.lasting self.old.below)) self.old.told piece.now }
         ensures gives { Gives self.old.told self.new.told result piece.now }
         ensures knows { is_some self.new.told ≡ is_some self.old.told }
         ensures counts { CountsGive self.old.faults self.new.faults result }
         ensures leaves { LeavesGiven self.old self.new result piece.now }
         ensures room { self.new.room ≡ self.old.room }
+        ensures lasts { K.lasting self.new.below ≡ K.lasting self.old.below }
     {
         let answer = self.sink.give(piece);
         self.seen = Snapshot::of(&self.sink);
@@ -135,9 +142,11 @@ impl<K: Sink> GatheringSink<K> {
 }
 
 impl<K: Sink> Sink for GatheringSink<K> {
-    ghost Lasting = { Unit {0} };
+    ghost Lasting = { K.Lasting };
 
-    ghost lasting = { λ _. tt };
+    ghost lasting = { λ g. K.lasting g.below };
+
+    ghost allows = { K.allows };
 
     ghost taken = { λ g. g.told };
 
@@ -151,11 +160,13 @@ impl<K: Sink> Sink for GatheringSink<K> {
     /// Holds the piece, if it fits beside what is held. Else what is held is given to the sink below first, and then
     /// the piece too, if it is greater than the room.
     fn give(&mut self, piece: &[u8]) -> Given
+        requires allowed { MayTake (K.allows (K.lasting self.old.below)) self.old.told piece.now }
         ensures gives { Gives self.old.told self.new.told result piece.now }
         ensures knows { is_some self.new.told ≡ is_some self.old.told }
         ensures counts { CountsGive self.old.faults self.new.faults result }
         ensures leaves { LeavesGiven self.old self.new result piece.now }
         ensures room { self.new.room ≡ self.old.room }
+        ensures lasts { K.lasting self.new.below ≡ K.lasting self.old.below }
     {
         if self.faults > 0 {
             self.faults = self.faults.saturating_add(1);

@@ -148,6 +148,8 @@ impl<C: Source> Sink for Comparing<C> {
 
     ghost lasting = { λ c. c.given };
 
+    ghost allows = { λ _ _. Unit {0} };
+
     ghost taken = { λ c. Some c.taken };
 
     ghost faults = { λ c. c.faults };
