@@ -1,3 +1,4 @@
 pub mod Directions
 pub mod Products
+pub mod Ring
 pub mod Sizes
