@@ -252,7 +252,7 @@ pair_energy rules disks c p =
         (c + d ≤ a + b + most) × (a + b ≤ c + d + most) → own ≡ most → DifferByAtMost own after before
     differ_by a b c d before between after most own one two within e = (omega arith, omega arith)
 
-event_energy : (rules : Rules) (disks : List Disk) (c : Change) → RanWall rules disks c ⊎ RanPair rules disks c →
+pub event_energy : (rules : Rules) (disks : List Disk) (c : Change) → RanWall rules disks c ⊎ RanPair rules disks c →
     DifferByAtMost (rounding_of disks c) (energy (effect disks c)) (energy disks)
 event_energy rules disks c e = elim e [
   | inl wall ↦ wall_energy rules disks c wall

@@ -29,3 +29,4 @@ mod Together
 pub mod Valid
 pub mod Walls
 pub mod Within
+pub mod Speeds
