@@ -5,3 +5,6 @@ mod Touch
 mod Elastic
 mod Rounding
 mod Events
+pub mod Near
+mod Soon
+pub mod AtTheTouch

@@ -2,3 +2,4 @@
 pub mod Touching
 pub mod Elastic
 pub mod Laws
+pub mod AtTheTouch
