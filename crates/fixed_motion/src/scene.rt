@@ -11,7 +11,7 @@ pub const MAX_DISKS: usize = 65_536;
 /// - Its rules are checked.
 /// - It has at most [`MAX_DISKS`] disks, each inside the box, of a size that the rules allow, with base tick and mark
 ///   0, and with no component of the velocity above the speed limit. No two overlap.
-/// - `every` may ask for the state of all disks at regular ticks.
+/// - If `every` is there, each disk's state is wanted again and again, that many ticks apart.
 #[derive(Drop)]
 pub struct Scene {
     /// The rules.
