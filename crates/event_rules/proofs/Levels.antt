@@ -1,9 +1,8 @@
 -- A disk's level is its base tick times the round limit, plus its mark. Each event raises the levels of its disks, and
 -- none passes the end times the round limit: so there are few events.
-use Rattle.std.proofs.Common.{◌≡◌, ◌≢◌, ◌⊎◌, inl, inr, ℕ, zero, suc, ◌+◌, ◌-◌, ◌*◌, ◌<◌, ◌≤◌, min, max, Bool, true, false, cond, List, [], ◌∷◌, length, sym, ap, ◌∙◌, subst, refl, arith, Option, Some, None, Ok, slice_get, slice_set}
+use Rattle.std.proofs.Common.{◌≡◌, ◌≢◌, ◌⊎◌, inl, inr, ℕ, suc, ◌+◌, ◌-◌, ◌*◌, ◌<◌, ◌≤◌, min, max, Bool, true, false, cond, List, [], ◌∷◌, length, sym, ap, ◌∙◌, subst, refl, arith, Option, Some, None, Ok, slice_get, slice_set}
 use Rattle.std.specs.Prelude.{◌==◌, ◌&&◌, ◌||◌, sum_by, is_some}
 use Rattle.std.proofs.Math.Nat.{mul-le-mul}
-use Rattle.std.proofs.lemmas.Option.{none-some}
 use Rattle.std.proofs.lemmas.List.Sums.{sum_by-cons}
 use native.Mathlib.Nat.{le_refl}
 use Rattle.fixed_motion.specs.declared.rules.Rules.{Rules}
@@ -17,7 +16,7 @@ use Rattle.event_rules.specs.Run.{Runs, IsNext, ComesTo, IsValidState, effect}
 use Rattle.event_rules.specs.Conservation.{pairs}
 use Rattle.event_rules.specs.Counts.{takes_part_in, events_of, FewEventsOfADisk, FewEventsOfAScene}
 use Rattle.event_rules.proofs.Valid.{mark_within}
-use Rattle.event_rules.proofs.States.{IsTouched, after_effect}
+use Rattle.event_rules.proofs.States.{IsTouched, get_same, get_other, after_effect}
 use Rattle.event_rules.proofs.Ran.{RanWall, RanPair, ran, event_valid, length-effect}
 use Rattle.event_rules.proofs.Rise.{candidate_before_end}
 use Rattle.event_rules.proofs.Ranges.{starts_valid}
@@ -222,19 +221,6 @@ place_raised limit tick s a x part rise = by_test (s.tick == tick) part refl
         omega arith
     by_test true false e = let old = rise.old in let new = rise.new in omega arith
     by_test false q e = let old = rise.old in let new = rise.new in omega arith
-
--- what stands at a place after a write
-get_same : (xs : List Disk) (i : ℕ) (v old : Disk) → slice_get xs i ≡ Some old → slice_get (slice_set xs i v) i ≡ Some v
-get_same [] i v old at = absurd (none-some old at)
-get_same (x ∷ xs) zero v old at = refl
-get_same (x ∷ xs) (suc i) v old at = get_same xs i v old at
-
-get_other : (xs : List Disk) (i j : ℕ) (v : Disk) → j ≢ i → slice_get (slice_set xs i v) j ≡ slice_get xs j
-get_other [] i j v other = refl
-get_other (x ∷ xs) zero zero v other = absurd (other refl)
-get_other (x ∷ xs) zero (suc j) v other = refl
-get_other (x ∷ xs) (suc i) zero v other = refl
-get_other (x ∷ xs) (suc i) (suc j) v other = get_other xs i j v (λ e. other (ap suc e))
 
 same_or_other : (i j : ℕ) → (i ≡ j) ⊎ (i ≢ j)
 same_or_other i j = grind arith

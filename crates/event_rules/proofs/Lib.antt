@@ -21,6 +21,7 @@ mod Separations
 mod SideBySide
 mod Sides
 mod SmallProducts
+mod Speeds
 pub mod States
 pub mod Steps
 mod Swapped
@@ -29,4 +30,3 @@ mod Together
 pub mod Valid
 pub mod Walls
 pub mod Within
-pub mod Speeds

@@ -2,12 +2,12 @@
 use Rattle.std.proofs.Common.{◌≡◌, ◌⊎◌, inl, inr, ℕ, zero, suc, ◌+◌, ◌-◌, ◌*◌, ◌<◌, ◌≤◌, Bool, true, false, cond, List, [], ◌∷◌, sym, ap, ◌∙◌, subst, refl, arith, ℤ, pos, nat_abs, ◌-ℤ◌, Option, Some, None, slice_get, slice_set}
 use Rattle.std.specs.Prelude.{sum_by, is_some, ◌&&◌, nat_le, length}
 use Rattle.std.proofs.lemmas.Int.{ints}
-use Rattle.std.proofs.lemmas.Nat.{mul-lt}
 use Rattle.std.proofs.lemmas.Bool.{cases_lt}
 use Rattle.std.proofs.lemmas.Bool.Decides.{nat_tests}
 use Rattle.std.proofs.lemmas.Option.{none-some, same_Some}
 use Rattle.std.proofs.lemmas.List.Sums.{sum_by-cons}
 use Rattle.std.proofs.Math.Nat.{mul-le-mul}
+use Rattle.impulse_rounding.proofs.Energy.{root_le}
 use Rattle.plane_vectors.specs.declared.Vector.{Vector}
 use Rattle.plane_vectors.specs.Vectors.{difference}
 use Rattle.fixed_motion.specs.declared.rules.Rules.{Rules}
@@ -25,7 +25,7 @@ use Rattle.event_rules.specs.Run.{Runs, Steps, IsWallCandidate, IsPairCandidate,
 use Rattle.event_rules.specs.Conservation.{square_of, energy, velocity_if, relative_velocity, rounding_of, pairs}
 use Rattle.event_rules.specs.Speeds.{IsAtMostSquare, RootOfEnergyNearlyStays, SpeedNeedsCollisions, SpeedLimitSuffices}
 use Rattle.event_rules.proofs.Ran.{RanWall, RanPair, ran}
-use Rattle.event_rules.proofs.States.{applied_err}
+use Rattle.event_rules.proofs.States.{get_same, get_other, applied_err}
 use Rattle.event_rules.proofs.Conserved.{event_energy, other_place}
 use Rattle.event_rules.proofs.Levels.{few_events_of_a_scene}
 
@@ -56,13 +56,7 @@ two_parts f (c ∷ disks) (suc i) (suc j) a b lt at other =
     let sum = sum_by-cons f c disks in
     omega arith
 
--- ---- roots
-root_le : (a b : ℕ) → a * a ≤ b * b → a ≤ b
-root_le a b h = elim (cases_lt b a) [
-  | inl l ↦ absurd (omega (arith, mul-lt b b a a l l))
-  | inr l ↦ l
-]
-
+-- ---- sizes
 -- twice a product is at most the sum of the squares
 twice_product : (x y : ℕ) → 2 * (x * y) ≤ x * x + y * y
 twice_product zero y = omega arith
@@ -209,17 +203,6 @@ root_of_energy_nearly_stays rules disks later changes root h =
     (root_grows rules disks later changes root h, root_shrinks rules disks later changes root h)
 
 -- ---- the event that fails
-get_same : (xs : List Disk) (i : ℕ) (a b : Disk) → slice_get xs i ≡ Some a → slice_get (slice_set xs i b) i ≡ Some b
-get_same [] i a b h = absurd (none-some a h)
-get_same (x ∷ xs) zero a b h = refl
-get_same (x ∷ xs) (suc i) a b h = get_same xs i a b h
-
-get_lower : (xs : List Disk) (i j : ℕ) (a b : Disk) → i < j → slice_get xs i ≡ Some a → slice_get (slice_set xs j b) i ≡ Some a
-get_lower [] i j a b lt h = absurd (none-some a h)
-get_lower (x ∷ xs) i zero a b lt h = absurd (omega arith)
-get_lower (x ∷ xs) zero (suc j) a b lt h = h
-get_lower (x ∷ xs) (suc i) (suc j) a b lt h = get_lower xs i j a b (omega arith) h
-
 -- a disk of a state whose sum is at most a square has no greater component
 slow_at : (rules : Rules) (xs : List Disk) (i : ℕ) (a : Disk) (root : ℕ) → slice_get xs i ≡ Some a → IsAtMostSquare xs root →
     root ≤ nat_abs rules.speed_limit → is_slow_disk rules a ≡ true
@@ -285,7 +268,7 @@ wall_fails rules xs t w root most fast =
     elim (cases_lt (nat_abs rules.speed_limit) root) [
       | inl lt ↦ lt
       | inr le ↦ absurd (
-          let slow = slow_at rules (effect xs c) t.first c.first root (get_same xs t.first w.0 c.first w.1) (wall_root more xs c ran root most) le in
+          let slow = slow_at rules (effect xs c) t.first c.first root (get_same xs t.first c.first w.0 w.1) (wall_root more xs c ran root most) le in
           let keeps : keeps_speed rules c ≡ true = both_slow _ _ slow refl in
           cc)
     ]
@@ -296,6 +279,9 @@ wall_fails rules xs t w root most fast =
     both_slow : (p q : Bool) → p ≡ true → q ≡ true → (p && q) ≡ true
     both_slow true q e f = f
     both_slow false q e f = cc
+
+apart : (i j : ℕ) → i ≡ j → i < j → ⊥
+apart i j e lt = omega arith
 
 pair_fails : (rules : Rules) (xs : List Disk) (t : Stamp) (p : IsPairCandidate rules xs t) (root : ℕ) → IsAtMostSquare xs root →
     keeps_speed rules (change_of t p.1.0 (Some p.1.2.0)) ≡ false → nat_abs rules.speed_limit < root + 3
@@ -334,9 +320,9 @@ pair_fails rules xs t p root most fast =
       | inl lt ↦ lt
       | inr le ↦ absurd (
           let first = slow_at rules (effect xs c) t.first one (root + 3)
-          (get_lower (slice_set xs t.first one) t.first t.second one two p.0 (get_same xs t.first a one p.1.1)) after le in
+          (get_other (slice_set xs t.first one) t.second t.first two (λ e. apart t.first t.second e p.0) ∙ get_same xs t.first one a p.1.1) after le in
           let second = slow_at rules (effect xs c) t.second two (root + 3)
-          (get_same (slice_set xs t.first one) t.second b two (other_place xs t.first t.second one b p.0 p.1.2.1)) after le in
+          (get_same (slice_set xs t.first one) t.second two b (other_place xs t.first t.second one b p.0 p.1.2.1)) after le in
           let keeps : keeps_speed rules c ≡ true = both_slow _ _ first second in
           cc)
     ]

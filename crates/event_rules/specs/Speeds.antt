@@ -14,19 +14,19 @@ use Rattle.event_rules.specs.Conservation.{energy, pairs}
 abbrev pub IsAtMostSquare : List Disk → ℕ → Type 0
 IsAtMostSquare disks root = energy disks ≤ root * root
 
--- After any beginning of a run, from any state, the root of the sum of squared speeds is greater by at most three, and less by at
--- most seven, for each time that two disks hit each other.
+-- After any beginning of a run, from any state, the root of the sum of squared speeds, rounded up, is greater by at most
+-- three, and less by at most seven, for each collision of two disks.
 abbrev pub RootOfEnergyNearlyStays : Type 0
 RootOfEnergyNearlyStays = (rules : Rules) (disks later : List Disk) (changes : List Change) (root : ℕ) → Steps rules disks changes later →
     (IsAtMostSquare disks root → IsAtMostSquare later (root + 3 * pairs changes))
     × (IsAtMostSquare later root → IsAtMostSquare disks (root + 7 * pairs changes))
 
--- So a run from any state that fails the limit on speed had enough such events before to come to it.
+-- So a run from any state that fails the limit on speed had enough such collisions before to come to it.
 abbrev pub SpeedNeedsCollisions : Type 0
 SpeedNeedsCollisions = (rules : Rules) (disks : List Disk) (changes : List Change) (s : Stamp) (root : ℕ) →
     Runs rules disks changes (Passes (Speed s)) → IsAtMostSquare disks root → nat_abs rules.speed_limit < root + 3 * (pairs changes + 1)
 
--- With so high a limit on speed the run of a scene never fails it.
+-- With so high a limit on speed a scene's run never fails it, as it has at most end · round limit · disks collisions.
 abbrev pub SpeedLimitSuffices : Type 0
 SpeedLimitSuffices = (scene : SceneData) (changes : List Change) (s : Stamp) (root : ℕ) → IsValidScene scene →
     IsAtMostSquare scene.disks root →

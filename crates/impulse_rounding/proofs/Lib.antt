@@ -1,5 +1,5 @@
 mod Signed
 mod Sizes
 pub mod Exact
-mod Energy
+pub mod Energy
 pub mod Change
