@@ -24,6 +24,8 @@ from hard_disks.scenes import Refused, read_scene
 SPECIFICATION = program.TOOLS.parent / "docs" / "SPECIFICATION.md"
 # Above so many disks the second simulator takes too long.
 FEW = 40
+# So many has a scene at most on which laws are tried, since each takes some more runs.
+FEWER = 6
 ASKED = argparse.Namespace(scenes=120, seed=1)
 
 
@@ -37,6 +39,89 @@ def drawn_scenes():
         title = f"seed {seed}\n{scene.text()}"
         scenes.append((title, drawn.settings(chance), chance.randint(0, scene.end), scene, second.run(scene)))
     return scenes
+
+
+@functools.cache
+def small_scenes():
+    """Drawn scenes of few disks, each with a title, more chance, and its run."""
+    scenes = []
+    for seed in range(ASKED.seed, ASKED.seed + ASKED.scenes):
+        chance = random.Random(seed)
+        scene = drawn.scene(chance, most_disks=FEWER)
+        scenes.append((f"seed {seed}\n{scene.text()}", chance, scene, second.run(scene)))
+    return scenes
+
+
+def disks_of(event):
+    """The numbers of the disks of an event."""
+    return {event.first} if event.kind == second.WALL else {event.first, event.second}
+
+
+def events_and_rivals(scene, run):
+    """Each event of a run, and the one that failed a limit, with the other candidates of its tick, round and kind."""
+    states = [second.records_at_start(scene), *(after for _, after in run.events)]
+    events = [event for event, _ in run.events] + ([run.failed] if run.failed else [])
+    for event, state in zip(events, states):
+        yield event, [it for it in second.candidates(scene, state) if it[:3] == event[:3] and it != event]
+
+
+def none_shares_a_disk(scene, run):
+    """Whether no rival of an event has one of its disks."""
+    return not any(disks_of(event) & disks_of(rival) for event, rivals in events_and_rivals(scene, run) for rival in rivals)
+
+
+def meets_no_corner(scene, run):
+    """Whether no disk at a side comes to another one in the same tick."""
+    at_sides = (it for it in events_and_rivals(scene, run) if it[0].kind == second.WALL)
+    return not any(event.first == rival.first for event, rivals in at_sides for rival in rivals)
+
+
+def met(run):
+    """The numbers of the disks that hit another one, or of the event that failed a limit."""
+    pairs = (disks_of(event) for event, _ in run.events if event.kind == second.PAIR)
+    return set().union(*pairs, disks_of(run.failed) if run.failed else ())
+
+
+def last_states(run, order):
+    """The state after the last event of each tick that has one, with its disks in this order."""
+    return {event.tick: [after[i] for i in order] for event, after in run.events}
+
+
+def made_anew(run, events, stamp, state):
+    """What a run would be of these of its events, with each stamp and each state changed."""
+    failed = stamp(run.failed) if run.failed else None
+    return second.Run([(stamp(event), state(after)) for event, after in events], run.status, failed)
+
+
+def exchanged(scene):
+    """A scene with x and y exchanged."""
+    disks = tuple((y, x, vy, vx, size) for x, y, vx, vy, size in scene.disks)
+    return replace(scene, width=scene.height, height=scene.width, disks=disks)
+
+
+def exchanged_run(run):
+    """A run with x and y exchanged: left is bottom then, and right is top."""
+
+    def stamp(event):
+        return event._replace(second=(2, 3, 0, 1)[event.second]) if event.kind == second.WALL else event
+
+    def state(after):
+        return [disk._replace(x=disk.y, y=disk.x, vx=disk.vy, vy=disk.vx) for disk in after]
+
+    return made_anew(run, run.events, stamp, state)
+
+
+def run_without(run, left_out):
+    """A run without a disk: without its own events, and with the numbers above its own lowered."""
+
+    def stamp(event):
+        is_above = event.kind == second.PAIR and event.second > left_out
+        return event._replace(first=event.first - (event.first > left_out), second=event.second - is_above)
+
+    def state(after):
+        return after[:left_out] + after[left_out + 1 :]
+
+    return made_anew(run, [it for it in run.events if it[0].first != left_out], stamp, state)
 
 
 def later(report, by):
@@ -100,6 +185,58 @@ class Specification(unittest.TestCase):
                     want = path.with_suffix(".report").read_text(encoding="ascii")
                     self.assertIsNone(difference(second.report(scene, second.run(scene)), want))
                     self.assert_output("--mode run", path.read_text(encoding="utf-8"), want)
+
+
+class Laws(unittest.TestCase):
+    """Laws of runs that are proved of the definitions, tried on the second simulator."""
+
+    def assert_some(self, tried):
+        """A law that is tried on too few scenes shows nothing."""
+        self.assertGreaterEqual(tried, ASKED.scenes // 10)
+
+    def test_numbers_dont_matter_where_no_two_events_share_a_disk(self):
+        tried = 0
+        for title, chance, scene, run in small_scenes():
+            if run.status == second.DONE and none_shares_a_disk(scene, run):
+                numbers = range(len(scene.disks))
+                order = chance.sample(numbers, len(numbers))
+                other = second.run(replace(scene, disks=tuple(scene.disks[i] for i in order)))
+                with self.subTest(f"{order}, {title}"):
+                    self.assertEqual(other.status, second.DONE)
+                    self.assertEqual(len(other.events), len(run.events))
+                    self.assertEqual(last_states(other, numbers), last_states(run, order))
+                tried += 1
+        self.assert_some(tried)
+
+    def test_x_and_y_can_be_exchanged_where_no_disk_comes_into_a_corner(self):
+        tried = 0
+        for title, _, scene, run in small_scenes():
+            if meets_no_corner(scene, run):
+                with self.subTest(title):
+                    self.assertEqual(second.run(exchanged(scene)), exchanged_run(run))
+                tried += 1
+        self.assert_some(tried)
+
+    def test_a_disk_that_hits_no_other_can_be_left_out(self):
+        tried = 0
+        for title, chance, scene, run in small_scenes():
+            bystanders = sorted(set(range(len(scene.disks))) - met(run))
+            if bystanders:
+                k = chance.choice(bystanders)
+                with self.subTest(f"without {k}, {title}"):
+                    others = replace(scene, disks=scene.disks[:k] + scene.disks[k + 1 :])
+                    self.assertEqual(second.run(others), run_without(run, k))
+                tried += 1
+        self.assert_some(tried)
+
+    def test_limits_only_end_runs(self):
+        for title, _, scene, run in small_scenes():
+            speed, rounds = 2 * scene.speed_limit, scene.round_limit + 2
+            other = second.run(replace(scene, speed_limit=speed, round_limit=rounds))
+            with self.subTest(title):
+                self.assertEqual(other.events[: len(run.events)], run.events)
+                if run.status == second.DONE:
+                    self.assertEqual(other, run)
 
 
 class SecondSimulator(unittest.TestCase):
