@@ -5,6 +5,6 @@ mod Touch
 mod Elastic
 mod Rounding
 mod Events
-pub mod Near
+mod Near
 mod Soon
-pub mod AtTheTouch
+mod AtTheTouch

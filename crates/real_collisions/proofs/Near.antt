@@ -1,9 +1,8 @@
 -- How the exact impulse changes within a tick, and how near a rounded one stays to it.
-use Rattle.std.proofs.Common.{◌≡◌, ℕ, ◌+◌, ◌*◌, ◌<◌, ◌≤◌, inl, inr, arith}
+use Rattle.std.proofs.Common.{◌≡◌, ℕ, ◌+◌, ◌*◌, ◌<◌, ◌≤◌, arith}
 use Rattle.std.specs.Prelude.{ℤ, ◌+ℤ◌, ◌-ℤ◌, ◌*ℤ◌}
-use Rattle.std.proofs.lemmas.Nat.{mul-lt}
-use Rattle.std.proofs.lemmas.Bool.{cases_lt}
 use Rattle.std.proofs.Math.Nat.{mul-le-mul, mul-le-mul_left, le_of_mul-le-mul_left}
+use Rattle.impulse_rounding.proofs.Energy.{root_le}
 use Rattle.plane_vectors.proofs.Ring.{of, sum_of, less_of, times_of, same_of}
 
 -- ---- identities
@@ -58,12 +57,6 @@ cross_missed n b x y z t =
     rw (of n, of b, of x, of y, of z, of t) (simp (times_of, sum_of, less_of) (same_of _ _ _ _ (omega arith)))
 
 -- ---- sizes
-root_le : (a b : ℕ) → a * a ≤ b * b → a ≤ b
-root_le a b h = elim (cases_lt b a) [
-  | inl l ↦ absurd (omega (arith, mul-lt b b a a l l))
-  | inr l ↦ l
-]
-
 -- D c v is at most A N M
 pub product_bound : (d w p a n m c v : ℕ) → c * c ≤ n * a → v * v ≤ (n * m) * ((p * p) * a) → p ≤ w → (d * w) * (d * w) ≤ m →
     d * (c * v) ≤ a * (n * m)

@@ -1,5 +1,5 @@
--- The impulse of two disks against the exact one for the line of their centres at each moment up to their touch, which comes
--- within a tick after the tick of the event; and what it does to their angular momentum.
+-- The impulse of two disks against the exact one for the line of their centres at each moment up to their touch, which
+-- comes within the tick after the event; and what it does to their angular momentum.
 use Rattle.std.specs.Prelude.{◌≡◌, ◌⊎◌, ℕ, ◌+◌, ◌*◌, ◌<◌, ◌≤◌, ℤ, pos, nat_abs, ◌+ℤ◌, ◌-ℤ◌, ◌*ℤ◌, ◌<ℤ◌, List, ◌∷◌, ◌++◌, fold}
 use Rattle.plane_vectors.specs.declared.Vector.{Vector}
 use Rattle.plane_vectors.specs.Vectors.{vector, difference, dot, after}
@@ -14,8 +14,8 @@ use Rattle.real_collisions.specs.Elastic.{IsWithinOne, IsWithinHalf, scaled, dif
 use Rattle.real_collisions.specs.Laws.{IsElasticBounce, IsElasticCollision}
 
 -- ---- for vectors
--- The separation r after part / whole of a tick of the relative velocity u. So that it is whole, lengths are given in
--- parts of a unit; as many as `whole` make a unit.
+-- The separation r after part / whole of a tick of the relative velocity u, in parts of a unit, so that it is whole: as many
+-- as `whole` make a unit.
 abbrev pub separation_after : Vector → Vector → ℕ → ℕ → Vector
 separation_after r u part whole = after (vector (r.x *ℤ pos whole) (r.y *ℤ pos whole)) u part
 
@@ -50,13 +50,14 @@ IsWithinHalfAt q u j distance =
     let most = (nat_abs distance + 2 * nat_abs (dot u u)) * nat_abs (dot q q) in
     (2 * (nat_abs distance * nat_abs d.x) ≤ most) × (2 * (nat_abs distance * nat_abs d.y) ≤ most)
 
--- In a tick the exact impulse of two disks that are apart changes by at most u·u / distance. So one that is within a unit,
--- or half a unit, of that at its beginning is within this more of that at each moment of the tick at which they are apart.
+-- The exact impulse changes by at most u·u / distance in each component. So one that is within a unit, or half a unit, of that
+-- at the beginning is within this more of that now.
 pub record IsNearUntil (r u : Vector) (distance : ℤ) (part whole : ℕ) : Type 0 where
   pub exact : AreExactNear r (separation_after r u part whole) u distance
   pub one : (j : Vector) → IsWithinOne r u j → IsWithinOneAt (separation_after r u part whole) u j distance
   pub half : (j : Vector) → 0 < nat_abs (dot r r) → IsWithinHalf r u j → IsWithinHalfAt (separation_after r u part whole) u j distance
 
+-- that is so up to each moment of a tick at which two disks don't overlap
 abbrev pub ImpulsesAreNearUntil : Type 0
 ImpulsesAreNearUntil = (r u : Vector) (distance : ℤ) (part whole : ℕ) → part ≤ whole → AreApartAfter r u distance part whole →
     IsNearUntil r u distance part whole
@@ -70,7 +71,7 @@ separation_at m a b = difference (place_at m a) (place_at m b)
 abbrev pub relative_of : Disk → Disk → Vector
 relative_of a b = difference (velocity_of a) (velocity_of b)
 
--- from the tick to the moment no component of the separation changes by more than in a tick
+-- from the tick to the moment no component of the separation changes by more than its way in a tick
 pub record IsNearPlace (a b : Disk) (m : Moment) : Type 0 where
   pub x : nat_abs ((separation_at m a b).x -ℤ in_parts m (difference (place_of a m.tick) (place_of b m.tick)).x) ≤ m.whole * nat_abs (relative_of a b).x
   pub y : nat_abs ((separation_at m a b).y -ℤ in_parts m (difference (place_of a m.tick) (place_of b m.tick)).y) ≤ m.whole * nat_abs (relative_of a b).y
@@ -97,8 +98,8 @@ turning about tick a = cross (difference (place_of a tick) about) (velocity_of a
 abbrev pub FlightKeepsTurning : Type 0
 FlightKeepsTurning = (about : Vector) (tick : ℕ) (a : Disk) → turning about tick a ≡ cross (difference (centre_of a) about) (velocity_of a)
 
--- An event of two disks against the moments from its tick on, up to their touch, which comes before the next tick: the places
--- then are within a tick's way of those at the tick, and the impulse is within 1 + u·u / D of the exact one, with D the distance
+-- An event of two disks and the tick that follows, in which they touch: the places are within a tick's way of those at the
+-- event, and where they don't overlap each component of the impulse is within 1 + u·u / D of the exact one, with D the distance
 -- at which they touch. About whatever place, their angular momentum changes by less than |r_x| + |r_y|.
 pub record IsElasticTouch (disks : List Disk) (c : Change) : Type 0 where
   pub collision : IsElasticCollision disks c
@@ -118,7 +119,7 @@ pub record IsElasticTouch (disks : List Disk) (c : Change) : Type 0 where
       nat_abs ((turning about tick c.first +ℤ turning about tick collision.later)
       -ℤ (turning about tick collision.first +ℤ turning about tick collision.second)) < nat_abs r.x + nat_abs r.y
 
--- each event of a run is exact at a side, and nearly so for two disks at their touch
+-- each event of a run turns a disk at a side exactly, or is such an event of two disks
 abbrev pub EventsAreElasticAtTheTouch : Type 0
 EventsAreElasticAtTheTouch = (rules : Rules) (disks : List Disk) (before after : List Change) (c : Change) (outcome : Outcome) →
     Runs rules disks (before ++ (c ∷ after)) outcome →

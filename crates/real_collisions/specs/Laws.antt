@@ -1,4 +1,4 @@
--- Each event of a run, from any state, is the real one of its disks, to within a tick and a unit.
+-- Each event of a run, from any state, against that of real disks: when it comes, and what it does.
 use Rattle.std.specs.Prelude.{◌≡◌, ◌⊎◌, ℕ, ◌<◌, List, ◌∷◌, ◌++◌, fold, slice_get, Some, None}
 use Rattle.plane_vectors.specs.declared.Vector.{Vector}
 use Rattle.plane_vectors.specs.Vectors.{sum, difference}

@@ -1,4 +1,4 @@
-//! Each event of a run is the real one of its disks, to within a tick and a unit.
+//! The events of a run against those of real disks: when each comes, and how near its impulse is to the exact one.
 #![tactic(auto)]
 
 mod laws;
