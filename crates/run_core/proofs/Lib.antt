@@ -12,6 +12,7 @@ mod Stamps
 mod Event
 mod Advancing
 mod Left
+mod Few
 mod Simulating
 mod Calls
 mod OneState

@@ -1,13 +1,15 @@
 -- What holds of all runs over regions.
-use Rattle.std.specs.Prelude.{◌+◌, ◌<◌, ◌≤◌, List, length}
+use Rattle.std.specs.Prelude.{◌≡◌, ◌+◌, ◌<◌, ◌≤◌, List, [], ◌∷◌, length, ⊤}
 use Rattle.event_stamps.specs.declared.Stamp.{Stamp}
 use Rattle.event_rules.specs.declared.change.Limit.{Limit as Failure}
+use Rattle.event_rules.specs.declared.outcome.Outcome.{Outcome}
 use Rattle.event_rules.specs.declared.outcome.Outcome.TheVariants.{Limit as Fails}
 use Rattle.cell_sequence.specs.Run.{CellRuns}
 use Rattle.cell_sequence.specs.State.{CellStateData, IsCellState}
 use Rattle.commit_horizon.specs.Horizon.{LocalRuns, AreStanding, IsBound}
 use Rattle.region_view.specs.declared.action.Action.{Action}
-use Rattle.run_core.specs.declared.answers.Advance.TheVariants.{Raised, Limit}
+use Rattle.run_core.specs.declared.answers.Advance.{Advance}
+use Rattle.run_core.specs.declared.answers.Advance.TheVariants.{Raised, End, Limit}
 use Rattle.run_core.specs.Hearings.{Call, Hearings, Passes, entry_count, AllHeard, SameBases}
 use Rattle.run_core.specs.Advances.{IsAdvance}
 use Rattle.run_core.specs.Simulates.{work_left}
@@ -39,6 +41,22 @@ PassesEnd = (state : CellStateData) (runs after : LocalRuns) (ps : List (List Ca
 abbrev pub AdvancesEnd : Type 0
 AdvancesEnd = (old new : CellStateData) (runs : LocalRuns) (batch : List Action) → IsCellState old →
     IsAdvance old runs (Raised batch) new → work_left new < work_left old
+
+-- these advances follow each other from a state, over whatever regions, and each but the last goes on
+abbrev pub FollowEachOther : CellStateData → List Advance → Type 0
+FollowEachOther old [] = ⊤
+FollowEachOther old (Raised batch ∷ rest) =
+    (runs : LocalRuns) × (new : CellStateData) × IsAdvance old runs (Raised batch) new × FollowEachOther new rest
+FollowEachOther old (End batch ∷ rest) =
+    (runs : LocalRuns) × (new : CellStateData) × IsAdvance old runs (End batch) new × (rest ≡ [])
+FollowEachOther old (Limit batch limit ∷ rest) =
+    (runs : LocalRuns) × (new : CellStateData) × IsAdvance old runs (Limit batch limit) new × (rest ≡ [])
+
+-- there are at most as many of them as the cell run has actions from that state on, plus one
+abbrev pub FewAdvances : Type 0
+FewAdvances = (state : CellStateData) (advances : List Advance) (actions : List Action) (outcome : Outcome) →
+    FollowEachOther state advances → CellRuns state.rules state.grid state.placed actions outcome →
+    length advances ≤ length actions + 1
 
 -- the limit that an advance answers is the one at which the cell run ends, right after the batch
 abbrev pub LimitsEndTheRun : Type 0

@@ -1,6 +1,6 @@
 //! Laws of runs over regions, for those who read the definitions alone.
 
-ghost use Rattle.run_core.specs.Laws.{HearingsKeepBounds, PassesEnd, PassesEndInAgreement, AdvancesEnd, LimitsEndTheRun};
+ghost use Rattle.run_core.specs.Laws.{HearingsKeepBounds, PassesEnd, PassesEndInAgreement, AdvancesEnd, FewAdvances, LimitsEndTheRun};
 
 /// Regions that stand on a state go on standing on it whatever they hear from each other, and each of their bounds
 /// stays a bound: so hearing never lowers the commit horizon.
@@ -21,6 +21,11 @@ pub fn passes_end_in_agreement()
 /// Each advance that isn't the last comes nearer to the end, so a run ends after some of them.
 pub fn advances_end()
     ensures { AdvancesEnd }
+{}
+
+/// A run takes at most one advance more than it has actions, crossings among them, whatever the regions did before each.
+pub fn few_advances()
+    ensures { FewAdvances }
 {}
 
 /// The limit that an advance answers is the one at which the cell run ends, right after the actions that it committed.

@@ -16,7 +16,8 @@ mod telling;
 
 pub use answers::Advance;
 pub use laws::{
-    advances_end, hearings_keep_bounds, limits_end_the_run, passes_end, passes_end_in_agreement,
+    advances_end, few_advances, hearings_keep_bounds, limits_end_the_run, passes_end,
+    passes_end_in_agreement,
 };
 pub use playing::{Answer, CoreStep, Played, play};
 pub use progress::advance;
