@@ -14,8 +14,8 @@ use Rattle.real_collisions.specs.Elastic.{IsWithinOne, IsWithinHalf, scaled, dif
 use Rattle.real_collisions.specs.Laws.{IsElasticBounce, IsElasticCollision}
 
 -- ---- for vectors
--- The separation r after part / whole of a tick of the relative velocity u, in parts of a unit, so that it is whole: as many
--- as `whole` make a unit.
+-- The separation r after part / whole of a tick of the relative velocity u, in parts of a unit, so that it is whole: as
+-- many as `whole` make a unit.
 abbrev pub separation_after : Vector → Vector → ℕ → ℕ → Vector
 separation_after r u part whole = after (vector (r.x *ℤ pos whole) (r.y *ℤ pos whole)) u part
 
@@ -50,8 +50,8 @@ IsWithinHalfAt q u j distance =
     let most = (nat_abs distance + 2 * nat_abs (dot u u)) * nat_abs (dot q q) in
     (2 * (nat_abs distance * nat_abs d.x) ≤ most) × (2 * (nat_abs distance * nat_abs d.y) ≤ most)
 
--- The exact impulse changes by at most u·u / distance in each component. So one that is within a unit, or half a unit, of that
--- at the beginning is within this more of that now.
+-- The exact impulse changes by at most u·u / distance in each component. So one that is within a unit, or half a unit,
+-- of that at the beginning is within this more of that now.
 pub record IsNearUntil (r u : Vector) (distance : ℤ) (part whole : ℕ) : Type 0 where
   pub exact : AreExactNear r (separation_after r u part whole) u distance
   pub one : (j : Vector) → IsWithinOne r u j → IsWithinOneAt (separation_after r u part whole) u j distance
@@ -76,8 +76,8 @@ pub record IsNearPlace (a b : Disk) (m : Moment) : Type 0 where
   pub x : nat_abs ((separation_at m a b).x -ℤ in_parts m (difference (place_of a m.tick) (place_of b m.tick)).x) ≤ m.whole * nat_abs (relative_of a b).x
   pub y : nat_abs ((separation_at m a b).y -ℤ in_parts m (difference (place_of a m.tick) (place_of b m.tick)).y) ≤ m.whole * nat_abs (relative_of a b).y
 
--- The moment of a tick after which two disks touch for the first time, told as near as one likes: at this part of the tick and
--- at each smaller one they don't overlap on their straight ways, and they would one part later.
+-- The moment of a tick after which two disks touch for the first time, told as near as one likes: at this part of the
+-- tick and at each smaller one they don't overlap on their straight ways, and they would one part later.
 pub record TouchesSoonAfter (a b : Disk) (tick most : ℕ) : Type 0 where
   pub part : ℕ
   pub whole : ℕ
@@ -98,9 +98,9 @@ turning about tick a = cross (difference (place_of a tick) about) (velocity_of a
 abbrev pub FlightKeepsTurning : Type 0
 FlightKeepsTurning = (about : Vector) (tick : ℕ) (a : Disk) → turning about tick a ≡ cross (difference (centre_of a) about) (velocity_of a)
 
--- An event of two disks and the tick that follows, in which they touch: the places are within a tick's way of those at the
--- event, and where they don't overlap each component of the impulse is within 1 + u·u / D of the exact one, with D the distance
--- at which they touch. About whatever place, their angular momentum changes by less than |r_x| + |r_y|.
+-- An event of two disks and the tick that follows, in which they touch: the places are within a tick's way of those at
+-- the event, and where they don't overlap each component of the impulse is within 1 + u·u / D of the exact one, with D
+-- the distance at which they touch. About whatever place, their angular momentum changes by less than |r_x| + |r_y|.
 pub record IsElasticTouch (disks : List Disk) (c : Change) : Type 0 where
   pub collision : IsElasticCollision disks c
   pub touch : (most : ℕ) → TouchesSoonAfter collision.first collision.second c.stamp.tick most
