@@ -34,7 +34,7 @@ use Rattle.run_core.proofs.Left.{advances_end}
 
 -- after an advance
 pub cell_after : {old new : CellStateData} {answer : Advance} → Advances old answer new → IsCellState new
-cell_after {old} {new} {answer} advance = (leads_of old new advance.runs answer advance.is).cell
+cell_after {old} {new} {answer} advance = (leads_of old new advance.0 answer advance.1.is).cell
 
 module _ {M : Type 0} {after : M → Change → M} (torn : M → Change → M → Type 0) {scene : SceneData}
     (asked : ℕ) (valid : IsValidScene scene) (some : IsAsked asked) where
@@ -74,7 +74,7 @@ module _ {M : Type 0} {after : M → Change → M} (torn : M → Change → M �
           (batch : List Action) → batch ≡ batch_of answer → IsTold after scene asked later batch old new
       told_on {later} {answer} advance batch same =
           subst (λ (v : List Action). IsTold after scene asked later v old new) (sym same)
-          (goes_on after torn scene asked valid some state old new rest_told later advance.runs answer advance.is)
+          (goes_on after torn scene asked valid some state old new rest_told later advance.0 answer advance.1.is)
 
       -- or no event is left
       pub ends : (spots : List Spot) → HasNone (IsCandidateOf state) →
@@ -91,12 +91,12 @@ module _ {M : Type 0} {after : M → Change → M} (torn : M → Change → M �
 -- no event is left after the last advance
 pub none_left : {state later : CellStateData} {answer : Advance} {batch : List Action} →
     Advances state answer later → answer ≡ End batch → HasNone (IsCandidateOf later)
-none_left {state} {later} advance is = (subst (λ (v : Advance). Advances state v later) is advance).is.1
+none_left {state} {later} advance is = (subst (λ (v : Advance). Advances state v later) is advance).1.is.1
 
 -- or the next one fails a limit
 pub next_fails : {state later : CellStateData} {answer : Advance} {batch : List Action} {limit : Failure} →
     Advances state answer later → answer ≡ Limit batch limit → FailsNext later limit
-next_fails {state} {later} advance is = (subst (λ (v : Advance). Advances state v later) is advance).is.1
+next_fails {state} {later} advance is = (subst (λ (v : Advance). Advances state v later) is advance).1.is.1
 
 pub cell_at_start : (scene : SceneData) (asked : ℕ) (start : CellStateData) → IsValidScene scene →
     IsAsked asked → start ≡ opening_state scene asked → IsCellState start
@@ -108,7 +108,7 @@ pub less_left : {state later : CellStateData} {answer : Advance} {batch : List A
     Advances state answer later → answer ≡ Raised batch → work_left later < work_left state
 less_left {state} {later} {batch = batch} cell advance is =
     let raised = subst (λ (v : Advance). Advances state v later) is advance in
-    advances_end state later raised.runs batch cell raised.is
+    advances_end state later raised.0 batch cell raised.1.is
 
 -- ---- regions
 -- regions that stand on a state are together

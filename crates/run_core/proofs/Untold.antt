@@ -27,7 +27,7 @@ use Rattle.run_core.specs.declared.answers.AdvanceKind.TheVariants.{Raised as Go
 use Rattle.run_core.specs.Advances.{IsAdvance, Works}
 use Rattle.run_core.specs.AdvancesUntold.{answer_with, AdvanceMade, EventMade}
 use Rattle.run_core.specs.Passing.{Agrees}
-use Rattle.run_core.specs.Simulates.{batch_of, Advances}
+use Rattle.run_core.specs.Simulates.{batch_of, AdvancesBy}
 use Rattle.run_core.specs.Standing.{GoesOnTo, ComesOf}
 use Rattle.run_core.specs.Taking.{StandOnCells, RunsEvent}
 use Rattle.run_core.proofs.OneState.{goes_on_by}
@@ -201,9 +201,9 @@ module _ (earlier : CellStateData) (last : Option Stamp) (floor : Stamp) (given 
       (leads_of old advance.new (runs_of given) (answer_with kind batch) advance.is).cell advance.stand
       advance.state advance.is_last
 
-  pub advances_to : (new : CellStateData) → new ≡ advance.new → Advances old (answer_with kind batch) new
+  pub advances_to : (new : CellStateData) → new ≡ advance.new →
+      AdvancesBy old (runs_of given) (answer_with kind batch) new
   advances_to new same = record {
-    runs = runs_of given;
     left = left;
     is = subst (IsAdvance old (runs_of given) (answer_with kind batch)) (sym same) advance.is;
     works = subst (λ (v : CellStateData). Works old (runs_of given) (answer_with kind batch) v left) (sym same)

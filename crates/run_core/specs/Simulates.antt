@@ -25,9 +25,12 @@ rank_of (Some s) = rank s + 1
 unfoldable pub work_left : CellStateData → ℕ
 work_left state = rank (end_stamp state.rules.end) - rank_of state.last
 
--- an advance, of some regions that stand on the state, and how it worked
-pub record Advances (old : CellStateData) (answer : Advance) (new : CellStateData) : Type 0 where
-  pub runs : LocalRuns
+-- an advance, of regions with these runs that stand on the state, and how it worked
+pub record AdvancesBy (old : CellStateData) (runs : LocalRuns) (answer : Advance) (new : CellStateData) : Type 0 where
   pub left : List RegionData
   pub is : IsAdvance old runs answer new
   pub works : Works old runs answer new left
+
+-- an advance of what a burst gave back
+abbrev pub Advances : CellStateData → Advance → CellStateData → Type 0
+Advances old answer new = (runs : LocalRuns) × AdvancesBy old runs answer new

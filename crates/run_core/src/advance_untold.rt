@@ -2,40 +2,40 @@
 
 ghost use Rattle.std.specs.Prelude.{◌≡◌, [], IfOk};
 ghost use Rattle.cell_sequence.specs.State.{CellStateData};
-ghost use Rattle.commit_horizon.specs.Horizon.{AllStand, AllKept};
+ghost use Rattle.commit_horizon.specs.Horizon.{runs_of, AllStand, AllKept};
 ghost use Rattle.run_core.specs.AdvancesUntold.{AdvanceMade, EventMade, answer_with};
-ghost use Rattle.run_core.specs.Simulates.{Advances};
-ghost use Rattle.run_core.specs.Standing.{ComesOf};
+ghost use Rattle.run_core.specs.Simulates.{AdvancesBy};
+ghost use Rattle.run_core.specs.Standing.{ComesOf, GoesOnTo};
 
 use crate::answers::AdvanceKind;
 use crate::one_event::run_event;
 use crate::one_state::Standing;
 use crate::passes::agree;
 use cell_sequence::CellState;
-use commit_horizon::{Final, Untold, commit_cutting};
+use commit_horizon::{Committed, Final, Untold, commit_cutting};
 use event_stamps::Stamp;
 use region_core::{Region, Step};
 use std::alloc::{AllocError, Global};
 
-/// Makes final what [`advance`](crate::advance) makes final. The batch is untold then, and the rows of the state stay
-/// with the regions.
+/// Makes final what [`advance`](crate::advance) makes final, of regions that stand on a state to which the run goes on
+/// from an earlier one by actions of which the last has the stamp `last`. The batch is untold then, and the rows of the
+/// state stay with the regions.
 ///
 /// # Errors
 /// Out of memory.
 pub(crate) fn advance_untold(
     alloc: Global,
-    standing: Standing,
+    earlier: Committed,
+    last: Option<Stamp>,
+    mut regions: Vec<Region>,
     untold: &mut Untold,
 ) -> Result<(AdvanceKind, Standing), AllocError>
-    requires { untold.old ≡ [] }
-    ensures { IfOk result (λ advanced. Advances standing (answer_with advanced.0 untold.new) advanced.1) }
+    requires stand { (state : CellStateData) × (floor : Stamp) × GoesOnTo earlier last floor regions.items state }
+    requires told { untold.old ≡ [] }
+    ensures { IfOk result (λ advanced. (state : CellStateData) (floor : Stamp) →
+        GoesOnTo earlier last floor regions.items state →
+        AdvancesBy state (runs_of regions.items) (answer_with advanced.0 untold.new) advanced.1) }
 {
-    let Standing {
-        earlier,
-        last,
-        floor: _,
-        mut regions,
-    } = standing;
     let (kind, made) = make_final(alloc, earlier.state(), &mut regions, untold)?;
     let standing = Standing::after(earlier, made.last.or(last), made.floor, regions);
     Ok((kind, standing))

@@ -87,7 +87,13 @@ fn work<B: Burst<Telling, L>, R: Threads + Wait + Sync, L: Listener>(
     match standing.work(rt, alloc, burst, telling, listener) {
         Ok(worked) => {
             telling.tell_rest(listener)?;
-            let advanced = advance_untold(alloc, worked, &mut telling.untold)?;
+            let Standing {
+                earlier,
+                last,
+                floor: _,
+                regions,
+            } = worked;
+            let advanced = advance_untold(alloc, earlier, last, regions, &mut telling.untold)?;
             Ok(advanced)
         }
         // A refusal comes first: once it is counted, running out of memory isn't the answer.

@@ -1,12 +1,14 @@
-use Rattle.std.proofs.Common.{Result, [], None, refl}
+use Rattle.std.proofs.Common.{Result, [], None, refl, ◌∙◌, subst}
 use Rattle.std.specs.Prelude.{IfErr}
 use Rattle.std.proofs.lemmas.Result.{err_from_is_err_and}
 use Rattle.event_rules.specs.declared.outcome.RunFault.{RunFault}
 use Rattle.event_rules.specs.declared.outcome.RunFault.TheVariants.{Listener, NoMemory}
 use Rattle.cell_sequence.specs.State.{CellStateData}
+use Rattle.commit_horizon.specs.Horizon.{runs_of}
 use Rattle.commit_horizon.specs.Telling.{HitsCutShort}
 use Rattle.commit_horizon.proofs.Goes.{still_awaited, tells_further, torn_prefix}
 use Rattle.run_core.specs.declared.answers.AdvanceKind.{AdvanceKind}
+use Rattle.run_core.specs.Standing.{GoesOnTo}
 use Rattle.run_core.proofs.ToldOn.{fits_unheard, first_all, first_cut, first_on, torn_on}
 use Rattle.run_core.proofs.Untold.{at_fault}
 use Rattle.run_core.proofs.simulation.work.Goals as goal
@@ -48,6 +50,15 @@ returns-in_err-advanced-in-Ok-clause-cut_short g c =
     at_fault (λ (v : Result (AdvanceKind × CellStateData) RunFault). IfErr v (λ e. HitsCutShort L.after L.torn untold e
     old new)) r fault.0 NoMemory fault.1 fault.2 (first_cut L.after L.torn untold [] old new f h
     (first_on L.after L.torn untold [] _ None old new f h on c.requires.heard refl))
+
+pub returns-in_ok-advanced-in-Ok-clause-advances : goal.returns-in_ok-advanced-in-Ok-clause-advances
+returns-in_ok-advanced-in-Ok-clause-advances g c =
+    let inside = c.worked.inside in
+    let goes = subst (GoesOnTo inside.earlier inside.last inside.floor inside.regions.items)
+    (c.worked.view_is ∙ c.in-Ok.ensures.state) c.worked.invariant in (
+      runs_of inside.regions.items,
+      c.in_ok-advanced-in-Ok.ensures c.args.standing inside.floor goes,
+    )
 
 pub returns-in_ok-advanced-in-Ok-clause-told : goal.returns-in_ok-advanced-in-Ok-clause-told
 returns-in_ok-advanced-in-Ok-clause-told g c =
