@@ -3,7 +3,7 @@ use Rattle.std.proofs.Common.{◌≡◌, inl, inr, ℕ, ◌≤◌, List, [], ◌
 use Rattle.std.specs.Prelude.{codes}
 use Rattle.std.proofs.lemmas.List.{append-nil}
 use Rattle.std.specs.Io.KnownBytes.{Appends, Keeps}
-use Rattle.report_ports.specs.Ports.{AppendsPrefix}
+use Rattle.report_ports.specs.Ports.{AppendsPrefix, MayTake}
 use Rattle.fixed_motion.specs.Scene.{SceneData, IsValidScene}
 use Rattle.event_rules.specs.declared.change.Change.{Change}
 use Rattle.event_rules.specs.declared.change.Limit.{Limit}
@@ -29,11 +29,11 @@ use Rattle.hard_disks.specs.declared.status.Status.{Status}
 use Rattle.hard_disks.specs.declared.status.Status.TheVariants.{Done, BadWords, SceneRefused, SpeedLimit, RoundLimit, ReadFault, WriteFault, NoMemory, Wrong}
 use Rattle.hard_disks.specs.Output.{IsSceneText, IsCutText, scene_text_of}
 use Rattle.hard_disks.specs.Reports.{IsReport, status_of}
-use Rattle.hard_disks.specs.Answers.{Wrote, WrotePrefix}
+use Rattle.hard_disks.specs.Answers.{Wrote, WrotePrefix, MayWrite}
 use Rattle.hard_disks.specs.Cut.{CutTold}
 use Rattle.hard_disks.specs.Shows.{WritesText}
 use Rattle.hard_disks.proofs.OneOutput.{one_left}
-use Rattle.hard_disks.proofs.Reported.{told_on, begun_lent, serves_scene, wrote_end}
+use Rattle.hard_disks.proofs.Reported.{told_on, begun_lent, serves_scene, wrote_end, may_end}
 use Rattle.hard_disks.proofs.Wrote.{kept, wrote_nothing, as_wrote}
 
 -- ---- bytes that stay
@@ -227,3 +227,51 @@ cut_limit format at scene limit taken m n cut e h le valid first =
           as_wrote (IsReport Summary scene) (IsCutText format at scene) left taken after status
           (wrote_end m.0 Summary scene taken after changes (Passes limit) m.1 n status valid run first told.3 text));
     }
+
+-- ---- what may be written of it
+same_taken : (t : Option (List ℕ)) → option_map (λ (bytes : List ℕ). bytes ++ []) t ≡ t
+same_taken None = refl
+same_taken (Some bytes) = ap Some (append-nil bytes)
+
+-- in the short form nothing is written for the changes
+quiet_taken : (m : ReportSoFar) (changes : List Change) → m.format ≡ Summary → (told with_change m changes).taken ≡ m.taken
+quiet_taken m [] e = refl
+quiet_taken m (c ∷ cs) e =
+    quiet_taken (with_change m c) cs e
+    ∙ ap (λ (format : Format). option_map (λ (bytes : List ℕ). bytes ++ listed format (change_text m.table c)) m.taken) e
+    ∙ same_taken m.taken
+
+-- the rest, after a run that is done at the tick
+pub rest_may : {Loan : Type 0} (allows : Loan → List ℕ → Type 0) (format : Format) (at : ℕ) (scene rest : SceneData) (taken : Option (List ℕ))
+    (m n : LentReport Loan) (cut : Cut) → cut ≡ Rest rest → CutTold told_on_loan scene at cut (Some m) (Some n) → at ≤ scene.rules.end →
+    m.1 ≡ nothing_yet Summary scene taken → MayWrite (IsCutText format at scene) (allows m.0) taken →
+    MayWrite (IsSceneText (codes "rest") format rest) (allows n.0) n.1.taken
+rest_may allows format at scene rest taken m n cut e h le first may text own of =
+    let told = subst (λ (c : Cut). CutTold told_on_loan scene at c (Some m) (Some n)) e h in
+    let parts = told.4.0 in
+    let start = nothing_yet Summary scene taken in
+    subst (λ v. MayTake (allows v.0) v.1.taken text) (sym (told_on m.0 m.1 start parts.first n first told.4.2))
+    (subst (λ (t : Option (List ℕ)). MayTake (allows m.0) t text) (sym (quiet_taken start parts.first refl))
+    (may text own (inr (
+      le,
+      (
+        parts.first,
+        DoneOutcome parts.spots,
+        parts.before,
+        of.0 ∙ ap (scene_text_of (codes "rest") format) told.4.1,
+        of.1,
+      ),
+    ))))
+
+-- the end of the report, after a run that passes a limit before the tick
+pub limit_may : {Loan : Type 0} (allows : Loan → List ℕ → Type 0) (format : Format) (at : ℕ) (scene : SceneData) (limit : Limit) (taken : Option (List ℕ))
+    (m n : LentReport Loan) (cut : Cut) → cut ≡ PassesLimit limit → CutTold told_on_loan scene at cut (Some m) (Some n) → at ≤ scene.rules.end →
+    IsValidScene scene → m.1 ≡ nothing_yet Summary scene taken → MayWrite (IsCutText format at scene) (allows m.0) taken →
+    MayTake (allows n.0) n.1.taken (end_text n.1 scene (Passes limit))
+limit_may allows format at scene limit taken m n cut e h le valid first may =
+    let told = subst (λ (c : Cut). CutTold told_on_loan scene at c (Some m) (Some n)) e h in
+    let changes = told.0 in let run = told.1 in
+    let text = report Summary scene changes (Passes limit) in
+    may_end allows m.0 Summary scene taken changes (Passes limit) m.1 n valid run first told.3
+    (may text (status_of (Passes limit)) (limit_left format at scene changes limit le valid run told.2 text (status_of (Passes limit))
+    (changes, Passes limit, run, refl, refl)))

@@ -24,7 +24,7 @@ use Rattle.hard_disks.specs.declared.status.Status.TheVariants.{Done, SceneRefus
 use Rattle.hard_disks.specs.Output.{Input, OfMode, OfReading, IsCutText, format_of, scene_text_of, text_left}
 use Rattle.hard_disks.specs.Answers.{IsInputIn}
 use Rattle.hard_disks.specs.Reports.{Reading, status_of}
-use Rattle.hard_disks.specs.Laws.{IsOutputFor, CutsAt, IsCutAgain, CutsAddUp}
+use Rattle.hard_disks.specs.Laws.{IsOutputFor, CutsAt, CutsAddUp}
 use Rattle.hard_disks.proofs.Reread.{said_valid}
 
 -- ---- one cut

@@ -1,5 +1,6 @@
 -- What a watched reporter has published and written that was told a run.
 use Rattle.std.proofs.Common.{◌≡◌, ◌∙◌, inl, ℕ, List, [], Option, Some, Err, ap, subst}
+use Rattle.report_ports.specs.Ports.{MayTake}
 use Rattle.fixed_motion.specs.Scene.{SceneData, IsValidScene}
 use Rattle.event_rules.specs.declared.change.Change.{Change}
 use Rattle.event_rules.specs.declared.outcome.Outcome.{Outcome}
@@ -10,6 +11,7 @@ use Rattle.event_rules.specs.Told.{Told, PrefixTold}
 use Rattle.event_rules.specs.Tellings.{RunTold, RunBegun, RunCutShort, CountsRun}
 use Rattle.collision_report.specs.declared.format.Format.{Format}
 use Rattle.collision_report.specs.Laws.{end_text}
+use Rattle.collision_report.specs.Report.{report}
 use Rattle.collision_report.specs.Meaning.{LentReport, IsSceneOf, nothing_yet, told_on_loan, IsTornOnLoan}
 use Rattle.live_progress.specs.Lists.{StartsWith}
 use Rattle.live_progress.specs.Watching.{SoFar, with_published, IsTorn, pairs_of}
@@ -18,7 +20,7 @@ use Rattle.hard_disks.specs.Reports.{IsReport, status_of}
 use Rattle.hard_disks.specs.declared.status.Status.{Status}
 use Rattle.hard_disks.specs.Answers.{Wrote, WrotePrefix, CountsWrites}
 use Rattle.hard_disks.specs.Shows.{WritesText, status_of_fault}
-use Rattle.hard_disks.proofs.Reported.{told_on, serves_scene, wrote_end, begun, failed_since}
+use Rattle.hard_disks.proofs.Reported.{told_on, serves_scene, wrote_end, begun, failed_since, may_end}
 
 -- ---- the reporter within, which always tells
 told_between : {Loan : Type 0} {before after : Option (LentReport Loan)} (a b : LentReport Loan) → before ≡ Some a → after ≡ Some b → (changes : List Change) →
@@ -65,6 +67,18 @@ told_all format scene outcome taken m n a b told before after valid none first =
       ended = (λ after status text.
           wrote_end loan format scene taken after changes outcome start b status valid run first inner text);
     }
+
+-- and the sink may take the end, if it may take the report
+pub told_may : {Loan : Type 0} (allows : Loan → List ℕ → Type 0) (format : Format) (scene : SceneData) (outcome : Outcome) (taken : Option (List ℕ))
+    (m n : SoFar (LentReport Loan)) (a b : LentReport Loan) →
+    RunTold (with_published told_on_loan) scene outcome (Some m) (Some n) → m.inner ≡ Some a → n.inner ≡ Some b → IsValidScene scene → m.list ≡ [] →
+    a.1 ≡ nothing_yet format scene taken →
+    ((changes : List Change) → IsRun scene changes outcome → MayTake (allows a.0) taken (report format scene changes outcome)) →
+    MayTake (allows b.0) b.1.taken (end_text b.1 scene outcome)
+told_may allows format scene outcome taken m n a b told before after valid none first may =
+    let changes = told.0 in let run = told.1 in
+    let seen = run_watched told_on_loan scene changes outcome m n valid run none told.2 in
+    may_end allows a.0 format scene taken changes outcome a.1 b valid run first (told_between a b before after changes seen.inner) (may changes run)
 
 -- a prefix was told, and perhaps one change refused: a prefix of the pairs is published, and one of the report written
 pub record ToldPart {Loan : Type 0} (format : Format) (scene : SceneData) (taken : Option (List ℕ)) (m n : SoFar (LentReport Loan)) (a b : LentReport Loan) : Type 0 where

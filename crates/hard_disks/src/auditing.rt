@@ -2,7 +2,7 @@
 
 ghost use Rattle.std.specs.Prelude.{◌≡◌, IfOk};
 ghost use Rattle.cell_grid.specs.Grid.{IsAsked};
-ghost use Rattle.hard_disks.specs.Answers.{Wrote};
+ghost use Rattle.hard_disks.specs.Answers.{Wrote, MayWrite};
 ghost use Rattle.hard_disks.specs.Reports.{IsReport};
 ghost use Rattle.hard_disks.specs.Shows.{IsOfScene};
 ghost use Rattle.hard_disks.specs.Audits.{IsAudit, Empties, CountsAudit, ReadsFront, ComparesRun, IsUnrefused, IsAuditFaultOf, answer_of, is_whole};
@@ -161,6 +161,7 @@ fn write_unwatched<R: Threads + Wait + Sync, G: Gate, B: Burst<Idle, ()>, K: Sin
     scene: &Scene,
     sink: &mut K,
 ) -> Status
+    requires allowed { MayWrite (IsReport Format.Lines scene.now) (K.allows (K.lasting sink.old)) (K.taken sink.old) }
     ensures wrote { Wrote (IsReport Format.Lines scene.now) (K.taken sink.old) (K.taken sink.new) result }
     ensures of_scene { IsOfScene result }
     ensures lasts { K.lasting sink.new ≡ K.lasting sink.old }

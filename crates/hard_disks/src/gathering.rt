@@ -5,7 +5,7 @@ ghost use Rattle.report_ports.specs.Ports.{Rose};
 ghost use Rattle.command_words.specs.declared.settings.Settings.{Settings};
 ghost use Rattle.command_words.specs.Words.{settings_of};
 ghost use Rattle.hard_disks.specs.Output.{Input, IsOutput};
-ghost use Rattle.hard_disks.specs.Answers.{Answers, Decides, ReadsScene, LeavesNothing, CountsReads, CountsWrites};
+ghost use Rattle.hard_disks.specs.Answers.{Answers, MayAnswer, Decides, ReadsScene, LeavesNothing, CountsReads, CountsWrites};
 ghost use Rattle.hard_disks.specs.Gathers.{IsFresh, Finishes};
 
 use crate::calls::top_watched;
@@ -38,6 +38,8 @@ pub fn top_gathered<R: Threads + Wait + Sync, S: Source, K: Sink, G: Gate, C: Cl
 ) -> (Status, K)
     requires fresh { IsFresh (K.taken sink) }
     requires whole { K.faults sink ≡ 0 }
+    requires allowed { MayAnswer (settings_of (map (λ w. w.now) words.now)) (S.left source.old)
+        (K.allows (K.lasting sink)) (K.taken sink) }
     ensures headline { Answers (settings_of (map (λ w. w.now) words.now)) (S.left source.old)
         (K.taken sink) (K.taken result.1) result.0 }
     ensures untouched { ¬ ReadsScene (settings_of (map (λ w. w.now) words.now)) →

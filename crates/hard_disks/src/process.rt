@@ -4,8 +4,8 @@
 //! words decide. For a reader and a writer whose bytes are known, the whole is proved.
 
 ghost use Rattle.std.specs.Prelude.{◌≡◌, [], map, None, Some, IsSome, string_bytes};
-ghost use Rattle.hard_disks.specs.Answers.{Answers};
-ghost use Rattle.hard_disks.specs.Gathers.{IsFresh};
+ghost use Rattle.hard_disks.specs.Answers.{Answers, MayAnswer};
+ghost use Rattle.hard_disks.specs.Gathers.{IsFresh, Serves};
 ghost use Rattle.command_words.specs.Words.{settings_of};
 
 use crate::calls::top_watched;
@@ -57,7 +57,7 @@ pub fn run_process<
     };
     let source = StdSource::new(rt.reader());
     let sink = StdSink::new(io::writer(rt));
-    let (status, _) = run_over(rt, &words, source, sink, terminals, terminal);
+    let (status, _, _) = run_over(rt, &words, source, sink, terminals, terminal);
     status
 }
 
@@ -76,7 +76,7 @@ pub fn run_process_over<
 {
     let source = StdSource::telling(input);
     let sink = StdSink::telling(output);
-    let (status, sink) = run_over(rt, words, source, sink, terminals, terminal);
+    let (status, _, sink) = run_over(rt, words, source, sink, terminals, terminal);
     (status, sink.into_writer())
 }
 
@@ -109,8 +109,11 @@ fn run_between<R: AllocGlobal + Threads + Wait + Clock + Sync, S: Source, K: Sin
 ) -> (Status, K)
     requires fresh { IsFresh (K.taken sink) }
     requires whole { K.faults sink ≡ 0 }
-    ensures { Answers (settings_of (map (λ w. w.now) words.now)) (S.left source.old)
-        (K.taken sink) (K.taken result.1) result.0 }
+    requires allowed { MayAnswer (settings_of (map (λ w. w.now) words.now)) (S.left source.old)
+        (K.allows (K.lasting sink)) (K.taken sink) }
+    ensures { Serves (settings_of (map (λ w. w.now) words.now))
+        (S.left source.old) (S.left source.new) (S.faults source.old) (S.faults source.new)
+        (K.taken sink) (K.taken result.1) (K.faults sink) (K.faults result.1) result.0 }
 {
     let gate = TimeSharing::new(rt, rt.alloc());
     let room = room_of(is_terminal);
@@ -122,17 +125,22 @@ fn room_of(is_terminal: bool) -> usize {
     if is_terminal { 0 } else { ROOM }
 }
 
-// The top call as the process makes it, with the line if standard error is a terminal.
-fn run_over<
+/// Does over any source and sink what [`run_process`] does over standard input and output, and gives both back. If the
+/// sink tells its bytes, it has taken none, and no call of it has failed. Of each byte that it is given, at any time, it
+/// may ask that it extends what was taken to a prefix of an output.
+pub fn run_over<
     R: AllocGlobal + Eprint + Threads + Wait + Clock + Sync,
     S: Source + Drop,
     K: Sink + Drop,
     T: Terminal + Sync,
->(rt: &R, words: &[&str], mut source: S, sink: K, terminals: Terminals, terminal: &T) -> (Status, K)
+>(rt: &R, words: &[&str], mut source: S, sink: K, terminals: Terminals, terminal: &T) -> (Status, S, K)
     requires fresh { IsFresh (K.taken sink) }
     requires whole { K.faults sink ≡ 0 }
-    ensures { Answers (settings_of (map (λ w. w.now) words.now)) (S.left source)
-        (K.taken sink) (K.taken result.1) result.0 }
+    requires allowed { MayAnswer (settings_of (map (λ w. w.now) words.now)) (S.left source)
+        (K.allows (K.lasting sink)) (K.taken sink) }
+    ensures { Serves (settings_of (map (λ w. w.now) words.now))
+        (S.left source) (S.left result.1) (S.faults source) (S.faults result.1)
+        (K.taken sink) (K.taken result.2) (K.faults sink) (K.faults result.2) result.0 }
 {
     let is_shared = terminals.output;
     if terminals.errors
@@ -140,7 +148,8 @@ fn run_over<
     {
         return run_shown(rt, words, source, sink, is_shared, terminal, &board, pen);
     }
-    run_between(rt, words, &mut source, sink, is_shared)
+    let (status, sink) = run_between(rt, words, &mut source, sink, is_shared);
+    (status, source, sink)
 }
 
 // Another thread shows the line while the run goes on.
@@ -158,23 +167,29 @@ fn run_shown<
     terminal: &T,
     board: &Board,
     mut pen: Pen,
-) -> (Status, K)
+) -> (Status, S, K)
     requires fresh { IsFresh (K.taken sink) }
     requires whole { K.faults sink ≡ 0 }
     requires board { pen.board ≡ board.now }
     requires unwritten { pen.list ≡ [] }
-    ensures { Answers (settings_of (map (λ w. w.now) words.now)) (S.left source)
-        (K.taken sink) (K.taken result.1) result.0 }
+    requires allowed { MayAnswer (settings_of (map (λ w. w.now) words.now)) (S.left source)
+        (K.allows (K.lasting sink)) (K.taken sink) }
+    ensures { Serves (settings_of (map (λ w. w.now) words.now))
+        (S.left source) (S.left result.1) (S.faults source) (S.faults result.1)
+        (K.taken sink) (K.taken result.2) (K.faults sink) (K.faults result.2) result.0 }
 {
     let glass = board.glass(rt, &mut pen);
     let line = ProgressLine::new();
     let (_, ended) = thread::join(
         rt,
         || line.show(rt, terminal, board, glass),
-        || -> (Status, K)
-            requires { IsFresh (K.taken sink) × (K.faults sink ≡ 0) × (pen.board ≡ board.now) × (pen.list ≡ []) }
-            ensures { Answers (settings_of (map (λ w. w.now) words.entry.now)) (S.left source)
-                (K.taken sink) (K.taken result.1) result.0 }
+        || -> (Status, S, K)
+            requires { IsFresh (K.taken sink) × (K.faults sink ≡ 0) × (pen.board ≡ board.now) × (pen.list ≡ [])
+                × MayAnswer (settings_of (map (λ w. w.now) words.now)) (S.left source)
+                (K.allows (K.lasting sink)) (K.taken sink) }
+            ensures { Serves (settings_of (map (λ w. w.now) words.entry.now))
+                (S.left source) (S.left result.1) (S.faults source) (S.faults result.1)
+                (K.taken sink) (K.taken result.2) (K.faults sink) (K.faults result.2) result.0 }
         { run_beside(rt, words, source, sink, is_shared, &line, board, pen) },
     );
     ended
@@ -190,13 +205,16 @@ fn run_beside<R: AllocGlobal + Eprint + Threads + Wait + Clock + Sync, S: Source
     line: &ProgressLine,
     board: &Board,
     mut pen: Pen,
-) -> (Status, K)
+) -> (Status, S, K)
     requires fresh { IsFresh (K.taken sink) }
     requires whole { K.faults sink ≡ 0 }
     requires board { pen.board ≡ board.now }
     requires unwritten { pen.list ≡ [] }
-    ensures { Answers (settings_of (map (λ w. w.now) words.now)) (S.left source)
-        (K.taken sink) (K.taken result.1) result.0 }
+    requires allowed { MayAnswer (settings_of (map (λ w. w.now) words.now)) (S.left source)
+        (K.allows (K.lasting sink)) (K.taken sink) }
+    ensures { Serves (settings_of (map (λ w. w.now) words.now))
+        (S.left source) (S.left result.1) (S.faults source) (S.faults result.1)
+        (K.taken sink) (K.taken result.2) (K.faults sink) (K.faults result.2) result.0 }
 {
     let beside = BesideLine {
         rt,
@@ -221,5 +239,5 @@ fn run_beside<R: AllocGlobal + Eprint + Threads + Wait + Clock + Sync, S: Source
     );
     let (status, beside) = finish(timely.gathered, status);
     line.end(rt);
-    (status, beside.sink)
+    (status, source, beside.sink)
 }

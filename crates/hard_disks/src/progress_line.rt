@@ -204,6 +204,8 @@ impl<R: Eprint + Wait, K: Sink> Sink for BesideLine<'_, R, K> {
 
     ghost lasting = { λ b. K.lasting b.sink };
 
+    ghost allows = { K.allows };
+
     ghost taken = { λ b. K.taken b.sink };
 
     ghost faults = { λ b. K.faults b.sink };

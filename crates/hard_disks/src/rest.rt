@@ -4,7 +4,7 @@ ghost use Rattle.std.specs.Prelude.{◌≡◌, ◌≤◌};
 ghost use Rattle.fixed_motion.specs.Scene.{IsValidScene};
 ghost use Rattle.collision_report.specs.Meaning.{table_of};
 ghost use Rattle.hard_disks.specs.Output.{IsCutText};
-ghost use Rattle.hard_disks.specs.Answers.{Wrote, CountsWrites};
+ghost use Rattle.hard_disks.specs.Answers.{Wrote, CountsWrites, MayWrite};
 ghost use Rattle.hard_disks.specs.Shows.{IsOfScene};
 
 use crate::cut::{Cut, cut_by};
@@ -31,6 +31,7 @@ pub fn write_cut<R: Threads + Wait + Sync, G: Gate, B: Burst<Idle, ()>, K: Sink>
     scene: &Scene,
     sink: &mut K,
 ) -> Status
+    requires allowed { MayWrite (IsCutText format at scene.now) (K.allows (K.lasting sink.old)) (K.taken sink.old) }
     ensures wrote { Wrote (IsCutText format at scene.now) (K.taken sink.old) (K.taken sink.new) result }
     ensures of_scene { IsOfScene result }
     ensures counts { CountsWrites (K.faults sink.old) (K.faults sink.new) result }
@@ -53,6 +54,7 @@ fn write_rest<R: Threads + Wait + Sync, G: Gate, B: Burst<Idle, ()>, K: Sink>(
     sink: &mut K,
 ) -> Status
     requires at { at ≤ scene.now.rules.end }
+    requires allowed { MayWrite (IsCutText format at scene.now) (K.allows (K.lasting sink.old)) (K.taken sink.old) }
     ensures wrote { Wrote (IsCutText format at scene.now) (K.taken sink.old) (K.taken sink.new) result }
     ensures of_scene { IsOfScene result }
     ensures counts { CountsWrites (K.faults sink.old) (K.faults sink.new) result }
@@ -80,6 +82,7 @@ fn write_left<R: Threads + Wait + Sync, G: Gate, B: Burst<Idle, ()>, K: Sink>(
     requires at { at ≤ scene.now.rules.end }
     requires valid { IsValidScene scene.now }
     requires table { table.old ≡ table_of scene.now }
+    requires allowed { MayWrite (IsCutText format at scene.now) (K.allows (K.lasting sink.old)) (K.taken sink.old) }
     ensures wrote { Wrote (IsCutText format at scene.now) (K.taken sink.old) (K.taken sink.new) result }
     ensures of_scene { IsOfScene result }
     ensures counts { CountsWrites (K.faults sink.old) (K.faults sink.new) result }

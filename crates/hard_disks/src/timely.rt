@@ -51,9 +51,11 @@ impl<'c, C: Clock, K: Sink> Timely<'c, C, K> {
 }
 
 impl<C: Clock, K: Sink> Sink for Timely<'_, C, K> {
-    ghost Lasting = { Unit {0} };
+    ghost Lasting = { K.Lasting };
 
-    ghost lasting = { λ _. tt };
+    ghost lasting = { λ t. K.lasting t.gathered.below };
+
+    ghost allows = { K.allows };
 
     ghost taken = { λ t. t.gathered.told };
 

@@ -4,8 +4,9 @@ ghost use Rattle.std.specs.Prelude.{◌≡◌, ◌≢◌, ◌≤◌, ◌++◌, �
 ghost use Rattle.command_words.specs.declared.settings.Settings.{Settings};
 ghost use Rattle.command_words.specs.declared.settings.Mode.TheVariants.{Audit};
 ghost use Rattle.text_lines.specs.Lines.{line_of};
-ghost use Rattle.hard_disks.specs.Answers.{Answers, LeavesNothing, CountsReads, CountsWrites};
-ghost use Rattle.hard_disks.specs.Verdicts.{expected_line, verdict_text, verdict_status};
+ghost use Rattle.hard_disks.specs.Answers.{Answers, LeavesNothing, CountsReads, CountsWrites, IsInputIn, MayWrite};
+ghost use Rattle.hard_disks.specs.Output.{Input};
+ghost use Rattle.hard_disks.specs.Verdicts.{OfAudit, expected_line, verdict_text, verdict_status};
 
 use crate::auditing::{AuditFault, audit_by};
 use crate::engines::Engine;
@@ -28,6 +29,8 @@ pub fn show_audit<R: Threads + Wait + Sync, G: Gate, B: Burst<Idle, ()>, S: Sour
     source: &mut S,
     sink: &mut K,
 ) -> Status
+    requires allowed { (input : Input) → IsInputIn Audit (S.left source.old) input →
+        MayWrite (OfAudit input.said input.claimed) (K.allows (K.lasting sink.old)) (K.taken sink.old) }
     ensures answers { (settings : Settings) → settings.mode ≡ Audit →
         Answers (Some settings) (S.left source.old) (K.taken sink.old) (K.taken sink.new) result }
     ensures emptied { LeavesNothing (S.left source.old) (S.left source.new) result }

@@ -50,6 +50,8 @@ impl<R: Wait> Sink for Looking<'_, R> {
 
     ghost lasting = { λ _. tt };
 
+    ghost allows = { λ _ _. Unit {0} };
+
     ghost taken = { λ _. None };
 
     ghost faults = { λ _. 0 };

@@ -1,4 +1,5 @@
-use Rattle.std.proofs.Common.{◌∙◌, ℕ, List, subst}
+use Rattle.std.proofs.Common.{◌∙◌, ℕ, List, sym, subst}
+use Rattle.report_ports.specs.Ports.{MayTake}
 use Rattle.hard_disks.specs.declared.status.Status.TheVariants.{SceneRefused}
 use Rattle.hard_disks.specs.Shows.{WritesText}
 use Rattle.hard_disks.proofs.calls.refuse.Goals as goal
@@ -11,3 +12,8 @@ returns-in_default g c = let K = g.K.Sink in record {
       (c.as_bytes.ensures ∙ c.refusal_line.ensures) c.write_text.ensures.text;
   counts = c.write_text.ensures.counts;
 }
+
+pub write_text-requires-clause-allowed : goal.write_text-requires-clause-allowed
+write_text-requires-clause-allowed g c = let K = g.K.Sink in
+    subst (λ (line : List ℕ). MayTake (K.allows (K.lasting c.args.sink.now)) (K.taken c.args.sink.now) line)
+    (sym (c.as_bytes.ensures ∙ c.refusal_line.ensures)) (c.requires.allowed c.in_default.not-ReadFault c.in_default.not-NoMemory)

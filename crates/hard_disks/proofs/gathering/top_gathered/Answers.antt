@@ -1,6 +1,7 @@
 -- The result of the top call over a sink that gathers, at the sink below.
-use Rattle.std.proofs.Common.{map, ap, ◌∙◌}
+use Rattle.std.proofs.Common.{map, ap, sym, subst, ◌∙◌}
 use Rattle.command_words.specs.Words.{settings_of}
+use Rattle.hard_disks.specs.Answers.{MayAnswer}
 use Rattle.hard_disks.proofs.OneOutput.{words_in_range}
 use Rattle.hard_disks.proofs.Answered.{out_of_memory}
 use Rattle.hard_disks.proofs.Wrote.{kept}
@@ -38,3 +39,12 @@ pub returns-clause-writes : goal.returns-clause-writes
 returns-clause-writes g c = let K = g.K.Sink in
     counted_below (K.faults c.args.sink) _ c.top_watched-status.new.sink.gathered.faults (K.faults c.finish.result.1) c.top_watched-status.result c.finish.result.0
     c.requires.whole (ap (λ g. g.faults) c.new-timely.ensures ∙ c.new-gathered.ensures.faults) c.finish.ensures.writes c.top_watched-status.ensures.writes
+
+pub top_watched-status-requires-clause-allowed : goal.top_watched-status-requires-clause-allowed
+top_watched-status-requires-clause-allowed g c κs within = let K = g.K.Sink in
+    let settings = settings_of (map (λ w. w.now) c.args.words.now) in
+    let left = g.S.Source.left c.args.source.now in
+    let lasting = ap (λ g. K.lasting g.below) c.new-timely.ensures ∙ ap K.lasting c.new-gathered.ensures.below in
+    let told = ap (λ g. g.told) c.new-timely.ensures ∙ c.new-gathered.ensures.told in
+    subst (λ l. MayAnswer settings left (K.allows l) c.new-timely.result.gathered.told) (sym lasting)
+    (subst (λ t. MayAnswer settings left (K.allows (K.lasting c.args.sink)) t) (sym told) c.requires.allowed)

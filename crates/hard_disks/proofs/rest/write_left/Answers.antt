@@ -1,23 +1,23 @@
 use Rattle.std.proofs.Common.{◌∙◌, ℕ, codes, ap, sym, subst}
 use Rattle.collision_report.specs.declared.format.Format.TheVariants.{Summary}
 use Rattle.collision_report.specs.Meaning.{TableData, so_far}
-use Rattle.collision_report.proofs.Awaited.{report_awaits}
+use Rattle.collision_report.proofs.Awaited.{quiet_awaits}
 use Rattle.resume.proofs.Beginnings.{steps_of_all}
 use Rattle.hard_disks.specs.declared.status.Status.{Status}
 use Rattle.hard_disks.specs.declared.cut.Cut.{Cut}
 use Rattle.hard_disks.specs.Output.{IsSceneText, IsCutText}
-use Rattle.hard_disks.specs.Answers.{Wrote, CountsWrites}
+use Rattle.hard_disks.specs.Answers.{Wrote, MayWrite, CountsWrites}
 use Rattle.hard_disks.specs.Shows.{status_of_fault}
 use Rattle.hard_disks.proofs.Wrote.{broken_wrote}
 use Rattle.hard_disks.proofs.Watched.{broken_counts}
-use Rattle.hard_disks.proofs.Left.{cut_part, cut_rest, cut_limit}
+use Rattle.hard_disks.proofs.Left.{cut_part, cut_rest, cut_limit, rest_may, limit_may}
 use Rattle.hard_disks.proofs.rest.write_left.Goals as goal
 
 pub cut_by-requires-clause-awaited : goal.cut_by-requires-clause-awaited
 cut_by-requires-clause-awaited g c κs within =
     let K = g.K.Sink in let scene = c.args.scene.now in
     let first = c.new-reporter.ensures.meaning ∙ ap (λ (t : TableData). so_far Summary t (K.taken c.args.sink.now) 0 0) c.requires.table in
-    λ changes later steps. report_awaits Summary scene (K.taken c.args.sink.now) _ changes later c.requires.valid first
+    λ changes later steps. quiet_awaits (λ loan. K.allows loan.1) scene (K.taken c.args.sink.now) _ changes later c.requires.valid first
     (steps_of_all scene.rules c.args.at scene.disks changes later c.requires.at steps)
 
 pub returns-in-Ok-Rest-clause-wrote : goal.returns-in-Ok-Rest-clause-wrote
@@ -106,3 +106,26 @@ returns-in-Err-clause-counts g c =
     (sym c.status_of_fault.ensures.status)
     (subst (λ v. CountsWrites (K.faults c.args.sink.now) (K.faults v) (status_of_fault c.in-Err.fault)) (sym last)
     (broken_counts Cut _ _ _ c.in-Err.fault c.in-Err.ensures.counts (ap K.faults c.new-reporter.ensures.sink)))
+
+pub write_scene-requires-clause-allowed : goal.write_scene-requires-clause-allowed
+write_scene-requires-clause-allowed g c =
+    let K = g.K.Sink in let scene = c.args.scene.now in
+    let first = c.new-reporter.ensures.meaning ∙ ap (λ (t : TableData). so_far Summary t (K.taken c.args.sink.now) 0 0) c.requires.table in
+    let told = cut_rest c.args.format c.args.at scene c.in-Ok-Rest.rest (K.taken c.args.sink.now) _ _ c.in-Ok-Rest.field-0
+    c.in-Ok-Rest.field-0-is c.in-Ok-Rest.ensures.cut c.requires.at first in
+    let loan = ap (λ l. l.0) told.sink ∙ c.new-reporter.ensures.loan in
+    let last = c.in-Ok-Rest.sink-1-own.given.1 (sym loan) in
+    subst (λ v. MayWrite (IsSceneText (codes "rest") c.args.format c.in-Ok-Rest.rest) (K.allows (K.lasting v)) (K.taken v)) (sym last)
+    (rest_may (λ loan. K.allows loan.1) c.args.format c.args.at scene c.in-Ok-Rest.rest (K.taken c.args.sink.now) _ _ c.in-Ok-Rest.field-0
+    c.in-Ok-Rest.field-0-is c.in-Ok-Rest.ensures.cut c.requires.at first
+    (subst (λ sink. MayWrite (IsCutText c.args.format c.args.at scene) (K.allows (K.lasting sink)) (K.taken c.args.sink.now))
+    (sym c.new-reporter.ensures.sink) c.requires.allowed))
+
+pub end_report-requires-clause-allowed : goal.end_report-requires-clause-allowed
+end_report-requires-clause-allowed g c =
+    let K = g.K.Sink in let scene = c.args.scene.now in
+    let first = c.new-reporter.ensures.meaning ∙ ap (λ (t : TableData). so_far Summary t (K.taken c.args.sink.now) 0 0) c.requires.table in
+    limit_may (λ loan. K.allows loan.1) c.args.format c.args.at scene c.in-Ok-Limit.limit (K.taken c.args.sink.now) _ _ c.in-Ok-Limit.field-0
+    c.in-Ok-Limit.field-0-is c.in-Ok-Limit.ensures.cut c.requires.at c.requires.valid first
+    (subst (λ sink. MayWrite (IsCutText c.args.format c.args.at scene) (K.allows (K.lasting sink)) (K.taken c.args.sink.now))
+    (sym c.new-reporter.ensures.sink) c.requires.allowed)

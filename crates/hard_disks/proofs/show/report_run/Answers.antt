@@ -2,25 +2,34 @@ use Rattle.std.proofs.Common.{◌∙◌, ℕ, ap, sym, subst, refl}
 use Rattle.event_rules.specs.declared.outcome.Outcome.{Outcome}
 use Rattle.event_rules.proofs.Fits.{outcomes_fit}
 use Rattle.collision_report.specs.Meaning.{told_on_loan, IsAwaitedOnLoan}
-use Rattle.collision_report.proofs.Awaited.{report_awaits}
+use Rattle.collision_report.specs.Report.{report}
+use Rattle.collision_report.proofs.Awaited.{run_awaits}
 use Rattle.live_progress.specs.Lists.{Known}
 use Rattle.live_progress.specs.Watching.{pairs_of}
 use Rattle.live_progress.proofs.Watches.{watched_awaits}
 use Rattle.hard_disks.specs.declared.status.Status.{Status}
-use Rattle.hard_disks.specs.Reports.{IsReport}
+use Rattle.hard_disks.specs.Reports.{IsReport, status_of}
 use Rattle.hard_disks.specs.Answers.{Wrote, CountsWrites}
 use Rattle.hard_disks.specs.Publishes.{PublishesPairs}
 use Rattle.hard_disks.proofs.Wrote.{broken_wrote}
 use Rattle.hard_disks.proofs.Published.{ended_published, broken_published}
-use Rattle.hard_disks.proofs.Watched.{told_all, told_part, broken_counts}
+use Rattle.hard_disks.proofs.Watched.{told_all, told_part, told_may, broken_counts}
 use Rattle.hard_disks.proofs.show.report_run.Goals as goal
 
 pub run-requires-clause-awaited : goal.run-requires-clause-awaited
 run-requires-clause-awaited g c κs within =
     let inner = c.args.watched.now.inner in let scene = c.args.scene.now in
-    λ changes later steps. watched_awaits told_on_loan IsAwaitedOnLoan _ changes
-    (report_awaits inner.format scene (g.K.Sink.taken inner.sink.now) _ changes later c.requires.valid
-    c.requires.first steps)
+    let K = g.K.Sink in
+    λ changes later steps. watched_awaits told_on_loan (IsAwaitedOnLoan (λ loan. K.allows loan.1)) _ changes
+    (run_awaits (λ loan. K.allows loan.1) inner.format scene (K.taken inner.sink.now) _ changes later c.requires.valid c.requires.first
+    (λ all outcome run. c.requires.allowed (report inner.format scene all outcome) (status_of outcome) (all, outcome, run, refl, refl)) steps)
+
+pub end_watched-requires-clause-allowed : goal.end_watched-requires-clause-allowed
+end_watched-requires-clause-allowed g c =
+    let K = g.K.Sink in let inner = c.args.watched.now.inner in let scene = c.args.scene.now in let outcome = c.in-Ok.outcome in
+    told_may (λ loan. K.allows loan.1) inner.format scene outcome (K.taken inner.sink.now) _ _ _ _ c.in-Ok.ensures.run refl refl
+    c.requires.valid c.requires.unwritten c.requires.first
+    (λ changes run. c.requires.allowed (report inner.format scene changes outcome) (status_of outcome) (changes, outcome, run, refl, refl))
 
 pub end_watched-requires-clause-outcome : goal.end_watched-requires-clause-outcome
 end_watched-requires-clause-outcome g c =

@@ -1,9 +1,10 @@
 use Rattle.std.proofs.Common.{◌∙◌, ℕ, ap, sym, subst}
+use Rattle.collision_report.specs.declared.format.Format.{Format}
 use Rattle.collision_report.specs.Meaning.{TableData, ReportSoFar, so_far, nothing_yet}
 use Rattle.live_progress.specs.Lists.{Known}
 use Rattle.hard_disks.specs.declared.status.Status.TheVariants.{NoMemory}
 use Rattle.hard_disks.specs.Reports.{IsReport}
-use Rattle.hard_disks.specs.Answers.{Wrote, CountsWrites}
+use Rattle.hard_disks.specs.Answers.{Wrote, MayWrite, CountsWrites}
 use Rattle.hard_disks.specs.Publishes.{PublishesRun}
 use Rattle.hard_disks.proofs.Reported.{unreported}
 use Rattle.hard_disks.proofs.Published.{run_unpublished}
@@ -59,3 +60,12 @@ returns-clause-published g c =
     let kept = c.report_run.ensures.pen_loan in
     let last = c.pen-1.given.1 (sym kept) in
     subst (λ (k : Known). PublishesRun c.args.scene.now c.report_run.result k.list) (sym last) c.report_run.ensures.published
+
+pub report_run-requires-clause-allowed : goal.report_run-requires-clause-allowed
+report_run-requires-clause-allowed g c κs within =
+    let K = g.K.Sink in
+    let format = ap (λ (m : ReportSoFar). m.format) c.new-reporter.ensures.meaning in
+    subst (λ (format : Format). MayWrite (IsReport format c.args.scene.now) (K.allows (K.lasting c.new-reporter.result.sink.now)) (K.taken c.new-reporter.result.sink.now))
+    (sym format)
+    (subst (λ sink. MayWrite (IsReport c.args.format c.args.scene.now) (K.allows (K.lasting sink)) (K.taken sink))
+    (sym c.new-reporter.ensures.sink) c.requires.allowed)

@@ -3,7 +3,7 @@ use Rattle.report_audit.specs.declared.verdict.Verdict.{Verdict}
 use Rattle.hard_disks.specs.declared.auditing.AuditFault.{AuditFault}
 use Rattle.hard_disks.specs.declared.status.Status.TheVariants.{SceneRefused}
 use Rattle.hard_disks.specs.Audits.{IsAudit, CountsAudit}
-use Rattle.hard_disks.proofs.Answered.{verdict_answered, refusal_answered, unread_answered, memory_answered, text_reads, own_verdict}
+use Rattle.hard_disks.proofs.Answered.{verdict_may, unaudited_may, verdict_answered, refusal_answered, unread_answered, memory_answered, text_reads, own_verdict}
 use Rattle.hard_disks.proofs.Wrote.{IsOwn}
 use Rattle.hard_disks.proofs.Published.{line_cut, cut_leaves, verdict_leaves}
 use Rattle.hard_disks.proofs.verdicts.show_audit.Goals as goal
@@ -53,3 +53,15 @@ returns-in-Err-Scene-clause-reads g c = let K = g.K.Sink in let S = g.S.Source i
     (K.taken c.args.sink.now) (K.taken c.write_text-in-Err-Scene.new.sink) tt c.write_text-in-Err-Scene.ensures.text
     (subst (λ (f : AuditFault). CountsAudit {A = Verdict} (S.faults c.args.source.now) (S.faults c.audit_by.new.source) (Err f)) c.in-Err-Scene.field-0-is
     c.in-Err-Scene.ensures.counts)
+
+pub write_text-requires-clause-allowed : goal.write_text-requires-clause-allowed
+write_text-requires-clause-allowed g c = let K = g.K.Sink in
+    verdict_may (g.S.Source.left c.args.source.now) (K.allows (K.lasting c.args.sink.now)) (K.taken c.args.sink.now) c.in-Ok.verdict _
+    (c.as_bytes.ensures ∙ c.verdict_text-text.ensures) c.in-Ok.ensures.audits c.requires.allowed
+
+pub write_text-requires-in-Err-Scene-clause-allowed : goal.write_text-requires-in-Err-Scene-clause-allowed
+write_text-requires-in-Err-Scene-clause-allowed g c = let K = g.K.Sink in
+    unaudited_may (g.S.Source.left c.args.source.now) (K.allows (K.lasting c.args.sink.now)) (K.taken c.args.sink.now) c.in-Err-Scene.fault _
+    (c.as_bytes-in-Err-Scene.ensures ∙ c.refusal_line.ensures)
+    (subst (λ (f : AuditFault). IsAudit (g.S.Source.left c.args.source.now) (Err f)) c.in-Err-Scene.field-0-is
+    c.in-Err-Scene.ensures.audits) c.requires.allowed
