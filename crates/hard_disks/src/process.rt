@@ -4,7 +4,7 @@
 //! words decide. For a reader and a writer whose bytes are known, the whole is proved.
 
 ghost use Rattle.std.specs.Prelude.{◌≡◌, [], map, None, Some, IsSome, string_bytes};
-ghost use Rattle.hard_disks.specs.Answers.{Answers, MayAnswer};
+ghost use Rattle.hard_disks.specs.Answers.{Answers, MayAnswer, ReadsScene};
 ghost use Rattle.hard_disks.specs.Gathers.{IsFresh, Serves};
 ghost use Rattle.command_words.specs.Words.{settings_of};
 
@@ -111,9 +111,11 @@ fn run_between<R: AllocGlobal + Threads + Wait + Clock + Sync, S: Source, K: Sin
     requires whole { K.faults sink ≡ 0 }
     requires allowed { MayAnswer (settings_of (map (λ w. w.now) words.now)) (S.left source.old)
         (K.allows (K.lasting sink)) (K.taken sink) }
-    ensures { Serves (settings_of (map (λ w. w.now) words.now))
+    ensures serves { Serves (settings_of (map (λ w. w.now) words.now))
         (S.left source.old) (S.left source.new) (S.faults source.old) (S.faults source.new)
         (K.taken sink) (K.taken result.1) (K.faults sink) (K.faults result.1) result.0 }
+    ensures untouched { ¬ ReadsScene (settings_of (map (λ w. w.now) words.now)) →
+        source.new ≡ source.old }
 {
     let gate = TimeSharing::new(rt, rt.alloc());
     let room = room_of(is_terminal);
@@ -133,14 +135,22 @@ pub fn run_over<
     S: Source + Drop,
     K: Sink + Drop,
     T: Terminal + Sync,
->(rt: &R, words: &[&str], mut source: S, sink: K, terminals: Terminals, terminal: &T) -> (Status, S, K)
+>(
+    rt: &R,
+    words: &[&str],
+    mut source: S,
+    sink: K,
+    terminals: Terminals,
+    terminal: &T,
+) -> (Status, S, K)
     requires fresh { IsFresh (K.taken sink) }
     requires whole { K.faults sink ≡ 0 }
     requires allowed { MayAnswer (settings_of (map (λ w. w.now) words.now)) (S.left source)
         (K.allows (K.lasting sink)) (K.taken sink) }
-    ensures { Serves (settings_of (map (λ w. w.now) words.now))
+    ensures serves { Serves (settings_of (map (λ w. w.now) words.now))
         (S.left source) (S.left result.1) (S.faults source) (S.faults result.1)
         (K.taken sink) (K.taken result.2) (K.faults sink) (K.faults result.2) result.0 }
+    ensures untouched { ¬ ReadsScene (settings_of (map (λ w. w.now) words.now)) → result.1 ≡ source }
 {
     let is_shared = terminals.output;
     if terminals.errors
@@ -174,9 +184,10 @@ fn run_shown<
     requires unwritten { pen.list ≡ [] }
     requires allowed { MayAnswer (settings_of (map (λ w. w.now) words.now)) (S.left source)
         (K.allows (K.lasting sink)) (K.taken sink) }
-    ensures { Serves (settings_of (map (λ w. w.now) words.now))
+    ensures serves { Serves (settings_of (map (λ w. w.now) words.now))
         (S.left source) (S.left result.1) (S.faults source) (S.faults result.1)
         (K.taken sink) (K.taken result.2) (K.faults sink) (K.faults result.2) result.0 }
+    ensures untouched { ¬ ReadsScene (settings_of (map (λ w. w.now) words.now)) → result.1 ≡ source }
 {
     let glass = board.glass(rt, &mut pen);
     let line = ProgressLine::new();
@@ -187,9 +198,10 @@ fn run_shown<
             requires { IsFresh (K.taken sink) × (K.faults sink ≡ 0) × (pen.board ≡ board.now) × (pen.list ≡ [])
                 × MayAnswer (settings_of (map (λ w. w.now) words.now)) (S.left source)
                 (K.allows (K.lasting sink)) (K.taken sink) }
-            ensures { Serves (settings_of (map (λ w. w.now) words.entry.now))
+            ensures serves { Serves (settings_of (map (λ w. w.now) words.entry.now))
                 (S.left source) (S.left result.1) (S.faults source) (S.faults result.1)
                 (K.taken sink) (K.taken result.2) (K.faults sink) (K.faults result.2) result.0 }
+            ensures untouched { ¬ ReadsScene (settings_of (map (λ w. w.now) words.entry.now)) → result.1 ≡ source }
         { run_beside(rt, words, source, sink, is_shared, &line, board, pen) },
     );
     ended
@@ -212,9 +224,10 @@ fn run_beside<R: AllocGlobal + Eprint + Threads + Wait + Clock + Sync, S: Source
     requires unwritten { pen.list ≡ [] }
     requires allowed { MayAnswer (settings_of (map (λ w. w.now) words.now)) (S.left source)
         (K.allows (K.lasting sink)) (K.taken sink) }
-    ensures { Serves (settings_of (map (λ w. w.now) words.now))
+    ensures serves { Serves (settings_of (map (λ w. w.now) words.now))
         (S.left source) (S.left result.1) (S.faults source) (S.faults result.1)
         (K.taken sink) (K.taken result.2) (K.faults sink) (K.faults result.2) result.0 }
+    ensures untouched { ¬ ReadsScene (settings_of (map (λ w. w.now) words.now)) → result.1 ≡ source }
 {
     let beside = BesideLine {
         rt,

@@ -14,8 +14,8 @@ top_watched-status-requires-clause-allowed g c κs within = let K = g.K.Sink in
     subst (λ l. MayAnswer settings left (K.allows l) c.new-timely.result.gathered.told) (sym lasting)
     (subst (λ t. MayAnswer settings left (K.allows (K.lasting c.args.sink)) t) (sym told) c.requires.allowed)
 
-pub returns : goal.returns
-returns g c = let K = g.K.Sink in
+pub returns-clause-serves : goal.returns-clause-serves
+returns-clause-serves g c = let K = g.K.Sink in
     let settings = settings_of (map (λ w. w.now) c.args.words.now) in
     let left = g.S.Source.left c.args.source in
     let none = ap (λ g. g.faults) c.new-timely.ensures ∙ c.new.ensures.faults in
