@@ -1,5 +1,5 @@
 -- The sink below may take the piece, since nothing is held.
-use Rattle.std.proofs.Common.{◌≡◌, ℕ, List, ap, sym, subst, ◌∙◌}
+use Rattle.std.proofs.Common.{◌≡◌, ap, sym, subst, ◌∙◌}
 use Rattle.report_ports.specs.Ports.{MayTake}
 use Rattle.gathered_sink.specs.Gathered.{GatheredData}
 use Rattle.gathered_sink.proofs.Held.{passes_on}

@@ -1,5 +1,5 @@
 -- The piece is held after what was held.
-use Rattle.std.proofs.Common.{rules, ◌≡◌, ℕ, List, Option, ap, sym, subst, ◌∙◌}
+use Rattle.std.proofs.Common.{rules, ℕ, List, Option, ap, sym, subst}
 use Rattle.report_ports.specs.Ports.{MayTake}
 use Rattle.gathered_sink.specs.Gathered.{GatheredData}
 use Rattle.gathered_sink.proofs.Held.{holds_more, front_held}
