@@ -14,6 +14,8 @@ use std::snapshot::Snapshot;
 /// The bytes that it has taken are those that the sink below has taken, and then those that it holds, until that sink
 /// fails. From then on it takes nothing, gives nothing, and answers that it failed; the sink below has then taken a
 /// front of what was taken here.
+///
+/// It may take what that sink may take. So what it holds may be given at any time.
 #[derive(Drop)]
 pub struct GatheringSink<K: Sink> {
     sink: K,
