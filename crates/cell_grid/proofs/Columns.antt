@@ -17,7 +17,7 @@ room_after side count index within size =
     let room : (index + 1) * side ≤ count * side = mul-le-mul more same in
     omega arith
 
-quotient_is : (side index n : ℕ) → 1 ≤ side →
+pub quotient_is : (side index n : ℕ) → 1 ≤ side →
     ((index * side ≤ n) × (n < index * side + side)) ↔ (n / side ≡ index)
 quotient_is side index n some =
     let p = le-div_iff_mul-le {k = side} {x = index} {y = n} (omega arith) in

@@ -7,4 +7,5 @@ mod Ends
 pub mod Leaving
 pub mod Links
 pub mod Owners
+mod Quotients
 mod Strips

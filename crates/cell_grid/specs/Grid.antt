@@ -1,5 +1,5 @@
 -- The cells of the box, in columns and rows, and the strips of columns that the regions own.
-use Rattle.std.specs.Prelude.{◌≡◌, ℕ, ◌+◌, ◌-◌, ◌*◌, ◌/◌, ◌%◌, ◌<◌, ◌≤◌, max, min, ℤ, nat_abs}
+use Rattle.std.specs.Prelude.{◌≡◌, ℕ, ◌+◌, ◌-◌, ◌*◌, ◌/◌, ◌%◌, ◌^◌, ◌<◌, ◌≤◌, max, min, ℤ, nat_abs}
 use Rattle.plane_vectors.specs.declared.Vector.{Vector}
 use Rattle.fixed_motion.specs.declared.rules.Rules.{Rules}
 use Rattle.cell_grid.specs.declared.grid.Strip.{Strip}
@@ -24,6 +24,19 @@ pub record HasSizes (grid : GridData) : Type 0 where
   pub regions : 1 ≤ grid.regions
   pub most_regions : grid.regions ≤ MAX_REGIONS
   pub fits : grid.regions ≤ grid.columns
+
+-- one more than a scale by a divisor: a product with it, by the scale, is the quotient by the divisor
+abbrev pub reciprocal_of : ℕ → ℕ → ℕ
+reciprocal_of scale divisor = scale / divisor + 1
+
+-- what the code keeps: sizes, with no side of a cell above 2^30, and the reciprocals of the columns and of the sides
+pub record HasReciprocals (grid : GridData) (columns_reciprocal reciprocal_x reciprocal_y : ℕ) : Type 0 where
+  pub sizes : HasSizes grid
+  pub most_x : grid.side_x ≤ 2 ^ 30
+  pub most_y : grid.side_y ≤ 2 ^ 30
+  pub columns : columns_reciprocal ≡ reciprocal_of (2 ^ 32) grid.columns
+  pub x : reciprocal_x ≡ reciprocal_of (2 ^ 62) grid.side_x
+  pub y : reciprocal_y ≡ reciprocal_of (2 ^ 62) grid.side_y
 
 -- the least side of a cell: disks that are further apart on an axis don't meet within a tick
 abbrev pub least_side : Rules → ℕ

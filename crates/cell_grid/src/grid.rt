@@ -8,6 +8,10 @@ pub const MAX_CELLS_ALONG: u32 = 1_024;
 /// The greatest number of regions.
 pub const MAX_REGIONS: u32 = 64;
 
+const COLUMNS_SCALE: u64 = 1 << 32;
+
+const SIDE_SCALE: u64 = 1 << 62;
+
 /// Columns and rows of cells, and the strips of columns that the regions own.
 ///
 /// Cells are numbered row by row from the bottom left, regions from the left.
@@ -19,6 +23,11 @@ pub struct Grid {
     side_x: u32,
     side_y: u32,
     regions: u32,
+    // One more than 2^32 by the columns, and than 2^62 by each side: a product with one of them and a shift take the
+    // place of a division, which takes much longer.
+    columns_reciprocal: u64,
+    reciprocal_x: u64,
+    reciprocal_y: u64,
 }
 
 /// The columns that a region owns: those from `first` on, below `end`.
@@ -31,7 +40,9 @@ pub struct Strip {
 }
 
 impl Model for Grid {
-    ghost use Rattle.cell_grid.specs.Grid.{GridData, HasSizes};
+    ghost use Rattle.std.specs.Prelude.{◌^◌};
+    ghost use Rattle.std.proofs.Common.{sym};
+    ghost use Rattle.cell_grid.specs.Grid.{GridData, HasReciprocals, reciprocal_of};
 
     ghost Value = { GridData };
 
@@ -43,13 +54,13 @@ impl Model for Grid {
       regions = g.regions;
     } };
 
-    ghost invariant = { λ g. HasSizes (record {
+    ghost invariant = { λ g. HasReciprocals (record {
       columns = g.columns;
       rows = g.rows;
       side_x = g.side_x;
       side_y = g.side_y;
       regions = g.regions;
-    }) };
+    }) g.columns_reciprocal g.reciprocal_x g.reciprocal_y };
 
     ghost inverse = { λ d. record {
       columns = d.columns;
@@ -57,14 +68,28 @@ impl Model for Grid {
       side_x = d.side_x;
       side_y = d.side_y;
       regions = d.regions;
+      columns_reciprocal = reciprocal_of (2 ^ 32) d.columns;
+      reciprocal_x = reciprocal_of (2 ^ 62) d.side_x;
+      reciprocal_y = reciprocal_of (2 ^ 62) d.side_y;
+    } };
+
+    ghost inverse_ok = { λ g h i. record {
+      columns = g.columns;
+      rows = g.rows;
+      side_x = g.side_x;
+      side_y = g.side_y;
+      regions = g.regions;
+      columns_reciprocal = sym h.columns i;
+      reciprocal_x = sym h.x i;
+      reciprocal_y = sym h.y i;
     } };
 }
 
-ghost use Rattle.std.specs.Prelude.{◌≡◌, ◌↔◌, ℕ, ◌+◌, ◌^◌, ◌≤◌, ◌<◌, IsTrue};
+ghost use Rattle.std.specs.Prelude.{◌≡◌, ◌↔◌, ℕ, ◌+◌, ◌*◌, ◌/◌, ◌^◌, ◌≤◌, ◌<◌, IsTrue};
 ghost use Rattle.plane_vectors.specs.Vectors.{vector};
 ghost use Rattle.fixed_motion.specs.Rules.{IsChecked};
 ghost use Rattle.fixed_motion.specs.Motion.{IsInBox};
-ghost use Rattle.cell_grid.specs.Grid.{grid_of, cells_along, IsAsked, IsGridOf, HasSizes, IsCell, IsRegion, IsAdjacent, IsBeside, IsStripOf, Owns, Reaches, AreLinked, cell_at, column_of, row_of, strip_start};
+ghost use Rattle.cell_grid.specs.Grid.{grid_of, cells_along, IsAsked, IsGridOf, HasSizes, IsCell, IsRegion, IsAdjacent, IsBeside, IsStripOf, Owns, Reaches, AreLinked, cell_at, column_of, row_of, strip_start, reciprocal_of};
 
 use crate::bounds::Division;
 use fixed_motion::Rules;
@@ -83,12 +108,17 @@ impl Grid {
         let least = (rules.diameter + 2 * rules.speed_limit) as u32;
         let columns = cells_along(width, least);
         let rows = cells_along(height, least);
+        let side_x = width / columns;
+        let side_y = height / rows;
         Grid {
             columns,
             rows,
-            side_x: width / columns,
-            side_y: height / rows,
+            side_x,
+            side_y,
             regions: regions.min(columns),
+            columns_reciprocal: COLUMNS_SCALE / u64::from(columns) + 1,
+            reciprocal_x: SIDE_SCALE / u64::from(side_x) + 1,
+            reciprocal_y: SIDE_SCALE / u64::from(side_y) + 1,
         }
     }
 
@@ -117,32 +147,35 @@ impl Grid {
     }
 
     /// The cell of a place, whose coordinates are 0 to 2^30 units of length.
+    #[inline(always)]
     pub fn cell_of(&self, x: i64, y: i64) -> u32
         requires { IsInBox (vector x y) }
         ensures value { result ≡ cell_at self.now (vector x y) }
         ensures cell { IsCell self.now result }
     {
-        let column = (x as u32 / self.side_x).min(self.columns - 1);
-        let row = (y as u32 / self.side_y).min(self.rows - 1);
+        let column = sides_before(x as u32, self.reciprocal_x).min(self.columns - 1);
+        let row = sides_before(y as u32, self.reciprocal_y).min(self.rows - 1);
         row * self.columns + column
     }
 
     /// The column of a cell.
+    #[inline(always)]
     pub fn column(&self, cell: u32) -> u32
         requires { IsCell self.now cell }
         ensures value { result ≡ column_of self.now cell }
         ensures in_range { result < self.now.columns }
     {
-        cell % self.columns
+        cell - self.row(cell) * self.columns
     }
 
-    // The row of a cell.
-    pub(crate) fn row(&self, cell: u32) -> u32
+    /// The row of a cell.
+    #[inline(always)]
+    pub fn row(&self, cell: u32) -> u32
         requires { IsCell self.now cell }
         ensures value { result ≡ row_of self.now cell }
         ensures in_range { result < self.now.rows }
     {
-        cell / self.columns
+        ((u64::from(cell) * self.columns_reciprocal) >> 32) as u32
     }
 
     // The width of the box, cut into columns.
@@ -173,8 +206,7 @@ impl Grid {
         requires second { IsCell self.now b }
         ensures { IsTrue result ↔ IsAdjacent self.now a b }
     {
-        is_beside(a % self.columns, b % self.columns)
-            && is_beside(a / self.columns, b / self.columns)
+        is_beside(self.column(a), self.column(b)) && is_beside(self.row(a), self.row(b))
     }
 
     /// The region that owns a cell.
@@ -205,7 +237,7 @@ impl Grid {
         requires second { IsCell self.now cell }
         ensures { IsTrue result ↔ Reaches self.now region cell }
     {
-        let column = cell % self.columns;
+        let column = self.column(cell);
         let strip = self.strip(region);
         strip.first <= column + 1 && column <= strip.end
     }
@@ -237,10 +269,18 @@ fn cells_along(length: u32, least: u32) -> u32
     (length / least).clamp(1, MAX_CELLS_ALONG)
 }
 
+// How many whole sides there are before a coordinate, by the reciprocal of the side.
+#[inline(always)]
+fn sides_before(coordinate: u32, reciprocal: u64) -> u32
+    requires { reciprocal ≤ 2 ^ 62 + 1 }
+    ensures { (side : ℕ) → 1 ≤ side → coordinate * side < 2 ^ 62 → reciprocal ≡ reciprocal_of (2 ^ 62) side →
+        result ≡ coordinate / side }
+{
+    ((u128::from(coordinate) * u128::from(reciprocal)) >> 62) as u32
+}
+
 fn is_beside(a: u32, b: u32) -> bool
-    requires first { a < 2 ^ 31 }
-    requires second { b < 2 ^ 31 }
     ensures { IsTrue result ↔ IsBeside a b }
 {
-    a <= b + 1 && b <= a + 1
+    a.abs_diff(b) <= 1
 }

@@ -1,13 +1,14 @@
 -- The sizes of checked rules fit the code's numbers.
-use Rattle.std.proofs.Common.{◌≡◌, ◌∙◌, ◌+◌, ◌*◌, ◌^◌, ◌≤◌, refl, ap, sym, subst, ℤ, nat_abs, ◌+ℤ◌, ◌*ℤ◌, ◌≤ℤ◌, pos, w32, w64, FitsSigned, arith}
+use Rattle.std.proofs.Common.{◌≡◌, ◌∙◌, ℕ, ◌+◌, ◌*◌, ◌/◌, ◌^◌, ◌≤◌, min, refl, ap, sym, subst, ℤ, nat_abs, ◌+ℤ◌, ◌*ℤ◌, ◌≤ℤ◌, pos, w32, w64, FitsSigned, arith}
 use lib.Dec.{T}
 use lib.Signed.{non_neg}
 use mir.Val.{Fits}
+use Rattle.std.proofs.Math.Nat.{div-le_self}
 use Rattle.std.proofs.lemmas.Int.{ints}
 use Rattle.plane_vectors.proofs.Sizes.{sent, sent_same}
 use Rattle.fixed_motion.specs.declared.rules.Rules.{Rules}
 use Rattle.fixed_motion.specs.Rules.{IsChecked}
-use Rattle.cell_grid.specs.Grid.{HasSizes}
+use Rattle.cell_grid.specs.Grid.{HasSizes, cells_along, least_side, reciprocal_of}
 use Rattle.cell_grid.proofs.Courses.{cast_fits}
 use Rattle.cell_grid.proofs.Cells.{grid_made, sound_of}
 use Rattle.cell_grid.proofs.grid.Grid.new.Goals as goal
@@ -83,7 +84,58 @@ returns-clause-value c =
 pub returns-clause-of_rules : goal.returns-clause-of_rules
 returns-clause-of_rules c = (c.args.regions, c.requires.asked, returns-clause-value c)
 
+-- the sides of a cell as the code computes them
+record AreSides (x y : ℕ) : Type 0 where
+  pub some_x : 1 ≤ x
+  pub some_y : 1 ≤ y
+  pub most_x : x ≤ 2 ^ 30
+  pub most_y : y ≤ 2 ^ 30
+
+sides_made : (rules : Rules) (width height least columns rows : ℕ) → IsChecked rules → width ≡ nat_abs rules.width →
+    height ≡ nat_abs rules.height → least ≡ least_side rules → columns ≡ cells_along width least →
+    rows ≡ cells_along height least → AreSides (width / columns) (height / rows)
+sides_made rules width height least columns rows checked ew eh el ec er =
+    let made = grid_made rules 1 width height least columns rows (min 1 columns) ew eh el ec er refl in
+    let sizes = subst HasSizes (sym made) (sound_of rules 1 checked (omega arith) (omega arith)).sizes in
+    let wide = checked.width.1 in
+    let high = checked.height.1 in
+    let across : width / columns ≤ width = div-le_self width columns in
+    let upwards : height / rows ≤ height = div-le_self height rows in
+    let most_width : width ≤ 2 ^ 30 = rw ew (omega (arith, ints)) in
+    let most_height : height ≤ 2 ^ 30 = rw eh (omega (arith, ints)) in
+    record { some_x = sizes.side_x; some_y = sizes.side_y; most_x = omega arith; most_y = omega arith }
+
+pub nonzero_div-result-2 : goal.nonzero_div-result-2
+nonzero_div-result-2 c =
+    let rules = c.args.rules.now in
+    let checked = c.requires.checked in
+    let sides = sides_made rules _ _ _ c.cells_along-columns.result c.cells_along-rows.result checked
+    (width_sent rules checked) (height_sent rules checked) (least_of rules checked).is
+    c.cells_along-columns.ensures c.cells_along-rows.ensures in
+    omega (arith, sides.some_x, c.from-2.ensures)
+
+pub nonzero_div-result-3 : goal.nonzero_div-result-3
+nonzero_div-result-3 c =
+    let rules = c.args.rules.now in
+    let checked = c.requires.checked in
+    let sides = sides_made rules _ _ _ c.cells_along-columns.result c.cells_along-rows.result checked
+    (width_sent rules checked) (height_sent rules checked) (least_of rules checked).is
+    c.cells_along-columns.ensures c.cells_along-rows.ensures in
+    omega (arith, sides.some_y, c.from-3.ensures)
+
 pub invariant_of-result : goal.invariant_of-result
 invariant_of-result c =
-    subst HasSizes (sym (returns-clause-value c))
-    (sound_of c.args.rules.now c.args.regions c.requires.checked c.requires.asked.0 c.requires.asked.1).sizes
+    let rules = c.args.rules.now in
+    let checked = c.requires.checked in
+    let sides = sides_made rules _ _ _ c.cells_along-columns.result c.cells_along-rows.result checked
+    (width_sent rules checked) (height_sent rules checked) (least_of rules checked).is
+    c.cells_along-columns.ensures c.cells_along-rows.ensures in
+    record {
+      sizes = subst HasSizes (sym (returns-clause-value c))
+          (sound_of rules c.args.regions checked c.requires.asked.0 c.requires.asked.1).sizes;
+      most_x = sides.most_x;
+      most_y = sides.most_y;
+      columns = ap (reciprocal_of (2 ^ 32)) c.from.ensures;
+      x = ap (reciprocal_of (2 ^ 62)) c.from-2.ensures;
+      y = ap (reciprocal_of (2 ^ 62)) c.from-3.ensures;
+    }
