@@ -130,7 +130,7 @@ fn tick_inside(rules: &Rules, a: &Disk, b: &Disk, s: &Separation, ticks: u64) ->
 
 // Whether two disks are inside the box at a tick. They mostly are, so there is no branch between the two tests.
 #[inline(always)]
-fn are_inside_at(rules: &Rules, a: &Disk, b: &Disk, tick: u64) -> bool
+pub(crate) fn are_inside_at(rules: &Rules, a: &Disk, b: &Disk, tick: u64) -> bool
     requires checked { IsChecked rules.now }
     requires first_valid { IsValidDisk rules.now a.now }
     requires second_valid { IsValidDisk rules.now b.now }

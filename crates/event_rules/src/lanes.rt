@@ -1,6 +1,6 @@
 //! Whether each of two disks may hit a third one: the numbers of the two stand side by side, in lanes of 64 bits.
 
-ghost use Rattle.std.specs.Prelude.{◌≡◌, ◌↔◌, ◌^◌, ◌≤◌, pos, ◌+ℤ◌, ◌-ℤ◌, ◌*ℤ◌, IsTrue, ℤ};
+ghost use Rattle.std.specs.Prelude.{◌≡◌, ◌↔◌, ◌^◌, ◌≤◌, pos, ◌+ℤ◌, ◌-ℤ◌, ◌*ℤ◌, IsTrue, ℤ, false};
 ghost use Rattle.std.specs.Int.{int_wrap, w32, w64};
 ghost use Rattle.plane_vectors.specs.declared.Vector.{Vector};
 ghost use Rattle.plane_vectors.specs.Vectors.{dot};
@@ -12,12 +12,54 @@ ghost use Rattle.event_rules.specs.Small.{TellsByGreatest, wrapped_after};
 use crate::separation::lead_of;
 use fixed_motion::Disk;
 use plane_vectors::Vector;
+use std::marker::Model;
 use std::simd::prelude::*;
+
+/// Whether each of two disks may hit a third one, as two bits: they are counted without a branch.
+#[derive(Drop)]
+pub struct EachMay {
+    bits: u64,
+}
+
+impl Model for EachMay {
+    ghost use Rattle.std.specs.Prelude.{Bool, ◌/◌, not, nat_eq};
+    ghost use Rattle.std.specs.Int.Bits.{bit_and};
+
+    ghost Value = { Bool × Bool };
+
+    ghost view = { λ e. (not (nat_eq (bit_and e.bits 1) 0), not (nat_eq (e.bits / 2) 0)) };
+}
+
+impl EachMay {
+    /// Neither may.
+    #[inline(always)]
+    pub fn neither() -> EachMay
+        ensures { result ≡ (false, false) }
+    {
+        EachMay { bits: 0 }
+    }
+
+    /// Whether the first of them may.
+    #[inline(always)]
+    pub fn first(&self) -> bool
+        ensures { result ≡ self.now.0 }
+    {
+        self.bits & 1 != 0
+    }
+
+    /// Whether the second may.
+    #[inline(always)]
+    pub fn second(&self) -> bool
+        ensures { result ≡ self.now.1 }
+    {
+        self.bits >> 1 != 0
+    }
+}
 
 /// What [`crate::may_hit_by_greatest`] tells of each of two disks of one base tick with a third one that has begun its course
 /// no later. The numbers of the two stand side by side, so that both answers cost little more than one.
 #[inline(always)]
-pub fn each_may_hit(a: Disk, b: Disk, other: &Disk, square: i64) -> (bool, bool)
+pub fn each_may_hit(a: Disk, b: Disk, other: &Disk, square: i64) -> EachMay
     requires base { a.base ≡ b.base }
     requires begun { other.now.base ≤ a.base }
     ensures first { TellsByGreatest square a other.now result.0 }
@@ -79,14 +121,15 @@ fn less(numbers: i64x2, number: i64) -> i64x2
 
 // What `Approach::is_course` tells of each of two quadratics.
 #[inline(always)]
-fn are_courses(square: i64x2, closing: i64x2, gap: i64x2) -> (bool, bool)
+fn are_courses(square: i64x2, closing: i64x2, gap: i64x2) -> EachMay
     ensures { (p q : Approach) → Hold square p.square q.square → Hold closing p.closing q.closing → Hold gap p.gap q.gap →
         (IsSmall p → IsTrue result.0 ↔ IsCourse p) × (IsSmall q → IsTrue result.1 ↔ IsCourse q) }
 {
     let low = low_numbers(closing);
     let are = closing.simd_lt(i64x2::splat(0)) & (square * gap).simd_lt(low * low);
-    let bits = are.to_bitmask();
-    (bits & 1 != 0, bits >> 1 != 0)
+    EachMay {
+        bits: are.to_bitmask(),
+    }
 }
 
 // The place of a disk `ticks` ticks after its base tick, wrapped to 64 bits.

@@ -12,8 +12,8 @@ ghost use Rattle.event_rules.specs.Events.{IsPairEvent, IsContactTick, TouchAt};
 ghost use Rattle.event_rules.specs.Predict.{HaveBegun, TouchInside, IsTouch};
 ghost use Rattle.event_rules.specs.Small.{IsSmallPair};
 
-use crate::contact_ticks::{quick_tick, touching_tick};
-use crate::separation::has_small_products;
+use crate::contact_ticks::{are_inside_at, quick_tick, touching_tick};
+use crate::separation::{distance_between, has_small_products};
 use contact_predictor::{Approach, is_contact};
 use event_stamps::{Kind, Stamp};
 use fixed_motion::{Disk, Rules};
@@ -153,17 +153,14 @@ fn touch_inside(rules: &Rules, a: &Disk, b: &Disk, tick: u64) -> bool
     requires begun { HaveBegun a.now b.now tick }
     ensures { IsTrue result ↔ TouchInside rules.now a.now b.now tick }
 {
-    let p = a.centre_at(rules, tick);
-    let q = b.centre_at(rules, tick);
-    are_inside(rules, a, p, b, q) && touch_at(rules, a, p, b, q)
-}
-
-#[inline(always)]
-fn are_inside(rules: &Rules, a: &Disk, p: Vector, b: &Disk, q: Vector) -> bool
-    requires { IsChecked rules.now }
-    ensures { IsTrue result ↔ (IsInside rules.now a.now p × IsInside rules.now b.now q) }
-{
-    a.is_inside(rules, p) && b.is_inside(rules, q)
+    are_inside_at(rules, a, b, tick)
+        && touch_at(
+            rules,
+            a,
+            a.centre_at(rules, tick),
+            b,
+            b.centre_at(rules, tick),
+        )
 }
 
 // Whether two disks that are inside the box at these places are in contact.
@@ -178,7 +175,7 @@ fn touch_at(rules: &Rules, a: &Disk, p: Vector, b: &Disk, q: Vector) -> bool
 {
     let places = p.minus(q);
     let velocities = a.velocity().minus(b.velocity());
-    let distance = a.contact_distance(b);
+    let distance = distance_between(a, b);
     if has_small_products(rules) {
         Approach::new(places, velocities, distance).is_contact()
     } else {

@@ -145,7 +145,7 @@ fn wrapping_difference(u: Vector, v: Vector) -> Vector
 
 // The distance of the centres at which two disks touch. Sizes are even, so one halving is enough.
 #[inline(always)]
-fn distance_between(a: &Disk, b: &Disk) -> i64
+pub(crate) fn distance_between(a: &Disk, b: &Disk) -> i64
     ensures { (rules : Rules) → IsValidPair rules a.now b.now → result ≡ contact_distance a.now b.now }
 {
     (a.size.wrapping_add(b.size).cast_unsigned() / 2).cast_signed()

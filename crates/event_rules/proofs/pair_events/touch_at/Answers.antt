@@ -1,11 +1,18 @@
 -- Disks that are inside the box are near enough for the test of a contact.
 use Rattle.std.proofs.Common.{◌≡◌, refl, arith}
 use Rattle.plane_vectors.specs.Vectors.{difference}
-use Rattle.fixed_motion.specs.Motion.{velocity_of, contact_distance}
+use Rattle.fixed_motion.specs.declared.rules.Rules.{Rules}
+use Rattle.fixed_motion.specs.declared.disk.Disk.{Disk}
+use Rattle.fixed_motion.specs.Rules.{IsChecked}
+use Rattle.fixed_motion.specs.Motion.{IsValidDisk, velocity_of, contact_distance}
 use Rattle.fixed_motion.proofs.Sizes.{inside_in_box, in_box_size, slow_size, within_more}
+use Rattle.event_rules.specs.Small.{IsValidPair}
 use Rattle.event_rules.proofs.Separations.{inside_size, relative_size, distance_size, small_same}
 use Rattle.event_rules.proofs.SmallProducts.{inside_approach}
 use Rattle.event_rules.proofs.pair_events.touch_at.Goals as goal
+
+valid_pair : (rules : Rules) (a b : Disk) → IsChecked rules → IsValidDisk rules a → IsValidDisk rules b → IsValidPair rules a b
+valid_pair rules a b checked first second = record { checked = checked; first = first; second = second }
 
 pub minus-places-requires-clause-own : goal.minus-places-requires-clause-own
 minus-places-requires-clause-own c = within_more 1073741824 4611686018427387903 c.args.p (omega arith)
@@ -37,14 +44,14 @@ great_contact-requires-clause-velocity c = rw (c.minus-velocities.ensures, c.vel
 pub great_contact-requires-clause-distance : goal.great_contact-requires-clause-distance
 great_contact-requires-clause-distance c =
     let small = distance_size c.args.rules.now c.args.a.now c.args.b.now c.requires.checked c.requires.first_valid c.requires.second_valid in
-    rw (c.contact_distance-distance.ensures, small_same (contact_distance c.args.a.now c.args.b.now) small) small
+    rw ((c.distance_between-distance.ensures c.args.rules.now (valid_pair c.args.rules.now c.args.a.now c.args.b.now c.requires.checked c.requires.first_valid c.requires.second_valid)), small_same (contact_distance c.args.a.now c.args.b.now) small) small
 
 pub returns-else-has_small_products : goal.returns-else-has_small_products
 returns-else-has_small_products c =
     let small = distance_size c.args.rules.now c.args.a.now c.args.b.now c.requires.checked c.requires.first_valid c.requires.second_valid in
     let u : c.minus-velocities.result ≡ difference (velocity_of c.args.a.now) (velocity_of c.args.b.now) =
     rw (c.velocity.ensures, c.velocity-2.ensures) at c.minus-velocities.ensures in
-    rw (c.minus-places.ensures, u, c.contact_distance-distance.ensures, small_same (contact_distance c.args.a.now c.args.b.now) small) at c.great_contact.ensures
+    rw (c.minus-places.ensures, u, (c.distance_between-distance.ensures c.args.rules.now (valid_pair c.args.rules.now c.args.a.now c.args.b.now c.requires.checked c.requires.first_valid c.requires.second_valid)), small_same (contact_distance c.args.a.now c.args.b.now) small) at c.great_contact.ensures
 
 pub returns-then-has_small_products : goal.returns-then-has_small_products
 returns-then-has_small_products c =
@@ -55,7 +62,7 @@ returns-then-has_small_products c =
     let small = distance_size rules a b c.requires.checked c.requires.first_valid c.requires.second_valid in
     let u : c.minus-velocities.result ≡ difference (velocity_of a) (velocity_of b) =
     rw (c.velocity.ensures, c.velocity-2.ensures) at c.minus-velocities.ensures in
-    let told = rw (c.minus-places.ensures, u, c.contact_distance-distance.ensures, small_same d small) at c.new.ensures in
+    let told = rw (c.minus-places.ensures, u, (c.distance_between-distance.ensures c.args.rules.now (valid_pair c.args.rules.now c.args.a.now c.args.b.now c.requires.checked c.requires.first_valid c.requires.second_valid)), small_same d small) at c.new.ensures in
     let are = inside_approach rules a b c.args.p c.args.q (difference (velocity_of a) (velocity_of b)) c.new.result
     (record {
       checked = c.requires.checked;
