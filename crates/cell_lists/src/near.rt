@@ -26,11 +26,11 @@ pub fn block_around(grid: &Grid, cell: u32) -> Block
     ensures around { (other : ℕ) → IsCell grid.now other → (IsAdjacent grid.now cell other ↔ IsWithinBlock grid.now result other) }
 {
     let column = grid.column(cell);
-    let row = cell / grid.columns();
+    let row = grid.row(cell);
     Block {
         left: column.saturating_sub(1),
-        right: (column + 2).min(grid.columns()),
+        right: grid.columns().min(column + 2),
         low: row.saturating_sub(1),
-        high: (row + 2).min(grid.rows()),
+        high: grid.rows().min(row + 2),
     }
 }
