@@ -77,6 +77,14 @@ best_gathered finder view disk block With old near o within none gathered h =
     are : (i : ℕ) → Contains near i ↔ With i
     are = gathered_first near old With none gathered
 
+-- what is listed may be said in another way
+pub gathered_as : (With Has : ℕ → Type 0) (old new : List ℕ) → ((i : ℕ) → With i ↔ Has i) →
+    ((i : ℕ) → Contains new i ↔ (Contains old i ⊎ With i)) → (i : ℕ) → Contains new i ↔ (Contains old i ⊎ Has i)
+gathered_as With Has old new alike are i = (
+  λ x. elim ((are i).0 x) [ inl before ↦ inl before | inr with ↦ inr ((alike i).0 with) ],
+  λ x. elim x [ inl before ↦ (are i).1 (inl before) | inr has ↦ (are i).1 (inr ((alike i).1 has)) ],
+)
+
 -- four times
 pub gathered_parts : (lists : ListsData) (parts : Parts) (a b c d e : List ℕ) → AreGathered lists parts.left a b →
     AreGathered lists parts.right b c → AreGathered lists parts.low c d → AreGathered lists parts.high d e →

@@ -1,4 +1,4 @@
--- The part of a block of cells outside a second block, as four blocks.
+-- The part of a block of cells outside a second block, as four blocks or as one.
 use Rattle.std.proofs.Common.{◌≡◌, ◌⊎◌, ◌↔◌, inl, inr, ℕ, ◌<◌, ◌≤◌, max, min, arith, refl, sym, subst, ◌∙◌}
 use Rattle.std.proofs.lemmas.Bool.{cases_lt}
 use Rattle.std.specs.Prelude.{Option, Some, None, option_map}
@@ -13,7 +13,7 @@ use Rattle.region_view.specs.declared.action.Placed.{Placed}
 use Rattle.region_view.specs.Views.{ViewData, rows_in}
 use Rattle.region_queue.specs.declared.finder.Finder.{Finder}
 use Rattle.region_queue.specs.declared.parts.Parts.{Parts}
-use Rattle.region_queue.specs.Outside.{IsInBlock, IsPart, AreParts, IsListedOutside, IsListedInParts}
+use Rattle.region_queue.specs.Outside.{IsInBlock, IsPart, AreParts, IsRest, IsListedOutside, IsListedInParts}
 use Rattle.region_queue.specs.Finding.{IsReady, IsNativeWith, IsPairedBeyond, IsBestBeyond, IsBlockBeside, AreListed, cell_in}
 use Rattle.region_queue.proofs.Candidates.{IsAround, with_more, pair_found, pair_of, no_pair, listed_beside}
 
@@ -30,6 +30,33 @@ below_cut k low high n i is from below = omega arith
 
 from_cut : (k low high n i : ℕ) → n ≡ max low (min k high) → i < high → n ≤ i → k ≤ i
 from_cut k low high n i is below from = omega arith
+
+after_cut : (k low high n i : ℕ) → n ≡ max low (min k high) → low ≤ i → k ≤ i → n ≤ i
+after_cut k low high n i is from past = omega arith
+
+least_between : (low k high n : ℕ) → low ≤ high → low < k → n ≡ min k high → low ≤ n
+least_between low k high n order before is = omega arith
+
+least_below : (k high n : ℕ) → n ≡ min k high → n ≤ high
+least_below k high n is = omega arith
+
+before_least : (k high n i : ℕ) → n ≡ min k high → i < n → i < k
+before_least k high n i is below = omega arith
+
+under_least : (k high n i : ℕ) → n ≡ min k high → i < k → i < high → i < n
+under_least k high n i is below within = omega arith
+
+trans : {k m n : ℕ} → k ≤ m → m ≤ n → k ≤ n
+trans h le = omega arith
+
+within : {k m n : ℕ} → k < m → m ≤ n → k < n
+within h le = omega arith
+
+at_least : {k m n : ℕ} → k ≡ m → k ≤ n → m ≤ n
+at_least is le = omega arith
+
+below : {k m n : ℕ} → k ≡ m → n < k → n < m
+below is lt = omega arith
 
 same : (n : ℕ) → n ≤ n
 same n = omega arith
@@ -152,6 +179,100 @@ part_outside lists block known part i of x =
     let column = column_of lists.grid x.0 in
     let row = row_of lists.grid x.0 in
     (x.0, x.1, in_block block known part column row of x.2, of.outside column row x.2)
+
+-- ---- a rest that is one block
+-- of blocks in the same rows the columns to the right of the second one, if it begins no further to the right
+pub right_rest : (block known : Block) (left : ℕ) → block.left ≤ block.right → block.low ≤ block.high → block.low ≡ known.low →
+    block.high ≡ known.high → known.left ≤ block.left → left ≡ max block.left (min known.right block.right) →
+    IsRest block known (record { left = left; right = block.right; low = block.low; high = block.high })
+right_rest block known left columns rows bottom top from cut =
+    let inside = cut_inside known.right block.left block.right left columns cut in
+    record {
+      part = record {
+        columns = inside.1;
+        rows = rows;
+        left = inside.0;
+        right = same block.right;
+        low = same block.low;
+        high = same block.high;
+        outside = λ column row of is. apart column known.right is.0.1
+            (from_cut known.right block.left block.right left column cut of.0.1 of.0.0);
+      };
+      whole = λ column row of out. elim (cases_lt column known.right) [
+        | inl before ↦ absurd (out ((trans from of.0.0, before), (at_least bottom of.1.0, below top of.1.1)))
+        | inr past ↦ ((after_cut known.right block.left block.right left column cut of.0.0 past, of.0.1), of.1)
+      ];
+    }
+
+-- the columns to the left of it, if it ends no further to the left
+pub left_rest : (block known : Block) (right : ℕ) → block.left ≤ block.right → block.low ≤ block.high → block.low ≡ known.low →
+    block.high ≡ known.high → block.left < known.left → block.right ≤ known.right → right ≡ min known.left block.right →
+    IsRest block known (record { left = block.left; right = right; low = block.low; high = block.high })
+left_rest block known right columns rows bottom top from to cut = record {
+  part = record {
+    columns = least_between block.left known.left block.right right columns from cut;
+    rows = rows;
+    left = same block.left;
+    right = least_below known.left block.right right cut;
+    low = same block.low;
+    high = same block.high;
+    outside = λ column row of is. apart column known.left (before_least known.left block.right right column cut of.0.1) is.0.0;
+  };
+  whole = λ column row of out. elim (cases_lt column known.left) [
+    | inl before ↦ ((of.0.0, under_least known.left block.right right column cut before of.0.1), of.1)
+    | inr past ↦ absurd (out ((past, within of.0.1 to), (at_least bottom of.1.0, below top of.1.1)))
+  ];
+}
+
+-- of blocks in the same columns the rows above it
+pub high_rest : (block known : Block) (low : ℕ) → block.left ≤ block.right → block.low ≤ block.high → block.left ≡ known.left →
+    block.right ≡ known.right → known.low ≤ block.low → low ≡ max block.low (min known.high block.high) →
+    IsRest block known (record { left = block.left; right = block.right; low = low; high = block.high })
+high_rest block known low columns rows first last from cut =
+    let inside = cut_inside known.high block.low block.high low rows cut in
+    record {
+      part = record {
+        columns = columns;
+        rows = inside.1;
+        left = same block.left;
+        right = same block.right;
+        low = inside.0;
+        high = same block.high;
+        outside = λ column row of is. apart row known.high is.1.1
+            (from_cut known.high block.low block.high low row cut of.1.1 of.1.0);
+      };
+      whole = λ column row of out. elim (cases_lt row known.high) [
+        | inl before ↦ absurd (out ((at_least first of.0.0, below last of.0.1), (trans from of.1.0, before)))
+        | inr past ↦ (of.0, (after_cut known.high block.low block.high low row cut of.1.0 past, of.1.1))
+      ];
+    }
+
+-- the rows below it
+pub low_rest : (block known : Block) (high : ℕ) → block.left ≤ block.right → block.low ≤ block.high → block.left ≡ known.left →
+    block.right ≡ known.right → block.low < known.low → block.high ≤ known.high → high ≡ min known.low block.high →
+    IsRest block known (record { left = block.left; right = block.right; low = block.low; high = high })
+low_rest block known high columns rows first last from to cut = record {
+  part = record {
+    columns = columns;
+    rows = least_between block.low known.low block.high high rows from cut;
+    left = same block.left;
+    right = same block.right;
+    low = same block.low;
+    high = least_below known.low block.high high cut;
+    outside = λ column row of is. apart row known.low (before_least known.low block.high high row cut of.1.1) is.1.0;
+  };
+  whole = λ column row of out. elim (cases_lt row known.low) [
+    | inl before ↦ (of.0, (of.1.0, under_least known.low block.high high row cut before of.1.1))
+    | inr past ↦ absurd (out ((at_least first of.0.0, below last of.0.1), (past, within of.1.1 to)))
+  ];
+}
+
+pub rest_listed : (lists : ListsData) (block known line : Block) → IsRest block known line → (i : ℕ) →
+    IsListedWithin lists line i ↔ IsListedOutside lists block known i
+rest_listed lists block known line rest i = (
+  λ x. part_outside lists block known line i rest.part x,
+  λ x. (x.0, x.1, rest.whole (column_of lists.grid x.0) (row_of lists.grid x.0) x.2 x.3),
+)
 
 -- ---- all parts
 pub whole : (lists : ListsData) (block known : Block) (parts : Parts) (i : ℕ) → AreParts block known parts →

@@ -28,6 +28,11 @@ pub record AreParts (block known : Block) (parts : Parts) : Type 0 where
   pub whole : (column row : ℕ) → IsInBlock block column row → ¬ IsInBlock known column row →
       ((IsInBlock parts.left column row ⊎ IsInBlock parts.right column row) ⊎ IsInBlock parts.low column row) ⊎ IsInBlock parts.high column row
 
+-- such a part that has all of these cells
+pub record IsRest (block known line : Block) : Type 0 where
+  pub part : IsPart block known line
+  pub whole : (column row : ℕ) → IsInBlock block column row → ¬ IsInBlock known column row → IsInBlock line column row
+
 -- the disk is listed in a cell of the block that isn't in the second one
 abbrev pub IsListedOutside : ListsData → Block → Block → ℕ → Type 0
 IsListedOutside lists block known disk = (cell : ℕ) × IsListed lists cell disk × IsWithinBlock lists.grid block cell

@@ -14,7 +14,7 @@ ghost use Rattle.region_queue.specs.Finding.{IsReady, IsNativePair, IsNativeWith
 
 use crate::finder::{Best, Finder, have_rows};
 use cell_lists::{Block, Gathered, block_around};
-use event_rules::{each_may_hit, greatest_square, has_small_products};
+use event_rules::{EachMay, each_may_hit, greatest_square, has_small_products};
 use event_tree::Packed;
 use fixed_motion::Disk;
 use region_view::{Compact, Placed, View};
@@ -193,9 +193,9 @@ fn keep_both(
             return false;
         };
         near.put(kept, disk);
-        kept += may.0 as usize;
+        kept += may.first() as usize;
         near_other.put(kept_other, disk);
-        kept_other += may.1 as usize;
+        kept_other += may.second() as usize;
     }
     near.cut(kept);
     near_other.cut(kept_other);
@@ -210,20 +210,20 @@ fn may_reach_either(
     other: Disk,
     square: i64,
     disk: u32,
-) -> Option<(bool, bool)>
+) -> Option<EachMay>
     requires { one.base ≡ other.base }
     ensures one { IfSome result (λ may. may.0 ≡ false → IsMissedByGreatest square one (slice_index_or rows.now disk None)) }
     ensures other { IfSome result (λ may. may.1 ≡ false → IsMissedByGreatest square other (slice_index_or rows.now disk None)) }
 {
     match rows.get(disk as usize) {
         Some(row) => may_hit_either(one, other, &row.disk(), square),
-        None => Some((false, false)),
+        None => Some(EachMay::neither()),
     }
 }
 
 // Whether each of two disks may hit a third one. None says nothing: that has a later base tick.
 #[inline(always)]
-fn may_hit_either(one: Disk, other: Disk, third: &Disk, square: i64) -> Option<(bool, bool)>
+fn may_hit_either(one: Disk, other: Disk, third: &Disk, square: i64) -> Option<EachMay>
     requires { one.base ≡ other.base }
     ensures one { IfSome result (λ may. TellsByGreatest square one third.now may.0) }
     ensures other { IfSome result (λ may. TellsByGreatest square other third.now may.1) }

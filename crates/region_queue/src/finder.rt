@@ -19,7 +19,7 @@ ghost use Rattle.region_queue.specs.Finding.{IsReady, IsFound, IsAloneAt, IsPair
 ghost use Rattle.region_view.specs.Views.{AreRowsOf};
 ghost use Rattle.event_rules.specs.Small.{HaveSmallProducts};
 
-use crate::parts::{Parts, parts_outside};
+use crate::parts::{Parts, line_outside, parts_outside};
 use cell_grid::{Departure, Grid, Strip};
 use cell_lists::{Block, Gathered, Lists, block_around};
 use event_rules::{
@@ -262,11 +262,11 @@ impl Finder {
         ensures { AreListed view.now self.now.lists.cells → IsLeastOf (IsNativeWith self.now view.now disk
             (IsListedOutside self.now.lists block known)) result }
     {
-        let parts = parts_outside(block, known);
         let mut near = Gathered::new();
-        if self.gather_parts(parts, &mut near) && have_rows(view, &near) {
+        if self.gather_outside(block, known, &mut near) && have_rows(view, &near) {
             self.best_among(view, disk, placed, own, block, &mut near)
         } else {
+            let parts = parts_outside(block, known);
             self.best_by_rows(view, disk, placed, own, parts.left)
                 .earlier(self.best_by_rows(view, disk, placed, own, parts.right))
                 .earlier(self.best_by_rows(view, disk, placed, own, parts.low))
@@ -274,8 +274,24 @@ impl Finder {
         }
     }
 
+    // Gathers the disks that are listed in a block outside a second one, beside those that were gathered before. After
+    // a crossing they are in a line of cells, which is gathered at once.
+    #[inline(always)]
+    fn gather_outside(&self, block: Block, known: Block, near: &mut Gathered) -> bool
+        requires block { IsBlock self.now.lists.grid block }
+        requires known { IsBlock self.now.lists.grid known }
+        ensures { IsTrue result → (i : ℕ) →
+            Contains near.new i ↔ (Contains near.old i ⊎ IsListedOutside self.now.lists block known i) }
+    {
+        match line_outside(block, known) {
+            Some(line) => self.lists.gather(line, near),
+            None => self.gather_parts(parts_outside(block, known), near),
+        }
+    }
+
     // Gathers the disks that are listed in one of the parts, beside those that were gathered before, as
-    // `gather` does for one block.
+    // `gather` does for one block. It is seldom called, so it is kept apart.
+    #[inline(never)]
     fn gather_parts(&self, parts: Parts, near: &mut Gathered) -> bool
         requires left { IsBlock self.now.lists.grid parts.left }
         requires right { IsBlock self.now.lists.grid parts.right }

@@ -1,7 +1,7 @@
 //! The cells of one block that aren't in a second one.
 
-ghost use Rattle.std.specs.Prelude.{◌≤◌};
-ghost use Rattle.region_queue.specs.Outside.{AreParts};
+ghost use Rattle.std.specs.Prelude.{◌≡◌, ◌≤◌, IfSome};
+ghost use Rattle.region_queue.specs.Outside.{AreParts, IsRest};
 
 use cell_lists::Block;
 
@@ -52,5 +52,70 @@ pub(crate) fn parts_outside(block: Block, known: Block) -> Parts
             low: high,
             ..between
         },
+    }
+}
+
+// The part of `block` outside `known` if it is one block, as it mostly is for the blocks around two cells side by side,
+// or one above the other: then it is a line of cells.
+#[inline(always)]
+pub(crate) fn line_outside(block: Block, known: Block) -> Option<Block>
+    requires columns { block.left ≤ block.right }
+    requires rows { block.low ≤ block.high }
+    ensures { IfSome result (IsRest block known) }
+{
+    if block.low == known.low && block.high == known.high {
+        columns_outside(block, known)
+    } else if block.left == known.left && block.right == known.right {
+        rows_outside(block, known)
+    } else {
+        None
+    }
+}
+
+// The same for blocks in the same rows.
+#[inline(always)]
+fn columns_outside(block: Block, known: Block) -> Option<Block>
+    requires columns { block.left ≤ block.right }
+    requires rows { block.low ≤ block.high }
+    requires low { block.low ≡ known.low }
+    requires high { block.high ≡ known.high }
+    ensures { IfSome result (IsRest block known) }
+{
+    if known.left <= block.left {
+        Some(Block {
+            left: known.right.clamp(block.left, block.right),
+            ..block
+        })
+    } else if block.right <= known.right {
+        Some(Block {
+            right: known.left.min(block.right),
+            ..block
+        })
+    } else {
+        None
+    }
+}
+
+// The same for blocks in the same columns.
+#[inline(always)]
+fn rows_outside(block: Block, known: Block) -> Option<Block>
+    requires columns { block.left ≤ block.right }
+    requires rows { block.low ≤ block.high }
+    requires left { block.left ≡ known.left }
+    requires right { block.right ≡ known.right }
+    ensures { IfSome result (IsRest block known) }
+{
+    if known.low <= block.low {
+        Some(Block {
+            low: known.high.clamp(block.low, block.high),
+            ..block
+        })
+    } else if block.high <= known.high {
+        Some(Block {
+            high: known.low.min(block.high),
+            ..block
+        })
+    } else {
+        None
     }
 }

@@ -290,7 +290,8 @@ fn told_of_each(first: Disk, second: Disk, third: &Disk) -> Option<(bool, bool)>
     if first.base != second.base || third.base > first.base {
         return None;
     }
-    Some(each_may_hit(first, second, third, 16))
+    let may = each_may_hit(first, second, third, 16);
+    Some((may.first(), may.second()))
 }
 
 // A box, the diameter of two disks, how far apart their centres are, how fast each comes towards the other, and the

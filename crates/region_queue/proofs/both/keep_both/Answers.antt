@@ -28,14 +28,14 @@ loop-place-preserved c =
     let here : c.at-disk.result ≡ get_or c.loop-place.near c.loop-place.place 0 = c.at-disk.ensures in
     let there : c.at-disk.result ≡ get_or c.loop-place.near_other c.loop-place.place 0 =
     here ∙ before.0.ahead c.loop-place.place (omega arith) ∙ sym (before.1.ahead c.loop-place.place (omega arith)) in (
-      subst (λ (xs : List ℕ). IsKeeping (Out c.args.one) c.args.near.now xs (c.loop-place.place + 1) (c.loop-place.kept + bool_byte c.in-Some.may.0))
+      subst (λ (xs : List ℕ). IsKeeping (Out c.args.one) c.args.near.now xs (c.loop-place.place + 1) (c.loop-place.kept + bool_byte c.first.result))
           (sym c.put.ensures)
           (keeping_more (Out c.args.one) c.args.near.now c.loop-place.near c.loop-place.place c.loop-place.kept c.at-disk.result
-          c.in-Some.may.0 lt before.0 here c.in-Some.ensures.one),
-      subst (λ (xs : List ℕ). IsKeeping (Out c.args.other) c.args.near.now xs (c.loop-place.place + 1) (c.loop-place.kept_other + bool_byte c.in-Some.may.1))
+          c.first.result lt before.0 here (λ no. c.in-Some.ensures.one (sym c.first.ensures ∙ no))),
+      subst (λ (xs : List ℕ). IsKeeping (Out c.args.other) c.args.near.now xs (c.loop-place.place + 1) (c.loop-place.kept_other + bool_byte c.second.result))
           (sym c.put-in-loop-place.ensures)
           (keeping_more (Out c.args.other) c.args.near.now c.loop-place.near_other c.loop-place.place c.loop-place.kept_other c.at-disk.result
-          c.in-Some.may.1 lt before.1 there c.in-Some.ensures.other),
+          c.second.result lt before.1 there (λ no. c.in-Some.ensures.other (sym c.second.ensures ∙ no))),
     )
 
 pub returns-clause-one : goal.returns-clause-one
@@ -60,9 +60,9 @@ returns-clause-other c = λ _.
 pub overflow_add-kept : goal.overflow_add-kept
 overflow_add-kept c =
     let few = c.loop-place.invariant.0.few in
-    omega (arith, byte_small c.in-Some.may.0)
+    omega (arith, byte_small c.first.result)
 
 pub overflow_add-kept_other : goal.overflow_add-kept_other
 overflow_add-kept_other c =
     let few = c.loop-place.invariant.1.few in
-    omega (arith, byte_small c.in-Some.may.1)
+    omega (arith, byte_small c.second.result)
