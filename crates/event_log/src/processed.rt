@@ -38,7 +38,8 @@ impl Model for EventLog {
     ghost invariant = { λ a. AreLaid a.rows.items a.wholes.items a.heads.items };
 }
 
-ghost use Rattle.std.specs.Prelude.{◌≡◌, ◌-◌, ◌<◌, ◌≤◌, [], ◌∷◌, ◌++◌, length, take, drop, slice_get, option_map, Some, None, IfSome, OnOk, OnErr};
+ghost use Rattle.std.specs.Prelude.{◌≡◌, ◌+◌, ◌-◌, ◌<◌, ◌≤◌, [], ◌∷◌, ◌++◌, length, take, drop, slice_get, option_map, Some, None, IfSome, OnOk, OnErr, vec_len};
+ghost use Rattle.std.specs.Vec.{vec_capacity};
 ghost use Rattle.std.specs.List.{insert};
 ghost use Rattle.event_stamps.specs.declared.Stamp.{Stamp};
 ghost use Rattle.region_view.specs.Acting.{stamp_of};
@@ -295,8 +296,9 @@ impl EventLog {
         };
         // Room is made before anything changes.
         self.heads.reserve(1)?;
-        self.rows.extend_from_slice(rows)?;
-        self.heads.push(head).unwrap();
+        self.rows.reserve(rows.len())?;
+        push_rows(&mut self.rows, rows);
+        self.heads.push_reserved(head);
         Ok(())
     }
 
@@ -400,6 +402,17 @@ impl EventLog {
         into.heads.extend_from_slice(heads).unwrap();
         lower(&mut into.heads, row as u32, whole as u32);
         Ok(())
+    }
+}
+
+// Appends rows for which there is room: the number of rows is mostly known where this is called, so nothing is tested.
+#[inline(always)]
+fn push_rows(into: &mut Vec<Compact>, rows: &[Compact])
+    requires { vec_len into.old + length rows.now ≤ vec_capacity into.old }
+    ensures { into.new.items ≡ into.old.items ++ rows.now }
+{
+    for row in rows {
+        into.push_reserved(*row);
     }
 }
 

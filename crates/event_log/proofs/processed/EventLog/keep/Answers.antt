@@ -41,9 +41,7 @@ invariant_of-self-2 c =
     } in
     let count = count_is a.rows.items a.wholes.items a.heads.items c.args.self.now c.self.view_is in
     let room : length a.heads.items < MAX_ENTRIES = let most = c.requires.room in omega arith in
-    let pushed : c.push.new.self.items ≡ c.reserve.new.self.items ++ head ∷ [] =
-    rw (c.push.ensures.items, c.unwrap.ensures) refl in
-    rw (c.in_ok-extend_from_slice.ensures.items, pushed, c.in_ok-reserve.ensures.items)
+    rw (c.push_rows.ensures, c.in_ok-reserve-2.ensures.items, c.push_reserved.ensures.items, c.in_ok-reserve.ensures.items)
     (pushed_laid a.rows.items a.wholes.items a.heads.items c.args.rows.now head c.self.invariant next room)
 
 pub returns-clause-pushed : goal.returns-clause-pushed
@@ -63,10 +61,9 @@ returns-clause-pushed c =
       narrow = c.requires.narrow;
       order = c.requires.order;
     } in
-    let pushed : c.push.new.self.items ≡ c.reserve.new.self.items ++ head ∷ [] =
-    rw (c.push.ensures.items, c.unwrap.ensures) refl in
-    let heads = pushed ∙ ap (λ (hs : List Head). hs ++ head ∷ []) c.in_ok-reserve.ensures.items in
-    (λ i. log_of (c.in_ok-extend_from_slice.ensures.items i) a.wholes.items (heads i))
+    let rows = rw c.in_ok-reserve-2.ensures.items at c.push_rows.ensures in
+    let heads = c.push_reserved.ensures.items ∙ ap (λ (hs : List Head). hs ++ head ∷ []) c.in_ok-reserve.ensures.items in
+    (λ i. log_of (rows i) a.wholes.items (heads i))
     ∙ pushed_log a.rows.items a.wholes.items a.heads.items c.args.rows.now head c.self.invariant next
     ∙ ap (λ (l : List Logged). l ++ logged c.args.rows.now [] (placed_at 0 0 head) ∷ []) c.self.view_is
 
@@ -76,8 +73,8 @@ invariant_of-self c =
     still_laid a.rows.items a.rows.items a.wholes.items a.heads.items c.reserve.new.self.items refl
     c.in_err-reserve.ensures.items c.self.invariant
 
-pub invariant_of-self-in_err-extend_from_slice : goal.invariant_of-self-in_err-extend_from_slice
-invariant_of-self-in_err-extend_from_slice c =
+pub invariant_of-self-in_err-reserve-2 : goal.invariant_of-self-in_err-reserve-2
+invariant_of-self-in_err-reserve-2 c =
     let a = c.self.inside in
-    still_laid a.rows.items c.extend_from_slice.new.self.items a.wholes.items a.heads.items
-    c.reserve.new.self.items c.in_err-extend_from_slice.ensures.items c.in_ok-reserve.ensures.items c.self.invariant
+    still_laid a.rows.items c.reserve-2.new.self.items a.wholes.items a.heads.items
+    c.reserve.new.self.items c.in_err-reserve-2.ensures.items c.in_ok-reserve.ensures.items c.self.invariant
