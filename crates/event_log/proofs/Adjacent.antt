@@ -1,5 +1,6 @@
 -- How far the numbers of adjacent cells are apart.
-use Rattle.std.proofs.Common.{◌≡◌, ℕ, ◌+◌, ◌-◌, ◌*◌, ◌/◌, ◌%◌, ◌≤◌, ◌⊎◌, inl, inr, subst, refl, arith}
+use Rattle.std.proofs.Common.{◌≡◌, ℕ, ◌+◌, ◌-◌, ◌*◌, ◌/◌, ◌%◌, ◌^◌, ◌≤◌, ◌<◌, ◌⊎◌, inl, inr, min, max, subst, refl, arith}
+use Rattle.std.proofs.Math.Nat.{min-le_left, min-le_right, le-max_left, le-max_right}
 use Rattle.std.proofs.lemmas.Nat.{div-add-mod'}
 use Rattle.cell_grid.specs.Grid.{GridData, IsBeside, IsAdjacent}
 
@@ -41,3 +42,18 @@ adjacent_are_near grid a b adjacent =
     subst (λ (n : ℕ). AreNear w (between n b)) (div-add-mod' a w)
     (subst (λ (n : ℕ). AreNear w (between (a / w * w + a % w) n)) (div-add-mod' b w)
     (near_along w (a / w * w) (b / w * w) (a % w) (b % w) adjacent.0 (rows_begin w (a / w) (b / w) adjacent.1)))
+
+-- ---- bounds
+-- a cell that is farther below the lesser of two, or above the greater, than adjacent cells are apart
+pub beyond_bounds : (grid : GridData) (a b cell low high : ℕ) → low ≡ min a b - (grid.columns + 1) →
+    high ≡ min (max a b + (grid.columns + 1)) (2 ^ 32 - 1) → cell < 2 ^ 32 → (cell < low) ⊎ (high < cell) →
+    (¬ IsAdjacent grid cell a) × (¬ IsAdjacent grid cell b)
+beyond_bounds grid a b cell low high below above fits side = (
+  λ adjacent. apart a (adjacent_are_near grid cell a adjacent).most (min-le_left a b) (le-max_left a b) side,
+  λ adjacent. apart b (adjacent_are_near grid cell b adjacent).most (min-le_right a b) (le-max_right a b) side,
+)
+  where
+    apart : (c : ℕ) → between cell c ≤ grid.columns + 1 → min a b ≤ c → c ≤ max a b →
+        (cell < low) ⊎ (high < cell) → ⊥
+    apart c near least most (inl before) = omega arith
+    apart c near least most (inr after) = omega arith

@@ -159,41 +159,6 @@ ordered_two (r ∷ []) d are some = absurd (omega arith)
 ordered_two (r ∷ s ∷ []) d are some = are
 ordered_two (r ∷ s ∷ t ∷ rows) d are some = absurd are
 
-pub sides_none : (a b : Side) (slice rows : RowList) → slice ≡ rows → length slice < 1 →
-    AreSidesOf (record { first = a; second = b }) rows
-sides_none a b slice rows is none = subst (AreSidesOf (record { first = a; second = b })) is (each slice none)
-  where
-    each : (s : RowList) → length s < 1 → AreSidesOf (record { first = a; second = b }) s
-    each [] none row among = absurd among
-    each (r ∷ rest) none row among = absurd (omega arith)
-
-pub sides_one : (a b : Side) (slice rows : RowList) (d : ℕ × Option Placed) → slice ≡ rows → 1 ≤ length slice →
-    length slice < 2 → IsPutAt a (get_or slice 0 d) → AreSidesOf (record { first = a; second = b }) rows
-sides_one a b slice rows d is some few one =
-    subst (AreSidesOf (record { first = a; second = b })) is (each slice some few one)
-  where
-    each : (s : RowList) → 1 ≤ length s → length s < 2 → IsPutAt a (get_or s 0 d) →
-        AreSidesOf (record { first = a; second = b }) s
-    each [] some few one row among = absurd (omega arith)
-    each (r ∷ []) some few one row (inl same) = inl (subst (IsPutAt a) (sym same) one)
-    each (r ∷ []) some few one row (inr none) = absurd none
-    each (r ∷ s ∷ rest) some few one row among = absurd (omega arith)
-
-pub sides_two : (a b : Side) (slice rows : RowList) (d : ℕ × Option Placed) → slice ≡ rows → AreRows slice →
-    2 ≤ length slice → IsPutAt a (get_or slice 0 d) → IsPutAt b (get_or slice 1 d) →
-    AreSidesOf (record { first = a; second = b }) rows
-sides_two a b slice rows d is are some one two =
-    subst (AreSidesOf (record { first = a; second = b })) is (each slice are some one two)
-  where
-    each : (s : RowList) → AreRows s → 2 ≤ length s → IsPutAt a (get_or s 0 d) → IsPutAt b (get_or s 1 d) →
-        AreSidesOf (record { first = a; second = b }) s
-    each [] are some one two row among = absurd (omega arith)
-    each (r ∷ []) are some one two row among = absurd (omega arith)
-    each (r ∷ s ∷ []) are some one two row (inl same) = inl (subst (IsPutAt a) (sym same) one)
-    each (r ∷ s ∷ []) are some one two row (inr (inl same)) = inr (subst (IsPutAt b) (sym same) two)
-    each (r ∷ s ∷ []) are some one two row (inr (inr none)) = absurd none
-    each (r ∷ s ∷ t ∷ rest) are some one two row among = absurd are
-
 -- ---- the narrow rows of a head
 first_of_form : (narrow : NarrowList) (h : Head) (f : Form) → h.form ≡ f → HasNarrow narrow h →
     h.row + row_count f ≤ length narrow

@@ -1,5 +1,5 @@
 -- Entries that have nothing to do with some rows, told by disks and cells.
-use Rattle.std.specs.Prelude.{◌≡◌, ◌≢◌, ◌⊎◌, ◌+◌, ℕ, ◌≤◌, ◌<◌, List, length, slice_get, Option, unwrap_or, IfSome}
+use Rattle.std.specs.Prelude.{◌≡◌, ◌≢◌, ◌⊎◌, ◌+◌, ◌^◌, ℕ, ◌≤◌, ◌<◌, List, length, slice_get, Option, unwrap_or, IfSome}
 use Rattle.event_stamps.specs.declared.Stamp.{Stamp}
 use Rattle.cell_grid.specs.Grid.{GridData, IsAdjacent}
 use Rattle.region_view.specs.declared.action.Placed.{Placed}
@@ -54,7 +54,14 @@ IsUnnamed s side = (s.first ≢ side.disk) × (s.second ≢ side.disk)
 abbrev pub AreUnnamed : Stamp → Sides → Type 0
 AreUnnamed s sides = IsUnnamed s sides.first × IsUnnamed s sides.second
 
+-- a cell is adjacent to neither of the disks'
+abbrev pub IsOff : GridData → Sides → ℕ → Type 0
+IsOff grid sides cell = (¬ IsAdjacent grid cell sides.first.cell) × (¬ IsAdjacent grid cell sides.second.cell)
+
 -- what stands in a row isn't in a cell that is adjacent to the disks'
 abbrev pub IsAwayFrom : GridData → Sides → Option Placed → Type 0
-IsAwayFrom grid sides row = IfSome row (λ p. (¬ IsAdjacent grid p.cell sides.first.cell)
-    × (¬ IsAdjacent grid p.cell sides.second.cell))
+IsAwayFrom grid sides row = IfSome row (λ p. IsOff grid sides p.cell)
+
+-- no cell below the one bound, or above the other, is adjacent to the disks'
+abbrev pub BoundCells : GridData → Sides → Type 0
+BoundCells grid sides = (cell : ℕ) → cell < 2 ^ 32 → (cell < sides.low) ⊎ (sides.high < cell) → IsOff grid sides cell

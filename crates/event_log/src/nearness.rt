@@ -4,10 +4,9 @@ ghost use Rattle.std.specs.Prelude.{◌≡◌, ◌<◌, ◌≤◌, length, All, 
 ghost use Rattle.region_view.specs.Setting.{RowList};
 ghost use Rattle.cell_grid.specs.Grid.{IsAdjacent};
 ghost use Rattle.event_log.specs.Heads.{row_at};
-ghost use Rattle.event_log.specs.Nearness.{IsFarHead, HasNarrow, AllUpTo, IsPutAt, AreSidesOf, AreUnnamed, IsAwayFrom};
+ghost use Rattle.event_log.specs.Nearness.{IsFarHead, HasNarrow, AllUpTo, IsPutAt, AreSidesOf, AreUnnamed, IsAwayFrom, BoundCells};
 
 use crate::heads::{Form, Head};
-use crate::narrow::row_in;
 use cell_grid::Grid;
 use event_stamps::Stamp;
 use region_view::{Compact, Placed, Rows};
@@ -27,7 +26,7 @@ pub(crate) fn first_near(
     ensures place { IfSome result (λ i. (from ≤ i) × (i < length heads.now)) }
     ensures far { AllUpTo (IsFarHead grid.now rows.now narrow.now) heads.now from result }
 {
-    let sides = sides_of(rows);
+    let sides = sides_of(rows, grid);
     for i in from..heads.len() {
         if may_be_near(&heads[i], narrow, &sides, grid) {
             return Some(i);
@@ -40,6 +39,7 @@ pub(crate) fn first_near(
 #[inline(always)]
 fn may_be_near(head: &Head, narrow: &[Compact], sides: &Sides, grid: &Grid) -> bool
     requires narrow { HasNarrow narrow.now head.now }
+    requires bounds { BoundCells grid.now sides.now }
     ensures { result ≡ false → (rows : RowList) → AreSidesOf sides.now rows →
         IsFarHead grid.now rows narrow.now head.now }
 {
@@ -60,7 +60,7 @@ fn may_be_near(head: &Head, narrow: &[Compact], sides: &Sides, grid: &Grid) -> b
 #[derive(Clone, Copy)]
 struct Side {
     disk: u32,
-    // A number beyond all cells, if the row puts the disk nowhere.
+    // If the row puts the disk nowhere, any number.
     cell: u32,
 }
 
@@ -69,6 +69,9 @@ struct Side {
 struct Sides {
     first: Side,
     second: Side,
+    // No cell below this one, or above that one, is adjacent to either.
+    low: u32,
+    high: u32,
 }
 
 // A number beyond all cells.
@@ -80,39 +83,60 @@ const NOWHERE: Side = Side {
     cell: NO_CELL,
 };
 
+// A row that puts its disk nowhere gets the cell of the other, so that both bounds stay narrow.
 #[inline(always)]
-fn sides_of(rows: &Rows) -> Sides
-    ensures { AreSidesOf result rows.now }
+fn sides_of(rows: &Rows, grid: &Grid) -> Sides
+    ensures sides { AreSidesOf result rows.now }
+    ensures bounds { BoundCells grid.now result }
 {
     match rows.as_slice() {
-        [] => Sides {
-            first: NOWHERE,
-            second: NOWHERE,
-        },
-        [row] => Sides {
-            first: side_of(row),
-            second: side_of(row),
-        },
-        [first, second, ..] => Sides {
-            first: side_of(first),
-            second: side_of(second),
-        },
+        [] => bounded(NOWHERE, NOWHERE, grid),
+        [row] => {
+            let side = side_of(row, NO_CELL);
+            bounded(side, side, grid)
+        }
+        [first, second, ..] => bounded(
+            side_of(first, cell_in(second, NO_CELL)),
+            side_of(second, cell_in(first, NO_CELL)),
+            grid,
+        ),
+    }
+}
+
+// Two sides with their bounds. The numbers of adjacent cells differ by at most the number of columns and one.
+#[inline(always)]
+fn bounded(first: Side, second: Side, grid: &Grid) -> Sides
+    ensures first { result.first ≡ first }
+    ensures second { result.second ≡ second }
+    ensures bounds { BoundCells grid.now result }
+{
+    let reach = grid.columns() + 1;
+    Sides {
+        first,
+        second,
+        low: first.cell.min(second.cell).saturating_sub(reach),
+        high: first.cell.max(second.cell).saturating_add(reach),
     }
 }
 
 #[inline(always)]
-fn side_of(row: &(u32, Option<Placed>)) -> Side
+fn side_of(row: &(u32, Option<Placed>), elsewhere: u32) -> Side
     ensures { IsPutAt result row.now }
 {
+    Side {
+        disk: row.0,
+        cell: cell_in(row, elsewhere),
+    }
+}
+
+// The cell in which a row puts its disk, or another one if it puts it nowhere.
+#[inline(always)]
+fn cell_in(row: &(u32, Option<Placed>), elsewhere: u32) -> u32
+    ensures { IfSome row.now.1 (λ p. p.cell ≡ result) }
+{
     match &row.1 {
-        Some(placed) => Side {
-            disk: row.0,
-            cell: placed.cell,
-        },
-        None => Side {
-            disk: row.0,
-            cell: NO_CELL,
-        },
+        Some(placed) => placed.cell,
+        None => elsewhere,
     }
 }
 
@@ -127,19 +151,19 @@ fn may_name(stamp: &Stamp, sides: &Sides) -> bool
         | (stamp.second == sides.second.disk)
 }
 
-// Whether what stands in a narrow row may be in a cell that is adjacent to one of the disks'.
+// Whether what stands in a narrow row may be in a cell that is adjacent to one of the disks'. Most cells are passed by
+// their bounds alone, and nothing but the cell is read.
 #[inline(always)]
 fn may_be_beside(narrow: &[Compact], place: usize, sides: &Sides, grid: &Grid) -> bool
     requires within { place < length narrow.now }
+    requires bounds { BoundCells grid.now sides.now }
     ensures { result ≡ false → IsAwayFrom grid.now sides.now (row_at narrow.now place) }
 {
-    match row_in(narrow, place) {
-        Some(placed) => {
-            may_be_adjacent(grid, placed.cell, sides.first.cell)
-                || may_be_adjacent(grid, placed.cell, sides.second.cell)
-        }
-        None => false,
+    let cell = narrow[place].cell();
+    if cell < sides.low || sides.high < cell {
+        return false;
     }
+    may_be_adjacent(grid, cell, sides.first.cell) || may_be_adjacent(grid, cell, sides.second.cell)
 }
 
 // False only if two cells aren't adjacent, and mostly if they aren't. The numbers of adjacent cells differ by at most

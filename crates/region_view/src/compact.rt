@@ -144,6 +144,14 @@ impl Compact {
         }
     }
 
+    /// The cell, without a test for whether there is a disk: if there is none, any number.
+    #[inline(always)]
+    pub fn cell(&self) -> u32
+        ensures { IfSome self.now (λ row. result ≡ row.cell) }
+    {
+        self.cell
+    }
+
     /// The number on both sides of the middle of the row, where the border of two lines of the cache may be: so one
     /// read brings all of the row from memory. The proof needs to know nothing of the answer.
     #[inline(always)]

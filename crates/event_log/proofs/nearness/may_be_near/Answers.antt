@@ -33,10 +33,19 @@ pub returns-in-Whole : goal.returns-in-Whole
 returns-in-Whole c = λ off. absurd (false≢true (sym off))
 
 pub may_be_beside-requires : goal.may_be_beside-requires
-may_be_beside-requires c = record { within = first_place c.args.narrow.now c.args.head.now c.in-Crossing.is c.requires.narrow }
+may_be_beside-requires c = record {
+  within = first_place c.args.narrow.now c.args.head.now c.in-Crossing.is c.requires.narrow;
+  bounds = c.requires.bounds;
+}
 
 pub may_be_beside-requires-in-Double : goal.may_be_beside-requires-in-Double
-may_be_beside-requires-in-Double c = record { within = (both_places c.args.narrow.now c.args.head.now c.in-Double.is c.requires.narrow).0 }
+may_be_beside-requires-in-Double c = record {
+  within = (both_places c.args.narrow.now c.args.head.now c.in-Double.is c.requires.narrow).0;
+  bounds = c.requires.bounds;
+}
 
 pub may_be_beside-requires-else-may_be_beside : goal.may_be_beside-requires-else-may_be_beside
-may_be_beside-requires-else-may_be_beside c = record { within = (both_places c.args.narrow.now c.args.head.now c.in-Double.is c.requires.narrow).1 }
+may_be_beside-requires-else-may_be_beside c = record {
+  within = (both_places c.args.narrow.now c.args.head.now c.in-Double.is c.requires.narrow).1;
+  bounds = c.requires.bounds;
+}
