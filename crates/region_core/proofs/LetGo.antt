@@ -1,5 +1,5 @@
 -- A body that lets go of the entries before a later floor.
-use Rattle.std.proofs.Common.{◌≡◌, ℕ, ◌+◌, ◌≤◌, List, [], length, take, drop, map, sym, ap, ◌∙◌, subst, arith}
+use Rattle.std.proofs.Common.{◌≡◌, ℕ, ◌+◌, List, [], length, take, drop, map, sym, ap, ◌∙◌, subst, arith}
 use Rattle.std.proofs.lemmas.List.{length-map}
 use Rattle.std.proofs.Math.ListN.{get_or-map}
 use Rattle.event_stamps.specs.declared.Stamp.{Stamp}
@@ -19,7 +19,6 @@ use Rattle.event_log.specs.Undoing.{undone}
 use Rattle.region_core.specs.Live.{base_in, run_in, start_in, HasTrace, IsInbox, IsOutbox, IsBodyOf}
 use Rattle.local_run.specs.Raising.{raised_run, HasNoneWaitingBelow, IsRaised}
 use Rattle.region_core.proofs.Traced.{trace_raised, base_raised, entries_dropped}
-use Rattle.region_core.proofs.Rewound.{no_more_taken}
 use Rattle.local_run.proofs.Taken.{taken_below}
 
 -- ---- what was heard and what is sent
@@ -102,12 +101,3 @@ raised_is home floor to old new gone is none raised below rest log view heard co
     run = sym (raised_run_is to before (base_in new) new.inbox.heard (entries_in new.log)
         (base_let_go to old new.view new.log gone is.traced below view log) heard
         (log_let_go to old new.log gone rest log))
-
--- ---- the entries that go
-pub gone_taken : (home : Home) (floor to : Stamp) (live : Live) (es : List Entry) (q : ℕ) →
-    IsBodyOf home floor live → es ≡ entries_below to (entries_in live.log) → taken_of q es ≤ taken_from live.inbox q
-gone_taken home floor to live es q is gone =
-    let same = ap (taken_of q) gone in
-    let parts = taken_below q to (entries_in live.log) in
-    let all = no_more_taken home floor live q is in
-    omega arith

@@ -1,6 +1,6 @@
 -- A body from which the entries from a stamp on are taken back.
 use Rattle.std.proofs.Common.{◌≡◌, inl, inr, ℕ, ◌+◌, ◌≤◌, List, [], length, map, sym, ap, subst, ◌∙◌, arith}
-use Rattle.std.proofs.lemmas.List.{length-map}
+use Rattle.std.proofs.lemmas.List.{length-map, get_or_past}
 use Rattle.std.proofs.Math.ListN.{get_or-map}
 use Rattle.event_stamps.specs.declared.Stamp.{Stamp}
 use Rattle.region_view.specs.Views.{ViewData}
@@ -22,14 +22,15 @@ use Rattle.local_run.proofs.Right.{right_rewound}
 
 -- ---- what was taken in
 -- the counts of a body are those of its log
-pub no_more_taken : (home : Home) (floor : Stamp) (live : Live) (q : ℕ) → IsBodyOf home floor live →
-    taken_of q (entries_in live.log) ≤ taken_from live.inbox q
-no_more_taken home floor live q is = elim (below_or_past q home.grid.regions) [
-  | inl region ↦ let same = is.inbox.taken q region in omega arith
+pub all_taken : (home : Home) (floor : Stamp) (live : Live) (q : ℕ) → IsBodyOf home floor live →
+    taken_from live.inbox q ≡ taken_of q (entries_in live.log)
+all_taken home floor live q is = elim (below_or_past q home.grid.regions) [
+  | inl region ↦ is.inbox.taken q region
   | inr past ↦
       let fits = taken_fits home (start_of (run_in floor live)) (entries_in live.log) q is.right.moves in
       let none = ap length (no_trail_past live.inbox.heard q
       (subst (λ (n : ℕ). n ≤ q) (sym is.inbox.regions) past)) in
+      let uncounted = get_or_past live.inbox.taken q 0 (subst (λ (n : ℕ). n ≤ q) (sym is.inbox.counts) past) in
       omega arith
 ]
 

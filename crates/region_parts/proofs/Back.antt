@@ -8,6 +8,7 @@ use Rattle.local_run.specs.Taken.{taken_of}
 use Rattle.event_log.specs.Logged.{Logged, entries_in, sender_of, senders_in}
 use Rattle.local_run.proofs.Among.{same_or_other}
 use Rattle.local_run.proofs.Taken.{taken_joined, taken_native, taken_heard, taken_from_other}
+use Rattle.region_parts.proofs.Firsts.{below_or_past}
 
 pub taken_in_parts : (q n : ℕ) (es : List Entry) →
     taken_of q es ≡ taken_of q (take n es) + taken_of q (drop n es)
@@ -104,3 +105,33 @@ pub in_range : (xs : List ℕ) (q : ℕ) → 1 ≤ get_or xs q 0 → q < length 
 in_range [] q some = absurd (omega arith)
 in_range (x ∷ xs) zero some = omega arith
 in_range (x ∷ xs) (suc q) some = let rest = in_range xs q some in omega arith
+
+-- ---- counting anew
+-- a message of a region that has no count isn't among the entries
+pub has_count : (n p i : ℕ) (log : List Logged) → slice_get (senders_in log) i ≡ Some (Some p) →
+    ((q : ℕ) → n ≤ q → taken_of q (entries_in log) ≡ 0) → p < n
+has_count n p i log is none = elim (below_or_past p n) [
+  | inl within ↦ within
+  | inr past ↦
+      let one = taken_one p i log is in
+      let parts = taken_in_parts p (suc i) (entries_in log) in
+      let all = none p past in
+      absurd (omega arith)
+]
+
+-- counts with one more for a region
+pub counted_up : (counts : List ℕ) (p q i gone : ℕ) (log : List Logged) → p < length counts →
+    slice_get (senders_in log) i ≡ Some (Some p) → get_or counts q 0 + gone ≡ taken_of q (take i (entries_in log)) →
+    get_or (slice_set counts p (get_or counts p 0 + 1)) q 0 + gone ≡ taken_of q (take (suc i) (entries_in log))
+counted_up counts p q i gone log lt is so_far = elim (same_or_other q p) [
+  | inl same ↦
+      let set = ap (λ (k : ℕ). get_or (slice_set counts p (get_or counts p 0 + 1)) k 0) same
+      ∙ get_or-set_same counts p (get_or counts p 0 + 1) 0 lt in
+      let before = ap (λ (k : ℕ). get_or counts k 0) same in
+      let more = taken_one q i log (subst (λ (k : ℕ). slice_get (senders_in log) i ≡ Some (Some k)) (sym same) is) in
+      omega arith
+  | inr other ↦
+      let set = get_or-set_other counts p q (get_or counts p 0 + 1) 0 other in
+      let more = taken_else p q i log is other in
+      omega arith
+]

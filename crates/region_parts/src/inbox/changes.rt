@@ -33,14 +33,14 @@ impl Inbox {
     /// Takes away the messages before a stamp, which the first `gone` entries of a log took in.
     pub fn drop_before(&mut self, to: Stamp, log: &EventLog, gone: usize)
         requires gone { gone ≤ length log.now }
-        requires taken { (q : ℕ) → taken_of q (take gone (entries_in log.now)) ≤ taken_from self.old q }
+        requires taken { (q : ℕ) → taken_from self.old q ≡ taken_of q (entries_in log.now) }
         ensures heard { self.new.heard ≡ map (from to) self.old.heard }
         ensures counts { length self.new.taken ≡ length self.old.taken }
         ensures taken { (q : ℕ) → taken_from self.new q + taken_of q (take gone (entries_in log.now))
             ≡ taken_from self.old q }
     {
         drop_before(&mut self.heard, to);
-        count_down(&mut self.taken, log, 0, gone);
+        recount(&mut self.taken, log, gone);
         self.head = least_head(self.regions, &self.heard, &self.taken);
     }
 
@@ -125,6 +125,21 @@ fn count_down(counts: &mut [usize], log: &EventLog, from: usize, end: usize)
     for i in from..end {
         if let Some(sender) = log.sender(i) {
             counts[sender as usize] -= 1;
+        }
+    }
+}
+
+// Counts the messages that the entries of a log from a place on took in, by the number of the region. They are mostly
+// few, where those before the place are thousands.
+fn recount(counts: &mut [usize], log: &EventLog, from: usize)
+    requires within { from ≤ length log.now }
+    requires numbers { (q : ℕ) → length counts.old ≤ q → taken_of q (entries_in log.now) ≡ 0 }
+    ensures { (q : ℕ) → get_or counts.new q 0 ≡ taken_of q (drop from (entries_in log.now)) }
+{
+    counts.fill(0);
+    for i in from..log.len() {
+        if let Some(sender) = log.sender(i) {
+            counts[sender as usize] += 1;
         }
     }
 }

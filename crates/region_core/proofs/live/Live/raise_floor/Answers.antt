@@ -1,4 +1,4 @@
-use Rattle.std.proofs.Common.{◌≡◌, ◌+◌, List, length, map, take, sym, ap, ◌∙◌, refl}
+use Rattle.std.proofs.Common.{◌≡◌, ◌+◌, List, length, map, sym, ap, ◌∙◌, refl}
 use Rattle.std.proofs.lemmas.List.{length-map, with_items_is}
 use Rattle.region_messages.specs.Trails.{from}
 use Rattle.local_run.specs.declared.entry.Entry.{Entry}
@@ -7,14 +7,13 @@ use Rattle.region_parts.specs.Inbox.{taken_from}
 use Rattle.local_run.specs.Taken.{taken_of}
 use Rattle.region_core.specs.Live.{run_in}
 use Rattle.local_run.proofs.Raised.{raised_right}
-use Rattle.region_core.proofs.LetGo.{gone_taken, raised_run_is, base_let_go, log_let_go, raised_is}
+use Rattle.region_core.proofs.Rewound.{all_taken}
+use Rattle.region_core.proofs.LetGo.{raised_run_is, base_let_go, log_let_go, raised_is}
 use Rattle.region_core.proofs.live.Live.raise_floor.Goals as goal
 
 pub drop_before-requires-clause-taken : goal.drop_before-requires-clause-taken
 drop_before-requires-clause-taken c = λ q.
-    gone_taken c.args.place.now.home c.args.place.now.floor c.args.to c.args.self.now
-    (take c.count_before-gone.result (entries_in c.args.self.now.log)) q c.requires.live.body
-    c.count_before-gone.ensures.before
+    all_taken c.args.place.now.home c.args.place.now.floor c.args.self.now q c.requires.live.body
 
 pub returns-clause-run : goal.returns-clause-run
 returns-clause-run c =

@@ -7,7 +7,7 @@ use Rattle.event_log.specs.Logged.{entries_in}
 use Rattle.region_parts.specs.Inbox.{InboxData, taken_from}
 use Rattle.local_run.specs.Taken.{taken_of}
 use Rattle.local_run.proofs.Taken.{taken_below}
-use Rattle.region_core.proofs.Rewound.{no_more_taken}
+use Rattle.region_core.proofs.Rewound.{all_taken}
 use Rattle.region_core.proofs.Traced.{entries_taken}
 use Rattle.region_core.proofs.Rewound.{still_right, still_stands, rewound_is}
 use Rattle.region_core.proofs.live.Live.rewind.Goals as goal
@@ -17,7 +17,7 @@ give_back-requires-clause-taken c = λ q.
     let log = entries_in c.args.self.now.log in
     let dropped = ap (taken_of q) c.count_before-kept.ensures.from in
     let parts = taken_below q c.args.at log in
-    let all = no_more_taken c.args.place.now.home c.args.place.now.floor c.args.self.now q c.requires.body in
+    let all = all_taken c.args.place.now.home c.args.place.now.floor c.args.self.now q c.requires.body in
     omega arith
 
 pub drop_down_to-requires : goal.drop_down_to-requires
