@@ -88,6 +88,16 @@ impl Untold {
         Ok(())
     }
 
+    /// About how much is left to tell: the entries of the logs that aren't passed yet, those that are messages
+    /// included. Nothing is claimed of it.
+    pub fn left(&self) -> usize {
+        let mut left: usize = 0;
+        for (log, head) in self.logs.iter().zip(&self.heads) {
+            left = left.saturating_add(left_in(log, head));
+        }
+        left
+    }
+
     /// Takes the next action out, if any is left.
     pub(crate) fn take_next(&mut self) -> Option<Action>
         ensures next { IfSome result (λ action. self.old ≡ action ∷ self.new) }
@@ -207,6 +217,14 @@ fn tell_in<L: Listener>(log: &EventLog, place: usize, listener: &mut L) -> Resul
     match log.change(place) {
         Some(change) => listener.event(&change),
         None => Ok(()),
+    }
+}
+
+// How many entries of a log come from its head on; none if it has no head.
+fn left_in(log: &EventLog, head: &PackedHead) -> usize {
+    match head.stamp.key() {
+        Some(_) => log.len().saturating_sub(head.place),
+        None => 0,
     }
 }
 

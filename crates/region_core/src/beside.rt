@@ -14,6 +14,9 @@ pub trait Beside<W> {
         requires { fits self.old lent.old }
         ensures { goes self.old lent.old self.new lent.new };
 
+    /// About how much of the work is left, in any measure. Nothing is claimed of it.
+    fn left(&self) -> usize;
+
     /// Doing no piece leaves both as they are.
     ghost stays: { (x : Self) (u : W) → goes x u x u };
 
@@ -41,5 +44,9 @@ impl Beside<()> for Idle {
 
     fn go_on(&mut self, _lent: &mut ()) -> bool {
         false
+    }
+
+    fn left(&self) -> usize {
+        0
     }
 }

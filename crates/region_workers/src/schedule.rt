@@ -8,6 +8,9 @@ use std::sync::atomic::{AtomicU64, Ordering};
 /// The greatest number of slices in which the regions settle.
 pub(crate) const SETTLING_SLICES: u32 = 12;
 
+// By one in this many parts of it the work beside may be behind the steps.
+const MOST_BEHIND: u64 = 8;
+
 // The least number of steps of a burst that ends early.
 const SHORT_STEPS: u64 = 256;
 
@@ -58,9 +61,12 @@ impl Schedule {
         self.turn.load(Ordering::SeqCst)
     }
 
-    /// Whether fewer than half of the steps before the regions settle are left.
-    pub(crate) fn is_half_made(&self) -> bool {
-        self.left.load(Ordering::SeqCst) < self.all / 2
+    /// Whether a greater part of the steps before the regions settle is made than is done of some work, of which so much
+    /// is left, and there was so much at first. The work may be behind by a part of it.
+    pub(crate) fn is_ahead_of(&self, left: u64, all: u64) -> bool {
+        let made = self.all.saturating_sub(self.left.load(Ordering::SeqCst));
+        let done = all.saturating_sub(left).saturating_add(all / MOST_BEHIND);
+        done.saturating_mul(self.all) < made.saturating_mul(all)
     }
 
     /// The slice that they are at.

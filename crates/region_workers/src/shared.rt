@@ -76,6 +76,7 @@ impl<'g, G: Gate, O: Origin> Shared<'g, G, O> {
             worker,
             workers: self.workers,
             steps: self.steps,
+            aside: beside.left() as u64,
         };
         job.run(rt, beside, lent)
     }

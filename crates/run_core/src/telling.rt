@@ -68,6 +68,10 @@ impl<L: Listener> Beside<L> for Telling {
     ghost still_fits = { λ x y u v a b. still_awaited L.after L.torn L.awaits x.untold y.untold x.fault y.fault
         (L.meaning u) (L.meaning v) (L.faults u) (L.faults v) a b };
 
+    fn left(&self) -> usize {
+        self.untold.left()
+    }
+
     fn go_on(&mut self, lent: &mut L) -> bool {
         if self.fault.is_some() {
             return false;

@@ -40,6 +40,10 @@ impl Beside<()> for Pieces {
         self.done = self.all.min(self.done.saturating_add(1));
         self.done < self.all
     }
+
+    fn left(&self) -> usize {
+        self.all.saturating_sub(self.done) as usize
+    }
 }
 
 // Has two workers make a burst with this many pieces of work beside it.
