@@ -15,13 +15,6 @@ use Rattle.commit_horizon.specs.TellingOn.{TellsFirst, TellsHits, TellsTorn, Tel
 use Rattle.commit_horizon.proofs.Tellings.{told_in_turn}
 
 -- ---- lists
-appended : (xs ys : List Action) (x : Action) (rest old mid : List Action) → old ≡ xs ++ mid → mid ≡ ys ++ x ∷ rest →
-    old ≡ (xs ++ ys) ++ x ∷ rest
-appended xs ys x rest old mid a b = grind (arith, common_steps)
-
-joined : (xs ys rest old mid : List Action) → old ≡ xs ++ mid → mid ≡ ys ++ rest → old ≡ (xs ++ ys) ++ rest
-joined xs ys rest old mid a b = grind (arith, common_steps)
-
 changes_joined : (xs ys rest old mid : List Change) → old ≡ xs ++ mid → mid ≡ ys ++ rest → old ≡ (xs ++ ys) ++ rest
 changes_joined xs ys rest old mid a b = grind (arith, common_steps)
 
@@ -59,25 +52,6 @@ split_at (Hit change ∷ xs) (b ∷ before) c after is =
     )
 
 module _ {M : Type 0} (after : M → Change → M) where
-  -- ---- the first actions
-  pub first_none : (old : List Action) (m : Option M) (f : ℕ) → TellsFirst after old m f old m f
-  first_none old m f = ([], refl, told_none after m, refl)
-
-  hits_in_turn : (old mid new : Option M) (xs ys : List Action) → Told after old (hits xs) mid →
-      Told after mid (hits ys) new → Told after old (hits (xs ++ ys)) new
-  hits_in_turn old mid new xs ys h k = subst (λ (v : List Change). Told after old v new) (sym (hits_join xs ys))
-      (told_in_turn after old mid new (hits xs) (hits ys) h k)
-
-  pub first_further : (old mid new : List Action) (m n o : Option M) (f g h : ℕ) →
-      TellsFirst after old m f mid n g → TellsFirst after mid n g new o h → TellsFirst after old m f new o h
-  first_further old mid new m n o f g h (xs, s, t, e) (ys, s', t', e') =
-      (xs ++ ys, joined xs ys new old mid s s', hits_in_turn m n o xs ys t t', e' ∙ e)
-
-  -- one action was told
-  pub one_told : (x : Action) (old new : List Action) (m n : Option M) (f g : ℕ) → old ≡ x ∷ new →
-      Told after m (hits (x ∷ [])) n → g ≡ f → TellsFirst after old m f new n g
-  one_told x old new m n f g is t e = (x ∷ [], is, t, e)
-
   -- the first one is awaited
   pub one_awaited : (awaits : M → Change → Type 0) (x : Action) (old new : List Action) (m : Option M) → old ≡ x ∷ new →
       AwaitsAll after awaits m (hits old) → IsHitAwaited awaits m x
@@ -86,12 +60,6 @@ module _ {M : Type 0} (after : M → Change → M) where
       by_action : (x : Action) → AwaitsAll after awaits m (hits (x ∷ new)) → IsHitAwaited awaits m x
       by_action (Cross s cell) all = tt
       by_action (Hit change) all = next_awaited after awaits m m [] change (hits new) (told_none after m) all
-
-  -- what is left is awaited
-  pub first_awaited : (awaits : M → Change → Type 0) (old new : List Action) (m n : Option M) (f g : ℕ) →
-      TellsFirst after old m f new n g → AwaitsAll after awaits m (hits old) → AwaitsAll after awaits n (hits new)
-  first_awaited awaits old new m n f g (xs, s, t, e) all = awaits_rest after awaits m n (hits xs) (hits new) t
-      (subst (λ (v : List Change). AwaitsAll after awaits m v) (ap hits s ∙ hits_join xs new) all)
 
   -- ---- the collisions alone
   pub hits_none : (old : List Action) (m : Option M) (f : ℕ) → TellsHits after old m f old m f
@@ -151,18 +119,6 @@ module _ {M : Type 0} (after : M → Change → M) where
     one_refused (Hit change) old new m n f g deaf is refused counts =
         ([], change, new, is, (m, told_none after m, refused), counts.0, counts.1)
 
-    pub torn_further : (old mid : List Action) (m n o : Option M) (f g h : ℕ) →
-        TellsFirst after old m f mid n g → TellsTorn after torn mid n g o h → TellsTorn after torn old m f o h
-    torn_further old mid m n o f g h (xs, s, t, e) (ys, change, rest, s', (mid', t', r), le, rose) = (
-      xs ++ ys,
-      change,
-      rest,
-      appended xs ys (Hit change) rest old mid s s',
-      (mid', hits_in_turn m n mid' xs ys t t', r),
-      subst (λ (v : ℕ). v ≤ h) e le,
-      subst (λ (v : ℕ). Rose v h) e rose,
-    )
-
     -- a prefix of the collisions was told, and perhaps the next one was refused
     pub torn_prefix : (old : List Action) (m n : Option M) (f g : ℕ) → TellsTorn after torn old m f n g →
         PrefixTold after torn m (hits old) n
@@ -178,14 +134,14 @@ module _ {M : Type 0} (after : M → Change → M) where
     -- ---- a kept refusal
     pub tells_none : (old : List Action) (fault : Option Deaf) (m : Option M) (f : ℕ) →
         TellsOn after torn old fault m f old fault m f
-    tells_none old None m f = first_none old m f
+    tells_none old None m f = hits_none old m f
     tells_none old (Some deaf) m f = (refl, refl)
 
     pub tells_further : (old mid new : List Action) (a b c : Option Deaf) (m n o : Option M) (f g h : ℕ) →
         TellsOn after torn old a m f mid b n g → TellsOn after torn mid b n g new c o h →
         TellsOn after torn old a m f new c o h
-    tells_further old mid new None None None m n o f g h p q = first_further old mid new m n o f g h p q
-    tells_further old mid new None None (Some d) m n o f g h p q = torn_further old mid m n o f g h p q
+    tells_further old mid new None None None m n o f g h p q = hits_further old mid new m n o f g h p q
+    tells_further old mid new None None (Some d) m n o f g h p q = torn_after old mid m n o f g h p q
     tells_further old mid new None (Some d) None m n o f g h p q = absurd q
     tells_further old mid new None (Some d) (Some k) m n o f g h p q =
         subst (λ (v : Option M). TellsTorn after torn old m f v h) (sym q.0)
@@ -198,16 +154,7 @@ module _ {M : Type 0} (after : M → Change → M) where
     pub still_awaited : (awaits : M → Change → Type 0) (old new : List Action) (a b : Option Deaf) (m n : Option M)
         (f g : ℕ) → AwaitsUntold after awaits old a m → TellsOn after torn old a m f new b n g →
         AwaitsUntold after awaits new b n
-    still_awaited awaits old new None None m n f g all p = first_awaited awaits old new m n f g p all
+    still_awaited awaits old new None None m n f g all p = hits_awaited awaits old new m n f g p all
     still_awaited awaits old new None (Some d) m n f g all p = tt
     still_awaited awaits old new (Some d) None m n f g all p = absurd p
     still_awaited awaits old new (Some d) (Some k) m n f g all p = tt
-
-    -- given the refusal that is kept at the end
-    pub first_of : (old new : List Action) (fault : Option Deaf) (m n : Option M) (f g : ℕ) → fault ≡ None →
-        TellsOn after torn old None m f new fault n g → TellsFirst after old m f new n g
-    first_of old new fault m n f g is t = subst (λ (v : Option Deaf). TellsOn after torn old None m f new v n g) is t
-
-    pub torn_of : (old new : List Action) (fault : Option Deaf) (m n : Option M) (f g : ℕ) (d : Deaf) →
-        fault ≡ Some d → TellsOn after torn old None m f new fault n g → TellsTorn after torn old m f n g
-    torn_of old new fault m n f g d is t = subst (λ (v : Option Deaf). TellsOn after torn old None m f new v n g) is t

@@ -28,7 +28,7 @@ TellsTorn {M} after torn old m f n g =
 -- the result of telling some of the untold actions, while a refusal is kept: once there is one, nothing is told
 abbrev pub TellsOn : {M : Type 0} → (M → Change → M) → (M → Change → M → Type 0) →
     List Action → Option Deaf → Option M → ℕ → List Action → Option Deaf → Option M → ℕ → Type 0
-TellsOn after torn old None m f new None n g = TellsFirst after old m f new n g
+TellsOn after torn old None m f new None n g = TellsHits after old m f new n g
 TellsOn after torn old None m f new (Some deaf) n g = TellsTorn after torn old m f n g
 TellsOn after torn old (Some deaf) m f new None n g = ⊥
 TellsOn after torn old (Some deaf) m f new (Some kept) n g = (n ≡ m) × (g ≡ f)

@@ -114,14 +114,14 @@ impl Untold {
         Some(action)
     }
 
-    /// Tells the collisions among the next actions, of which it passes `most` at most. Whether more may be left.
+    /// Tells the next collisions, `most` at most, and passes crossings between them. Whether more may be left.
     ///
     /// # Errors
     /// The listener refused a collision, and its count of refusals rose.
     #[inline(always)]
     pub fn tell_some<L: Listener>(&mut self, listener: &mut L, most: u32) -> Result<bool, Deaf>
         requires { AwaitsAll L.after L.awaits (L.meaning listener.old) (hits self.old) }
-        ensures told { OnOk result (TellsFirst L.after self.old (L.meaning listener.old) (L.faults listener.old)
+        ensures told { OnOk result (TellsHits L.after self.old (L.meaning listener.old) (L.faults listener.old)
             self.new (L.meaning listener.new) (L.faults listener.new)) }
         ensures awaits { OnOk result (AwaitsAll L.after L.awaits (L.meaning listener.new) (hits self.new)) }
         ensures rest { IfOk result (λ more. more ≡ false → self.new ≡ []) }
@@ -129,7 +129,7 @@ impl Untold {
             (L.faults listener.old) (L.meaning listener.new) (L.faults listener.new)) }
     {
         for _ in 0..most {
-            let more = self.tell_one(listener)?;
+            let more = self.tell_hit(listener)?;
             if !more {
                 return Ok(false);
             }
@@ -155,28 +155,6 @@ impl Untold {
                 return Ok(());
             }
         }
-    }
-
-    // Passes the next action, and tells it if it is a collision. False if there was none.
-    #[inline(always)]
-    fn tell_one<L: Listener>(&mut self, listener: &mut L) -> Result<bool, Deaf>
-        requires { AwaitsAll L.after L.awaits (L.meaning listener.old) (hits self.old) }
-        ensures told { OnOk result (TellsFirst L.after self.old (L.meaning listener.old) (L.faults listener.old)
-            self.new (L.meaning listener.new) (L.faults listener.new)) }
-        ensures rest { IfOk result (λ more. more ≡ false → self.new ≡ []) }
-        ensures fewer { IfOk result (λ more. more ≡ true → length self.new < length self.old) }
-        ensures torn { OnErr result (TellsTorn L.after L.torn self.old (L.meaning listener.old)
-            (L.faults listener.old) (L.meaning listener.new) (L.faults listener.new)) }
-    {
-        let first = self.first;
-        if first.is_none() {
-            return Ok(false);
-        }
-        let log = &self.logs[first.number];
-        tell_in(log, first.place, listener)?;
-        self.heads[first.number] = head_after(log, first.place);
-        self.first = leader_after(&self.heads, &first);
-        Ok(true)
     }
 
     // Passes the next action, and tells it if it is a collision; passes the crossings after it in its log too. False if

@@ -9,9 +9,8 @@ use Rattle.event_rules.specs.Told.{Told, AwaitsAll}
 use Rattle.event_rules.proofs.Telling.{all_told, whole_longer}
 use Rattle.region_view.specs.declared.action.Action.{Action}
 use Rattle.cell_sequence.specs.Run.{hits}
-use Rattle.cell_sequence.proofs.Joins.{hits_join}
 use Rattle.commit_horizon.specs.Telling.{HitsCutShort}
-use Rattle.commit_horizon.specs.TellingOn.{TellsFirst, TellsTorn, TellsOn, AwaitsUntold}
+use Rattle.commit_horizon.specs.TellingOn.{TellsHits, TellsTorn, TellsOn, AwaitsUntold}
 
 -- if no refusal is kept, what is untold has to be awaited
 pub fits_unheard : {M : Type 0} (after : M → Change → M) (awaits : M → Change → Type 0) (untold : List Action)
@@ -21,22 +20,21 @@ fits_unheard after awaits untold None m heard each = each
 fits_unheard after awaits untold (Some deaf) m heard each = tt
 
 module _ {M : Type 0} (after : M → Change → M) (torn : M → Change → M → Type 0) where
-  -- ---- the first of some actions
+  -- ---- the first of some collisions
   -- all, if none is left
-  pub first_all : (old new : List Action) (m n : Option M) (f g : ℕ) → TellsFirst after old m f new n g → new ≡ [] →
+  pub hits_all : (old new : List Action) (m n : Option M) (f g : ℕ) → TellsHits after old m f new n g → new ≡ [] →
       Told after m (hits old) n
-  first_all old new m n f g (gone, is, told, count) none =
-      subst (λ (v : List Action). Told after m (hits v) n)
-      (sym (is ∙ ap (λ (v : List Action). gone ++ v) none ∙ append-nil gone)) told
+  hits_all old new m n f g (gone, is, told, count) none =
+      subst (λ (v : List Change). Told after m v n)
+      (sym (is ∙ ap (λ (v : List Action). gone ++ hits v) none ∙ append-nil gone)) told
 
   -- or exactly a prefix
-  pub first_cut : (old new : List Action) (m n : Option M) (f g : ℕ) → TellsFirst after old m f new n g →
+  pub hits_cut : (old new : List Action) (m n : Option M) (f g : ℕ) → TellsHits after old m f new n g →
       HitsCutShort after torn old NoMemory m n
-  first_cut old new m n f g (gone, is, told, count) =
-      let part = all_told after m n (hits gone) told in
-      subst (λ (v : List Change). (k : ℕ) × Told after m (take k v) n)
-      (sym (hits_join gone new) ∙ ap hits (sym is))
-      (whole_longer after m n (hits gone) (hits new) part.0 part.1)
+  hits_cut old new m n f g (gone, is, told, count) =
+      let part = all_told after m n gone told in
+      subst (λ (v : List Change). (k : ℕ) × Told after m (take k v) n) (sym is)
+      (whole_longer after m n gone (hits new) part.0 part.1)
 
   -- ---- a refusal
   pub torn_counts : (T : Type 0) (old : List Action) (m n : Option M) (f g : ℕ) →
@@ -49,8 +47,8 @@ module _ {M : Type 0} (after : M → Change → M) (torn : M → Change → M �
     unheard : TellsOn after torn old None m f new kept n g
     unheard = subst (λ (v : Option Deaf). TellsOn after torn old v m f new kept n g) heard on
 
-    pub first_on : kept ≡ None → TellsFirst after old m f new n g
-    first_on none = subst (λ (v : Option Deaf). TellsOn after torn old None m f new v n g) none unheard
+    pub hits_on : kept ≡ None → TellsHits after old m f new n g
+    hits_on none = subst (λ (v : Option Deaf). TellsOn after torn old None m f new v n g) none unheard
 
     pub torn_on : (deaf : Deaf) → kept ≡ Some deaf → TellsTorn after torn old m f n g
     torn_on deaf some = subst (λ (v : Option Deaf). TellsOn after torn old None m f new v n g) some unheard

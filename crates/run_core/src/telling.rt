@@ -9,8 +9,8 @@ use event_rules::{Deaf, Listener};
 use region_core::Beside;
 use std::alloc::Global;
 
-// How many actions are told at a time. In between, the teller looks whether the burst goes on.
-const MOST_AT_ONCE: u32 = 16;
+// How many collisions are told at a time. In between, the teller looks whether the burst goes on.
+const MOST_AT_ONCE: u32 = 8;
 
 /// What is final and wasn't told yet, and the refusal that ended the telling, if there was one.
 #[derive(Drop)]

@@ -12,7 +12,7 @@ use Rattle.event_rules.specs.declared.outcome.RunFault.{RunFault}
 use Rattle.event_rules.specs.declared.outcome.RunFault.TheVariants.{Listener, NoMemory}
 use Rattle.event_rules.specs.Tellings.{CountsRun, RunCutShort}
 use Rattle.commit_horizon.proofs.Goes.{torn_prefix}
-use Rattle.run_core.proofs.ToldOn.{fits_unheard, first_all, torn_counts, first_on, torn_on}
+use Rattle.run_core.proofs.ToldOn.{fits_unheard, hits_all, torn_counts, hits_on, torn_on}
 use Rattle.run_core.proofs.Untold.{batch_in, at_fault, counts_of_err}
 use Rattle.run_core.proofs.simulation.simulate.Goals as goal
 
@@ -192,10 +192,10 @@ returns-in_err-spots-in-End-clause-cut_short g c =
     (L.meaning c.work.new.listener) c.in_ok-kind.ensures.told c.in_ok-kind.ensures.advances batch
     (batch_in c.in_ok-kind.kind batch) in
     let new = L.meaning c.tell_rest.new.listener in
-    let whole = first_on L.after L.torn batch [] c.work.new.telling.fault None (L.meaning c.work.new.listener) new
+    let whole = hits_on L.after L.torn batch [] c.work.new.telling.fault None (L.meaning c.work.new.listener) new
     (L.faults c.work.new.listener) (L.faults c.tell_rest.new.listener) c.in_ok-tell_rest-in-End.ensures.told
     c.in_ok-kind.ensures.heard refl in
-    let rest = first_all L.after L.torn batch [] (L.meaning c.work.new.listener) new (L.faults c.work.new.listener)
+    let rest = hits_all L.after L.torn batch [] (L.meaning c.work.new.listener) new (L.faults c.work.new.listener)
     (L.faults c.tell_rest.new.listener) whole refl in
     let r = c.from_residual-in_err-spots-in-End.result in
     let fault = err_from_is_err_and r c.from_residual-in_err-spots-in-End.ensures.1 in
@@ -213,10 +213,10 @@ returns-in-End-clause-run g c =
     (L.meaning c.work.new.listener) c.in_ok-kind.ensures.told c.in_ok-kind.ensures.advances batch
     (batch_in c.in_ok-kind.kind batch) in
     let new = L.meaning c.tell_rest.new.listener in
-    let whole = first_on L.after L.torn batch [] c.work.new.telling.fault None (L.meaning c.work.new.listener) new
+    let whole = hits_on L.after L.torn batch [] c.work.new.telling.fault None (L.meaning c.work.new.listener) new
     (L.faults c.work.new.listener) (L.faults c.tell_rest.new.listener) c.in_ok-tell_rest-in-End.ensures.told
     c.in_ok-kind.ensures.heard refl in
-    let rest = first_all L.after L.torn batch [] (L.meaning c.work.new.listener) new (L.faults c.work.new.listener)
+    let rest = hits_all L.after L.torn batch [] (L.meaning c.work.new.listener) new (L.faults c.work.new.listener)
     (L.faults c.tell_rest.new.listener) whole refl in
     ends L.torn c.args.regions valid c.requires.asked told new rest c.in_ok-spots-in-End.spots
     (none_left c.in_ok-kind.ensures.advances (ap (λ (v : AdvanceKind). answer_with v batch) c.in-End.is))
@@ -231,10 +231,10 @@ returns-in-Limit-clause-run g c =
     (L.meaning c.work.new.listener) c.in_ok-kind.ensures.told c.in_ok-kind.ensures.advances batch
     (batch_in c.in_ok-kind.kind batch) in
     let new = L.meaning c.tell_rest-in-Limit.new.listener in
-    let whole = first_on L.after L.torn batch [] c.work.new.telling.fault None (L.meaning c.work.new.listener) new
+    let whole = hits_on L.after L.torn batch [] c.work.new.telling.fault None (L.meaning c.work.new.listener) new
     (L.faults c.work.new.listener) (L.faults c.tell_rest-in-Limit.new.listener) c.in_ok-tell_rest-in-Limit.ensures.told
     c.in_ok-kind.ensures.heard refl in
-    let rest = first_all L.after L.torn batch [] (L.meaning c.work.new.listener) new (L.faults c.work.new.listener)
+    let rest = hits_all L.after L.torn batch [] (L.meaning c.work.new.listener) new (L.faults c.work.new.listener)
     (L.faults c.tell_rest-in-Limit.new.listener) whole refl in
     fails L.torn c.args.regions valid c.requires.asked told new rest c.in-Limit.limit
     (next_fails c.in_ok-kind.ensures.advances (ap (λ (v : AdvanceKind). answer_with v batch) c.in-Limit.is))

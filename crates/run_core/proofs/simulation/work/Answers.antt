@@ -1,4 +1,4 @@
-use Rattle.std.proofs.Common.{Result, [], None, refl, ◌∙◌, subst}
+use Rattle.std.proofs.Common.{Result, [], None, Some, refl, ◌∙◌, subst}
 use Rattle.std.specs.Prelude.{IfErr}
 use Rattle.std.proofs.lemmas.Result.{err_from_is_err_and}
 use Rattle.event_rules.specs.declared.outcome.RunFault.{RunFault}
@@ -9,15 +9,18 @@ use Rattle.commit_horizon.specs.Telling.{HitsCutShort}
 use Rattle.commit_horizon.proofs.Goes.{still_awaited, tells_further, torn_prefix}
 use Rattle.run_core.specs.declared.answers.AdvanceKind.{AdvanceKind}
 use Rattle.run_core.specs.Standing.{GoesOnTo}
-use Rattle.run_core.proofs.ToldOn.{fits_unheard, first_all, first_cut, first_on, torn_on}
+use Rattle.run_core.proofs.ToldOn.{fits_unheard, hits_all, hits_cut, hits_on, torn_on}
 use Rattle.run_core.proofs.Untold.{at_fault}
 use Rattle.run_core.proofs.simulation.work.Goals as goal
 
 pub tell_rest-requires : goal.tell_rest-requires
 tell_rest-requires g c =
     let L = g.L.Listener in
-    still_awaited L.after L.torn L.awaits _ _ _ _ _ _ _ _ (fits_unheard L.after L.awaits c.args.telling.now.untold
-    c.args.telling.now.fault _ c.requires.heard c.requires.awaited) c.work.ensures.beside
+    let was = c.args.telling.now in
+    let old = L.meaning c.args.listener.now in
+    still_awaited L.after L.torn L.awaits was.untold c.work.new.beside.untold was.fault c.work.new.beside.fault old
+    (L.meaning c.work.new.lent) (L.faults c.args.listener.now) (L.faults c.work.new.lent)
+    (fits_unheard L.after L.awaits was.untold was.fault old c.requires.heard c.requires.awaited) c.work.ensures.beside
 
 pub returns-in_err-tell_rest-in-Ok-clause-cut_short : goal.returns-in_err-tell_rest-in-Ok-clause-cut_short
 returns-in_err-tell_rest-in-Ok-clause-cut_short g c =
@@ -27,13 +30,17 @@ returns-in_err-tell_rest-in-Ok-clause-cut_short g c =
     let new = L.meaning c.tell_rest.new.listener in
     let f = L.faults c.args.listener.now in
     let h = L.faults c.tell_rest.new.listener in
-    let on = tells_further L.after L.torn _ _ _ _ _ _ _ _ _ _ _ _ c.work.ensures.beside
+    let before = c.args.telling.now.fault in
+    let left = c.tell_rest.new.self.untold in
+    let deaf = c.in_err-tell_rest-in-Ok.field-0.0 in
+    let on = tells_further L.after L.torn untold c.work.new.beside.untold left before c.work.new.beside.fault (Some deaf)
+    old (L.meaning c.work.new.lent) new f (L.faults c.work.new.lent) h c.work.ensures.beside
     c.in_err-tell_rest-in-Ok.ensures.refused in
     let r = c.from_residual.result in
     let fault = err_from_is_err_and r c.from_residual.ensures.1 in
     at_fault (λ (v : Result (AdvanceKind × CellStateData) RunFault). IfErr v (λ e. HitsCutShort L.after L.torn untold e
     old new)) r fault.0 Listener fault.1 fault.2 (torn_prefix L.after L.torn untold old new f h
-    (torn_on L.after L.torn untold _ _ _ old new f h on c.requires.heard _ refl))
+    (torn_on L.after L.torn untold left before (Some deaf) old new f h on c.requires.heard deaf refl))
 
 pub returns-in_err-advanced-in-Ok-clause-cut_short : goal.returns-in_err-advanced-in-Ok-clause-cut_short
 returns-in_err-advanced-in-Ok-clause-cut_short g c =
@@ -43,13 +50,15 @@ returns-in_err-advanced-in-Ok-clause-cut_short g c =
     let new = L.meaning c.tell_rest.new.listener in
     let f = L.faults c.args.listener.now in
     let h = L.faults c.tell_rest.new.listener in
-    let on = tells_further L.after L.torn _ _ _ _ _ _ _ _ _ _ _ _ c.work.ensures.beside
+    let before = c.args.telling.now.fault in
+    let on = tells_further L.after L.torn untold c.work.new.beside.untold [] before c.work.new.beside.fault None
+    old (L.meaning c.work.new.lent) new f (L.faults c.work.new.lent) h c.work.ensures.beside
     c.in_ok-tell_rest-in-Ok.ensures.told in
     let r = c.from_residual-in_err-advanced-in-Ok.result in
     let fault = err_from_is_err_and r c.from_residual-in_err-advanced-in-Ok.ensures.1 in
     at_fault (λ (v : Result (AdvanceKind × CellStateData) RunFault). IfErr v (λ e. HitsCutShort L.after L.torn untold e
-    old new)) r fault.0 NoMemory fault.1 fault.2 (first_cut L.after L.torn untold [] old new f h
-    (first_on L.after L.torn untold [] _ None old new f h on c.requires.heard refl))
+    old new)) r fault.0 NoMemory fault.1 fault.2 (hits_cut L.after L.torn untold [] old new f h
+    (hits_on L.after L.torn untold [] before None old new f h on c.requires.heard refl))
 
 pub returns-in_ok-advanced-in-Ok-clause-advances : goal.returns-in_ok-advanced-in-Ok-clause-advances
 returns-in_ok-advanced-in-Ok-clause-advances g c =
@@ -68,19 +77,26 @@ returns-in_ok-advanced-in-Ok-clause-told g c =
     let new = L.meaning c.tell_rest.new.listener in
     let f = L.faults c.args.listener.now in
     let h = L.faults c.tell_rest.new.listener in
-    let on = tells_further L.after L.torn _ _ _ _ _ _ _ _ _ _ _ _ c.work.ensures.beside
+    let before = c.args.telling.now.fault in
+    let on = tells_further L.after L.torn untold c.work.new.beside.untold [] before c.work.new.beside.fault None
+    old (L.meaning c.work.new.lent) new f (L.faults c.work.new.lent) h c.work.ensures.beside
     c.in_ok-tell_rest-in-Ok.ensures.told in
-    first_all L.after L.torn untold [] old new f h
-    (first_on L.after L.torn untold [] _ None old new f h on c.requires.heard refl) refl
+    hits_all L.after L.torn untold [] old new f h
+    (hits_on L.after L.torn untold [] before None old new f h on c.requires.heard refl) refl
 
 pub returns-in_ok-advanced-in-Ok-clause-counts : goal.returns-in_ok-advanced-in-Ok-clause-counts
 returns-in_ok-advanced-in-Ok-clause-counts g c =
     let L = g.L.Listener in
-    let on = tells_further L.after L.torn _ _ _ _ _ _ _ _ _ _ _ _ c.work.ensures.beside
+    let untold = c.args.telling.now.untold in
+    let old = L.meaning c.args.listener.now in
+    let new = L.meaning c.tell_rest.new.listener in
+    let f = L.faults c.args.listener.now in
+    let h = L.faults c.tell_rest.new.listener in
+    let before = c.args.telling.now.fault in
+    let on = tells_further L.after L.torn untold c.work.new.beside.untold [] before c.work.new.beside.fault None
+    old (L.meaning c.work.new.lent) new f (L.faults c.work.new.lent) h c.work.ensures.beside
     c.in_ok-tell_rest-in-Ok.ensures.told in
-    (first_on L.after L.torn c.args.telling.now.untold [] _ None (L.meaning c.args.listener.now)
-    (L.meaning c.tell_rest.new.listener) (L.faults c.args.listener.now) (L.faults c.tell_rest.new.listener) on
-    c.requires.heard refl).3
+    (hits_on L.after L.torn untold [] before None old new f h on c.requires.heard refl).3
 
 pub returns-in-Some-clause-cut_short : goal.returns-in-Some-clause-cut_short
 returns-in-Some-clause-cut_short g c =
@@ -102,6 +118,6 @@ returns-in-None-clause-cut_short g c =
     let new = L.meaning c.work.new.lent in
     let f = L.faults c.args.listener.now in
     let h = L.faults c.work.new.lent in
-    first_cut L.after L.torn untold c.work.new.beside.untold old new f h
-    (first_on L.after L.torn untold c.work.new.beside.untold c.args.telling.now.fault c.work.new.beside.fault old new
+    hits_cut L.after L.torn untold c.work.new.beside.untold old new f h
+    (hits_on L.after L.torn untold c.work.new.beside.untold c.args.telling.now.fault c.work.new.beside.fault old new
     f h c.work.ensures.beside c.requires.heard c.in-None.is)
