@@ -1,5 +1,5 @@
 -- Two regions, one of which hears the other or is apart from it.
-use Rattle.std.proofs.Common.{◌≡◌, ◌≢◌, ◌⊎◌, inl, inr, ℕ, Bool, true, false, ◌==◌, ◌&&◌, List, Option, Some, None, MatchOption, Decides, sym, ap, subst, ◌∙◌, refl}
+use Rattle.std.proofs.Common.{◌≡◌, ◌≢◌, ◌⊎◌, inl, inr, ℕ, ◌^◌, Bool, true, false, ◌==◌, ◌&&◌, List, Option, Some, None, MatchOption, Decides, sym, ap, subst, ◌∙◌, refl}
 use Rattle.std.specs.Prelude.{◌↔◌, IsTrue, option_map, IfSome}
 use Rattle.std.proofs.lemmas.Bool.{false≢true}
 use Rattle.std.specs.Ordering.{int_eq}
@@ -12,7 +12,7 @@ use Rattle.event_stamps.specs.declared.Stamp.{Stamp}
 use Rattle.event_stamps.specs.contracts.Stamp as stamp_type
 use Rattle.event_stamps.proofs.Decision.{Decision}
 use Rattle.cell_grid.specs.contracts.grid.Grid as grid_type
-use Rattle.cell_grid.specs.Grid.{GridData, IsRegion, AreLinked}
+use Rattle.cell_grid.specs.Grid.{GridData, IsRegion, AreLinked, reciprocal_of}
 use Rattle.region_view.specs.declared.rows.Message.{Message}
 use Rattle.region_messages.proofs.Same.{same_by_code, stamp_eq, stamp_decides}
 use Rattle.local_run.specs.declared.home.Home.{Home}
@@ -98,9 +98,13 @@ rules_decide a b = Decides-like (rules_eq a b)
     (Decides-and _ _ (Decides-int_eq a.speed_limit b.speed_limit)
     (Decides-and _ _ (Decides-eqb a.round_limit b.round_limit) (Decides-eqb a.end b.end))))))
 
+-- all that the code keeps of a grid is the same
 abbrev pub grid_eq : GridData → GridData → Bool
 grid_eq a b = a.columns == b.columns && (a.rows == b.rows
-    && (a.side_x == b.side_x && (a.side_y == b.side_y && a.regions == b.regions)))
+    && (a.side_x == b.side_x && (a.side_y == b.side_y && (a.regions == b.regions
+    && (reciprocal_of (2 ^ 32) a.columns == reciprocal_of (2 ^ 32) b.columns
+    && (reciprocal_of (2 ^ 62) a.side_x == reciprocal_of (2 ^ 62) b.side_x
+    && reciprocal_of (2 ^ 62) a.side_y == reciprocal_of (2 ^ 62) b.side_y))))))
 
 pub grid_decides : (a b : GridData) → Decides (grid_eq a b) (a ≡ b)
 grid_decides a b = Decides-like (grid_eq a b)
@@ -109,7 +113,7 @@ grid_decides a b = Decides-like (grid_eq a b)
       rows = h.1.0 i;
       side_x = h.1.1.0 i;
       side_y = h.1.1.1.0 i;
-      regions = h.1.1.1.1 i;
+      regions = h.1.1.1.1.0 i;
     })
     (λ e. (
       ap (λ (v : GridData). v.columns) e,
@@ -117,13 +121,26 @@ grid_decides a b = Decides-like (grid_eq a b)
         ap (λ (v : GridData). v.rows) e,
         (
           ap (λ (v : GridData). v.side_x) e,
-          (ap (λ (v : GridData). v.side_y) e, ap (λ (v : GridData). v.regions) e),
+          (
+            ap (λ (v : GridData). v.side_y) e,
+            (
+              ap (λ (v : GridData). v.regions) e,
+              (
+                ap (λ (v : GridData). reciprocal_of (2 ^ 32) v.columns) e,
+                (ap (λ (v : GridData). reciprocal_of (2 ^ 62) v.side_x) e, ap (λ (v : GridData). reciprocal_of (2 ^ 62) v.side_y) e),
+              ),
+            ),
+          ),
         ),
       ),
     ))
     (Decides-and _ _ (Decides-eqb a.columns b.columns) (Decides-and _ _ (Decides-eqb a.rows b.rows)
     (Decides-and _ _ (Decides-eqb a.side_x b.side_x)
-    (Decides-and _ _ (Decides-eqb a.side_y b.side_y) (Decides-eqb a.regions b.regions)))))
+    (Decides-and _ _ (Decides-eqb a.side_y b.side_y)
+    (Decides-and _ _ (Decides-eqb a.regions b.regions)
+    (Decides-and _ _ (Decides-eqb (reciprocal_of (2 ^ 32) a.columns) (reciprocal_of (2 ^ 32) b.columns))
+    (Decides-and _ _ (Decides-eqb (reciprocal_of (2 ^ 62) a.side_x) (reciprocal_of (2 ^ 62) b.side_x))
+    (Decides-eqb (reciprocal_of (2 ^ 62) a.side_y) (reciprocal_of (2 ^ 62) b.side_y)))))))))
 
 -- if rules and grids were found to be the same, the floors decide
 pub are_alike : (x y : Home) (f g : Stamp) (o p : Option Live) (a b : RegionData) (r t u : Bool) →
