@@ -1,11 +1,13 @@
 //! One module for each part.
 
 mod bursts;
+mod expecting;
 mod faults;
 mod gathering;
 mod helpers;
 mod live;
 mod made_scenes;
+mod process;
 mod progress;
 mod time_sharing;
 mod words;

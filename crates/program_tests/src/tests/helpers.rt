@@ -1,6 +1,6 @@
 //! Words, scenes and calls that several tests share.
 
-use hard_disks::{Status, top};
+use hard_disks::{Status, Terminal, Terminals, top};
 use region_core::{Gate, OpenGate};
 use report_ports::{MemorySink, MemorySource};
 use std::alloc::{AllocError, Global};
@@ -90,6 +90,22 @@ impl Clock for StandingClock {
 
     fn sleep(&self, _duration: Duration) {
         self.micros.fetch_add(SLEEP, Ordering::SeqCst);
+    }
+}
+
+/// Standard error is a terminal, and standard output is none. No line is shown there before a second has passed.
+pub const BESIDE_A_LINE: Terminals = Terminals {
+    output: false,
+    errors: true,
+};
+
+/// A terminal to which the process may always write.
+#[derive(Drop)]
+pub struct OwnTerminal;
+
+impl Terminal for OwnTerminal {
+    fn is_ours(&self) -> bool {
+        true
     }
 }
 
