@@ -16,7 +16,7 @@ use Rattle.plane_vectors.proofs.Products.{distributes}
 use Rattle.event_rules.specs.declared.separation.Separation.{Separation}
 use Rattle.event_rules.specs.Events.{IsContactTick, TouchAt}
 use Rattle.event_rules.proofs.Courses.{inside_until}
-use Rattle.event_rules.specs.Predict.{HaveBegun, AreInside, IsLastTogether, IsTouch, IsOnlyContactTick, IsSeparation, FitInABox, PathsTouchAfter, separation_of}
+use Rattle.event_rules.specs.Predict.{IsOnlyChance, HaveBegun, AreInside, IsLastTogether, IsTouch, IsOnlyContactTick, IsSeparation, FitInABox, PathsTouchAfter, separation_of}
 use Rattle.event_rules.specs.Small.{IsValidPair}
 
 -- ---- sizes
@@ -219,6 +219,13 @@ pub no_touch : (rules : Rules) (a b : Disk) (s : Separation) (n : ℕ) → IsSep
 no_touch rules a b s n h found never tick before contact =
     let e : tick ≡ s.start + n = only_tick rules a b s n h found.only tick contact in
     never (omega arith) (subst (λ (t : ℕ). AreInside rules a b t) e (contact.first_inside, contact.second_inside))
+
+-- wherever they are then, there is no other one
+pub chance_from : (rules : Rules) (a b : Disk) (s : Separation) (n : ℕ) → IsSeparation a b s → PathsTouchAfter s n →
+    (s.start + n) < rules.end → IsOnlyChance rules a b (s.start + n)
+chance_from rules a b s n h found before =
+    let e = h.start in
+    record { begun = (omega arith, omega arith); end = before; only = only_tick rules a b s n h found.only }
 
 -- the contact up to the last tick at which both are inside
 pub only_contact_tick : (rules : Rules) (a b : Disk) (s : Separation) (last n : ℕ) → IsSeparation a b s → IsLastTogether rules a b last →

@@ -1,6 +1,6 @@
 -- Two disks meet at the same ticks in either order: the separation and the relative velocity change their signs, their
 -- products don't.
-use Rattle.std.proofs.Common.{◌≡◌, ℕ, ◌<◌, max, min, sym, subst, ap, ◌∙◌, arith}
+use Rattle.std.proofs.Common.{◌≡◌, ℕ, ◌<◌, max, min, refl, sym, subst, ap, ◌∙◌, arith}
 use Rattle.std.specs.Prelude.{ℤ, pos, ◌+ℤ◌, ◌-ℤ◌, ◌*ℤ◌, ◌≤ℤ◌, ◌<ℤ◌}
 use Rattle.std.proofs.lemmas.Int.{ints}
 use Rattle.std.proofs.Math.IntN.{+ℤ_comm}
@@ -15,8 +15,8 @@ use Rattle.contact_predictor.specs.Contact.{IsApproaching, IsCollisionCourse, Is
 use Rattle.event_stamps.specs.declared.Stamp.{Stamp}
 use Rattle.event_stamps.specs.declared.Kind.TheVariants.{Pair}
 use Rattle.event_stamps.specs.Least.{IsOnly}
-use Rattle.event_rules.specs.Events.{NeverHit, IsContactTick, IsPairEvent, pair_stamp}
-use Rattle.event_rules.specs.Predict.{IsTouch}
+use Rattle.event_rules.specs.Events.{NeverHit, IsContactTick, IsPairEvent, IsChance, pair_stamp}
+use Rattle.event_rules.specs.Predict.{IsOnlyChance, IsTouch}
 
 -- ---- vectors
 -- the vector with the other signs
@@ -119,3 +119,27 @@ event_falling rules i j tick round first second a b lt meeting r f s =
       (contact_tick_swapped rules a b tick meeting.0, meeting.1, stamp),
       λ t event. event.2 ∙ ap (pair_stamp j b i a) (meeting.2 t.tick (contact_tick_swapped rules b a t.tick event.0)) ∙ sym stamp,
     )
+
+-- the only tick at which they can is that of their event, if there is one
+pub chance_stamp : (rules : Rules) (i j tick round first second : ℕ) (a b : Disk) → IsOnlyChance rules a b tick →
+    round ≡ max (mark_at a tick) (mark_at b tick) → first ≡ min i j → second ≡ max i j →
+    IsChance rules i a j b (record { tick = tick; round = round; kind = Pair; first = first; second = second })
+chance_stamp rules i j tick round first second a b chance r f s = record {
+  kind = refl;
+  first = f;
+  second = s;
+  round = r;
+  rising = λ lt t event.
+      let lower : first ≡ i = omega arith in
+      let higher : second ≡ j = omega arith in
+      let stamp : record { tick = tick; round = round; kind = Pair; first = first; second = second } ≡ pair_stamp i a j b tick =
+      λ n. record { tick = tick; round = r n; kind = Pair; first = lower n; second = higher n } in
+      event.2 ∙ ap (pair_stamp i a j b) (chance.only t.tick event.0) ∙ sym stamp;
+  falling = λ lt t event.
+      let lower : first ≡ j = omega arith in
+      let higher : second ≡ i = omega arith in
+      let later : round ≡ max (mark_at b tick) (mark_at a tick) = r ∙ max_comm (mark_at a tick) (mark_at b tick) in
+      let stamp : record { tick = tick; round = round; kind = Pair; first = first; second = second } ≡ pair_stamp j b i a tick =
+      λ n. record { tick = tick; round = later n; kind = Pair; first = lower n; second = higher n } in
+      event.2 ∙ ap (pair_stamp j b i a) (chance.only t.tick (contact_tick_swapped rules b a t.tick event.0)) ∙ sym stamp;
+}

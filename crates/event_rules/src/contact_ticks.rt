@@ -5,7 +5,7 @@ ghost use Rattle.fixed_motion.specs.Rules.{IsChecked};
 ghost use Rattle.fixed_motion.specs.Motion.{IsValidDisk, IsInside, half_of, place_of};
 ghost use Rattle.contact_predictor.specs.Contact.{IsBetween};
 ghost use Rattle.event_rules.specs.Events.{IsContactTick};
-ghost use Rattle.event_rules.specs.Predict.{HaveBegun, IsLastTogether, IsOnlyContactTick, IsTouch, IsSeparation, FitInABox, PathsTouchAfter, AreInside};
+ghost use Rattle.event_rules.specs.Predict.{HaveBegun, IsLastTogether, IsOnlyContactTick, IsTouch, IsSeparation, FitInABox, PathsTouchAfter, AreInside, IsOnlyChance};
 ghost use Rattle.event_rules.specs.Small.{IsSmallPair, IsSmallCourse};
 
 use crate::separation::{
@@ -61,6 +61,40 @@ pub(crate) fn quick_tick(rules: &Rules, a: &Disk, b: &Disk) -> Option<Option<u64
     };
     let ticks = approach.quick_contact()?;
     Some(tick_inside(rules, a, b, &s, ticks))
+}
+
+// The only tick before the end at which two disks can hit each other. Whether they are inside the box then isn't
+// tested. None says nothing.
+#[inline(always)]
+pub(crate) fn only_chance(rules: &Rules, a: &Disk, b: &Disk) -> Option<Option<u64>>
+    requires { IsSmallPair rules.now a.now b.now }
+    ensures { IfSome result (λ found. MatchOption found ((tick : ℕ) → tick < rules.now.end → IsContactTick rules.now a.now b.now tick → ⊥)
+        (IsOnlyChance rules.now a.now b.now)) }
+{
+    let s = separated(a, b);
+    let Some(approach) = small_course(rules, a, b, &s) else {
+        return Some(None);
+    };
+    let ticks = approach.quick_contact()?;
+    Some(chance_after(rules, a, b, &s, ticks))
+}
+
+// The tick of a contact `ticks` ticks after the later base tick, if it is before the end.
+#[inline(always)]
+fn chance_after(rules: &Rules, a: &Disk, b: &Disk, s: &Separation, ticks: u64) -> Option<u64>
+    requires checked { IsChecked rules.now }
+    requires first_valid { IsValidDisk rules.now a.now }
+    requires second_valid { IsValidDisk rules.now b.now }
+    requires separation { IsSeparation a.now b.now s.now }
+    requires found { PathsTouchAfter s.now ticks }
+    requires near { ticks ≤ 2 ^ 30 }
+    ensures { MatchOption result ((tick : ℕ) → tick < rules.now.end → IsContactTick rules.now a.now b.now tick → ⊥)
+        (IsOnlyChance rules.now a.now b.now) }
+{
+    let _first = a;
+    let _second = b;
+    let tick = s.start + ticks;
+    if tick < rules.end { Some(tick) } else { None }
 }
 
 // The quadratic of two disks that approach each other on paths that cross. None if they never hit each other.

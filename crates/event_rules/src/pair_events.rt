@@ -8,11 +8,11 @@ ghost use Rattle.contact_predictor.specs.Contact.{IsContact};
 ghost use Rattle.event_stamps.specs.declared.Stamp.{Stamp};
 ghost use Rattle.event_stamps.specs.declared.Kind.TheVariants.{Pair};
 ghost use Rattle.event_stamps.specs.Least.{IsOnly};
-ghost use Rattle.event_rules.specs.Events.{IsPairEvent, IsContactTick, TouchAt};
-ghost use Rattle.event_rules.specs.Predict.{HaveBegun, TouchInside, IsTouch};
+ghost use Rattle.event_rules.specs.Events.{IsPairEvent, IsContactTick, TouchAt, IsChance, HaveNoEvent};
+ghost use Rattle.event_rules.specs.Predict.{HaveBegun, TouchInside, IsTouch, IsOnlyChance};
 ghost use Rattle.event_rules.specs.Small.{IsSmallPair};
 
-use crate::contact_ticks::{are_inside_at, quick_tick, touching_tick};
+use crate::contact_ticks::{are_inside_at, only_chance, quick_tick, touching_tick};
 use crate::separation::{distance_between, has_small_products};
 use contact_predictor::{Approach, is_contact};
 use event_stamps::{Kind, Stamp};
@@ -90,6 +90,37 @@ pub fn quick_event_between(
 {
     let found = quick_tick(rules, a, b)?;
     Some(event_at(rules, i, a, j, b, found))
+}
+
+/// A stamp that is that of the event of two different disks if they hit each other, which isn't told: whether they are
+/// inside the box at that tick isn't tested. The inner None says that they don't. None says nothing: then
+/// [`event_between`] has to be asked.
+#[inline(always)]
+pub fn chance_between(rules: &Rules, i: u32, a: &Disk, j: u32, b: &Disk) -> Option<Option<Stamp>>
+    requires { IsSmallPair rules.now a.now b.now }
+    ensures { IfSome result (λ event. MatchOption event (HaveNoEvent rules.now i a.now j b.now)
+        (IsChance rules.now i a.now j b.now)) }
+{
+    let found = only_chance(rules, a, b)?;
+    Some(chance_at(rules, i, a, j, b, found))
+}
+
+// The stamp of two disks that can hit each other at the tick `found` alone, or never.
+#[inline(always)]
+fn chance_at(rules: &Rules, i: u32, a: &Disk, j: u32, b: &Disk, found: Option<u64>) -> Option<Stamp>
+    requires { MatchOption found ((tick : ℕ) → tick < rules.now.end → IsContactTick rules.now a.now b.now tick → ⊥)
+        (IsOnlyChance rules.now a.now b.now) }
+    ensures { MatchOption result (HaveNoEvent rules.now i a.now j b.now) (IsChance rules.now i a.now j b.now) }
+{
+    let _rules = rules;
+    let tick = found?;
+    Some(Stamp {
+        tick,
+        round: round_at(a, b, tick),
+        kind: Kind::Pair,
+        first: i.min(j),
+        second: i.max(j),
+    })
 }
 
 // The greater of the marks of two disks at a tick. Both are 0 unless that is the later of their base ticks.
