@@ -93,8 +93,12 @@ fn chance_after(rules: &Rules, a: &Disk, b: &Disk, s: &Separation, ticks: u64) -
 {
     let _first = a;
     let _second = b;
-    let tick = s.start + ticks;
-    if tick < rules.end { Some(tick) } else { None }
+    let chance = s.start + ticks;
+    if chance < rules.end {
+        Some(chance)
+    } else {
+        None
+    }
 }
 
 // The quadratic of two disks that approach each other on paths that cross. None if they never hit each other.

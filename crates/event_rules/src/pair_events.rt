@@ -114,9 +114,10 @@ fn chance_at(rules: &Rules, i: u32, a: &Disk, j: u32, b: &Disk, found: Option<u6
 {
     let _rules = rules;
     let tick = found?;
+    let round = round_at(a, b, tick);
     Some(Stamp {
         tick,
-        round: round_at(a, b, tick),
+        round,
         kind: Kind::Pair,
         first: i.min(j),
         second: i.max(j),

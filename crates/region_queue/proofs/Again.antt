@@ -14,7 +14,9 @@ use Rattle.region_view.specs.Views.{ViewData}
 use Rattle.region_view.proofs.Naming.{none_among}
 use Rattle.region_queue.specs.declared.finder.Finder.{Finder}
 use Rattle.event_tree.specs.Entries.{EntriesData, entry_at}
-use Rattle.region_queue.specs.Finding.{Cells, cell_in, IsTakenOff, IsRelisted, AreRelisted, AreRetaken, AreRetakenOf, IsTaken, IsTakenAt}
+use Rattle.region_queue.specs.Finding.{Cells, cell_in, IsTakenOff, IsRelisted, AreRelisted, AreRetaken, AreRetakenOf, IsFound, IsTaken, IsTakenAt, IsLoweredAt}
+use Rattle.region_queue.specs.Covering.{IsLowered}
+use Rattle.region_queue.proofs.Covered.{taken_lowered}
 
 pub take_whole : (xs : List ℕ) (n : ℕ) → length xs ≤ n → take n xs ≡ xs
 take_whole xs n le = grind (arith, common_steps)
@@ -50,9 +52,22 @@ relisted_more view done disk old mid new before is =
     again_more (λ i o. o ≡ cell_in view i) done disk (map.get old) (map.get mid) (map.get new) before is.listed is.others
 
 pub retaken_more : (finder : Finder) (view : ViewData) (done : List ℕ) (disk : ℕ) (old mid new : EntriesData) →
-    AreRetaken finder view done old mid → IsTakenAt finder view disk mid new → AreRetaken finder view (done ++ disk ∷ []) old new
+    AreRetaken finder view done old mid → IsLoweredAt finder view disk mid new → AreRetaken finder view (done ++ disk ∷ []) old new
 retaken_more finder view done disk old mid new before is =
-    again_more (IsTaken finder view) done disk (entry_at old) (entry_at mid) (entry_at new) before is.taken is.others
+    again_more (IsLowered (IsFound finder view)) done disk (entry_at old) (entry_at mid) (entry_at new) before is.lowered is.others
+
+pub taken_low : (finder : Finder) (view : ViewData) (disk : ℕ) (old new : EntriesData) → IsTakenAt finder view disk old new →
+    IsLoweredAt finder view disk old new
+taken_low finder view disk old new is =
+    record { lowered = taken_lowered (IsFound finder view) disk (entry_at new disk) is.taken; others = is.others }
+
+pub lowered_one : (finder : Finder) (view : ViewData) (Such : ℕ → Type 0) (disk : ℕ) (old new : EntriesData) →
+    IsLoweredAt finder view disk old new → ((i : ℕ) → Such i → i ≡ disk) → (i : ℕ) →
+    IsLowered (IsFound finder view) i (entry_at new i) ⊎ ((entry_at new i ≡ entry_at old i) × ¬ Such i)
+lowered_one finder view Such disk old new is only i = elim (cases_eq i disk) [
+  | inl same ↦ inl (subst (λ (n : ℕ). IsLowered (IsFound finder view) n (entry_at new n)) (sym same) is.lowered)
+  | inr ne ↦ inr (is.others i ne, λ such. ne (only i such))
+]
 
 pub retaken_one : (finder : Finder) (view : ViewData) (Such : ℕ → Type 0) (disk : ℕ) (old new : EntriesData) →
     IsTakenAt finder view disk old new → ((i : ℕ) → Such i → i ≡ disk) → AreRetakenOf finder view Such old new

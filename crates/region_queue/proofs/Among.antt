@@ -15,7 +15,8 @@ use Rattle.region_view.proofs.Naming.{none_among}
 use Rattle.region_queue.specs.declared.finder.Finder.{Finder}
 use Rattle.region_queue.specs.declared.parts.Parts.{Parts}
 use Rattle.region_queue.specs.Outside.{IsListedInParts}
-use Rattle.region_queue.specs.Finding.{IsReady, IsNativePair, IsNativeWith, IsNearby, AreAllWithin, IsBlockBeside, AreListed}
+use Rattle.region_queue.specs.Finding.{IsReady, IsNativePair, IsNativeWith, IsNearby, AreAllWithin, IsBlockBeside, AreListed, IsLowKey}
+use Rattle.region_queue.proofs.Low.{low_as}
 use Rattle.region_queue.proofs.Candidates.{listed_at, with_more, with_same}
 
 -- ---- one after the other
@@ -73,6 +74,18 @@ pub best_gathered : (finder : Finder) (view : ViewData) (disk : ℕ) (block : Bl
     IsLeastOf (IsNativeWith finder view disk With) o
 best_gathered finder view disk block With old near o within none gathered h =
     with_same finder view disk (λ i. Contains near i) With o (λ i x. (are i).0 x) (λ i x. (are i).1 x) (h (λ i x. within i ((are i).0 x)))
+  where
+    are : (i : ℕ) → Contains near i ↔ With i
+    are = gathered_first near old With none gathered
+
+-- the same for a key that isn't after them
+pub low_gathered : (finder : Finder) (view : ViewData) (disk : ℕ) (block : Block) (With : ℕ → Type 0) (old near : List ℕ)
+    (o : Option Stamp) → ((i : ℕ) → With i → IsListedWithin finder.lists block i) → old ≡ [] →
+    ((i : ℕ) → Contains near i ↔ (Contains old i ⊎ With i)) →
+    (AreAllWithin finder.lists block near → IsLowKey (IsNativeWith finder view disk (λ i. Contains near i)) disk o) →
+    IsLowKey (IsNativeWith finder view disk With) disk o
+low_gathered finder view disk block With old near o within none gathered h =
+    low_as finder view disk (λ i. Contains near i) With o (λ i x. (are i).1 x) (h (λ i x. within i ((are i).0 x)))
   where
     are : (i : ℕ) → Contains near i ↔ With i
     are = gathered_first near old With none gathered

@@ -10,7 +10,7 @@ use Rattle.event_tree.specs.Keys.{Key, IsNotAfter, IsLeastKey, key_at}
 use Rattle.event_tree.proofs.Trees.{not_after_trans}
 use Rattle.region_view.specs.Naming.{Names, NamesAny}
 use Rattle.region_view.proofs.Naming.{none_among, by_itself, is_pair_or_not, names_or_not, one_named, names_none}
-use Rattle.region_queue.specs.Covering.{IsKey, Covers}
+use Rattle.region_queue.specs.Covering.{IsKey, IsLowered, Covers}
 
 -- a disk's candidates: those by itself, and its pairs
 abbrev pub CandidatesOf : (Stamp → Type 0) → ℕ → Stamp → Type 0
@@ -49,6 +49,13 @@ taken_is_key D i key bound best pairs = record {
     below None none = tt
     below (Some t) least = least_not_after (CandidatesOf D i) key t best (least.0.0, least.0.2)
 
+-- the least ones aren't after what they cover
+pub taken_lowered : (D : Stamp → Type 0) (i : ℕ) (entry : Key × Key) → IsTakenOf D i entry → IsLowered D i entry
+taken_lowered D i entry taken = record {
+  key = taken_is_key D i entry.0 entry.1 taken.0 taken.1;
+  pairs = λ s d pair named. least_not_after (PairsOf D i) entry.1 s taken.1 (d, pair, named);
+}
+
 -- it stays if the disk's candidates by itself do
 pub key_stays : (C D : Stamp → Type 0) (i : ℕ) (key bound : Key) → ((s : Stamp) → ¬ (s.kind ≡ Pair) → s.first ≡ i → (C s ↔ D s)) →
     IsKey C i key bound → IsKey D i key bound
@@ -60,29 +67,33 @@ key_stays C D i key bound stay is = record {
   below = is.below;
 }
 
+-- the entry isn't after what it covers, or it is as it was if the disk isn't such a one
+abbrev pub IsLoweredOr : (Stamp → Type 0) → (ℕ → Type 0) → EntriesData → EntriesData → ℕ → Type 0
+IsLoweredOr D Such old new i = IsLowered D i (entry_at new i) ⊎ ((entry_at new i ≡ entry_at old i) × ¬ Such i)
+
 -- ---- the theorem: if the keys of all touched disks are taken again, and the others are too or are kept, the keys
 -- cover the candidates again
 pub covers_again : (C D : Stamp → Type 0) (ids : List ℕ) (old new : EntriesData) → Covers C old.keys old.bounds →
-    ((s : Stamp) → ¬ NamesAny s ids → (C s ↔ D s)) → ((i : ℕ) → IsRetaken D (λ n. Contains ids n) old new i) →
+    ((s : Stamp) → ¬ NamesAny s ids → (C s ↔ D s)) → ((i : ℕ) → IsLoweredOr D (λ n. Contains ids n) old new i) →
     Covers D new.keys new.bounds
 covers_again C D ids old new covers stay kept = record {
   each = λ i. each i (kept i);
   paired = λ s d pair. paired s d pair (names_or_not s ids);
 }
   where
-    each : (i : ℕ) → IsRetaken D (λ n. Contains ids n) old new i → IsKey D i (key_at new.keys i) (key_at new.bounds i)
-    each i (inl taken) = taken_is_key D i (key_at new.keys i) (key_at new.bounds i) taken.0 taken.1
+    each : (i : ℕ) → IsLoweredOr D (λ n. Contains ids n) old new i → IsKey D i (key_at new.keys i) (key_at new.bounds i)
+    each i (inl lowered) = lowered.key
     each i (inr k) = subst (λ (entry : Key × Key). IsKey D i entry.0 entry.1) (sym k.0)
         (key_stays C D i (key_at old.keys i) (key_at old.bounds i) (λ s not first. stay s (names_none s ids i not (inl first) k.1)) (covers.each i))
 
-    stays : (s : Stamp) (i : ℕ) → PairsOf D i s → IsNotAfter (key_at old.bounds i) (Some s) → IsRetaken D (λ n. Contains ids n) old new i →
+    stays : (s : Stamp) (i : ℕ) → PairsOf D i s → IsNotAfter (key_at old.bounds i) (Some s) → IsLoweredOr D (λ n. Contains ids n) old new i →
         IsNotAfter (key_at new.bounds i) (Some s)
-    stays s i pair le (inl taken) = least_not_after (PairsOf D i) (key_at new.bounds i) s taken.1 pair
+    stays s i pair le (inl lowered) = lowered.pairs s pair.0 pair.1 pair.2
     stays s i pair le (inr k) = subst (λ (entry : Key × Key). IsNotAfter entry.1 (Some s)) (sym k.0) le
 
-    touched : (s : Stamp) (i : ℕ) → PairsOf D i s → Contains ids i → IsRetaken D (λ n. Contains ids n) old new i →
+    touched : (s : Stamp) (i : ℕ) → PairsOf D i s → Contains ids i → IsLoweredOr D (λ n. Contains ids n) old new i →
         IsNotAfter (key_at new.bounds i) (Some s)
-    touched s i pair among (inl taken) = least_not_after (PairsOf D i) (key_at new.bounds i) s taken.1 pair
+    touched s i pair among (inl lowered) = lowered.pairs s pair.0 pair.1 pair.2
     touched s i pair among (inr k) = absurd (k.1 among)
 
     paired : (s : Stamp) → D s → s.kind ≡ Pair → NamesAny s ids ⊎ ¬ NamesAny s ids →
@@ -99,8 +110,8 @@ pub covers_still : (C : Stamp → Type 0) (Such : ℕ → Type 0) (old new : Ent
     ((i : ℕ) → IsRetaken C Such old new i) → Covers C new.keys new.bounds
 covers_still C Such old new covers kept = covers_again C C [] old new covers (λ s none. (λ c. c, λ c. c)) again
   where
-    again : (i : ℕ) → IsRetaken C (λ n. Contains [] n) old new i
-    again i = elim (kept i) [ inl taken ↦ inl taken | inr k ↦ inr (k.0, none_among i) ]
+    again : (i : ℕ) → IsLoweredOr C (λ n. Contains [] n) old new i
+    again i = elim (kept i) [ inl taken ↦ inl (taken_lowered C i (entry_at new i) taken) | inr k ↦ inr (k.0, none_among i) ]
 
 -- ---- the least
 -- each candidate has a disk whose key isn't after it

@@ -8,7 +8,7 @@ use Rattle.fixed_motion.specs.Motion.{IsValidDisk, mark_at}
 use Rattle.event_stamps.specs.declared.Stamp.{Stamp}
 use Rattle.event_stamps.specs.Order.{IsInRange}
 use Rattle.event_stamps.specs.Least.{IsLeastOf, IsOnly}
-use Rattle.event_rules.specs.Events.{IsPairEvent}
+use Rattle.event_rules.specs.Events.{IsPairEvent, IsChance, HaveNoEvent}
 use Rattle.event_rules.proofs.Ranges.{rounds, side_range}
 use Rattle.event_rules.proofs.Valid.{mark_within}
 use Rattle.cell_grid.specs.Grid.{GridData}
@@ -64,6 +64,19 @@ between_in_range rules i j a b o checked first second low high (inl rising) up d
     pair_in_range rules i j a b o checked first second low high (up rising)
 between_in_range rules i j a b o checked first second low high (inr falling) up down =
     pair_in_range rules j i b a o checked second first high low (down falling)
+
+-- so is the one at which two disks can hit each other
+pub chance_in_range : (rules : Rules) (i j : ℕ) (a b : Disk) (o : Option Stamp) → IsChecked rules → IsValidDisk rules a → IsValidDisk rules b →
+    i < 65536 → j < 65536 → MatchOption o (HaveNoEvent rules i a j b) (IsChance rules i a j b) → IfSome o IsInRange
+chance_in_range rules i j a b None checked first second low high chance = tt
+chance_in_range rules i j a b (Some s) checked first second low high chance =
+    let limit = rounds rules checked in
+    let one = mark_within a s.tick rules.round_limit first.mark in
+    let other = mark_within b s.tick rules.round_limit second.mark in
+    let round = chance.round in
+    let from = chance.first in
+    let to = chance.second in
+    (omega arith, omega arith, omega arith)
 
 -- those of native candidates of a valid placing
 pub native_in_range : (rules : Rules) (grid : GridData) (region : ℕ) (at : Placing) (s : Stamp) → IsChecked rules →

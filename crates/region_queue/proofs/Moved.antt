@@ -18,9 +18,9 @@ use Rattle.region_view.specs.Views.{ViewData, rows_in}
 use Rattle.region_queue.specs.declared.finder.Finder.{Finder}
 use Rattle.region_view.specs.Naming.{Names, IsPairOf, IsMoved}
 use Rattle.region_view.proofs.Naming.{same_row, near_pair, native_stays, natives_stay}
-use Rattle.region_queue.specs.Finding.{IsFound, IsPaired, IsPairedBeyond, IsExtended, IsTakenAt, cell_in}
+use Rattle.region_queue.specs.Finding.{IsFound, IsLowKey, IsPaired, IsPairedBeyond, IsExtended, IsTakenAt, cell_in}
 use Rattle.region_queue.specs.Covering.{IsKey, Covers}
-use Rattle.region_queue.proofs.Again.{retaken_one}
+use Rattle.region_queue.proofs.Again.{lowered_one, taken_low}
 use Rattle.region_queue.proofs.Back.{names_decides}
 use Rattle.region_queue.proofs.Candidates.{adjacent_back, names_pair}
 use Rattle.region_queue.proofs.Covered.{SinglesOf, PairsOf, least_not_after, key_stays, covers_again}
@@ -138,7 +138,7 @@ old_or_beyond finder before view disk cell s moved at owner is = from is.2
 
 -- ---- the key of the disk
 -- the earlier of the disk's least candidate by itself, and of a bound that is a pair of it
-joined_is_key : (D : Stamp → Type 0) (i : ℕ) (single bound : Key) → IsLeastOf (SinglesOf D i) single →
+pub joined_is_key : (D : Stamp → Type 0) (i : ℕ) (single bound : Key) → IsLeastOf (SinglesOf D i) single →
     ((s : Stamp) → bound ≡ Some s → (s.kind ≡ Pair) × Names s i) → IsKey D i (earlier_of single bound) bound
 joined_is_key D i single bound least pair = record {
   named = λ s e. named s e is.one;
@@ -166,7 +166,7 @@ joined_is_key D i single bound least pair = record {
 extended_covers : (C D B : Stamp → Type 0) (disk : ℕ) (single beyond : Key) (old new : EntriesData) → Covers C old.keys old.bounds →
     ((s : Stamp) → ¬ Names s disk → (C s ↔ D s)) → ((s : Stamp) → PairsOf D disk s → C s ⊎ B s) →
     ((s : Stamp) → B s → (s.kind ≡ Pair) × Names s disk) → IfSome (key_at old.bounds disk) (λ s. s.kind ≡ Pair) →
-    IsLeastOf (SinglesOf D disk) single → IsLeastOf B beyond →
+    IsLeastOf (SinglesOf D disk) single → IsLowKey B disk beyond →
     IsEntered disk (earlier_of single (earlier_of (key_at old.bounds disk) beyond), earlier_of (key_at old.bounds disk) beyond) old new →
     Covers D new.keys new.bounds
 extended_covers C D B disk single beyond old new covers stay split names known least new_pair entered = record {
@@ -184,7 +184,7 @@ extended_covers C D B disk single beyond old new covers stay split names known l
     bound_pair s e (inl same) =
         let was : key_at old.bounds disk ≡ Some s = sym same ∙ e in
         (subst (λ (key : Key). IfSome key (λ (t : Stamp). t.kind ≡ Pair)) was known, (covers.each disk).bound_named s was)
-    bound_pair s e (inr same) = names s (subst (IsLeastOf B) (sym same ∙ e) new_pair).0
+    bound_pair s e (inr same) = new_pair.pair s (sym same ∙ e)
 
     each : (i : ℕ) → (i ≡ disk) ⊎ (i ≢ disk) → IsKey D i (key_at new.keys i) (key_at new.bounds i)
     each i (inl same) =
@@ -214,7 +214,7 @@ extended_covers C D B disk single beyond old new covers stay split names known l
       disk,
       (names s b).1,
       subst (λ (entry : Key × Key). IsNotAfter entry.1 (Some s)) (sym entered.set)
-          (not_after_trans bound beyond (Some s) is.second (least_not_after B beyond s new_pair b)),
+          (not_after_trans bound beyond (Some s) is.second (new_pair.low s b)),
     )
 
     paired : (s : Stamp) → D s → s.kind ≡ Pair → Names s disk ⊎ ¬ Names s disk → (i : ℕ) × Names s i × IsNotAfter (key_at new.bounds i) (Some s)
@@ -242,4 +242,5 @@ pub taken_covers : (finder : Finder) (before view : ViewData) (disk : ℕ) (old 
 taken_covers finder before view disk old new moved is covers =
     covers_again (IsFound finder before) (IsFound finder view) (disk ∷ []) old new covers
     (λ s none. natives_stay finder.rules finder.grid finder.region before view (disk ∷ []) s (all_but_moved disk before view moved) none)
-    (retaken_one finder view (λ i. Contains (disk ∷ []) i) disk old new is (λ i among. the_only disk i among))
+    (lowered_one finder view (λ i. Contains (disk ∷ []) i) disk old new (taken_low finder view disk old new is)
+    (λ i among. the_only disk i among))

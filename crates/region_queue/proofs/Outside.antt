@@ -4,7 +4,6 @@ use Rattle.std.proofs.lemmas.Bool.{cases_lt}
 use Rattle.std.specs.Prelude.{Option, Some, None, option_map}
 use Rattle.event_stamps.specs.declared.Stamp.{Stamp}
 use Rattle.event_stamps.specs.Least.{IsLeastOf, earlier_of}
-use Rattle.event_stamps.proofs.Least.{least_same}
 use Rattle.cell_grid.specs.Grid.{GridData, IsCell, IsAdjacent, column_of, row_of}
 use Rattle.cell_lists.specs.declared.near.Block.{Block}
 use Rattle.cell_lists.specs.Listing.{ListsData}
@@ -14,8 +13,8 @@ use Rattle.region_view.specs.Views.{ViewData, rows_in}
 use Rattle.region_queue.specs.declared.finder.Finder.{Finder}
 use Rattle.region_queue.specs.declared.parts.Parts.{Parts}
 use Rattle.region_queue.specs.Outside.{IsInBlock, IsPart, AreParts, IsRest, IsListedOutside, IsListedInParts}
-use Rattle.region_queue.specs.Finding.{IsReady, IsNativeWith, IsPairedBeyond, IsBestBeyond, IsBlockBeside, AreListed, cell_in}
-use Rattle.region_queue.proofs.Candidates.{IsAround, with_more, pair_found, pair_of, no_pair, listed_beside}
+use Rattle.region_queue.specs.Finding.{IsReady, IsNativeWith, IsPairedBeyond, IsLowKey, IsLowBeyond, IsBlockBeside, AreListed, cell_in}
+use Rattle.region_queue.proofs.Candidates.{IsAround, with_more, pair_of, no_pair, listed_beside}
 
 -- ---- the parts of a block, cut at the sides of a second one
 -- the place of a side, moved to the block's own side if it is beyond that
@@ -340,20 +339,13 @@ within_known finder view old other known ready around cell at =
         let p = placed_in (rows_in view other) cell at in
         subst (IsCell finder.grid) p.2 (ready.valid.cell other p.0 p.1)
 
-pub best_beyond : (finder : Finder) (view : ViewData) (disk old : ℕ) (p : Placed) (block known : Block) (o : Option Stamp) → IsReady finder view →
+pub low_beyond : (finder : Finder) (view : ViewData) (disk old : ℕ) (p : Placed) (block known : Block) (o : Option Stamp) → IsReady finder view →
     rows_in view disk ≡ Some p → IsAround finder.grid p.cell block → IsAround finder.grid old known →
-    AreListed view finder.lists.cells → IsLeastOf (IsNativeWith finder view disk (IsListedOutside finder.lists block known)) o →
-    IsBestBeyond finder view disk old o
-best_beyond finder view disk old p block known o ready row around around_old listed h =
-    least_same (IsNativeWith finder view disk (IsListedOutside finder.lists block known)) (IsPairedBeyond finder view disk old) o to from h
+    AreListed view finder.lists.cells → IsLowKey (IsNativeWith finder view disk (IsListedOutside finder.lists block known)) disk o →
+    IsLowBeyond finder view disk old o
+low_beyond finder view disk old p block known o ready row around around_old listed h =
+    record { low = λ s x. h.low s (from s x); pair = h.pair }
   where
-    to : (s : Stamp) → IsNativeWith finder view disk (IsListedOutside finder.lists block known) s → IsPairedBeyond finder view disk old s
-    to s x =
-        let pair = pair_found finder view disk x.0 s x.2 in
-        let at : cell_in view x.0 ≡ Some x.1.0 = sym (listed x.0) ∙ x.1.1 in
-        let is = within_known finder view old x.0 known ready around_old x.1.0 at in
-        (pair.0, pair.1, (x.0, (x.1.0, at, λ beside. x.1.3 (is.1 beside)), pair.2))
-
     from : (s : Stamp) → IsPairedBeyond finder view disk old s → IsNativeWith finder view disk (IsListedOutside finder.lists block known) s
     from s x =
         let other = x.2.0 in
@@ -368,5 +360,8 @@ best_beyond finder view disk old p block known o ready row around around_old lis
         )
 
 -- none of a disk that isn't there
-pub none_beyond : (finder : Finder) (view : ViewData) (disk cell : ℕ) → rows_in view disk ≡ None → IsBestBeyond finder view disk cell None
-none_beyond finder view disk cell none s h = no_pair finder view disk h.2.0 s none h.0 h.1 h.2.2
+pub none_beyond : (finder : Finder) (view : ViewData) (disk cell : ℕ) → rows_in view disk ≡ None → IsLowBeyond finder view disk cell None
+none_beyond finder view disk cell none = record {
+  low = λ s h. absurd (no_pair finder view disk h.2.0 s none h.0 h.1 h.2.2);
+  pair = λ s e. absurd (let no = e in cc);
+}

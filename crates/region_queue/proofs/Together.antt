@@ -3,8 +3,7 @@ use Rattle.std.proofs.Common.{◌≡◌, inr, inl, ℕ, List, sym, subst}
 use Rattle.std.specs.Prelude.{Option, Some}
 use Rattle.std.specs.List.{Contains}
 use Rattle.event_stamps.specs.declared.Stamp.{Stamp}
-use Rattle.event_stamps.specs.Least.{IsLeastOf, HasNone}
-use Rattle.event_stamps.proofs.Least.{least_same}
+use Rattle.event_stamps.specs.Least.{HasNone}
 use Rattle.cell_grid.specs.Grid.{GridData, IsAdjacent}
 use Rattle.cell_lists.specs.declared.near.Block.{Block}
 use Rattle.cell_lists.specs.Nearby.{IsWithinBlock, AreGathered}
@@ -12,8 +11,8 @@ use Rattle.region_view.specs.declared.action.Placed.{Placed}
 use Rattle.region_view.specs.Views.{ViewData, rows_in}
 use Rattle.region_view.proofs.Naming.{near_pair}
 use Rattle.region_queue.specs.declared.finder.Finder.{Finder}
-use Rattle.region_queue.specs.Finding.{IsReady, IsNativePair, IsNativeWith, IsPaired, IsBestPair, AreKept, AreListed, HasNearby, IsWider}
-use Rattle.region_queue.proofs.Candidates.{IsAround, listed_at, pair_found, pair_of, pair_beside, other_of, names_pair}
+use Rattle.region_queue.specs.Finding.{IsReady, IsNativePair, IsNativeWith, IsPaired, IsLowKey, IsLowPair, AreKept, AreListed, HasNearby, IsWider}
+use Rattle.region_queue.proofs.Candidates.{IsAround, listed_at, pair_found, pair_of, pair_beside, other_of}
 
 -- a disk that is listed around a cell is gathered with a wider block
 pub near_gathered : (finder : Finder) (view : ViewData) (at : ℕ) (block wider : Block) (old near : List ℕ) → IsReady finder view →
@@ -36,16 +35,12 @@ far_none finder view disk other p row far s n =
     (near_pair finder.rules finder.grid finder.region view s pair.0 pair.1) pair.2 in
     far beside.0 beside.1 beside.2
 
--- the least event with one of those kept of all that are near is the least pair
-pub best_kept : (finder : Finder) (view : ViewData) (disk : ℕ) (p : Placed) (near kept : List ℕ) (o : Option Stamp) →
+-- a key that isn't after the events with those kept of all that are near isn't after any pair
+pub low_kept : (finder : Finder) (view : ViewData) (disk : ℕ) (p : Placed) (near kept : List ℕ) (o : Option Stamp) →
     rows_in view disk ≡ Some p → HasNearby finder view p.cell near → AreKept (λ i. HasNone (IsNativePair finder view disk i)) near kept →
-    IsLeastOf (IsNativeWith finder view disk (λ i. Contains kept i)) o → IsBestPair finder view disk o
-best_kept finder view disk p near kept o row has are h =
-    least_same (IsNativeWith finder view disk (λ i. Contains kept i)) (IsPaired finder view disk) o to from h
+    IsLowKey (IsNativeWith finder view disk (λ i. Contains kept i)) disk o → IsLowPair finder view disk o
+low_kept finder view disk p near kept o row has are h = record { low = λ s x. h.low s (from s x); pair = h.pair }
   where
-    to : (s : Stamp) → IsNativeWith finder view disk (λ i. Contains kept i) s → IsPaired finder view disk s
-    to s x = let pair = pair_found finder view disk x.0 s x.2 in (pair.0, pair.1, names_pair s disk x.0 pair.1 pair.2)
-
     from : (s : Stamp) → IsPaired finder view disk s → IsNativeWith finder view disk (λ i. Contains kept i) s
     from s x =
         let other = other_of s disk x.2 in

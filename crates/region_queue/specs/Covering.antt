@@ -14,6 +14,11 @@ pub record IsKey (C : Stamp → Type 0) (disk : ℕ) (key bound : Key) : Type 0 
   pub single : (s : Stamp) → C s → ¬ (s.kind ≡ Pair) → s.first ≡ disk → IsNotAfter key (Some s)
   pub below : IsNotAfter key bound
 
+-- a disk has such a key, and its bound is after none of its pairs
+pub record IsLowered (C : Stamp → Type 0) (disk : ℕ) (entry : Key × Key) : Type 0 where
+  pub key : IsKey C disk entry.0 entry.1
+  pub pairs : (s : Stamp) → C s → s.kind ≡ Pair → Names s disk → IsNotAfter entry.1 (Some s)
+
 -- each disk has such a key, and each pair has a disk whose bound isn't after it
 pub record Covers (C : Stamp → Type 0) (keys bounds : List Key) : Type 0 where
   pub each : (disk : ℕ) → IsKey C disk (key_at keys disk) (key_at bounds disk)

@@ -10,7 +10,8 @@ use Rattle.event_stamps.specs.declared.Stamp.{Stamp}
 use Rattle.event_stamps.specs.declared.Kind.TheVariants.{Pair}
 use Rattle.event_stamps.specs.Least.{IsLeastOf, earlier_of}
 use Rattle.event_tree.specs.Entries.{EntriesData, IsEntered, entry_at}
-use Rattle.event_tree.specs.Keys.{Key, key_at}
+use Rattle.event_tree.specs.Keys.{Key, IsNotAfter, key_at}
+use Rattle.region_queue.specs.Covering.{IsLowered}
 use Rattle.event_rules.specs.Events.{NeverHit}
 use Rattle.event_rules.specs.Small.{IsSmallPair}
 use Rattle.cell_grid.specs.Grid.{GridData, IsGridOf, IsRegion, IsCell, IsAdjacent, IsStripOf, Owns}
@@ -171,14 +172,23 @@ IsBestSingle finder view disk key = IsLeastOf (IsSingle finder view disk) key
 abbrev pub IsBestPair : Finder → ViewData → ℕ → Key → Type 0
 IsBestPair finder view disk key = IsLeastOf (IsPaired finder view disk) key
 
--- the least native pair of the disk with one beyond those cells; none if there is none
-abbrev pub IsBestBeyond : Finder → ViewData → ℕ → ℕ → Key → Type 0
-IsBestBeyond finder view disk cell key = IsLeastOf (IsPairedBeyond finder view disk cell) key
+-- a key that is after none of these stamps; if there is one, it is that of a pair, and names the disk
+pub record IsLowKey (P : Stamp → Type 0) (disk : ℕ) (key : Key) : Type 0 where
+  pub low : (s : Stamp) → P s → IsNotAfter key (Some s)
+  pub pair : (s : Stamp) → key ≡ Some s → (s.kind ≡ Pair) × Names s disk
 
--- these are the least candidates of the disk, if the disks are listed as the view has them
-abbrev pub IsBestOf : Finder → ViewData → ℕ → Best → Type 0
-IsBestOf finder view disk best = IsBestSingle finder view disk best.single
-    × (AreListed view finder.lists.cells → IsBestPair finder view disk best.pair)
+-- such a key for the native pairs that name the disk
+abbrev pub IsLowPair : Finder → ViewData → ℕ → Key → Type 0
+IsLowPair finder view disk key = IsLowKey (IsPaired finder view disk) disk key
+
+-- and for those with one beyond those cells
+abbrev pub IsLowBeyond : Finder → ViewData → ℕ → ℕ → Key → Type 0
+IsLowBeyond finder view disk cell key = IsLowKey (IsPairedBeyond finder view disk cell) disk key
+
+-- the least candidate of the disk by itself, and, if the disks are listed as the view has them, such a key for its pairs
+abbrev pub IsLowOf : Finder → ViewData → ℕ → Best → Type 0
+IsLowOf finder view disk best = IsBestSingle finder view disk best.single
+    × (AreListed view finder.lists.cells → IsLowPair finder view disk best.pair)
 
 -- ---- what is kept of the disks
 -- the least native candidate that names the disk, and the least pair
@@ -195,15 +205,21 @@ abbrev pub AreRetakenOf : Finder → ViewData → (ℕ → Type 0) → EntriesDa
 AreRetakenOf finder view Such old new = (i : ℕ) →
     IsTaken finder view i (entry_at new i) ⊎ ((entry_at new i ≡ entry_at old i) × ¬ Such i)
 
--- the same for the disks of a list
-abbrev pub AreRetaken : Finder → ViewData → List ℕ → EntriesData → EntriesData → Type 0
-AreRetaken finder view disks old new = AreRetakenOf finder view (λ i. Contains disks i) old new
+-- the entry of one disk isn't after what it covers, and the others have theirs
+pub record IsLoweredAt (finder : Finder) (view : ViewData) (disk : ℕ) (old new : EntriesData) : Type 0 where
+  pub lowered : IsLowered (IsFound finder view) disk (entry_at new disk)
+  pub others : (other : ℕ) → other ≢ disk → entry_at new other ≡ entry_at old other
 
--- the disk's new bound is the earlier of the old one and its least pair beyond the cells adjacent to this one, and its
--- key is the earlier of the new bound and its least candidate by itself
+-- so are the entries of the disks of a list; the other disks' entries are so too, or are as they were
+abbrev pub AreRetaken : Finder → ViewData → List ℕ → EntriesData → EntriesData → Type 0
+AreRetaken finder view disks old new = (i : ℕ) →
+    IsLowered (IsFound finder view) i (entry_at new i) ⊎ ((entry_at new i ≡ entry_at old i) × ¬ Contains disks i)
+
+-- the disk's new bound is the earlier of the old one and a key that isn't after its pairs beyond the cells adjacent to
+-- this one, and its key is the earlier of the new bound and its least candidate by itself
 abbrev pub IsExtended : Finder → ViewData → ℕ → ℕ → EntriesData → EntriesData → Type 0
 IsExtended finder view disk cell old new = (single : Key) × (beyond : Key) × IsBestSingle finder view disk single
-    × IsBestBeyond finder view disk cell beyond
+    × IsLowBeyond finder view disk cell beyond
     × IsEntered disk (earlier_of single (earlier_of (key_at old.bounds disk) beyond), earlier_of (key_at old.bounds disk) beyond) old new
 
 -- the keys and bounds of an event's disks are its stamp, and the others are as they were

@@ -6,26 +6,30 @@ ghost use Rattle.std.specs.List.{Contains};
 ghost use Rattle.fixed_motion.specs.Rules.{IsChecked};
 ghost use Rattle.event_rules.specs.Small.{HaveSmallProducts, TellsByGreatest};
 ghost use Rattle.event_stamps.specs.Least.{IsLeastOf};
+ghost use Rattle.event_stamps.specs.Order.{IsInRange};
+ghost use Rattle.region_view.specs.Views.{AreRowsOf};
 ghost use Rattle.cell_grid.specs.Grid.{GridData, IsCell, IsAdjacent, Owns};
 ghost use Rattle.cell_lists.specs.Nearby.{IsBlock};
 ghost use Rattle.region_view.specs.declared.action.Placed.{Placed};
 ghost use Rattle.region_view.specs.Views.{rows_in};
-ghost use Rattle.region_queue.specs.Finding.{IsReady, IsNativePair, IsNativeWith, IsNearby, IsBestSingle, IsBestOf, IsMissedByGreatest, AreKept, AreListed, HasNearby, IsWider};
+ghost use Rattle.region_queue.specs.Finding.{IsReady, IsNativePair, IsNativeWith, IsNearby, IsBestSingle, IsLowKey, IsLowOf, IsMissedByGreatest, AreKept, AreListed, HasNearby, IsWider};
 
-use crate::finder::{Best, Finder, have_rows};
+use crate::finder::{Best, Finder, have_rows, row_in};
 use cell_lists::{Block, Gathered, block_around};
-use event_rules::{EachMay, each_may_hit, greatest_square, has_small_products};
+use event_rules::{EachMay, chance_between, each_may_hit, greatest_square, has_small_products};
+use event_stamps::Stamp;
 use event_tree::Packed;
 use fixed_motion::Disk;
 use region_view::{Compact, Placed, View};
 
 impl Finder {
-    // What `best` finds for each of two disks: the disks near either are gathered once, and tested with both. None says
-    // nothing: the two aren't alike, or too many disks are near, or one of these has a later base tick.
+    // What `best` finds for each of two disks, except that the pair may be one that doesn't happen, if none that does is
+    // before it. The disks near either are gathered once, and tested with both. None says nothing: the two aren't
+    // alike, or too many disks are near, or one of these has a later base tick.
     pub fn best_both(&self, view: &View, first: u32, second: u32) -> Option<(Best, Best)>
         requires { IsReady self.now view.now }
-        ensures first { IfSome result (λ both. IsBestOf self.now view.now first both.0) }
-        ensures second { IfSome result (λ both. IsBestOf self.now view.now second both.1) }
+        ensures first { IfSome result (λ both. IsLowOf self.now view.now first both.0) }
+        ensures second { IfSome result (λ both. IsLowOf self.now view.now second both.1) }
     {
         let rows = view.compact()?;
         let one = view.get(first)?;
@@ -49,9 +53,10 @@ impl Finder {
         ) {
             return None;
         }
+        let whole = self.owns_around(one.cell, other.cell);
         Some((
-            self.best_near(view, first, &one, &near),
-            self.best_near(view, second, &other, &near_other),
+            self.best_near(view, first, &one, &near, whole),
+            self.best_near(view, second, &other, &near_other, whole),
         ))
     }
 
@@ -86,19 +91,144 @@ impl Finder {
         self.lists.gather(joined(block, beside), near) && have_rows(view, near)
     }
 
-    // The least native candidate of a disk by itself, and its least native event with one of some others.
+    // Whether the region owns all columns of the cells around two. It only decides which way is quicker, so no clause
+    // speaks of it: keys of pairs that other regions own would all be found stale.
     #[inline(always)]
-    fn best_near(&self, view: &View, disk: u32, placed: &Placed, others: &Gathered) -> Best
+    fn owns_around(&self, one: u32, other: u32) -> bool
+        requires one { IsCell self.now.grid one }
+        requires other { IsCell self.now.grid other }
+    {
+        let joint = joined(
+            block_around(&self.grid, one),
+            block_around(&self.grid, other),
+        );
+        self.owns_columns(joint.left, joint.right)
+    }
+
+    // The least native candidate of a disk by itself, and a key that isn't after its native events with some others.
+    // `whole` chooses the way.
+    #[inline(always)]
+    fn best_near(
+        &self,
+        view: &View,
+        disk: u32,
+        placed: &Placed,
+        others: &Gathered,
+        whole: bool,
+    ) -> Best
         requires ready { IsReady self.now view.now }
+        requires products { HaveSmallProducts self.now.rules }
         requires placed { map.get view.now disk ≡ Some placed.now }
         ensures single { IsBestSingle self.now view.now disk result.single }
-        ensures pair { IsLeastOf (IsNativeWith self.now view.now disk (λ i. Contains others.now i)) result.pair }
+        ensures pair { IsLowKey (IsNativeWith self.now view.now disk (λ i. Contains others.now i)) disk result.pair }
     {
         let own = self.owns(placed.cell);
         Best {
             single: self.best_alone(view, disk, placed, own),
-            pair: self.best_pair(view, disk, placed, own, others),
+            pair: self.pair_near(view, disk, placed, own, others, whole),
         }
+    }
+
+    // A key that isn't after the native events of a disk with some others.
+    #[inline(always)]
+    fn pair_near(
+        &self,
+        view: &View,
+        disk: u32,
+        placed: &Placed,
+        own: bool,
+        others: &Gathered,
+        whole: bool,
+    ) -> Packed
+        requires ready { IsReady self.now view.now }
+        requires products { HaveSmallProducts self.now.rules }
+        requires placed { map.get view.now disk ≡ Some placed.now }
+        requires own { IsTrue own ↔ Owns self.now.grid self.now.region placed.now.cell }
+        ensures { IsLowKey (IsNativeWith self.now view.now disk (λ i. Contains others.now i)) disk result }
+    {
+        if whole {
+            self.low_pair(view, disk, placed, own, others)
+        } else {
+            self.best_pair(view, disk, placed, own, others)
+        }
+    }
+
+    // The same by the only tick at which each two can hit each other: whether they are in the box and in adjacent
+    // cells then isn't tested. The least key of all is tested before it is run, and few of these become the least.
+    #[inline(always)]
+    pub fn low_pair(
+        &self,
+        view: &View,
+        disk: u32,
+        placed: &Placed,
+        own: bool,
+        others: &Gathered,
+    ) -> Packed
+        requires ready { IsReady self.now view.now }
+        requires products { HaveSmallProducts self.now.rules }
+        requires placed { map.get view.now disk ≡ Some placed.now }
+        requires own { IsTrue own ↔ Owns self.now.grid self.now.region placed.now.cell }
+        ensures { IsLowKey (IsNativeWith self.now view.now disk (λ i. Contains others.now i)) disk result }
+    {
+        let others = others.as_slice();
+        let mut best = Packed::new(None);
+        for other in others {
+            best = best.earlier(self.low_key(view, disk, placed, own, *other));
+        }
+        best
+    }
+
+    // A key that isn't after the native event of a disk with another. It is kept apart, as `key_beside` is.
+    #[inline(never)]
+    fn low_key(&self, view: &View, disk: u32, placed: &Placed, own: bool, other: u32) -> Packed
+        requires ready { IsReady self.now view.now }
+        requires products { HaveSmallProducts self.now.rules }
+        requires placed { map.get view.now disk ≡ Some placed.now }
+        requires own { IsTrue own ↔ Owns self.now.grid self.now.region placed.now.cell }
+        ensures { IsLowKey (IsNativePair self.now view.now disk other) disk result }
+    {
+        match view.compact() {
+            Some(rows) => match self.low_stamp(view, rows, disk, placed, other) {
+                Some(pair) => Packed::new(pair),
+                None => self.key_apart(view, disk, placed, own, other),
+            },
+            None => self.key_apart(view, disk, placed, own, other),
+        }
+    }
+
+    // The stamp of this key if rows are compact. None says nothing; it is rare.
+    #[inline(always)]
+    fn low_stamp(
+        &self,
+        view: &View,
+        rows: &[Compact],
+        disk: u32,
+        placed: &Placed,
+        other: u32,
+    ) -> Option<Option<Stamp>>
+        requires ready { IsReady self.now view.now }
+        requires products { HaveSmallProducts self.now.rules }
+        requires placed { map.get view.now disk ≡ Some placed.now }
+        requires rows { AreRowsOf view.now rows.now }
+        ensures range { IfSome result (λ pair. IfSome pair IsInRange) }
+        ensures low { IfSome result (IsLowKey (IsNativePair self.now view.now disk other) disk) }
+    {
+        let _view = view;
+        let Some(near) = row_in(rows, other) else {
+            return Some(None);
+        };
+        chance_between(&self.rules, disk, &placed.disk, other, &near.disk)
+    }
+
+    // The native event itself. It is seldom asked for here, so it is kept apart.
+    #[inline(never)]
+    fn key_apart(&self, view: &View, disk: u32, placed: &Placed, own: bool, other: u32) -> Packed
+        requires ready { IsReady self.now view.now }
+        requires placed { map.get view.now disk ≡ Some placed.now }
+        requires own { IsTrue own ↔ Owns self.now.grid self.now.region placed.now.cell }
+        ensures { IsLeastOf (IsNativePair self.now view.now disk other) result }
+    {
+        self.key_with(view, disk, placed, own, other)
     }
 
     // The least native event of a disk with one of some others.

@@ -15,7 +15,7 @@ ghost use Rattle.cell_lists.specs.Nearby.{IsBlock, IsListedWithin, AreGathered, 
 ghost use Rattle.region_queue.specs.Outside.{IsListedOutside, IsListedInParts};
 ghost use Rattle.region_view.specs.declared.action.Placed.{Placed};
 ghost use Rattle.region_view.specs.Events.{IsAlone};
-ghost use Rattle.region_queue.specs.Finding.{IsReady, IsFound, IsAloneAt, IsPairPlaced, IsNativePair, IsNativeWith, IsBestSingle, IsBestPair, IsBestBeyond, IsBlockBeside, IsNearby, AreAllWithin, IsMissed, IsMissedBySmall, IsMissedByGreatest, AreKept, AreListed};
+ghost use Rattle.region_queue.specs.Finding.{IsReady, IsFound, IsAloneAt, IsPairPlaced, IsNativePair, IsNativeWith, IsBestSingle, IsBestPair, IsLowKey, IsLowBeyond, IsBlockBeside, IsNearby, AreAllWithin, IsMissed, IsMissedBySmall, IsMissedByGreatest, AreKept, AreListed};
 ghost use Rattle.region_view.specs.Views.{AreRowsOf};
 ghost use Rattle.event_rules.specs.Small.{HaveSmallProducts};
 
@@ -85,13 +85,13 @@ impl Finder {
         }
     }
 
-    // The least native candidate of a disk by itself, and its least native pair with a disk in a cell that isn't
-    // adjacent to the cell `old`.
+    // The least native candidate of a disk by itself, and a key that isn't after its native pairs with disks in cells
+    // that aren't adjacent to the cell `old`.
     pub fn best_beyond(&self, view: &View, disk: u32, old: u32) -> Best
         requires ready { IsReady self.now view.now }
         requires old { IsCell self.now.grid old }
         ensures single { IsBestSingle self.now view.now disk result.single }
-        ensures pair { AreListed view.now self.now.lists.cells → IsBestBeyond self.now view.now disk old result.pair }
+        ensures pair { AreListed view.now self.now.lists.cells → IsLowBeyond self.now view.now disk old result.pair }
     {
         let Some(placed) = view.get(disk) else {
             return Best::none();
@@ -101,7 +101,7 @@ impl Finder {
         let known = block_around(&self.grid, old);
         Best {
             single: self.best_alone(view, disk, &placed, own),
-            pair: self.best_outside(view, disk, &placed, own, block, known),
+            pair: self.low_outside(view, disk, &placed, own, block, known),
         }
     }
 
@@ -164,7 +164,7 @@ impl Finder {
 
     // Whether the region owns all columns from `left` on, below `right`.
     #[inline(always)]
-    fn owns_columns(&self, left: u32, right: u32) -> bool
+    pub fn owns_columns(&self, left: u32, right: u32) -> bool
         ensures { IsTrue result ↔ ((self.now.strip.first ≤ left) × (right ≤ self.now.strip.end)) }
     {
         self.strip.first <= left && right <= self.strip.end
@@ -243,8 +243,8 @@ impl Finder {
         }
     }
 
-    // The same for the cells of the block that aren't in the block `known`.
-    fn best_outside(
+    // A key that isn't after the native events with disks in the cells of the block that aren't in the block `known`.
+    fn low_outside(
         &self,
         view: &View,
         disk: u32,
@@ -259,12 +259,12 @@ impl Finder {
         requires block { IsBlock self.now.grid block }
         requires beside { IsBlockBeside self.now.grid placed.now.cell block }
         requires known { IsBlock self.now.grid known }
-        ensures { AreListed view.now self.now.lists.cells → IsLeastOf (IsNativeWith self.now view.now disk
-            (IsListedOutside self.now.lists block known)) result }
+        ensures { AreListed view.now self.now.lists.cells → IsLowKey (IsNativeWith self.now view.now disk
+            (IsListedOutside self.now.lists block known)) disk result }
     {
         let mut near = Gathered::new();
         if self.gather_outside(block, known, &mut near) && have_rows(view, &near) {
-            self.best_among(view, disk, placed, own, block, &mut near)
+            self.low_among(view, disk, placed, own, block, &mut near)
         } else {
             let parts = parts_outside(block, known);
             self.best_by_rows(view, disk, placed, own, parts.left)
@@ -313,6 +313,33 @@ impl Finder {
         ensures { IsTrue result → AreGathered self.now.lists part near.old near.new }
     {
         part.left >= part.right || part.low >= part.high || self.lists.gather(part, near)
+    }
+
+    // A key that isn't after the native events of a disk with some others, which are listed in a block of cells beside
+    // its own. Keeps those of the others that the disk may hit.
+    #[inline(always)]
+    fn low_among(
+        &self,
+        view: &View,
+        disk: u32,
+        placed: &Placed,
+        own: bool,
+        block: Block,
+        near: &mut Gathered,
+    ) -> Packed
+        requires ready { IsReady self.now view.now }
+        requires placed { map.get view.now disk ≡ Some placed.now }
+        requires own { IsTrue own ↔ Owns self.now.grid self.now.region placed.now.cell }
+        requires beside { IsBlockBeside self.now.grid placed.now.cell block }
+        ensures { AreListed view.now self.now.lists.cells → AreAllWithin self.now.lists block near.old →
+            IsLowKey (IsNativeWith self.now view.now disk (λ i. Contains near.old i)) disk result }
+    {
+        if has_small_products(&self.rules) && self.owns_columns(block.left, block.right) {
+            self.keep_candidates(view, disk, placed, near);
+            self.low_pair(view, disk, placed, own, near)
+        } else {
+            self.best_among(view, disk, placed, own, block, near)
+        }
     }
 
     // The least native event of a disk with one of some others, which are listed in a block of cells beside its own.
@@ -634,7 +661,7 @@ fn may_reach_row(rows: &[Compact], disk: &Disk, square: i64, other: u32) -> bool
 
 // What stands at a number in some rows.
 #[inline(always)]
-fn row_in(rows: &[Compact], disk: u32) -> Option<Placed>
+pub(crate) fn row_in(rows: &[Compact], disk: u32) -> Option<Placed>
     ensures { result ≡ slice_index_or rows.now disk None }
 {
     match rows.get(disk as usize) {

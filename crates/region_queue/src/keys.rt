@@ -10,7 +10,7 @@ ghost use Rattle.region_view.specs.Naming.{IsMoved};
 ghost use Rattle.region_queue.specs.declared.finder.Finder.{Finder};
 ghost use Rattle.region_queue.specs.Covering.{Covers, IsSettled};
 ghost use Rattle.region_queue.specs.Finding.{IsReady, IsFound, IsBestSingle, IsBestPair, AreListed, AreRetaken, AreRetakenOf, AreGiven};
-ghost use Rattle.region_queue.specs.Finding.{IsTakenAt, IsExtended, HasKey, IsHolder, cell_in};
+ghost use Rattle.region_queue.specs.Finding.{IsTakenAt, IsLoweredAt, IsLowPair, IsExtended, HasKey, IsHolder, cell_in};
 
 use crate::finder::{Best, Finder, has_stamp};
 use event_stamps::{Kind, Stamp};
@@ -82,8 +82,10 @@ fn take_key(
 
 // Makes `best` the key and the bound of a disk.
 fn set_best(alloc: Global, keys: &mut Entries, disk: u32, best: Best) -> Result<(), AllocError>
-    ensures { OnOk result ((finder : Finder) (view : ViewData) → IsBestSingle finder view disk best.single →
+    ensures best { OnOk result ((finder : Finder) (view : ViewData) → IsBestSingle finder view disk best.single →
         IsBestPair finder view disk best.pair → IsTakenAt finder view disk keys.old keys.new) }
+    ensures low { OnOk result ((finder : Finder) (view : ViewData) → IsBestSingle finder view disk best.single →
+        IsLowPair finder view disk best.pair → IsLoweredAt finder view disk keys.old keys.new) }
 {
     let key = best.single.earlier(best.pair);
     keys.set(alloc, disk, key, best.pair)
@@ -181,7 +183,8 @@ pub(crate) fn is_of_pair(event: &Stamp) -> bool
 }
 
 // Takes keys again until the least one is that of a native candidate. A least key that isn't one is that of a pair of
-// which a disk has changed since. No candidate is before it, so it is early enough to look at it when it is the least.
+// which a disk has changed since, or that doesn't meet inside the box. No candidate is before it, so it is early enough
+// to look at it when it is the least; then it is taken exactly, so the least key rises.
 pub(crate) fn settle(
     alloc: Global,
     finder: &Finder,

@@ -21,10 +21,10 @@ returns-in_err-tick c =
       falling = λ lt. no_event_falling c.args.rules.now c.args.i c.args.j c.args.a.now c.args.b.now never;
     })
 
-pub round_at-requires : goal.round_at-requires
-round_at-requires c = (subst (Met c.args.rules.now c.args.a.now c.args.b.now) c.in_ok-tick.was c.requires).begun
+pub round_at-round-requires : goal.round_at-round-requires
+round_at-round-requires c = (subst (Met c.args.rules.now c.args.a.now c.args.b.now) c.in_ok-tick.was c.requires).begun
 
 pub returns : goal.returns
-returns c = chance_stamp c.args.rules.now c.args.i c.args.j c.in_ok-tick.tick c.round_at.result c.min.result c.max.result
+returns c = chance_stamp c.args.rules.now c.args.i c.args.j c.in_ok-tick.tick c.round_at-round.result c.min.result c.max.result
     c.args.a.now c.args.b.now (subst (Met c.args.rules.now c.args.a.now c.args.b.now) c.in_ok-tick.was c.requires)
-    c.round_at.ensures c.min.ensures c.max.ensures
+    c.round_at-round.ensures c.min.ensures c.max.ensures

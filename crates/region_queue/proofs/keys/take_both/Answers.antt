@@ -3,8 +3,9 @@ use Rattle.std.proofs.Common.{[], ◌∷◌}
 use Rattle.event_tree.specs.Entries.{entry_at}
 use Rattle.region_view.specs.Views.{ViewData}
 use Rattle.region_queue.specs.declared.finder.Finder.{Finder}
-use Rattle.region_queue.specs.Finding.{AreListed, AreRetaken, IsBestSingle, IsBestPair, IsTaken, IsTakenAt}
-use Rattle.region_queue.proofs.Again.{on_ok, again_none, retaken_more}
+use Rattle.region_queue.specs.Covering.{IsLowered}
+use Rattle.region_queue.specs.Finding.{AreListed, AreRetaken, IsFound, IsBestSingle, IsLowPair, IsTakenAt, IsLoweredAt}
+use Rattle.region_queue.proofs.Again.{on_ok, again_none, retaken_more, taken_low}
 use Rattle.region_queue.proofs.keys.take_both.Goals as goal
 
 pub returns-in_ok-set_best-in-Some : goal.returns-in_ok-set_best-in-Some
@@ -19,13 +20,13 @@ returns-in_ok-set_best-in-Some c =
     let one = c.in-Some.one in
     let other = c.in-Some.other in
     on_ok c.set_best-in-Some.result
-    ((f : Finder) (v : ViewData) → IsBestSingle f v j other.single → IsBestPair f v j other.pair → IsTakenAt f v j mid new)
+    ((f : Finder) (v : ViewData) → IsBestSingle f v j other.single → IsLowPair f v j other.pair → IsLoweredAt f v j mid new)
     (AreListed view finder.lists.cells → AreRetaken finder view (i ∷ j ∷ []) old new)
     (λ set listed. retaken_more finder view (i ∷ []) j old mid new
-    (retaken_more finder view [] i old old mid (again_none (IsTaken finder view) (entry_at old))
-    (c.in_ok-set_best-in-Some.ensures finder view c.in-Some.ensures.first.0 (c.in-Some.ensures.first.1 listed)))
+    (retaken_more finder view [] i old old mid (again_none (IsLowered (IsFound finder view)) (entry_at old))
+    (c.in_ok-set_best-in-Some.ensures.low finder view c.in-Some.ensures.first.0 (c.in-Some.ensures.first.1 listed)))
     (set finder view c.in-Some.ensures.second.0 (c.in-Some.ensures.second.1 listed)))
-    c.set_best-in-Some.ensures
+    c.set_best-in-Some.ensures.low
 
 pub returns-in_ok-take_key-in-None : goal.returns-in_ok-take_key-in-None
 returns-in_ok-take_key-in-None c =
@@ -39,6 +40,6 @@ returns-in_ok-take_key-in-None c =
     on_ok c.take_key-in-None.result (AreListed view finder.lists.cells → IsTakenAt finder view j mid new)
     (AreListed view finder.lists.cells → AreRetaken finder view (i ∷ j ∷ []) old new)
     (λ second listed. retaken_more finder view (i ∷ []) j old mid new
-    (retaken_more finder view [] i old old mid (again_none (IsTaken finder view) (entry_at old)) (c.in_ok-take_key-in-None.ensures listed))
-    (second listed))
+    (retaken_more finder view [] i old old mid (again_none (IsLowered (IsFound finder view)) (entry_at old)) (taken_low finder view i old mid (c.in_ok-take_key-in-None.ensures listed)))
+    (taken_low finder view j mid new (second listed)))
     c.take_key-in-None.ensures

@@ -4,7 +4,7 @@ use Rattle.std.proofs.lemmas.Int.{ints, to_z-of_z}
 use Rattle.std.specs.Prelude.{None, slice_index_or}
 use Rattle.event_stamps.specs.Least.{HasNone}
 use Rattle.region_queue.specs.Finding.{IsNativePair, IsMissedByGreatest}
-use Rattle.region_queue.proofs.Together.{best_kept}
+use Rattle.region_queue.proofs.Together.{low_kept}
 use Rattle.region_queue.proofs.Keeping.{kept_as, none_by_greatest}
 use Rattle.region_queue.proofs.finder.Finder.best_both.Goals as goal
 
@@ -25,7 +25,7 @@ returns-clause-first c = (
       c.gather_both.new.near c.keep_both.new.near
       (none_by_greatest finder view c.args.first p rows square c.requires small c.greatest_square-square.ensures row c.in_ok-rows.ensures)
       (rw same at (c.keep_both.ensures.one c.if-not-keep_both.false)) in
-      best_kept finder view c.args.first p c.gather_both.new.near c.keep_both.new.near c.best_near.result.pair row
+      low_kept finder view c.args.first p c.gather_both.new.near c.keep_both.new.near c.best_near.result.pair row
       (c.gather_both.ensures.one c.if-not-gather_both.false listed) kept c.best_near.ensures.pair,
 )
 
@@ -46,7 +46,7 @@ returns-clause-second c = (
       c.gather_both.new.near c.keep_both.new.near_other
       (none_by_greatest finder view c.args.second p rows square c.requires small c.greatest_square-square.ensures row c.in_ok-rows.ensures)
       (rw same at (c.keep_both.ensures.other c.if-not-keep_both.false)) in
-      best_kept finder view c.args.second p c.gather_both.new.near c.keep_both.new.near_other c.best_near-2.result.pair row
+      low_kept finder view c.args.second p c.gather_both.new.near c.keep_both.new.near_other c.best_near-2.result.pair row
       (c.gather_both.ensures.other c.if-not-gather_both.false listed) kept c.best_near-2.ensures.pair,
 )
 
@@ -61,3 +61,15 @@ gather_both-requires-clause-one c = c.requires.valid.cell c.args.first c.in_ok-o
 
 pub gather_both-requires-clause-other : goal.gather_both-requires-clause-other
 gather_both-requires-clause-other c = c.requires.valid.cell c.args.second c.in_ok-other.other (sym c.in_ok-other.ensures)
+
+pub best_near-requires-clause-products : goal.best_near-requires-clause-products
+best_near-requires-clause-products c = c.are_alike.ensures.products c.if-not-are_alike.false
+
+pub best_near-requires-2-clause-products : goal.best_near-requires-2-clause-products
+best_near-requires-2-clause-products c = c.are_alike.ensures.products c.if-not-are_alike.false
+
+pub owns_around-whole-requires-clause-one : goal.owns_around-whole-requires-clause-one
+owns_around-whole-requires-clause-one c = c.requires.valid.cell c.args.first c.in_ok-one.one (sym c.in_ok-one.ensures)
+
+pub owns_around-whole-requires-clause-other : goal.owns_around-whole-requires-clause-other
+owns_around-whole-requires-clause-other c = c.requires.valid.cell c.args.second c.in_ok-other.other (sym c.in_ok-other.ensures)
