@@ -10,6 +10,7 @@ use Rattle.event_stamps.specs.Least.{IsLeastOf, HasNone, earlier_of}
 use Rattle.event_tree.specs.Keys.{Key, IsNotAfter}
 use Rattle.event_stamps.proofs.StampOrder.{not_before_itself}
 use Rattle.event_tree.proofs.Trees.{IsLesser, lesser, not_after_trans}
+use Rattle.cell_grid.specs.Grid.{Owns}
 use Rattle.event_rules.specs.Events.{IsPairEvent, IsChance, HaveNoEvent}
 use Rattle.region_view.specs.declared.action.Placed.{Placed}
 use Rattle.region_view.specs.Naming.{Names}
@@ -94,6 +95,20 @@ native_event finder view low high p q s at_low at_high n =
     (subst (λ (x : Placed). IsPairEvent finder.rules low x.disk high near.1.2.0.disk s) a
     (subst (λ (m : ℕ). IsPairEvent finder.rules low near.1.0.disk m near.1.2.0.disk s) second
     (subst (λ (m : ℕ). IsPairEvent finder.rules m near.1.0.disk s.second near.1.2.0.disk s) first near.1.2.3)))
+
+-- two disks have no native event if the region doesn't own the cell of the lower one
+pub unowned_low : (finder : Finder) (view : ViewData) (disk other : ℕ) (p q : Placed) → rows_in view disk ≡ Some p →
+    rows_in view other ≡ Some q → (disk < other → Owns finder.grid finder.region p.cell → ⊥) →
+    (other < disk → Owns finder.grid finder.region q.cell → ⊥) → IsLowKey (IsNativePair finder view disk other) disk None
+unowned_low finder view disk other p q here there low high = record { low = never; pair = λ s e. absurd (let no = e in cc) }
+  where
+    owned : (i j : ℕ) (r : Placed) (s : Stamp) → rows_in view i ≡ Some r → IsNativeOf finder view i j s → Owns finder.grid finder.region r.cell
+    owned i j r s row x =
+        subst (λ (v : Placed). Owns finder.grid finder.region v.cell) (same_row view s.first i x.0.1.0 r x.0.1.1 row x.1.1.0) x.0.1.2
+
+    never : (s : Stamp) → IsNativePair finder view disk other s → IsNotAfter None (Some s)
+    never s (inl x) = low (native_order finder view disk other s x) (owned disk other p s here x)
+    never s (inr x) = high (native_order finder view other disk s x) (owned other disk q s there x)
 
 pub chance_low : (finder : Finder) (view : ViewData) (disk other : ℕ) (p q : Placed) (o : Option Stamp) → rows_in view disk ≡ Some p →
     rows_in view other ≡ Some q →

@@ -14,7 +14,7 @@ ghost use Rattle.region_view.specs.declared.action.Placed.{Placed};
 ghost use Rattle.region_view.specs.Views.{rows_in};
 ghost use Rattle.region_queue.specs.Finding.{IsReady, IsNativePair, IsNativeWith, IsNearby, IsBestSingle, IsLowKey, IsLowOf, IsMissedByGreatest, AreKept, AreListed, HasNearby, IsWider};
 
-use crate::finder::{Best, Finder, have_rows, row_in};
+use crate::finder::{Best, Finder, have_rows, owns_lower, row_in};
 use cell_lists::{Block, Gathered, block_around};
 use event_rules::{EachMay, chance_between, each_may_hit, greatest_square, has_small_products};
 use event_stamps::Stamp;
@@ -91,8 +91,8 @@ impl Finder {
         self.lists.gather(joined(block, beside), near) && have_rows(view, near)
     }
 
-    // Whether the region owns all columns of the cells around two. It only decides which way is quicker, so no clause
-    // speaks of it: keys of pairs that other regions own would all be found stale.
+    // Whether the region owns all columns of the cells around two. It only spares a question for each disk, so no
+    // clause speaks of it: a key of a pair that the region doesn't own would be found stale.
     #[inline(always)]
     fn owns_around(&self, one: u32, other: u32) -> bool
         requires one { IsCell self.now.grid one }
@@ -106,7 +106,7 @@ impl Finder {
     }
 
     // The least native candidate of a disk by itself, and a key that isn't after its native events with some others.
-    // `whole` chooses the way.
+    // `whole` says that the region owns the columns of them all.
     #[inline(always)]
     fn best_near(
         &self,
@@ -125,13 +125,15 @@ impl Finder {
         let own = self.owns(placed.cell);
         Best {
             single: self.best_alone(view, disk, placed, own),
-            pair: self.pair_near(view, disk, placed, own, others, whole),
+            pair: self.low_pair(view, disk, placed, own, others, whole),
         }
     }
 
-    // A key that isn't after the native events of a disk with some others.
+    // A key that isn't after the native events of a disk with some others, by the only tick at which each two can hit
+    // each other: whether they are in the box then, and in adjacent cells, isn't tested. The least key of all is tested
+    // before it is run, and few of these become the least.
     #[inline(always)]
-    fn pair_near(
+    pub fn low_pair(
         &self,
         view: &View,
         disk: u32,
@@ -146,41 +148,25 @@ impl Finder {
         requires own { IsTrue own ↔ Owns self.now.grid self.now.region placed.now.cell }
         ensures { IsLowKey (IsNativeWith self.now view.now disk (λ i. Contains others.now i)) disk result }
     {
-        if whole {
-            self.low_pair(view, disk, placed, own, others)
-        } else {
-            self.best_pair(view, disk, placed, own, others)
-        }
-    }
-
-    // The same by the only tick at which each two can hit each other: whether they are in the box and in adjacent
-    // cells then isn't tested. The least key of all is tested before it is run, and few of these become the least.
-    #[inline(always)]
-    pub fn low_pair(
-        &self,
-        view: &View,
-        disk: u32,
-        placed: &Placed,
-        own: bool,
-        others: &Gathered,
-    ) -> Packed
-        requires ready { IsReady self.now view.now }
-        requires products { HaveSmallProducts self.now.rules }
-        requires placed { map.get view.now disk ≡ Some placed.now }
-        requires own { IsTrue own ↔ Owns self.now.grid self.now.region placed.now.cell }
-        ensures { IsLowKey (IsNativeWith self.now view.now disk (λ i. Contains others.now i)) disk result }
-    {
         let others = others.as_slice();
         let mut best = Packed::new(None);
         for other in others {
-            best = best.earlier(self.low_key(view, disk, placed, own, *other));
+            best = best.earlier(self.low_key(view, disk, placed, own, *other, whole));
         }
         best
     }
 
     // A key that isn't after the native event of a disk with another. It is kept apart, as `key_beside` is.
     #[inline(never)]
-    fn low_key(&self, view: &View, disk: u32, placed: &Placed, own: bool, other: u32) -> Packed
+    fn low_key(
+        &self,
+        view: &View,
+        disk: u32,
+        placed: &Placed,
+        own: bool,
+        other: u32,
+        whole: bool,
+    ) -> Packed
         requires ready { IsReady self.now view.now }
         requires products { HaveSmallProducts self.now.rules }
         requires placed { map.get view.now disk ≡ Some placed.now }
@@ -188,11 +174,11 @@ impl Finder {
         ensures { IsLowKey (IsNativePair self.now view.now disk other) disk result }
     {
         match view.compact() {
-            Some(rows) => match self.low_stamp(view, rows, disk, placed, other) {
+            Some(rows) => match self.low_stamp(view, rows, disk, placed, own, other, whole) {
                 Some(pair) => Packed::new(pair),
-                None => self.key_apart(view, disk, placed, own, other),
+                None => self.key_with(view, disk, placed, own, other),
             },
-            None => self.key_apart(view, disk, placed, own, other),
+            None => self.key_with(view, disk, placed, own, other),
         }
     }
 
@@ -204,11 +190,14 @@ impl Finder {
         rows: &[Compact],
         disk: u32,
         placed: &Placed,
+        own: bool,
         other: u32,
+        whole: bool,
     ) -> Option<Option<Stamp>>
         requires ready { IsReady self.now view.now }
         requires products { HaveSmallProducts self.now.rules }
         requires placed { map.get view.now disk ≡ Some placed.now }
+        requires own { IsTrue own ↔ Owns self.now.grid self.now.region placed.now.cell }
         requires rows { AreRowsOf view.now rows.now }
         ensures range { IfSome result (λ pair. IfSome pair IsInRange) }
         ensures low { IfSome result (IsLowKey (IsNativePair self.now view.now disk other) disk) }
@@ -217,45 +206,15 @@ impl Finder {
         let Some(near) = row_in(rows, other) else {
             return Some(None);
         };
+        let home = whole || self.owns(near.cell);
+        if !owns_lower(disk, own, other, home) {
+            return Some(None);
+        }
         chance_between(&self.rules, disk, &placed.disk, other, &near.disk)
     }
 
-    // The native event itself. It is seldom asked for here, so it is kept apart.
+    // The native event of a disk with another, wherever that is. It is seldom asked for, so it is kept apart.
     #[inline(never)]
-    fn key_apart(&self, view: &View, disk: u32, placed: &Placed, own: bool, other: u32) -> Packed
-        requires ready { IsReady self.now view.now }
-        requires placed { map.get view.now disk ≡ Some placed.now }
-        requires own { IsTrue own ↔ Owns self.now.grid self.now.region placed.now.cell }
-        ensures { IsLeastOf (IsNativePair self.now view.now disk other) result }
-    {
-        self.key_with(view, disk, placed, own, other)
-    }
-
-    // The least native event of a disk with one of some others.
-    #[inline(always)]
-    fn best_pair(
-        &self,
-        view: &View,
-        disk: u32,
-        placed: &Placed,
-        own: bool,
-        others: &Gathered,
-    ) -> Packed
-        requires ready { IsReady self.now view.now }
-        requires placed { map.get view.now disk ≡ Some placed.now }
-        requires own { IsTrue own ↔ Owns self.now.grid self.now.region placed.now.cell }
-        ensures { IsLeastOf (IsNativeWith self.now view.now disk (λ i. Contains others.now i)) result }
-    {
-        let others = others.as_slice();
-        let mut best = Packed::new(None);
-        for other in others {
-            best = best.earlier(self.key_with(view, disk, placed, own, *other));
-        }
-        best
-    }
-
-    // The native event of a disk with another, wherever that is.
-    #[inline(always)]
     fn key_with(&self, view: &View, disk: u32, placed: &Placed, own: bool, other: u32) -> Packed
         requires ready { IsReady self.now view.now }
         requires placed { map.get view.now disk ≡ Some placed.now }

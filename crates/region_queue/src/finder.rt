@@ -334,9 +334,10 @@ impl Finder {
         ensures { AreListed view.now self.now.lists.cells → AreAllWithin self.now.lists block near.old →
             IsLowKey (IsNativeWith self.now view.now disk (λ i. Contains near.old i)) disk result }
     {
-        if has_small_products(&self.rules) && self.owns_columns(block.left, block.right) {
+        if has_small_products(&self.rules) {
+            let whole = self.owns_columns(block.left, block.right);
             self.keep_candidates(view, disk, placed, near);
-            self.low_pair(view, disk, placed, own, near)
+            self.low_pair(view, disk, placed, own, near, whole)
         } else {
             self.best_among(view, disk, placed, own, block, near)
         }
@@ -692,7 +693,7 @@ pub(crate) fn have_rows(view: &View, near: &Gathered) -> bool {
 
 // Whether the region owns the cell of the lower of two different disks, given whether it owns that of each.
 #[inline(always)]
-fn owns_lower(disk: u32, own: bool, other: u32, home: bool) -> bool
+pub(crate) fn owns_lower(disk: u32, own: bool, other: u32, home: bool) -> bool
     ensures { IsTrue result ↔ (((disk < other) × IsTrue own) ⊎ ((other < disk) × IsTrue home)) }
 {
     if disk < other {

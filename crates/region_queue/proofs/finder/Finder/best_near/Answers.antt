@@ -11,8 +11,8 @@ owns-own-requires-clause-cell c = c.requires.ready.valid.cell c.args.disk c.args
 pub best_alone-requires-clause-own : goal.best_alone-requires-clause-own
 best_alone-requires-clause-own c = c.owns-own.ensures
 
-pub pair_near-requires-clause-own : goal.pair_near-requires-clause-own
-pair_near-requires-clause-own c = c.owns-own.ensures
+pub low_pair-requires-clause-own : goal.low_pair-requires-clause-own
+low_pair-requires-clause-own c = c.owns-own.ensures
 
 pub returns-clause-single : goal.returns-clause-single
 returns-clause-single c =

@@ -15,8 +15,8 @@ best_among-requires-clause-own c = c.requires.own
 pub best_among-requires-clause-beside : goal.best_among-requires-clause-beside
 best_among-requires-clause-beside c = c.requires.beside
 
-pub returns-then-owns_columns : goal.returns-then-owns_columns
-returns-then-owns_columns c = λ listed within.
+pub returns-then-has_small_products : goal.returns-then-has_small_products
+returns-then-has_small_products c = λ listed within.
     low_of_all c.args.self.now c.args.view.now c.args.disk c.args.near.now c.keep_candidates.new.near c.low_pair.result
     c.keep_candidates.ensures c.low_pair.ensures
 

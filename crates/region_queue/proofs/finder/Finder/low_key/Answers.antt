@@ -9,8 +9,11 @@ use Rattle.region_queue.proofs.finder.Finder.low_key.Goals as goal
 pub low_stamp-requires-clause-rows : goal.low_stamp-requires-clause-rows
 low_stamp-requires-clause-rows c = c.in-Some.ensures
 
-pub key_apart-requires-clause-own : goal.key_apart-requires-clause-own
-key_apart-requires-clause-own c = c.requires.own
+pub low_stamp-requires-clause-own : goal.low_stamp-requires-clause-own
+low_stamp-requires-clause-own c = c.requires.own
+
+pub key_with-requires-clause-own : goal.key_with-requires-clause-own
+key_with-requires-clause-own c = c.requires.own
 
 pub returns-in-Some-low_stamp : goal.returns-in-Some-low_stamp
 returns-in-Some-low_stamp c =
@@ -19,8 +22,8 @@ returns-in-Some-low_stamp c =
 
 pub returns-in-None-low_stamp : goal.returns-in-None-low_stamp
 returns-in-None-low_stamp c =
-    least_pair_low c.args.self.now c.args.view.now c.args.disk c.args.other c.key_apart.result c.key_apart.ensures
+    least_pair_low c.args.self.now c.args.view.now c.args.disk c.args.other c.key_with.result c.key_with.ensures
 
 pub returns-in-None : goal.returns-in-None
 returns-in-None c =
-    least_pair_low c.args.self.now c.args.view.now c.args.disk c.args.other c.key_apart-in-None.result c.key_apart-in-None.ensures
+    least_pair_low c.args.self.now c.args.view.now c.args.disk c.args.other c.key_with-in-None.result c.key_with-in-None.ensures
