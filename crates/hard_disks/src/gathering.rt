@@ -22,7 +22,7 @@ use std::time::Clock;
 
 /// Does what [`top`] does, but gathers the pieces of the output, up to `room` bytes, before it gives them to the sink;
 /// the rest is given before the call returns. At the beginning the sink has taken nothing, if it tells its bytes, and
-/// no call of it has failed. It is given back.
+/// no call of it has failed. Of each byte that it is given it may ask what a sink of [`top`] may. It is given back.
 ///
 /// If the rest can't be given, the status is [`Status::WriteFault`], whatever it was before. The gathering takes memory
 /// only for the room; if there is none, each piece is given at once.

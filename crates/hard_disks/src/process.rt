@@ -1,7 +1,9 @@
 //! What the process does with its words: the top call over standard input and output.
 //!
 //! Nothing is known of the bytes of standard input and output, so only that part of the status is proved which the
-//! words decide. For a reader and a writer whose bytes are known, the whole is proved.
+//! words decide. For a reader and a writer whose bytes are known, the whole is proved. Nothing is known either of which
+//! of their calls fail: what failures are answered, and what each byte is at its time, [`run_over`] says of any source
+//! and sink.
 
 ghost use Rattle.std.specs.Prelude.{◌≡◌, [], map, None, Some, IsSome, string_bytes};
 ghost use Rattle.hard_disks.specs.Answers.{Answers, MayAnswer, ReadsScene};
@@ -150,7 +152,8 @@ pub fn run_over<
     ensures serves { Serves (settings_of (map (λ w. w.now) words.now))
         (S.left source) (S.left result.1) (S.faults source) (S.faults result.1)
         (K.taken sink) (K.taken result.2) (K.faults sink) (K.faults result.2) result.0 }
-    ensures untouched { ¬ ReadsScene (settings_of (map (λ w. w.now) words.now)) → result.1 ≡ source }
+    ensures untouched { ¬ ReadsScene (settings_of (map (λ w. w.now) words.now)) →
+        result.1 ≡ source }
 {
     let is_shared = terminals.output;
     if terminals.errors
@@ -187,7 +190,8 @@ fn run_shown<
     ensures serves { Serves (settings_of (map (λ w. w.now) words.now))
         (S.left source) (S.left result.1) (S.faults source) (S.faults result.1)
         (K.taken sink) (K.taken result.2) (K.faults sink) (K.faults result.2) result.0 }
-    ensures untouched { ¬ ReadsScene (settings_of (map (λ w. w.now) words.now)) → result.1 ≡ source }
+    ensures untouched { ¬ ReadsScene (settings_of (map (λ w. w.now) words.now)) →
+        result.1 ≡ source }
 {
     let glass = board.glass(rt, &mut pen);
     let line = ProgressLine::new();
@@ -195,13 +199,15 @@ fn run_shown<
         rt,
         || line.show(rt, terminal, board, glass),
         || -> (Status, S, K)
-            requires { IsFresh (K.taken sink) × (K.faults sink ≡ 0) × (pen.board ≡ board.now) × (pen.list ≡ [])
+            requires { IsFresh (K.taken sink) × (K.faults sink ≡ 0)
+                × (pen.board ≡ board.now) × (pen.list ≡ [])
                 × MayAnswer (settings_of (map (λ w. w.now) words.now)) (S.left source)
                 (K.allows (K.lasting sink)) (K.taken sink) }
             ensures serves { Serves (settings_of (map (λ w. w.now) words.entry.now))
                 (S.left source) (S.left result.1) (S.faults source) (S.faults result.1)
                 (K.taken sink) (K.taken result.2) (K.faults sink) (K.faults result.2) result.0 }
-            ensures untouched { ¬ ReadsScene (settings_of (map (λ w. w.now) words.entry.now)) → result.1 ≡ source }
+            ensures untouched { ¬ ReadsScene (settings_of (map (λ w. w.now) words.entry.now)) →
+                result.1 ≡ source }
         { run_beside(rt, words, source, sink, is_shared, &line, board, pen) },
     );
     ended
@@ -227,7 +233,8 @@ fn run_beside<R: AllocGlobal + Eprint + Threads + Wait + Clock + Sync, S: Source
     ensures serves { Serves (settings_of (map (λ w. w.now) words.now))
         (S.left source) (S.left result.1) (S.faults source) (S.faults result.1)
         (K.taken sink) (K.taken result.2) (K.faults sink) (K.faults result.2) result.0 }
-    ensures untouched { ¬ ReadsScene (settings_of (map (λ w. w.now) words.now)) → result.1 ≡ source }
+    ensures untouched { ¬ ReadsScene (settings_of (map (λ w. w.now) words.now)) →
+        result.1 ≡ source }
 {
     let beside = BesideLine {
         rt,
