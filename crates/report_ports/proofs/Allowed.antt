@@ -29,10 +29,6 @@ may_next allows (Some a) (Some b) xs ys h k may bytes front rest known is some =
     subst allows (sym (append_assoc a xs front) ∙ ap (λ (v : List ℕ). v ++ front) (sym h ∙ same))
     (may a (xs ++ front) rest refl (ap (λ (v : List ℕ). xs ++ v) is ∙ sym (append_assoc xs front rest)) (some_more xs front some))
 
--- a sink that takes all that it is given
-pub may_all : (taken : Option (List ℕ)) (text : List ℕ) → MayTake (λ bytes. Unit {0}) taken text
-may_all taken text bytes front rest known is some = tt
-
 -- a text, and then another
 may_join_known : (allows : List ℕ → Type 0) (a xs ys : List ℕ) → MayTake allows (Some a) xs → MayTake allows (Some (a ++ xs)) ys →
     MayTake allows (Some a) (xs ++ ys)
