@@ -9,6 +9,17 @@ use Rattle.run_core.proofs.OneState.{comes_of, written_back}
 use Rattle.run_core.proofs.Untold.{goes_to, advances_to}
 use Rattle.run_core.proofs.advance_untold.advance_untold.Goals as goal
 
+pub make_final-requires-clause-stand : goal.make_final-requires-clause-stand
+make_final-requires-clause-stand c =
+    let earlier = c.args.earlier in
+    let last = c.args.last in
+    let state = c.requires.stand.0 in
+    let floor = c.requires.stand.1 in
+    let given = c.deref_mut.result.now in
+    let goes = subst (λ (v : List RegionData). GoesOnTo earlier last floor v state) (sym c.deref_mut.ensures.value)
+    c.requires.stand.2 in
+    (state, comes_of earlier c.state.result.now last floor given state c.state.ensures.value goes)
+
 pub after-standing-requires : goal.after-standing-requires
 after-standing-requires c =
     let earlier = c.args.earlier in

@@ -3,6 +3,7 @@ use Rattle.std.specs.Prelude.{IfErr}
 use Rattle.std.proofs.lemmas.Result.{err_from_is_err_and}
 use Rattle.event_rules.specs.declared.outcome.RunFault.{RunFault}
 use Rattle.event_rules.specs.declared.outcome.RunFault.TheVariants.{Listener, NoMemory}
+use Rattle.event_rules.specs.Tellings.{CountsRun}
 use Rattle.cell_sequence.specs.State.{CellStateData}
 use Rattle.commit_horizon.specs.Horizon.{runs_of}
 use Rattle.commit_horizon.specs.Telling.{HitsCutShort}
@@ -59,6 +60,23 @@ returns-in_err-advanced-in-Ok-clause-cut_short g c =
     at_fault (λ (v : Result (AdvanceKind × CellStateData) RunFault). IfErr v (λ e. HitsCutShort L.after L.torn untold e
     old new)) r fault.0 NoMemory fault.1 fault.2 (hits_cut L.after L.torn untold [] old new f h
     (hits_on L.after L.torn untold [] before None old new f h on c.requires.heard refl))
+
+pub returns-in_err-advanced-in-Ok-clause-counts : goal.returns-in_err-advanced-in-Ok-clause-counts
+returns-in_err-advanced-in-Ok-clause-counts g c =
+    let L = g.L.Listener in
+    let untold = c.args.telling.now.untold in
+    let old = L.meaning c.args.listener.now in
+    let new = L.meaning c.tell_rest.new.listener in
+    let f = L.faults c.args.listener.now in
+    let h = L.faults c.tell_rest.new.listener in
+    let before = c.args.telling.now.fault in
+    let on = tells_further L.after L.torn untold c.work.new.beside.untold [] before c.work.new.beside.fault None
+    old (L.meaning c.work.new.lent) new f (L.faults c.work.new.lent) h c.work.ensures.beside
+    c.in_ok-tell_rest-in-Ok.ensures.told in
+    let r = c.from_residual-in_err-advanced-in-Ok.result in
+    let fault = err_from_is_err_and r c.from_residual-in_err-advanced-in-Ok.ensures.1 in
+    at_fault (CountsRun {T = AdvanceKind × CellStateData} f h) r fault.0 NoMemory fault.1 fault.2
+    (hits_on L.after L.torn untold [] before None old new f h on c.requires.heard refl).3
 
 pub returns-in_ok-advanced-in-Ok-clause-advances : goal.returns-in_ok-advanced-in-Ok-clause-advances
 returns-in_ok-advanced-in-Ok-clause-advances g c =
