@@ -91,7 +91,7 @@ def add_report(words):
 
 
 def add_scene(commands):
-    words = add_command(commands, "scene", scene, "writes a scene of a packing fraction", "Units are as fine as fits.")
+    words = add_command(commands, "scene", run_scene, "writes a scene of a packing fraction", "Units are as fine as fits.")
     words.add_argument("--disks", type=int, default=2000, help="(%(default)s)")
     words.add_argument("--phi", type=positive, required=True, help="packing fraction over the whole box")
     words.add_argument(
@@ -102,7 +102,7 @@ def add_scene(commands):
     add_times(words, 40.0)
 
 
-def scene(asked):
+def run_scene(asked):
     from .making import make
 
     if asked.seed < 0:
@@ -112,17 +112,17 @@ def scene(asked):
 
 
 def add_fit(commands):
-    words = add_command(commands, "fit", fit, "writes a scene of your own disks, in any units",
+    words = add_command(commands, "fit", run_fit, "writes a scene of your own disks, in any units",
                         "Comma-separated values with a first line x,y,vx,vy,diameter are read from standard input.")
     words.add_argument("--width", type=positive, required=True, help="of the box, which begins at (0, 0), in your units")
     words.add_argument("--height", type=positive, required=True)
     add_times(words, 40.0)
 
 
-def fit(asked):
+def run_fit(asked):
     import csv
 
-    from .making import fit as fitted
+    from .making import fit
 
     names = ["x", "y", "vx", "vy", "diameter"]
     table = csv.DictReader(sys.stdin)
@@ -132,46 +132,46 @@ def fit(asked):
         disks = [[float(row[name]) for name in names] for row in table]
     except (TypeError, ValueError) as why:
         raise Refused(f"line {table.line_num}: {why}") from why
-    sys.stdout.write(fitted(asked.width, asked.height, disks, asked.time, asked.every).text())
+    sys.stdout.write(fit(asked.width, asked.height, disks, asked.time, asked.every).text())
 
 
 def add_explain(commands):
-    words = add_command(commands, "explain", explain, "says in words what is wrong with a scene that the program refuses",
+    words = add_command(commands, "explain", run_explain, "says in words what is wrong with a scene that the program refuses",
                         "The status is 1 if something is.")
     words.add_argument("scene", metavar="SCENE", help="the scene's file")
 
 
-def explain(asked):
-    from .explaining import explain as explained
+def run_explain(asked):
+    from .explaining import explain
 
     with open(asked.scene, "rb") as file:
-        found = explained(file.read())
+        found = explain(file.read())
     if found:
         sys.exit("\n".join(found))
     print("nothing is wrong with this scene")
 
 
 def add_rest(commands):
-    words = add_command(commands, "rest", left, "writes what is left of a scene after a state in its report, as a scene",
+    words = add_command(commands, "rest", run_rest, "writes what is left of a scene after a state in its report, as a scene",
                         "The report may break off, as that of a run that was stopped.")
     add_report(words)
     words.add_argument("--tick", type=int, help="the tick of the state (the last whole one)")
 
 
-def left(asked):
+def run_rest(asked):
     from .rests import rest
 
     sys.stdout.write(rest(read_scene(asked.scene), sys.stdin, asked.tick).text())
 
 
 def add_continue(commands):
-    words = add_command(commands, "continue", go_on, "writes a scene that goes on from a rest, for a time of its own",
+    words = add_command(commands, "continue", run_continue, "writes a scene that goes on from a rest, for a time of its own",
                         "A rest is what the command rest writes, or the program with --mode cut --at TICK.")
     words.add_argument("rest", metavar="REST", help="the rest's file")
     add_times(words, 40.0)
 
 
-def go_on(asked):
+def run_continue(asked):
     sys.stdout.write(read_scene(asked.rest).timed(asked.time, asked.every).text())
 
 
@@ -179,7 +179,7 @@ def add_measure(commands):
     words = add_command(commands, "measure", None, "writes a table of what a report says, with errors by blocks")
     measures = words.add_subparsers(dest="measure", required=True, metavar="MEASURE", parser_class=Words)
     for name, (_, _, about) in MEASURES.items():
-        own = add_command(measures, name, measure, about, f"The table is of comma-separated values in reduced units; {TIMES}.")
+        own = add_command(measures, name, run_measure, about, f"The table is of comma-separated values in reduced units; {TIMES}.")
         add_report(own)
         own.add_argument("--from", dest="start", type=not_negative, help="when the measure begins (a fifth of the run)")
         own.add_argument("--until", type=positive, help="when it ends, as if the run did: the report may break off after that")
@@ -195,7 +195,7 @@ def add_measure(commands):
             own.add_argument("--width", type=positive, help="the width of a bin")
 
 
-def measure(asked):
+def run_measure(asked):
     from importlib import import_module
 
     from .runs import Run
@@ -210,7 +210,7 @@ def measure(asked):
 
 
 def add_draw(commands):
-    words = add_command(commands, "draw", draw, "draws a frame, or all of them as a movie")
+    words = add_command(commands, "draw", run_draw, "draws a frame, or all of them as a movie")
     add_report(words)
     what = words.add_mutually_exclusive_group()
     what.add_argument("--tick", type=int, help="the first frame from this tick on (the last one)")
@@ -219,9 +219,8 @@ def add_draw(commands):
     words.add_argument("-o", "--output", required=True, metavar="FILE", help="ends in .svg, .png or .pdf; a movie in .html")
 
 
-def draw(asked):
-    from .drawing import draw as picture
-    from .drawing import movie
+def run_draw(asked):
+    from .drawing import draw, movie
     from .runs import Run
 
     endings = (".html",) if asked.movie else (".svg", ".png", ".pdf")
@@ -231,18 +230,18 @@ def draw(asked):
     if asked.movie:
         movie(run, asked.colour, asked.output)
     else:
-        picture(run, asked.colour, asked.output, asked.tick)
+        draw(run, asked.colour, asked.output, asked.tick)
 
 
 def add_convert(commands):
-    words = add_command(commands, "convert", convert, "writes frames or collisions for other programs",
+    words = add_command(commands, "convert", run_convert, "writes frames or collisions for other programs",
                         "xyz: frames as extended XYZ; ase: as a trajectory of ASE; csv: collisions.")
     words.add_argument("format", choices=["xyz", "csv", "ase"])
     add_report(words)
     words.add_argument("-o", "--output", required=True, metavar="FILE")
 
 
-def convert(asked):
+def run_convert(asked):
     from .converting import FORMATS
     from .runs import Run
 
@@ -250,30 +249,29 @@ def convert(asked):
 
 
 def add_check(commands):
-    words = add_command(commands, "check", check, "checks what a report says of momentum and energy",
+    words = add_command(commands, "check", run_check, "checks what a report says of momentum and energy",
                         "These laws are proved of each run; docs/PHYSICS.md says them.")
     words.add_argument("scene", metavar="SCENE", nargs="?", help="the scene's file; the report is read from standard input")
     words.add_argument("--drawn", type=int, metavar="N", help="checks the reports of N drawn scenes by the program")
     words.add_argument("--program", help="the program that runs them (that which is built here, or the variable HARD_DISKS)")
 
 
-def check(asked):
-    from .conservation import check as checked
-    from .conservation import check_drawn
+def run_check(asked):
+    from .conservation import check, check_drawn
     from .program import find_program
     from .reports import read_report
 
     if (asked.scene is None) == (asked.drawn is None):
         raise Refused("check wants a scene's file, or --drawn N")
     if asked.drawn is None:
-        print(checked(read_scene(asked.scene), read_report(sys.stdin)))
+        print(check(read_scene(asked.scene), read_report(sys.stdin)))
     else:
         for found in check_drawn(asked.drawn, find_program(asked.program)):
             print(found)
 
 
 def add_equation(commands):
-    words = add_command(commands, "equation", equation, "runs fluids and writes the pressure of each beside published values")
+    words = add_command(commands, "equation", run_equation, "runs fluids and writes the pressure of each beside published values")
     words.add_argument(
         "--phi", type=fractions, default=[0.2, 0.35, 0.5, 0.6], metavar="PHI,..", help="packing fractions (0.2,0.35,0.5,0.6)"
     )
@@ -283,7 +281,7 @@ def add_equation(commands):
     words.add_argument("--program", help="the program that runs them (that which is built here, or the variable HARD_DISKS)")
 
 
-def equation(asked):
+def run_equation(asked):
     from .equation import equation_of_state
     from .program import find_program
 

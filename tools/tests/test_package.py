@@ -1,7 +1,7 @@
 #!/usr/bin/env python3
 """Tests of how the package hard_disks reads, makes, converts and draws, and of its commands.
 
-    python3 tools/test_package.py
+    python3 tools/tests/test_package.py
 
 What can't be tested, without a library or the program, is said."""
 import contextlib

@@ -2,7 +2,7 @@
 """A second simulator of hard disks, written from docs/SPECIFICATION.md alone, in that page's names and order. What a
 docstring begins with is the heading that it follows.
 
-    python3 tools/second_simulator.py <scenes/gas.toml
+    python3 tools/tests/second_simulator.py <scenes/gas.toml
 
 It is slow and obvious: for each event it looks at all disks and all pairs. Scenes have to be valid."""
 import sys
@@ -10,6 +10,8 @@ from dataclasses import replace
 from itertools import combinations
 from math import isqrt
 from typing import NamedTuple
+
+import places  # makes the package importable
 
 from hard_disks.scenes import Scene, parse_scene
 

@@ -7,7 +7,8 @@ import subprocess
 import sys
 import unittest
 from functools import lru_cache
-from pathlib import Path
+
+from places import SCENES
 
 from hard_disks.__main__ import other_python
 from hard_disks.program import find_program
@@ -24,7 +25,6 @@ except ImportError:
 from hard_disks.making import make
 from hard_disks.runs import Run
 
-SCENES = Path(__file__).resolve().parent.parent / "scenes"
 NAMES = sorted(it.stem for it in SCENES.glob("*.toml"))
 
 

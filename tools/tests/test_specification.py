@@ -2,7 +2,7 @@
 """Compares the built program with a second simulator, written from docs/SPECIFICATION.md: drawn scenes, and those of
 scenes/ that are small enough for it.
 
-    python3 tools/test_specification.py [--scenes N] [--seed K] [PROGRAM]
+    python3 tools/tests/test_specification.py [--scenes N] [--seed K] [PROGRAM]
 
 Scenes are drawn by the seeds from K on, so `--scenes 1 --seed I` draws one again. PROGRAM is the one that the variable
 HARD_DISKS names, or the built one, where none is named."""
@@ -18,10 +18,11 @@ from dataclasses import replace
 import drawn
 import second_simulator as second
 import test_program as program
-from hard_disks.program import find_program
-from hard_disks.scenes import Refused, read_scene
+from places import SCENES, TOP, program_or_exit
 
-SPECIFICATION = program.TOOLS.parent / "docs" / "SPECIFICATION.md"
+from hard_disks.scenes import read_scene
+
+SPECIFICATION = TOP / "docs" / "SPECIFICATION.md"
 # Above so many disks the second simulator takes too long.
 FEW = 40
 # So many has a scene at most on which laws are tried, since each takes some more runs.
@@ -178,7 +179,7 @@ class Specification(unittest.TestCase):
                     self.assertEqual(found_status, run.status)
 
     def test_each_small_scene_of_the_repository_has_its_report(self):
-        for path in sorted(program.SCENES.glob("*.toml")):
+        for path in sorted(SCENES.glob("*.toml")):
             scene = read_scene(path)
             if len(scene.disks) <= FEW:
                 with self.subTest(path.name):
@@ -272,10 +273,7 @@ def main():
     parser.add_argument("--seed", type=int, default=ASKED.seed, metavar="K")
     parser.add_argument("program", nargs="?", metavar="PROGRAM")
     parser.parse_args(namespace=ASKED)
-    try:
-        program.PROGRAM = find_program(ASKED.program)
-    except Refused as why:
-        sys.exit(str(why))
+    program.PROGRAM = program_or_exit(ASKED.program)
     unittest.main(argv=sys.argv[:1])
 
 

@@ -2,9 +2,9 @@
 """Tests of how a run ends from outside: by a signal, by Ctrl-C at a terminal, or by a reader that goes away; and of
 the line that says on a terminal how far a run is.
 
-    python3 tools/test_signals.py [PROGRAM]
+    python3 tools/tests/test_signals.py [PROGRAM]
 
-PROGRAM is the built one, crates/hard_disks_program/out/hard_disks_program, where none is named."""
+PROGRAM is the one that the variable HARD_DISKS names, or the built one, where none is named."""
 import os
 import pty
 import random
@@ -18,8 +18,9 @@ import termios
 import time
 import unittest
 
-TOP = os.path.join(os.path.dirname(os.path.abspath(__file__)), "..")
-PROGRAM = os.path.join(TOP, "crates", "hard_disks_program", "out", "hard_disks_program")
+from places import program_of_words
+
+PROGRAM = ""  # which one is tested is found at the end
 # Runs for about a second, and writes some megabytes from its beginning on.
 WORDS = ["--mode", "load", "--disks", "10000"]
 # What a pipe holds is less, so a run that wrote so much into a file, or has a reader that read so much and no
@@ -307,10 +308,7 @@ class Lines(unittest.TestCase):
 
 def main():
     global PROGRAM
-    if len(sys.argv) > 1:
-        PROGRAM = os.path.abspath(sys.argv.pop(1))
-    if not os.access(PROGRAM, os.X_OK):
-        sys.exit(f"{PROGRAM} isn't there: ./hard_disks builds it")
+    PROGRAM = program_of_words()
     unittest.main()
 
 

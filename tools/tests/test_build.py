@@ -1,14 +1,15 @@
 #!/usr/bin/env python3
 """Tests of the script hard_disks at the top, in a copy of it, with a stand-in for the prover that builds in no time.
 
-    python3 tools/test_build.py"""
+    python3 tools/tests/test_build.py"""
 import os
 import shutil
 import subprocess
 import tempfile
 import unittest
 
-TOP = os.path.join(os.path.dirname(os.path.abspath(__file__)), "..")
+from places import TOP
+
 # Says what the prover says of two crates, and makes a program that tells its words, what it reads and a status.
 PROVER = r"""#!/bin/bash
 [[ -e ../../fails ]] && { echo 'rt: base NOT PROVED'; exit 1; }

@@ -2,7 +2,7 @@
 """Tests of what needs Python's standard library alone: the package's reports and conservation, and the documents' script.
 What needs numpy is tested by test_physics.py.
 
-    python3 tools/test_tools.py"""
+    python3 tools/tests/test_tools.py"""
 import dataclasses
 import io
 import os
@@ -14,6 +14,8 @@ import unittest
 from pathlib import Path
 from unittest import mock
 
+from places import SCENES, TOOLS
+
 import check_docs
 from hard_disks import reports
 from hard_disks.conservation import check, check_drawn, draw
@@ -22,18 +24,16 @@ from hard_disks.program import find_program
 from hard_disks.reports import Collision, Collisions, Limit, State, Sums, read_report
 from hard_disks.scenes import Refused, parse_scene, read_scene
 
-SCENES = os.path.join(os.path.dirname(os.path.abspath(__file__)), "..", "scenes")
-NAMES = sorted(it[: -len(".toml")] for it in os.listdir(SCENES) if it.endswith(".toml"))
+NAMES = sorted(it.stem for it in SCENES.glob("*.toml"))
 LIMIT = "0 0 wall 0 0 2 -2\nlimit rounds 0 1 wall 0 2\nwalls 1\npairs 0\n"
 
 
 def scene_file(name):
-    return os.path.join(SCENES, f"{name}.toml")
+    return str(SCENES / f"{name}.toml")
 
 
 def report_of(name):
-    with open(os.path.join(SCENES, f"{name}.report"), encoding="ascii") as file:
-        return file.read()
+    return (SCENES / f"{name}.report").read_text(encoding="ascii")
 
 
 def read(text):
@@ -208,7 +208,7 @@ class Commands(unittest.TestCase):
 
     def command(self, *words, text=""):
         code = "import sys; sys.modules['numpy'] = None; from hard_disks.commands import main; main(sys.argv[1:])"
-        environment = {**os.environ, "PYTHONPATH": os.path.dirname(os.path.abspath(__file__))}
+        environment = {**os.environ, "PYTHONPATH": str(TOOLS)}
         ran = subprocess.run([sys.executable, "-c", code, *words], input=text, capture_output=True, text=True, env=environment)
         return ran.returncode, ran.stdout, ran.stderr
 
@@ -218,7 +218,7 @@ class Commands(unittest.TestCase):
 
     def test_a_scene_is_explained(self):
         self.assertEqual(self.command("explain", scene_file("row")), (0, "nothing is wrong with this scene\n", ""))
-        status, out, error = self.command("explain", os.path.join(SCENES, "row.report"))
+        status, out, error = self.command("explain", str(SCENES / "row.report"))
         self.assertEqual((status, out, error.count("\n")), (1, "", 1))
 
     def test_a_report_leaves_a_rest(self):
@@ -250,7 +250,7 @@ class Commands(unittest.TestCase):
             (["check", scene_file("row")], "no report\n", "no line of a report"),
             (["check", scene_file("gone")], "", "No such file"),
             (["check"], "", "wants a scene's file"),
-            (["check", os.path.join(SCENES, "row.report")], "", "no TOML"),
+            (["check", str(SCENES / "row.report")], "", "no TOML"),
             (["frob"], "", "invalid choice"),
             (["explain", scene_file("gone")], "", "No such file"),
             (["rest", scene_file("states"), "--tick", "3"], report_of("states"), "no whole state of tick 3"),

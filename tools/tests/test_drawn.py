@@ -2,9 +2,9 @@
 """Runs drawn scenes by drawn settings, up to the greatest: each writes the report of the plain engine, and none goes on
 for nothing.
 
-    python3 tools/test_drawn.py [--scenes N] [--seconds S] [--seed K] [PROGRAM]
+    python3 tools/tests/test_drawn.py [--scenes N] [--seconds S] [--seed K] [PROGRAM]
 
-PROGRAM is the built one, where none is named. A run that takes longer than S seconds, by its processor time, is told."""
+PROGRAM is the one that the variable HARD_DISKS names, or the built one, where none is named. A run that takes longer than S seconds, by its processor time, is told."""
 import argparse
 import random
 import resource
@@ -12,6 +12,7 @@ import sys
 
 import drawn
 import test_program as program
+from places import program_or_exit
 
 
 def processor_time():
@@ -39,9 +40,9 @@ def main():
     parser.add_argument("--scenes", type=int, default=2_000, metavar="N")
     parser.add_argument("--seconds", type=float, default=1.0, metavar="S")
     parser.add_argument("--seed", type=int, default=1, metavar="K")
-    parser.add_argument("program", nargs="?", default=program.PROGRAM, metavar="PROGRAM")
+    parser.add_argument("program", nargs="?", metavar="PROGRAM")
     asked = parser.parse_args()
-    program.PROGRAM = asked.program
+    program.PROGRAM = program_or_exit(asked.program)
     chance = random.Random(asked.seed)
     wrong = 0
     for number in range(asked.scenes):

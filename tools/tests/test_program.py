@@ -2,9 +2,9 @@
 """Tests of what the built program writes: whole outputs that were worked out by hand, the reports of scenes/, and what
 its words must not change.
 
-    python3 tools/test_program.py [PROGRAM]
+    python3 tools/tests/test_program.py [PROGRAM]
 
-PROGRAM is the built one, crates/hard_disks_program/out/hard_disks_program, where none is named."""
+PROGRAM is the one that the variable HARD_DISKS names, or the built one, where none is named."""
 import contextlib
 import os
 import pty
@@ -16,14 +16,12 @@ import sys
 import tempfile
 import tomllib
 import unittest
-from pathlib import Path
 
 import drawn
+from places import SCENES, TESTS, program_of_words
 
-TOOLS = Path(__file__).resolve().parent
-SCENES = TOOLS.parent / "scenes"
-PROGRAM = TOOLS.parent / "crates" / "hard_disks_program" / "out" / "hard_disks_program"
-OUTPUTS = tomllib.loads((TOOLS / "outputs.toml").read_text(encoding="utf-8"))
+PROGRAM = ""  # which one is tested is found at the end
+OUTPUTS = tomllib.loads((TESTS / "outputs.toml").read_text(encoding="utf-8"))
 # How long, in seconds, a run may take, on a busy machine.
 LONG = 120
 DONE, SCENE_REFUSED, READ_FAULT, WRITE_FAULT, WRONG = 0, 3, 6, 7, 9
@@ -269,10 +267,7 @@ class Outputs(unittest.TestCase):
 
 def main():
     global PROGRAM
-    if len(sys.argv) > 1:
-        PROGRAM = Path(sys.argv.pop(1)).resolve()
-    if not os.access(PROGRAM, os.X_OK):
-        sys.exit(f"{PROGRAM} isn't there: ./hard_disks builds it")
+    PROGRAM = program_of_words()
     unittest.main()
 
 

@@ -1,7 +1,7 @@
 #!/usr/bin/env python3
 """Tests of what the measures of the package hard_disks say: of scenes that are worked out by hand, and of fluids.
 
-    python3 tools/test_physics.py
+    python3 tools/tests/test_physics.py
 
 Fluids are run by the built program, or by the one that the environment variable HARD_DISKS names. What can't be tested,
 without numpy or a program, is said."""

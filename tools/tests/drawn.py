@@ -2,6 +2,8 @@
 import random
 from dataclasses import dataclass
 
+import places  # makes the package importable
+
 from hard_disks.scenes import MOST_SPEED, MOST_WIDTH, Scene
 
 # How many places are tried for a disk until it is left out.
