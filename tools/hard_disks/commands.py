@@ -2,27 +2,46 @@
 import argparse
 import os
 import sys
+from dataclasses import dataclass
+from pathlib import Path
 
 from .scenes import Refused, read_scene
 
 ABOUT = "From a packing fraction to a figure: scenes for the program hard_disks, and what its reports say."
 TIMES = "times are in sigma/v, with sigma the mean diameter and v the root mean square of a velocity component"
-# For each measure its module, its function, and what it is.
+
+
+@dataclass(frozen=True)
+class Kind:
+    """A measure: its module and class, what it is, and which options of its own it takes."""
+
+    home: str
+    about: str
+    most: str = ""  # what --most bounds, and how far it goes without
+    has_width: bool = False
+    has_series: bool = False
+
+    def load(self):
+        """The class; its module needs numpy."""
+        from importlib import import_module
+
+        module, name = self.home.split(".")
+        return getattr(import_module(f".{module}", __package__), name)
+
+
 MEASURES = {
-    "pressure": ("pressure", "pressure", "Z = P A / (N T) by the virial and by the walls"),
-    "rate": ("pressure", "rate", "how often a disk collides, and its mean free path"),
-    "gr": ("structure", "pair_distribution", "the pair distribution g(r), and Z by g at contact"),
-    "sk": ("structure", "structure_factor", "the structure factor S(k)"),
-    "psi6": ("structure", "hexatic_order", "the hexatic bond order psi6"),
-    "msd": ("dynamics", "displacement", "the mean squared displacement, and D by its slope"),
-    "vacf": ("dynamics", "velocity_correlation", "the velocity correlation, and D by its integral"),
-    "speeds": ("dynamics", "speeds", "the distribution of speeds beside Maxwell's"),
-}
-WITH_SERIES, WITH_WIDTH = {"pressure", "rate", "psi6"}, {"gr", "sk", "speeds"}
-# What the option --most bounds, and how far that goes without it.
-WITH_MOST = {
-    "gr": "r, in sigma (5)", "sk": "k, in 1/sigma (15)", "msd": "time between two states (10)",
-    "vacf": "time between two states (10)", "speeds": "speed, in v (5)",
+    "pressure": Kind("pressure.Pressure", "Z = P A / (N T) by the virial and by the walls", has_series=True),
+    "rate": Kind("pressure.Rate", "how often a disk collides, and its mean free path", has_series=True),
+    "gr": Kind(
+        "structure.PairDistribution", "the pair distribution g(r), and Z by g at contact", "r, in sigma (5)", has_width=True
+    ),
+    "sk": Kind("structure.StructureFactor", "the structure factor S(k)", "k, in 1/sigma (15)", has_width=True),
+    "psi6": Kind("structure.HexaticOrder", "the hexatic bond order psi6", has_series=True),
+    "msd": Kind("dynamics.Displacement", "the mean squared displacement, and D by its slope", "time between states (10)"),
+    "vacf": Kind("dynamics.VelocityCorrelation", "the velocity correlation, and D by its integral", "time between states (10)"),
+    "speeds": Kind(
+        "dynamics.Speeds", "the distribution of speeds beside Maxwell's", "speed, in v (5)", has_width=True, has_series=True
+    ),
 }
 
 
@@ -59,6 +78,26 @@ def fractions(text):
     return [positive(part) for part in text.split(",")]
 
 
+def measures(text):
+    """gr,psi6 as the names of measures."""
+    names = text.split(",")
+    for name in names:
+        if name not in MEASURES:
+            raise argparse.ArgumentTypeError(f"there is no measure {name!r}; there are {', '.join(MEASURES)}")
+    if len(set(names)) < len(names):
+        raise argparse.ArgumentTypeError(f"{text} names a measure twice")
+    return names
+
+
+def by_measure(text):
+    """gr=4,sk=9 as a number for each measure; 4 alone is for the only one that takes the option."""
+    found = {}
+    for part in text.split(","):
+        name, _, number = part.rpartition("=")
+        found[name] = positive(number)
+    return found
+
+
 def parser():
     words = Words(prog="python3 -m hard_disks", description=ABOUT)
     commands = words.add_subparsers(dest="command", required=True, metavar="COMMAND", parser_class=Words)
@@ -84,6 +123,13 @@ def add_command(commands, name, call, about, more=""):
 def add_times(words, time):
     words.add_argument("--time", type=not_negative, default=time, help=f"how long the run is; {TIMES} (%(default)s)")
     words.add_argument("--every", type=positive, help="the time between two written states (only the end is written)")
+
+
+def standard_input(wanted):
+    """Standard input; whoever sits at a terminal is told that it is waited for."""
+    if sys.stdin.isatty():
+        print(f"hard_disks: waiting for {wanted} on standard input, as by <FILE", file=sys.stderr)
+    return sys.stdin
 
 
 def add_report(words):
@@ -125,7 +171,7 @@ def run_fit(asked):
     from .making import fit
 
     names = ["x", "y", "vx", "vy", "diameter"]
-    table = csv.DictReader(sys.stdin)
+    table = csv.DictReader(standard_input("a table"))
     if missing := set(names) - set(table.fieldnames or []):
         raise Refused(f"the first line has no {', '.join(it for it in names if it in missing)}")
     try:
@@ -161,7 +207,7 @@ def add_rest(commands):
 def run_rest(asked):
     from .rests import rest
 
-    sys.stdout.write(rest(read_scene(asked.scene), sys.stdin, asked.tick).text())
+    sys.stdout.write(rest(read_scene(asked.scene), standard_input("a report"), asked.tick).text())
 
 
 def add_continue(commands):
@@ -176,37 +222,88 @@ def run_continue(asked):
 
 
 def add_measure(commands):
-    words = add_command(commands, "measure", None, "writes a table of what a report says, with errors by blocks")
-    measures = words.add_subparsers(dest="measure", required=True, metavar="MEASURE", parser_class=Words)
-    for name, (_, _, about) in MEASURES.items():
-        own = add_command(measures, name, run_measure, about, f"The table is of comma-separated values in reduced units; {TIMES}.")
-        add_report(own)
-        own.add_argument("--from", dest="start", type=not_negative, help="when the measure begins (a fifth of the run)")
-        own.add_argument("--until", type=positive, help="when it ends, as if the run did: the report may break off after that")
-        own.add_argument(
-            "--margin", type=not_negative, help="how much along the walls is left out, in sigma (10, or a quarter of the box)"
-        )
-        own.add_argument("--blocks", type=int, default=20, help="blocks of time for the errors (%(default)s)")
-        if name in WITH_SERIES:
-            own.add_argument("--series", action="store_true", help="a row for each block or frame in place of means")
-        if name in WITH_MOST:
-            own.add_argument("--most", type=positive, help=f"the greatest {WITH_MOST[name]}")
-        if name in WITH_WIDTH:
-            own.add_argument("--width", type=positive, help="the width of a bin")
+    listed = "; ".join(f"{name}: {kind.about}" for name, kind in MEASURES.items())
+    words = add_command(commands, "measure", run_measure, "writes tables of what a report says, with errors",
+                        f"{listed}. Tables are comma-separated values in reduced units; {TIMES}.")
+    words.add_argument("measures", type=measures, metavar="MEASURE,..", help="of one pass over the report, as gr,psi6")
+    words.add_argument("scenes", nargs="+", metavar="SCENE",
+                       help="the scene's file; the report is read from standard input. Of several scenes, runs that differ by"
+                            " their seeds alone, each report is beside its scene, and ends in .report")
+    words.add_argument("-o", "--output", metavar="FOLDER", help="writes each table into a file MEASURE.csv of this folder")
+    words.add_argument("--from", dest="start", type=not_negative, help="when the measure begins (a fifth of the run)")
+    words.add_argument("--until", type=positive, help="when it ends, as if the run did: the report may break off after that")
+    words.add_argument(
+        "--margin", type=not_negative, help="how much along the walls is left out, in sigma (10, or a quarter of the box)"
+    )
+    words.add_argument("--blocks", type=int, default=20, help="blocks of time for the errors (%(default)s)")
+    words.add_argument("--series", action="store_true",
+                       help=f"a row for each block or state in place of means: {those_with('has_series')}")
+    bounds = ", ".join(f"{name} {kind.most}" for name, kind in MEASURES.items() if kind.most)
+    words.add_argument("--most", type=by_measure, default={}, metavar="NUMBER",
+                       help=f"how far a table goes: {bounds}; of several, as gr=4,sk=9")
+    words.add_argument("--width", type=by_measure, default={}, metavar="NUMBER",
+                       help=f"the width of a bin: {those_with('has_width')}; of several, as gr=0.01,sk=0.1")
+
+
+def those_with(option):
+    """The names of the measures that take an option."""
+    return ", ".join(name for name, kind in MEASURES.items() if getattr(kind, option))
+
+
+def options_of(asked):
+    """For each measure that is asked for its own options."""
+    options = {name: {} for name in asked.measures}
+    for option, takes in (("most", "most"), ("width", "has_width")):
+        for name, number in getattr(asked, option).items():
+            takers = [it for it in asked.measures if getattr(MEASURES[it], takes) and name in ("", it)]
+            if len(takers) != 1:
+                raise Refused(f"--{option} {name}: {len(takers)} of the measures asked for take it, and it has to be one")
+            options[takers[0]][option] = number
+    if asked.series:
+        for name in asked.measures:
+            if not MEASURES[name].has_series:
+                raise Refused(f"there is no series of {name}")
+            options[name]["series"] = True
+    return options
+
+
+def runs_of(asked):
+    """The runs that are measured: of one scene with the report on standard input, or of several with theirs beside them."""
+    from .runs import Run
+
+    for path in asked.scenes:
+        scene = read_scene(path)
+        report = standard_input("a report") if len(asked.scenes) == 1 else Path(path).with_suffix(".report")
+        yield Run(scene, report, True, None if asked.until is None else scene.ticks(asked.until))
 
 
 def run_measure(asked):
-    from importlib import import_module
-
-    from .runs import Run
+    from .measuring import together, watch
     from .sampling import sampling
 
-    module, function, _ = MEASURES[asked.measure]
-    call = getattr(import_module(f".{module}", __package__), function)
-    found = read_scene(asked.scene)
-    options = {name: value for name in ("series", "most", "width") if (value := getattr(asked, name, None)) is not None}
-    run = Run(found, sys.stdin, True, None if asked.until is None else found.ticks(asked.until))
-    call(run, sampling(run.scene, asked.start, asked.margin, asked.blocks), **options).write(sys.stdout)
+    options, found = options_of(asked), []
+    kinds = {name: MEASURES[name].load() for name in asked.measures}
+    if asked.series and len(asked.scenes) > 1:
+        raise Refused("a series is of one run")
+    for run in runs_of(asked):
+        part = sampling(run.scene, asked.start, asked.margin, asked.blocks)
+        found.append({name: kind(part, **options[name]) for name, kind in kinds.items()})
+        watch(run, list(found[-1].values()))
+    tables = {name: together([it[name] for it in found]) for name in kinds}
+    write_tables(tables, asked.output)
+
+
+def write_tables(tables, folder):
+    """Writes tables into files of a folder, or one after the other with an empty line between."""
+    for place, (name, table) in enumerate(tables.items()):
+        table.notes.insert(0, f"measure {name}")
+        if folder is None:
+            sys.stdout.write("\n" if place else "")
+            table.write(sys.stdout)
+        else:
+            os.makedirs(folder, exist_ok=True)
+            with open(Path(folder, f"{name}.csv"), "w", encoding="utf-8") as file:
+                table.write(file)
 
 
 def add_draw(commands):
@@ -226,7 +323,7 @@ def run_draw(asked):
     endings = (".html",) if asked.movie else (".svg", ".png", ".pdf")
     if not asked.output.endswith(endings):
         raise Refused(f"{asked.output} doesn't end in {' or '.join(endings)}")
-    run = Run(read_scene(asked.scene), sys.stdin, shows_progress=True)
+    run = Run(read_scene(asked.scene), standard_input("a report"), shows_progress=True)
     if asked.movie:
         movie(run, asked.colour, asked.output)
     else:
@@ -245,7 +342,7 @@ def run_convert(asked):
     from .converting import FORMATS
     from .runs import Run
 
-    FORMATS[asked.format](Run(read_scene(asked.scene), sys.stdin, shows_progress=True), asked.output)
+    FORMATS[asked.format](Run(read_scene(asked.scene), standard_input("a report"), shows_progress=True), asked.output)
 
 
 def add_check(commands):
@@ -264,7 +361,7 @@ def run_check(asked):
     if (asked.scene is None) == (asked.drawn is None):
         raise Refused("check wants a scene's file, or --drawn N")
     if asked.drawn is None:
-        print(check(read_scene(asked.scene), read_report(sys.stdin)))
+        print(check(read_scene(asked.scene), read_report(standard_input("a report"))))
     else:
         for found in check_drawn(asked.drawn, find_program(asked.program)):
             print(found)

@@ -3,8 +3,7 @@ from typing import Iterator
 
 import numpy as np
 
-from .runs import NO_EVENTS, Run, frame_of
-from .scenes import Refused
+from .runs import NO_EVENTS, Run, table_of
 
 
 def atoms(run: Run) -> Iterator:
@@ -21,7 +20,7 @@ def atoms(run: Run) -> Iterator:
         found = Atoms(
             numbers=np.zeros(len(radii), int), tags=tags, positions=np.hstack([places, flat]),
             cell=[scene.width / scene.sigma, scene.height / scene.sigma, 1.0], pbc=False,
-            info={"time": frame.tick / scene.time, "tick": frame.tick},
+            info={"time": scene.reduced_time(frame.tick), "tick": frame.tick},
         )
         # ASE knows velocities by momenta, OVITO and VMD by a column velo.
         found.set_velocities(np.hstack([velocities, flat]))
@@ -34,33 +33,24 @@ def write_xyz(run: Run, path) -> None:
     """Extended XYZ, frame by frame."""
     from ase.io import write
 
-    count = 0
     with open(path, "w", encoding="ascii") as file:
-        for count, frame in enumerate(atoms(run), 1):
+        for frame in atoms(run):
             write(file, frame, format="extxyz")
-    require_frames(count)
 
 
 def write_trajectory(run: Run, path) -> None:
     """A trajectory of ASE's own format."""
     from ase.io.trajectory import Trajectory
 
-    count = 0
     with Trajectory(path, "w") as file:
-        for count, frame in enumerate(atoms(run), 1):
+        for frame in atoms(run):
             file.write(frame)
-    require_frames(count)
-
-
-def require_frames(count: int) -> None:
-    if not count:
-        raise Refused("the report has no frame: it is a summary")
 
 
 def write_csv(run: Run, path) -> None:
     """Comma-separated values with a first line of names; what a collision hasn't is empty."""
     with open(path, "w", encoding="ascii") as file:
-        frame_of(NO_EVENTS).to_csv(file, index=False)
+        table_of(NO_EVENTS).to_csv(file, index=False)
         for table in run.collision_tables():
             table.to_csv(file, index=False, header=False)
 

@@ -91,7 +91,7 @@ def draw(run: Run, colour: str, path, tick: int | None = None) -> None:
         if tick is None or frame.tick >= tick and chosen is None:
             chosen = frame
     if chosen is None:
-        raise Refused(f"the report has no frame{'' if tick is None else f' from tick {tick} on'}")
+        raise Refused(f"the report has no frame from tick {tick} on")
     picture = Picture(run.scene, colour)
     picture.show(chosen)
     metadata = {"Date": None} if str(path).endswith(".svg") else None
@@ -107,10 +107,7 @@ def movie(run: Run, colour: str, path, frames_by_second: int = 12) -> None:
     matplotlib.rcParams["animation.frame_format"] = "jpeg"
     # A page grows by its frames, and may have as many as the report.
     writer = HTMLWriter(fps=frames_by_second, embed_frames=True, embed_limit=math.inf, default_mode="loop")
-    count = 0
     with writer.saving(picture.figure, path, dpi=90):
-        for count, frame in enumerate(run.frames(), 1):
+        for frame in run.frames():
             picture.show(frame)
             writer.grab_frame()
-    if not count:
-        raise Refused("the report has no frame: it is a summary")

@@ -1,62 +1,76 @@
 """How disks move: mean squared displacement, velocity correlation and the distribution of speeds, by frames."""
 from collections import deque
-from typing import Callable, Iterator
 
 import numpy as np
 
-from .runs import Run
+from .measuring import Measure
+from .runs import Frame
 from .sampling import Sampling, Table, bin_edges, block_error, ratio
 from .scenes import Refused
-from .structure import frames_inside
 from .theory import diffusion as enskog_diffusion
 
 # Below so many times Enskog's time C(t) is still well above 0, and D well below what it comes to.
 LEAST_TIMES = 5
 
 
-def lagged(run: Run, sampling: Sampling, most: float) -> Iterator[tuple[int, int, np.ndarray, np.ndarray]]:
-    """For each two frames up to `most` σ / v apart: the block, how many steps of `every` they are apart, and the rows of
-    both, of the disks that are inside at the earlier one."""
-    every = run.scene.every
-    if every is None:
-        raise Refused("the scene has no every, so its report has no frames to compare")
-    steps = max(int(run.scene.ticks(most) // every), 1)
-    earlier = deque(maxlen=steps)
-    for block, frame in frames_inside(run, sampling):
-        if frame.tick % every:
-            continue
-        for apart, (rows, inside) in enumerate(reversed(earlier), 1):
-            yield block, apart, rows[inside], frame.rows[inside]
-        earlier.append((frame.rows, sampling.inside(frame.rows[:, :2])))
+class Lagged(Measure):
+    """Adds up, by block and lag, what it finds of each two states up to `most` σ / v apart, of the disks that are inside at
+    the earlier one. The first lag is 0: a state beside itself."""
+
+    # How many numbers it finds of two states.
+    width: int
+
+    def __init__(self, sampling: Sampling, most: float = 10.0):
+        super().__init__(sampling)
+        every = self.scene.every
+        if every is None:
+            raise Refused("the scene has no every, so its report has no states to compare")
+        steps = max(int(self.scene.ticks(most) // every), 1)
+        self.earlier: deque[tuple[np.ndarray, np.ndarray]] = deque(maxlen=steps + 1)
+        self.sums = np.zeros((self.width, sampling.blocks, steps + 1))
+        self.weights = np.zeros((sampling.blocks, steps + 1))
+
+    def found(self, before: np.ndarray, after: np.ndarray) -> tuple[float, ...]:
+        """Sums over the disks of two states, whose rows of x, y, vx and vy these are."""
+        raise NotImplementedError
+
+    def add_state(self, frame: Frame) -> None:
+        if frame.tick % self.scene.every:
+            return
+        block = self.sampling.block(frame.tick)
+        self.earlier.append((frame.rows, self.sampling.inside(frame.rows[:, :2])))
+        for apart, (rows, inside) in enumerate(reversed(self.earlier)):
+            self.weights[block, apart] += inside.sum()
+            self.sums[:, block, apart] += self.found(rows[inside].astype(float), frame.rows[inside])
+
+    def known(self) -> tuple[np.ndarray, np.ndarray, np.ndarray]:
+        """The times that any two states are apart, and of these the sums and the numbers of disks, by block."""
+        known = self.weights.any(axis=0)
+        if known.sum() < 2:
+            raise Refused("no two states of the measure have a disk inside: it needs a finer every, or a longer run")
+        times = np.array([self.scene.reduced_time(lag * self.scene.every) for lag in np.flatnonzero(known)])
+        return times, self.sums[:, :, known], self.weights[:, known]
 
 
-def lag_sums(run: Run, sampling: Sampling, most: float, measures: list[Callable]) -> tuple[np.ndarray, np.ndarray, np.ndarray]:
-    """Sums over disks and frames of some measures, by block and lag; and the number of disks summed over."""
-    steps = int(run.scene.ticks(most) // run.scene.every) if run.scene.every else 1
-    sums, weights = np.zeros((len(measures), sampling.blocks, max(steps, 1))), np.zeros((sampling.blocks, max(steps, 1)))
-    for block, apart, before, after in lagged(run, sampling, most):
-        weights[block, apart - 1] += len(before)
-        for place, measure in enumerate(measures):
-            sums[place, block, apart - 1] += measure(before.astype(float), after)
-    if not weights.any():
-        raise Refused("no two frames of the measure have a disk inside: it needs a finer every, or a longer run")
-    known = weights.any(axis=0)
-    times = (np.arange(weights.shape[1]) + 1)[known] * run.scene.every / run.scene.time
-    return times, sums[:, :, known], weights[:, known]
-
-
-def displacement(run: Run, sampling: Sampling, most: float = 10.0) -> Table:
+class Displacement(Lagged):
     """The mean squared displacement in σ², and D by its slope over the second half of the times up to `most` σ / v."""
-    times, (squares,), weights = lag_sums(
-        run, sampling, most, [lambda before, after: ((after[:, :2] - before[:, :2]) ** 2).sum()]
-    )
-    squares /= run.scene.sigma**2
-    mean, errors = ratio(squares, weights)
-    with np.errstate(invalid="ignore"):
-        slopes = [slope(times, row) for row in squares / weights]
-    notes = [f"D = {slope(times, mean) / 4:.5g} +/- {block_error(slopes) / 4:.2g} sigma v, by the slope over the second half"]
-    notes += cautions(sampling, times, mean)
-    return Table(["time", "msd", "msd_error"], list(zip(times, mean, errors)), [*notes, *sampling.notes()])
+
+    width = 1
+
+    def found(self, before: np.ndarray, after: np.ndarray) -> tuple[float, ...]:
+        return (((after[:, :2] - before[:, :2]) ** 2).sum(),)
+
+    def table(self) -> Table:
+        times, (squares,), weights = self.known()
+        times, squares, weights = times[1:], squares[:, 1:] / self.scene.sigma**2, weights[:, 1:]
+        mean, errors = ratio(squares, weights)
+        with np.errstate(invalid="ignore"):
+            slopes = [slope(times, row) for row in squares / weights]
+        notes = [
+            f"D = {slope(times, mean) / 4:.5g} +/- {block_error(slopes) / 4:.2g} sigma v, by the slope over the second half"
+        ]
+        notes += cautions(self.sampling, times, mean)
+        return Table(["time", "msd", "msd_error"], list(zip(times, mean, errors)), [*notes, *self.sampling.notes()])
 
 
 def cautions(sampling: Sampling, times: np.ndarray, squares: np.ndarray) -> list[str]:
@@ -87,39 +101,61 @@ def slope(times: np.ndarray, values: np.ndarray) -> float:
     return np.polyfit(times[used], values[used], 1)[0]
 
 
-def velocity_correlation(run: Run, sampling: Sampling, most: float = 10.0) -> Table:
+class VelocityCorrelation(Lagged):
     """C(t) = ⟨v(0) · v(t)⟩ / ⟨v²⟩, and D(t), its integral from 0 to t in σ v.
 
-    The integral of v(0) · v(t) is v(0) · (r(t) - r(0)), so it is exact however far apart the frames are."""
-    times, (products, integrals, squares), weights = lag_sums(run, sampling, most, [
-        lambda before, after: (before[:, 2:] * after[:, 2:]).sum(),
-        lambda before, after: (before[:, 2:] * (after[:, :2] - before[:, :2])).sum(),
-        lambda before, after: ((after[:, :2] - before[:, :2]) ** 2).sum(),
-    ])
-    scene = run.scene
-    correlation, errors = ratio(products / (2 * scene.speed**2), weights)
-    diffusion, diffusion_errors = ratio(integrals / (2 * scene.speed * scene.sigma), weights)
-    notes = [f"D = {diffusion[-1]:.5g} +/- {diffusion_errors[-1]:.2g} sigma v, by the integral up to {times[-1]:.4g} sigma/v"]
-    notes += cautions(sampling, times, ratio(squares / scene.sigma**2, weights)[0])
-    rows = list(zip(times, correlation, errors, diffusion, diffusion_errors))
-    return Table(["time", "C", "C_error", "D", "D_error"], rows, [*notes, *sampling.notes()])
+    The integral of v(0) · v(t) is v(0) · (r(t) - r(0)), so it is exact however far apart the states are."""
+
+    width = 3
+
+    def found(self, before: np.ndarray, after: np.ndarray) -> tuple[float, ...]:
+        moved = after[:, :2] - before[:, :2]
+        return (before[:, 2:] * after[:, 2:]).sum(), (before[:, 2:] * moved).sum(), (moved**2).sum()
+
+    def table(self) -> Table:
+        times, (products, integrals, squares), weights = self.known()
+        scene = self.scene
+        correlation, errors = ratio(products / (2 * scene.speed**2), weights)
+        diffusion, diffusion_errors = ratio(integrals / (2 * scene.speed * scene.sigma), weights)
+        notes = [
+            f"D = {diffusion[-1]:.5g} +/- {diffusion_errors[-1]:.2g} sigma v, by the integral up to {times[-1]:.4g} sigma/v"
+        ]
+        notes += cautions(self.sampling, times, ratio(squares / scene.sigma**2, weights)[0])
+        rows = list(zip(times, correlation, errors, diffusion, diffusion_errors))
+        return Table(["time", "C", "C_error", "D", "D_error"], rows, [*notes, *self.sampling.notes()])
 
 
-def speeds(run: Run, sampling: Sampling, most: float = 5.0, width: float = 0.1) -> Table:
-    """The distribution of speeds up to `most` in bins of a width, both in v, beside Maxwell's."""
-    edges = bin_edges(most, width)
-    counts, disks = np.zeros((sampling.blocks, len(edges) - 1)), np.zeros((sampling.blocks, 1))
-    moments = np.zeros((2, sampling.blocks))
-    for block, frame in frames_inside(run, sampling):
-        squares = (frame.rows[:, 2:].astype(float) ** 2).sum(axis=1) / run.scene.speed**2
-        counts[block] += np.histogram(np.sqrt(squares), edges)[0]
-        disks[block] += len(squares)
-        moments[:, block] += squares.sum(), (squares**2).sum()
-    density, errors = ratio(counts, disks * width)
-    maxwell = -np.diff(np.exp(-(edges**2) / 2)) / width
-    with np.errstate(invalid="ignore", divide="ignore"):
-        shape = disks[:, 0] * moments[1] / moments[0] ** 2
-    whole = disks.sum() * moments[1].sum() / moments[0].sum() ** 2
-    notes = [f"<v^4> / <v^2>^2 = {whole:.5g} +/- {block_error(shape):.2g}, Maxwell 2; all disks, near walls too"]
-    rows = list(zip(edges[:-1] + width / 2, density, errors, maxwell))
-    return Table(["speed", "density", "density_error", "Maxwell"], rows, [*notes, *sampling.notes()])
+class Speeds(Measure):
+    """The distribution of speeds up to `most` in bins of a width, both in v, beside Maxwell's; or of each state its mean
+    squares."""
+
+    def __init__(self, sampling: Sampling, most: float = 5.0, width: float = 0.1, series: bool = False):
+        super().__init__(sampling)
+        self.edges, self.width, self.has_series = bin_edges(most, width), width, series
+        self.counts = np.zeros((sampling.blocks, len(self.edges) - 1))
+        self.disks, self.moments = np.zeros((sampling.blocks, 1)), np.zeros((2, sampling.blocks))
+        self.rows: list[tuple[float, float, float]] = []
+
+    def add_state(self, frame: Frame) -> None:
+        block = self.sampling.block(frame.tick)
+        squares = (frame.rows[:, 2:].astype(float) ** 2).sum(axis=1) / self.scene.speed**2
+        self.counts[block] += np.histogram(np.sqrt(squares), self.edges)[0]
+        self.disks[block] += len(squares)
+        self.moments[:, block] += squares.sum(), (squares**2).sum()
+        if self.has_series:
+            second, fourth = squares.mean(), (squares**2).mean()
+            self.rows.append((self.scene.reduced_time(frame.tick), second / 2, fourth / second**2))
+
+    def table(self) -> Table:
+        if self.has_series:
+            notes = ["T: half the mean of v^2; shape: <v^4> / <v^2>^2, Maxwell 2; all disks, near walls too"]
+            return Table(["time", "T", "shape"], self.rows, [*notes, *self.sampling.notes()])
+        density, errors = ratio(self.counts, self.disks * self.width)
+        maxwell = -np.diff(np.exp(-(self.edges**2) / 2)) / self.width
+        second, fourth = self.moments
+        with np.errstate(invalid="ignore", divide="ignore"):
+            shape = self.disks[:, 0] * fourth / second**2
+        whole = self.disks.sum() * fourth.sum() / second.sum() ** 2
+        notes = [f"<v^4> / <v^2>^2 = {whole:.5g} +/- {block_error(shape):.2g}, Maxwell 2; all disks, near walls too"]
+        rows = list(zip(self.edges[:-1] + self.width / 2, density, errors, maxwell))
+        return Table(["speed", "density", "density_error", "Maxwell"], rows, [*notes, *self.sampling.notes()])

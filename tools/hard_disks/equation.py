@@ -2,7 +2,8 @@
 import subprocess
 
 from .making import make
-from .pressure import pressure
+from .measuring import measured
+from .pressure import Pressure
 from .runs import Run
 from .sampling import Table, sampling
 
@@ -15,7 +16,7 @@ def equation_of_state(fractions: list[float], count: int, time: float, seed: int
         with subprocess.Popen([program], stdin=subprocess.PIPE, stdout=subprocess.PIPE, text=True) as running:
             running.stdin.write(scene.text())
             running.stdin.close()
-            table = pressure(Run(scene, running.stdout, shows_progress=True), sampling(scene))
+            table = measured(Run(scene, running.stdout, shows_progress=True), Pressure(sampling(scene)))
         rows.append([phi, *table.rows[0]])
     notes = [f"{count} disks each, {time:g} sigma/v, of which a fifth is left out; phi is that inside", table.notes[0]]
     return Table(["asked_for", *table.columns], rows, notes)

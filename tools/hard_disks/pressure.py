@@ -13,8 +13,9 @@ from dataclasses import dataclass
 
 import numpy as np
 
+from .measuring import Measure
 from .motion import Followed
-from .runs import Frame, Run
+from .runs import Sample
 from .sampling import Sampling, Table, block_error
 from .theory import collision_rate, henderson, mixture, virial
 
@@ -41,53 +42,61 @@ class Counts:
         return Counts(*(it.sum(axis=0, keepdims=True) for it in vars(self).values()))
 
 
-def count(run: Run, sampling: Sampling) -> Counts:
-    """Follows the run, and sums up what happens inside in each block."""
-    counts = Counts(*np.zeros((8, sampling.blocks)), np.ones(sampling.blocks))
-    sizes = np.array([row[4] for row in run.scene.disks], float)
-    ticks = np.linspace(sampling.start, run.scene.end, 2 * sampling.blocks * SAMPLES + 1)[1::2].astype(np.int64)
-    for item in run.followed(ticks.tolist()):
-        if isinstance(item, Frame):
-            add_frame(counts, sampling, item, sizes)
-        else:
-            add_pairs(counts, sampling, item, sizes)
-            add_walls(counts, sampling, item)
-    return counts
+class Colliding(Measure):
+    """Adds up in each block what happens inside."""
 
+    needs_collisions = True
 
-def add_frame(counts: Counts, sampling: Sampling, frame: Frame, sizes: np.ndarray) -> None:
-    """Counts the disks inside, and their squared speeds.
+    def __init__(self, sampling: Sampling, series: bool = False):
+        super().__init__(sampling)
+        self.has_series = series
+        self.counts = Counts(*np.zeros((8, sampling.blocks)), np.ones(sampling.blocks))
+        self.sizes = np.array([row[4] for row in sampling.scene.disks], float)
 
-    A part of the fluid may be denser and cooler than the rest for long, at the same pressure; its own temperature counts."""
-    inside, block = sampling.inside(frame.rows[:, :2]), sampling.block(frame.tick)
-    counts.samples[block] += 1
-    counts.disks[block] += inside.sum()
-    counts.covered[block] += math.pi / 4 * (sizes[inside] ** 2).sum()
-    counts.squared[block] += (frame.rows[inside, 2:].astype(float) ** 2).sum()
+    def sample_ticks(self) -> list[int]:
+        blocks = self.sampling.blocks
+        ticks = np.linspace(self.sampling.start, self.scene.end, 2 * blocks * SAMPLES + 1)[1::2]
+        return ticks.astype(np.int64).tolist()
 
+    def add_sample(self, sample: Sample) -> None:
+        """Counts the disks inside, and their squared speeds.
 
-def add_pairs(counts: Counts, sampling: Sampling, found: Followed, sizes: np.ndarray) -> None:
-    """The virial of collisions of two disks."""
-    counted = found.is_pair & (found.tick >= sampling.start)
-    counted &= sampling.inside((found.place_first + found.place_second) / 2)
-    apart = (found.place_first - found.place_second)[counted].astype(float)
-    push = (found.after_first - found.before_first)[counted]
-    touching = (sizes[found.first[counted]] + sizes[found.second[counted]]) / 2
-    blocks = sampling.block(found.tick[counted])
-    counts.virial += np.bincount(blocks, (apart * push).sum(axis=1), sampling.blocks)
-    counts.touching += np.bincount(blocks, touching * np.hypot(*push.T), sampling.blocks)
-    counts.collisions += np.bincount(blocks, minlength=sampling.blocks)
+        A part of the fluid may be denser and cooler than the rest for long, at the same pressure; its own temperature
+        counts."""
+        counts, inside = self.counts, self.sampling.inside(sample.rows[:, :2])
+        block = self.sampling.block(sample.tick)
+        counts.samples[block] += 1
+        counts.disks[block] += inside.sum()
+        counts.covered[block] += math.pi / 4 * (self.sizes[inside] ** 2).sum()
+        counts.squared[block] += (sample.rows[inside, 2:].astype(float) ** 2).sum()
 
+    def add_collisions(self, found: Followed) -> None:
+        self.add_pairs(found)
+        self.add_walls(found)
 
-def add_walls(counts: Counts, sampling: Sampling, found: Followed) -> None:
-    """What disks hand over to the walls, away from corners."""
-    across = np.where(found.side < 2, 0, 1)
-    rows = np.arange(len(across))
-    along, length = found.place_first[rows, 1 - across], np.array([sampling.scene.height, sampling.scene.width])[across]
-    counted = ~found.is_pair & (found.tick >= sampling.start)
-    counted &= (along >= sampling.margin) & (along <= length - sampling.margin)
-    push = 2.0 * np.abs(found.before_first[rows, across][counted])
-    counts.wall += np.bincount(sampling.block(found.tick[counted]), push, sampling.blocks)
+    def add_pairs(self, found: Followed) -> None:
+        """The virial of collisions of two disks."""
+        counts, sampling = self.counts, self.sampling
+        counted = found.is_pair & (found.tick >= sampling.start)
+        counted &= sampling.inside((found.place_first + found.place_second) / 2)
+        apart = (found.place_first - found.place_second)[counted].astype(float)
+        push = (found.after_first - found.before_first)[counted]
+        touching = (self.sizes[found.first[counted]] + self.sizes[found.second[counted]]) / 2
+        blocks = sampling.block(found.tick[counted])
+        counts.virial += np.bincount(blocks, (apart * push).sum(axis=1), sampling.blocks)
+        counts.touching += np.bincount(blocks, touching * np.hypot(*push.T), sampling.blocks)
+        counts.collisions += np.bincount(blocks, minlength=sampling.blocks)
+
+    def add_walls(self, found: Followed) -> None:
+        """What disks hand over to the walls, away from corners."""
+        scene, sampling = self.scene, self.sampling
+        across = np.where(found.side < 2, 0, 1)
+        rows = np.arange(len(across))
+        along, length = found.place_first[rows, 1 - across], np.array([scene.height, scene.width])[across]
+        counted = ~found.is_pair & (found.tick >= sampling.start)
+        counted &= (along >= sampling.margin) & (along <= length - sampling.margin)
+        push = 2.0 * np.abs(found.before_first[rows, across][counted])
+        self.counts.wall += np.bincount(sampling.block(found.tick[counted]), push, sampling.blocks)
 
 
 def values(counts: Counts, sampling: Sampling) -> np.ndarray:
@@ -109,41 +118,48 @@ def estimate(counts: Counts, sampling: Sampling) -> tuple[np.ndarray, np.ndarray
     return whole, block_error(values(counts, sampling).T)
 
 
-def block_times(sampling: Sampling) -> np.ndarray:
+def block_times(sampling: Sampling) -> list[float]:
     """The middle of each block, in σ / v."""
-    return (sampling.start + (np.arange(sampling.blocks) + 0.5) * sampling.block_time()) / sampling.scene.time
+    ticks = sampling.start + (np.arange(sampling.blocks) + 0.5) * sampling.block_time()
+    return [sampling.scene.reduced_time(tick) for tick in ticks]
 
 
-def pressure(run: Run, sampling: Sampling, series: bool = False) -> Table:
+class Pressure(Colliding):
     """Z by the virial and by the walls, beside what is published."""
-    counts = count(run, sampling)
-    if series:
-        table = values(counts, sampling)[:3]
-        return Table(["time", "phi", "Z", "Z_wall"], list(zip(block_times(sampling), *table)), sampling.notes())
-    (phi, factor, wall, _), errors = estimate(counts, sampling)
-    row = [phi, errors[0], int(counts.collisions.sum()), factor, errors[1], wall, errors[2]]
-    names = ["phi", "phi_error", "collisions", "Z", "Z_error", "Z_wall", "Z_wall_error"]
-    if run.scene.has_one_size:
-        names, row = [*names, "Z_Henderson", "Z_virial"], [*row, henderson(phi), virial(phi)]
-    else:
-        names, row = [*names, "Z_mixture"], [*row, mixture(phi, [disk[4] for disk in run.scene.disks])]
-    notes = ["Z = P A / (N T): by the virial of collisions inside, and by the walls away from corners; phi is that inside"]
-    early = counts.virial.sum() / counts.touching.sum() - 1 if counts.collisions.any() else 0
-    notes.append(f"collisions come early, as if disks were larger by {early:.2g} of their diameter, so Z is of disks that large")
-    return Table(names, [row], [*notes, *sampling.notes()])
+
+    def table(self) -> Table:
+        counts, sampling, scene = self.counts, self.sampling, self.scene
+        if self.has_series:
+            columns = values(counts, sampling)[:3]
+            return Table(["time", "phi", "Z", "Z_wall"], list(zip(block_times(sampling), *columns)), sampling.notes())
+        (phi, factor, wall, _), errors = estimate(counts, sampling)
+        row = [phi, errors[0], int(counts.collisions.sum()), factor, errors[1], wall, errors[2]]
+        names = ["phi", "phi_error", "collisions", "Z", "Z_error", "Z_wall", "Z_wall_error"]
+        if scene.has_one_size:
+            names, row = [*names, "Z_Henderson", "Z_virial"], [*row, henderson(phi), virial(phi)]
+        else:
+            names, row = [*names, "Z_mixture"], [*row, mixture(phi, [disk[4] for disk in scene.disks])]
+        notes = ["Z = P A / (N T): by the virial of collisions inside, and by the walls away from corners; phi is that inside"]
+        early = counts.virial.sum() / counts.touching.sum() - 1 if counts.collisions.any() else 0
+        notes.append(
+            f"collisions come early, as if disks were larger by {early:.2g} of their diameter, so Z is of disks that large"
+        )
+        return Table(names, [row], [*notes, *sampling.notes()])
 
 
-def rate(run: Run, sampling: Sampling, series: bool = False) -> Table:
+class Rate(Colliding):
     """How often a disk collides, and how far it goes between, beside Enskog's rate where disks have one size."""
-    counts = count(run, sampling)
-    if series:
-        table = values(counts, sampling)[[0, 3]]
-        return Table(["time", "phi", "rate"], list(zip(block_times(sampling), *table)), sampling.notes())
-    (phi, _, _, found), errors = estimate(counts, sampling)
-    path = math.sqrt(math.pi / 2) / found if found else math.inf
-    row = [phi, int(counts.collisions.sum()), found, errors[3], path, path * errors[3] / found if found else math.nan]
-    names = ["phi", "collisions", "rate", "rate_error", "free_path", "free_path_error"]
-    if run.scene.has_one_size:
-        names, row = [*names, "rate_Enskog"], [*row, collision_rate(phi)]
-    notes = ["collisions of a disk in the time sigma/v; free_path is the mean speed divided by that, in sigma"]
-    return Table(names, [row], [*notes, *sampling.notes()])
+
+    def table(self) -> Table:
+        counts, sampling = self.counts, self.sampling
+        if self.has_series:
+            columns = values(counts, sampling)[[0, 3]]
+            return Table(["time", "phi", "rate"], list(zip(block_times(sampling), *columns)), sampling.notes())
+        (phi, _, _, found), errors = estimate(counts, sampling)
+        path = math.sqrt(math.pi / 2) / found if found else math.inf
+        row = [phi, int(counts.collisions.sum()), found, errors[3], path, path * errors[3] / found if found else math.nan]
+        names = ["phi", "collisions", "rate", "rate_error", "free_path", "free_path_error"]
+        if self.scene.has_one_size:
+            names, row = [*names, "rate_Enskog"], [*row, collision_rate(phi)]
+        notes = ["collisions of a disk in the time sigma/v; free_path is the mean speed divided by that, in sigma"]
+        return Table(names, [row], [*notes, *sampling.notes()])

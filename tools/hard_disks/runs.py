@@ -24,6 +24,13 @@ class Frame(NamedTuple):
     rows: np.ndarray
 
 
+class Sample(NamedTuple):
+    """The same at a tick of which the report says nothing, found by following the disks."""
+
+    tick: int
+    rows: np.ndarray
+
+
 class Run:
     """A scene and the report of its run, a path or a stream of text. Each call reads it whole; a stream is read once.
 
@@ -37,18 +44,29 @@ class Run:
         self.report = report
 
     def frames(self, since: int = 0) -> Iterator[Frame]:
-        """The states from a tick on, the last of which is the end."""
+        """The states from a tick on: first the scene's own, at the tick 0, and last the end."""
+        has_states = False
         for item in self.items(is_about_states=True):
-            if isinstance(item, State) and item.tick >= since:
-                yield Frame(item.tick, item.numbers.reshape(-1, 5)[:, 1:])
+            if isinstance(item, State):
+                if not has_states and since == 0 < item.tick:
+                    yield self.start()
+                has_states = True
+                if item.tick >= since:
+                    yield frame_of(item)
+        if not has_states:
+            raise Refused("the report has no state: it is a summary")
+
+    def start(self) -> Frame:
+        """The scene's own state."""
+        return Frame(0, np.array([row[:4] for row in self.scene.disks], np.int64).reshape(-1, 4))
 
     def collisions(self):
         """All collisions, as a DataFrame of whole numbers."""
-        return frame_of(np.concatenate([NO_EVENTS, *self.events()]))
+        return table_of(np.concatenate([NO_EVENTS, *self.events()]))
 
     def collision_tables(self) -> Iterator:
         """The same in parts, as they are read."""
-        return (frame_of(events) for events in self.events())
+        return (table_of(events) for events in self.events())
 
     def events(self) -> Iterator[np.ndarray]:
         """The collisions in parts: rows of the numbers of a `Collision`."""
@@ -56,18 +74,25 @@ class Run:
             if isinstance(item, Collisions):
                 yield item.numbers.reshape(-1, FIELDS)
 
-    def followed(self, samples: list[int]) -> Iterator[Frame | Followed]:
-        """Collisions with the disks' places and velocities, and a frame at each tick of the samples, in order."""
+    def followed(self, samples: list[int]) -> Iterator[Followed | Sample | Frame]:
+        """Collisions with the disks' places and velocities, and a sample at each of these ticks, in order. Between them are
+        the frames: the scene's own, those of the report, and the end."""
         motion, waiting = Motion(self.scene), deque(samples)
-        for events in self.events():
+        yield self.start()
+        for item in self.items():
+            if isinstance(item, State) and item.tick > 0:
+                yield frame_of(item)
+            if not isinstance(item, Collisions):
+                continue
+            events = item.numbers.reshape(-1, FIELDS)
             while len(events):
                 due = np.searchsorted(events[:, 0], waiting[0]) if waiting else len(events)
                 if due:
                     yield motion.follow(events[:due])
                     events = events[due:]
                 if len(events) and waiting:
-                    yield Frame(waiting[0], motion.at(waiting.popleft()))
-        yield from (Frame(tick, motion.at(tick)) for tick in waiting)
+                    yield Sample(waiting[0], motion.at(waiting.popleft()))
+        yield from (Sample(tick, motion.at(tick)) for tick in waiting)
 
     def items(self, is_about_states: bool = False) -> Iterator[Collisions | State | Sums]:
         """What the report says, which has to be of this scene and to come to its end.
@@ -127,7 +152,11 @@ class Run:
             raise Refused(f"a collision of disk {named}, which the scene hasn't")
 
 
-def frame_of(rows: np.ndarray):
+def frame_of(state: State) -> Frame:
+    return Frame(state.tick, state.numbers.reshape(-1, 5)[:, 1:])
+
+
+def table_of(rows: np.ndarray):
     """Collisions as a DataFrame of nullable whole numbers; what a collision hasn't is missing."""
     from pandas import DataFrame
     from pandas.arrays import IntegerArray

@@ -68,6 +68,13 @@ class Scene:
         """A reduced time as the nearest number of ticks."""
         return round(time * self.time)
 
+    def reduced_time(self, tick: float) -> float:
+        """A tick as a reduced time, with as few digits as keep it to a tenth of a tick or a hundred thousandth: v was rounded,
+        so that 5,000 ticks may be 0.499999 where 0.5 was asked for."""
+        time = tick / self.time
+        allowed = max(0.1 / self.time, 1e-5 * time)
+        return next(short for digits in range(20) if abs((short := round(time, digits)) - time) <= allowed)
+
     def reduced(self, frame=None):
         """The rows x, y, vx, vy of a frame, or of the start, as an array in σ and v."""
         import numpy

@@ -1,10 +1,9 @@
 """How disks lie: the pair distribution g(r), the structure factor S(k) and the bond order ψ6, by frames."""
-from typing import Iterator
-
 import numpy as np
 from numpy.polynomial import Polynomial
 
-from .runs import Frame, Run
+from .measuring import Measure
+from .runs import Frame
 from .sampling import Sampling, Table, bin_edges, block_error, ratio
 from .scenes import Refused, Scene
 from .theory import contact, henderson
@@ -13,67 +12,67 @@ from .theory import contact, henderson
 FIT = 1.25
 
 
-def frames_inside(run: Run, sampling: Sampling) -> Iterator[tuple[int, Frame]]:
-    """The frames of the measure, each with its block; one at least."""
-    found = False
-    for frame in run.frames(sampling.start):
-        found = True
-        yield sampling.block(frame.tick), frame
-    if not found:
-        raise Refused("the report has no frame: it is a summary, or ends before the measure begins")
-
-
-def pair_distribution(run: Run, sampling: Sampling, most: float = 5.0, width: float = 0.02) -> Table:
+class PairDistribution(Measure):
     """g(r) up to `most` in bins of a width, both in σ, and of two or three sizes that of each two of them.
 
     Disks inside, and at least `most` away from the walls, are looked at, with all neighbours in reach."""
-    from scipy.spatial import cKDTree
 
-    sigma, scene = run.scene.sigma, run.scene
-    partial = Partial(scene)
-    if min(scene.width, scene.height) / 2 <= most * sigma:
-        raise Refused(f"the box is too small for distances up to {most} sigma")
-    # Just below the round numbers, so that disks that touch are in the bin from 1 on.
-    edges = bin_edges(most, width) - 1e-9
-    pairs, looked_at = np.zeros((sampling.blocks, len(edges) - 1)), np.zeros(sampling.blocks)
-    partial.begin(pairs.shape)
-    inside, frames = 0, 0
-    for block, frame in frames_inside(run, sampling):
-        places = frame.rows[:, :2]
-        is_chosen, is_inside = sampling.inside(places, max(most * sigma - sampling.margin, 0)), sampling.inside(places)
-        chosen = places[is_chosen]
-        inside, frames = inside + is_inside.sum(), frames + 1
-        looked_at[block] += len(chosen)
-        partial.look_at(block, is_chosen, is_inside)
+    def __init__(self, sampling: Sampling, most: float = 5.0, width: float = 0.02):
+        super().__init__(sampling)
+        scene = self.scene
+        if min(scene.width, scene.height) / 2 <= most * scene.sigma:
+            raise Refused(f"the box is too small for distances up to {most} sigma")
+        self.most, self.width = most, width
+        # Just below the round numbers, so that disks that touch are in the bin from 1 on.
+        self.edges = bin_edges(most, width) - 1e-9
+        self.pairs, self.looked_at = np.zeros((sampling.blocks, len(self.edges) - 1)), np.zeros(sampling.blocks)
+        self.inside, self.frames = 0, 0
+        self.partial = Partial(scene, self.pairs.shape)
+
+    def add_state(self, frame: Frame) -> None:
+        from scipy.spatial import cKDTree
+
+        sampling, sigma, places = self.sampling, self.scene.sigma, frame.rows[:, :2]
+        block = sampling.block(frame.tick)
+        is_chosen = sampling.inside(places, max(self.most * sigma - sampling.margin, 0))
+        is_inside, chosen = sampling.inside(places), places[is_chosen]
+        self.inside, self.frames = self.inside + is_inside.sum(), self.frames + 1
+        self.looked_at[block] += len(chosen)
+        self.partial.look_at(block, is_chosen, is_inside)
         if len(chosen):
-            near = cKDTree(chosen / sigma).sparse_distance_matrix(cKDTree(places / sigma), most, output_type="ndarray")
+            near = cKDTree(chosen / sigma).sparse_distance_matrix(cKDTree(places / sigma), self.most, output_type="ndarray")
             # A disk is no neighbour of itself.
             near = near[near["v"] > 0]
-            pairs[block] += np.histogram(near["v"], edges)[0]
-            partial.add(block, np.flatnonzero(is_chosen)[near["i"]], near["j"], near["v"], edges)
-    density = inside / frames / sampling.area() * sigma**2
-    shells = np.pi * np.diff(edges.clip(0) ** 2)
-    g, errors = ratio(pairs, looked_at[:, None] * density * shells)
-    names, columns = partial.columns(frames * sampling.area() / sigma**2, shells)
-    rows = list(zip(edges[:-1] + width / 2, g, errors, *columns))
-    notes = [f"{frames} frames; g of the disks inside and {most:.4g} sigma from the walls; density {density:.6g} per sigma^2"]
-    if scene.has_one_size and most > FIT:
-        notes += contact_notes(pairs, looked_at[:, None] * density * shells, edges, density)
-    return Table(["r", "g", "g_error", *names], rows, [*notes, *partial.notes(), *sampling.notes()])
+            self.pairs[block] += np.histogram(near["v"], self.edges)[0]
+            self.partial.add(block, np.flatnonzero(is_chosen)[near["i"]], near["j"], near["v"], self.edges)
+
+    def table(self) -> Table:
+        scene, sampling, edges = self.scene, self.sampling, self.edges
+        density = self.inside / self.frames / sampling.area() * scene.sigma**2
+        shells = np.pi * np.diff(edges.clip(0) ** 2)
+        ideal = self.looked_at[:, None] * density * shells
+        g, errors = ratio(self.pairs, ideal)
+        names, columns = self.partial.columns(self.frames * sampling.area() / scene.sigma**2, shells)
+        rows = list(zip(edges[:-1] + self.width / 2, g, errors, *columns))
+        notes = [
+            f"{self.frames} frames; g of the disks inside and {self.most:.4g} sigma from the walls;"
+            f" density {density:.6g} per sigma^2"
+        ]
+        if scene.has_one_size and self.most > FIT:
+            notes += contact_notes(self.pairs, ideal, edges, density)
+        return Table(["r", "g", "g_error", *names], rows, [*notes, *self.partial.notes(), *sampling.notes()])
 
 
 class Partial:
     """g(r) of each two sizes, if a scene has two or three; of more, or of one, there is none."""
 
-    def __init__(self, scene: Scene):
+    def __init__(self, scene: Scene, shape: tuple[int, int]):
+        """With nothing counted: `shape` is of blocks and bins."""
         self.sizes, self.size = np.unique([row[4] / scene.sigma for row in scene.disks], return_inverse=True)
         count = len(self.sizes)
         self.both = [(a, b) for a in range(count) for b in range(a, count)] if 2 <= count <= 3 else []
-
-    def begin(self, shape: tuple[int, int]) -> None:
-        """With nothing counted: `shape` is of blocks and bins."""
         self.pairs = np.zeros((len(self.both), *shape))
-        self.looked_at, self.inside = np.zeros((shape[0], len(self.sizes))), np.zeros(len(self.sizes))
+        self.looked_at, self.inside = np.zeros((shape[0], count)), np.zeros(count)
 
     def look_at(self, block: int, is_chosen: np.ndarray, is_inside: np.ndarray) -> None:
         self.looked_at[block] += np.bincount(self.size[is_chosen], minlength=len(self.sizes))
@@ -122,36 +121,45 @@ def contact_notes(pairs: np.ndarray, ideal: np.ndarray, edges: np.ndarray, densi
     ]
 
 
-def structure_factor(run: Run, sampling: Sampling, most: float = 15.0, width: float = 0.2) -> Table:
+class StructureFactor(Measure):
     """S(k) up to `most` in bins of a width, both in 1 / σ, in the rectangle inside.
 
     Disks count by a window of Hann, so that the rectangle's edges don't show, at the wave vectors that fit it."""
-    sigma, margin = run.scene.sigma, sampling.margin
-    sides = (np.array([run.scene.width, run.scene.height]) - 2 * margin) / sigma
-    # Half of the wave vectors: S(-k) is S(k).
-    across, up = (most * sides / (2 * np.pi)).astype(int)
-    i, j = np.arange(across + 1), np.arange(-up, up + 1)
-    kx, ky = 2 * np.pi * i / sides[0], 2 * np.pi * j / sides[1]
-    size = np.hypot(kx[:, None], ky)
-    # The window itself has a part at the least wave vectors, where it would show the mean density.
-    used = (size < most) & ((i > 1)[:, None] | (abs(j) > 1))
-    edges = bin_edges(most, width)
-    bins = np.searchsorted(edges, size[used], "right") - 1
-    sums, weights = np.zeros((2, sampling.blocks, len(edges)))
-    frames = 0
-    for block, frame in frames_inside(run, sampling):
-        places = (frame.rows[:, :2][sampling.inside(frame.rows[:, :2])] - margin) / sigma
-        window = np.prod(np.sin(np.pi * places / sides) ** 2, axis=1)
-        wave = (np.exp(1j * np.outer(kx, places[:, 0])) * window) @ np.exp(1j * np.outer(places[:, 1], ky))
-        power = np.abs(wave[used]) ** 2
-        sums[block] += np.bincount(bins, power, sums.shape[1])
-        weights[block] += np.bincount(bins, minlength=sums.shape[1]) * (window**2).sum()
-        frames += 1
-    s, errors = ratio(sums, weights)
-    middle = edges + width / 2
-    known = weights.sum(axis=0) > 0
-    notes = [f"{frames} frames; S(k) by a window of Hann over {sides[0]:.4g} times {sides[1]:.4g} sigma"]
-    return Table(["k", "S", "S_error"], list(zip(middle[known], s[known], errors[known])), [*notes, *sampling.notes()])
+
+    def __init__(self, sampling: Sampling, most: float = 15.0, width: float = 0.2):
+        super().__init__(sampling)
+        scene = self.scene
+        self.sides = (np.array([scene.width, scene.height]) - 2 * sampling.margin) / scene.sigma
+        # Half of the wave vectors: S(-k) is S(k).
+        across, up = (most * self.sides / (2 * np.pi)).astype(int)
+        i, j = np.arange(across + 1), np.arange(-up, up + 1)
+        self.kx, self.ky = 2 * np.pi * i / self.sides[0], 2 * np.pi * j / self.sides[1]
+        size = np.hypot(self.kx[:, None], self.ky)
+        # The window itself has a part at the least wave vectors, where it would show the mean density.
+        self.used = (size < most) & ((i > 1)[:, None] | (abs(j) > 1))
+        self.edges, self.width = bin_edges(most, width), width
+        self.bins = np.searchsorted(self.edges, size[self.used], "right") - 1
+        self.sums, self.weights = np.zeros((2, sampling.blocks, len(self.edges)))
+        self.frames = 0
+
+    def add_state(self, frame: Frame) -> None:
+        sampling, places = self.sampling, frame.rows[:, :2]
+        block = sampling.block(frame.tick)
+        places = (places[sampling.inside(places)] - sampling.margin) / self.scene.sigma
+        window = np.prod(np.sin(np.pi * places / self.sides) ** 2, axis=1)
+        wave = (np.exp(1j * np.outer(self.kx, places[:, 0])) * window) @ np.exp(1j * np.outer(places[:, 1], self.ky))
+        power = np.abs(wave[self.used]) ** 2
+        self.sums[block] += np.bincount(self.bins, power, self.sums.shape[1])
+        self.weights[block] += np.bincount(self.bins, minlength=self.sums.shape[1]) * (window**2).sum()
+        self.frames += 1
+
+    def table(self) -> Table:
+        s, errors = ratio(self.sums, self.weights)
+        middle = self.edges + self.width / 2
+        known = self.weights.sum(axis=0) > 0
+        notes = [f"{self.frames} frames; S(k) by a window of Hann over {self.sides[0]:.4g} times {self.sides[1]:.4g} sigma"]
+        rows = list(zip(middle[known], s[known], errors[known]))
+        return Table(["k", "S", "S_error"], rows, [*notes, *self.sampling.notes()])
 
 
 def bond_order(places: np.ndarray) -> tuple[np.ndarray, np.ndarray]:
@@ -170,26 +178,35 @@ def bond_order(places: np.ndarray) -> tuple[np.ndarray, np.ndarray]:
     return sums / np.maximum(counts, 1), counts
 
 
-def hexatic_order(run: Run, sampling: Sampling, series: bool = False) -> Table:
+class HexaticOrder(Measure):
     """The mean of |ψ6|, its size over all disks inside together, and the share of disks with six neighbours."""
-    found, blocks, times = [], [], []
-    for block, frame in frames_inside(run, sampling):
-        inside = sampling.inside(frame.rows[:, :2])
+
+    def __init__(self, sampling: Sampling, series: bool = False):
+        super().__init__(sampling)
+        self.has_series = series
+        self.found: list[list[float]] = []
+        self.ticks: list[int] = []
+
+    def add_state(self, frame: Frame) -> None:
+        inside = self.sampling.inside(frame.rows[:, :2])
         order, counts = bond_order(frame.rows[:, :2])
         if inside.any():
             order = order[inside]
-            found.append([np.abs(order).mean(), abs(order.mean()), (counts[inside] == 6).mean()])
-            blocks.append(block)
-            times.append(frame.tick / run.scene.time)
-    if not found:
-        raise Refused("no disk is inside")
-    names = ["local", "whole", "six_neighbours"]
-    notes = [f"{len(found)} frames; local: the mean of |psi6|; whole: the size of the mean of psi6", *sampling.notes()]
-    if series:
-        return Table(["time", *names], [[time, *row] for time, row in zip(times, found)], notes)
-    sums, frames = np.zeros((sampling.blocks, 3)), np.zeros((sampling.blocks, 1))
-    np.add.at(sums, blocks, found)
-    np.add.at(frames, blocks, 1)
-    mean, errors = ratio(sums, frames)
-    columns = [name for it in names for name in (it, f"{it}_error")]
-    return Table(columns, [np.column_stack([mean, errors]).ravel().tolist()], notes)
+            self.found.append([np.abs(order).mean(), abs(order.mean()), (counts[inside] == 6).mean()])
+            self.ticks.append(frame.tick)
+
+    def table(self) -> Table:
+        if not self.found:
+            raise Refused("no disk is inside")
+        sampling, names = self.sampling, ["local", "whole", "six_neighbours"]
+        notes = [f"{len(self.found)} frames; local: the mean of |psi6|; whole: the size of the mean of psi6", *sampling.notes()]
+        if self.has_series:
+            times = [self.scene.reduced_time(tick) for tick in self.ticks]
+            return Table(["time", *names], [[time, *row] for time, row in zip(times, self.found)], notes)
+        sums, frames = np.zeros((sampling.blocks, 3)), np.zeros((sampling.blocks, 1))
+        blocks = sampling.block(np.array(self.ticks))
+        np.add.at(sums, blocks, self.found)
+        np.add.at(frames, blocks, 1)
+        mean, errors = ratio(sums, frames)
+        columns = [name for it in names for name in (it, f"{it}_error")]
+        return Table(columns, [np.column_stack([mean, errors]).ravel().tolist()], notes)

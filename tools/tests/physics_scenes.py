@@ -47,13 +47,13 @@ def run_of(name):
 
 
 @lru_cache(maxsize=None)
-def fluid(count, phi, time, every, sizes=((1.0, 1.0),)):
+def fluid(count, phi, time, every, sizes=((1.0, 1.0),), seed=1):
     """A made scene and the text of its report, by the program."""
     try:
         program = find_program()
     except Refused as why:
         raise unittest.SkipTest(str(why)) from why
-    scene = make(count, phi, sizes=sizes, time=time, every=every)
+    scene = make(count, phi, sizes=sizes, seed=seed, time=time, every=every)
     return scene, subprocess.run([program], input=scene.text(), capture_output=True, text=True, check=True).stdout
 
 

@@ -19,7 +19,7 @@ from hard_disks.commands import MEASURES
 from hard_disks.commands import main as command
 from hard_disks.converting import FORMATS, write_csv, write_xyz
 from hard_disks.making import fit, make
-from hard_disks.runs import Frame, read
+from hard_disks.runs import Frame, Sample, read
 from hard_disks.scenes import Refused, parse_scene, read_scene
 
 
@@ -29,7 +29,9 @@ class Reading(unittest.TestCase):
             with self.subTest(name):
                 frames = list(run_of(name).frames())
                 ticks = [it.tick for it in frames]
-                followed = [it for it in run_of(name).followed(ticks) if isinstance(it, Frame)]
+                whole = list(run_of(name).followed(ticks))
+                self.assertEqual([it.tick for it in whole if isinstance(it, Frame)], ticks)
+                followed = [it for it in whole if isinstance(it, Sample)]
                 # A state has the velocities from before the events of its tick, and so has a frame.
                 self.assertEqual([it.tick for it in followed], ticks)
                 for found, wanted in zip(followed, frames):
@@ -39,8 +41,9 @@ class Reading(unittest.TestCase):
         text = (SCENES / "pair.toml").read_text() + "===\n" + (SCENES / "pair.report").read_text()
         run = read(io.StringIO(text))
         self.assertEqual(run.scene, read_scene(SCENES / "pair.toml"))
-        (frame,) = run.frames()
-        self.assertEqual((frame.tick, frame.rows.tolist()), (5, [[11, 10, -1, 0], [19, 10, 1, 0]]))
+        start, end = run.frames()
+        self.assertEqual((start.tick, start.rows.tolist()), (0, [[10, 10, 1, 0], [20, 10, -1, 0]]))
+        self.assertEqual((end.tick, end.rows.tolist()), (5, [[11, 10, -1, 0], [19, 10, 1, 0]]))
 
     def test_a_stream_is_read_once(self):
         run = read_text((SCENES / "pair.report").read_text(), read_scene(SCENES / "pair.toml"))
@@ -190,7 +193,7 @@ class Ase(unittest.TestCase):
 
     def test_a_summary_is_refused(self):
         scene = scene_of([(400, 500, 3, 0)])
-        with self.assertRaisesRegex(Refused, "no frame"):
+        with self.assertRaisesRegex(Refused, "no state"):
             write_xyz(read_text("done 100\nwalls 0\npairs 0\nmomentum 3 0\nenergy 9 9\n", scene), os.devnull)
 
 
@@ -231,7 +234,7 @@ class Commands(unittest.TestCase):
         return status, out.getvalue(), error.getvalue()
 
     def test_each_command_has_help(self):
-        for words in [[], ["scene"], ["fit"], ["explain"], ["rest"], ["continue"], ["measure"], ["measure", "gr"], ["draw"], ["convert"], ["check"], ["equation"]]:
+        for words in [[], ["scene"], ["fit"], ["explain"], ["rest"], ["continue"], ["measure"], ["draw"], ["convert"], ["check"], ["equation"]]:
             status, out, _ = self.command(*words, "--help")
             self.assertEqual((status, out.startswith("usage: python3 -m hard_disks")), (0, True), words)
 
@@ -254,6 +257,41 @@ class Commands(unittest.TestCase):
                 self.assertEqual((status, error), (0, ""))
                 self.assertEqual({it.count(",") for it in lines}, {lines[0].count(",")})
                 self.assertIn("along the walls are left out", out)
+
+    def test_several_measures_are_had_in_one_pass(self):
+        scene, names = SCENES / "fluid.toml", ["pressure", "gr", "psi6"]
+        words = [scene, "--margin", "4"]
+        status, out, error = self.command("measure", ",".join(names), *words, "--width", "gr=0.1", report="fluid")
+        self.assertEqual((status, error), (0, ""))
+        singly = [
+            self.command("measure", name, *words, *(["--width", "0.1"] if name == "gr" else []), report="fluid")[1]
+            for name in names
+        ]
+        self.assertEqual(out, "\n".join(singly))
+        folder = Path(self.enterContext(tempfile.TemporaryDirectory()), "tables")
+        self.command("measure", "pressure,gr,psi6", *words, "--width", "0.1", "-o", folder, report="fluid")
+        self.assertEqual([(folder / f"{name}.csv").read_text() for name in names], singly)
+
+    def test_several_runs_give_means_and_their_spread(self):
+        folder, values = Path(self.enterContext(tempfile.TemporaryDirectory())), []
+        for seed in (1, 2, 3):
+            scene, report = fluid(200, 0.4, 1.0, 0.25, seed=seed)
+            (folder / f"{seed}.toml").write_text(scene.text())
+            (folder / f"{seed}.report").write_text(report)
+            out = self.command("measure", "pressure", folder / f"{seed}.toml", report=report)[1]
+            values.append(self.row(out)["Z"])
+        scenes = [folder / f"{seed}.toml" for seed in (1, 2, 3)]
+        status, out, error = self.command("measure", "pressure,gr", *scenes, "--most", "3")
+        self.assertEqual((status, error), (0, ""))
+        found = self.row(out)
+        self.assertAlmostEqual(found["Z"], np.mean(values), delta=1e-5)
+        self.assertAlmostEqual(found["Z_error"], np.std(values, ddof=1) / np.sqrt(3), delta=1e-5)
+
+    @staticmethod
+    def row(text):
+        """The numbers of the first row of a table, by their names."""
+        names, row = [it for it in text.splitlines() if not it.startswith("#")][:2]
+        return dict(zip(names.split(","), map(float, row.split(","))))
 
     @needs("matplotlib")
     def test_pictures_are_drawn(self):

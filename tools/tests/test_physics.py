@@ -14,15 +14,16 @@ from dataclasses import replace
 from physics_scenes import column, end_of, fluid, main, noted, np, read_text, scene_of, value
 
 from hard_disks import theory
-from hard_disks.dynamics import displacement, speeds, velocity_correlation
-from hard_disks.pressure import pressure, rate
+from hard_disks.dynamics import Displacement, Speeds, VelocityCorrelation
+from hard_disks.measuring import measured
+from hard_disks.pressure import Pressure, Rate
 from hard_disks.program import find_program
 from hard_disks.reports import read_report
 from hard_disks.rests import rest
 from hard_disks.runs import Run
 from hard_disks.sampling import block_error, sampling
 from hard_disks.scenes import Refused, parse_scene
-from hard_disks.structure import bond_order, pair_distribution, structure_factor
+from hard_disks.structure import PairDistribution, StructureFactor, bond_order
 
 
 class ByHand(unittest.TestCase):
@@ -32,19 +33,19 @@ class ByHand(unittest.TestCase):
         # They meet head on with velocities 3 and -3, so r · Δv is 100 · 6; 2 N T t is 2 · 9 · 100.
         scene = scene_of([(400, 500, 3, 0), (600, 500, -3, 0)])
         report = end_of(scene, ["16 0 pair 0 1 -3 0 3 0"])
-        table = pressure(read_text(report, scene), sampling(scene, start=0, margin=1, blocks=2))
+        table = measured(read_text(report, scene), Pressure(sampling(scene, start=0, margin=1, blocks=2)))
         # At the tick 16 they are 104 apart.
         self.assertAlmostEqual(value(table, "Z"), 1 + 104 * 6 / (2 * 9 * 100))
         self.assertAlmostEqual(value(table, "phi"), 2 * math.pi / 4 * 100**2 / 800**2)
         self.assertEqual(value(table, "collisions"), 1)
-        found = rate(read_text(report, scene), sampling(scene, start=0, margin=1, blocks=2))
+        found = measured(read_text(report, scene), Rate(sampling(scene, start=0, margin=1, blocks=2)))
         # Each of them collides once in 100 ticks, and v is 3 / √2, so σ / v is 100 √2 / 3 ticks.
         self.assertAlmostEqual(value(found, "rate"), 100 * math.sqrt(2) / 3 / 100)
 
     def test_pressure_of_a_disk_on_a_wall(self):
         # It hands over 2 · 10 once in 100 ticks to walls of 4 · 800; N T / A is 50 / 800².
         scene = scene_of([(900, 500, 10, 0)])
-        table = pressure(read_text(end_of(scene, ["5 0 wall 0 1 -10 0"]), scene), sampling(scene, 0, 1, 2))
+        table = measured(read_text(end_of(scene, ["5 0 wall 0 1 -10 0"]), scene), Pressure(sampling(scene, 0, 1, 2)))
         # How often it was counted inside, from where it is from the tick 6 on.
         counted = value(table, "phi") * 800**2 / (math.pi / 4 * 100**2)
         self.assertAlmostEqual(value(table, "Z_wall"), 20 / (3200 * 100) / (counted * 50 / 800**2))
@@ -52,7 +53,7 @@ class ByHand(unittest.TestCase):
     def test_pair_distribution_of_three_disks(self):
         # One in the middle, one at 2.1 and one at 2.5 diameters from it.
         scene = scene_of([(500, 500, 1, 0), (710, 500, 0, 0), (500, 750, 0, 0)])
-        table = pair_distribution(read_text(end_of(scene), scene), sampling(scene, 0, 1, 2), most=3.0, width=0.1)
+        table = measured(read_text(end_of(scene), scene), PairDistribution(sampling(scene, 0, 1, 2), most=3.0, width=0.1))
         g, r = column(table, "g"), column(table, "r")
         np.testing.assert_allclose(r[g > 0], [2.15, 2.55])
         # Only the one in the middle is looked at; three disks lie inside, on 8 times 8 diameters.
@@ -62,7 +63,7 @@ class ByHand(unittest.TestCase):
         # A great one in the middle, a small one at 210 from it and one at 250; the mean diameter is 80. All lie inside, on
         # 10 times 10 diameters, and only that in the middle is looked at.
         scene = scene_of([(500, 500, 1, 0, 100), (710, 500, 0, 0, 70), (500, 750, 0, 0, 70)])
-        table = pair_distribution(read_text(end_of(scene), scene), sampling(scene, 0, 1.25, 2), most=4.0, width=0.1)
+        table = measured(read_text(end_of(scene), scene), PairDistribution(sampling(scene, 0, 1.25, 2), most=4.0, width=0.1))
         self.assertEqual(table.columns[3:], [f"g_{it}{end}" for it in ("00", "01", "11") for end in ("", "_error")])
         g, r = column(table, "g_01"), column(table, "r")
         np.testing.assert_allclose(r[g > 0], [2.65, 3.15])
@@ -75,7 +76,7 @@ class ByHand(unittest.TestCase):
         from scipy.special import j0
 
         scene = scene_of([(7_900, 8_000, 1, 0), (8_100, 8_000, 0, 0)], width=16_000, height=16_000)
-        table = structure_factor(read_text(end_of(scene), scene), sampling(scene, 0, 1, 2), most=4.0, width=0.4)
+        table = measured(read_text(end_of(scene), scene), StructureFactor(sampling(scene, 0, 1, 2), most=4.0, width=0.4))
         k, s = column(table, "k"), column(table, "S")
         np.testing.assert_allclose(s[1:], 1 + j0(2 * k[1:]), atol=0.03)
 
@@ -97,18 +98,19 @@ class ByHand(unittest.TestCase):
         most = 10 / scene.time
 
         def of(measure, *more):
-            return measure(read_text(states + last, scene), sampling(scene, 0, 1, 2), *more)
+            return measured(read_text(states + last, scene), measure(sampling(scene, 0, 1, 2), *more))
 
         # The mean of 9 and 16, over σ² = 10⁴, times t².
-        np.testing.assert_allclose(column(of(displacement, most), "msd"), [12.5 * t**2 / 1e4 for t in (5, 10)])
-        found = of(velocity_correlation, most)
-        np.testing.assert_allclose(column(found, "C"), [1, 1])
-        np.testing.assert_allclose(column(found, "D"), [scene.speed * t / scene.sigma for t in (5, 10)])
+        np.testing.assert_allclose(column(of(Displacement, most), "msd"), [12.5 * t**2 / 1e4 for t in (5, 10)])
+        found = of(VelocityCorrelation, most)
+        np.testing.assert_allclose(column(found, "time"), [t / scene.time for t in (0, 5, 10)], atol=1e-3)
+        np.testing.assert_allclose(column(found, "C"), [1, 1, 1])
+        np.testing.assert_allclose(column(found, "D"), [scene.speed * t / scene.sigma for t in (0, 5, 10)])
         # v = 2.5, so σ / v is 40 ticks; by Enskog's theory C falls within some thousand.
-        self.assertTrue(any("times are too short" in it for it in of(displacement, most).notes))
-        self.assertFalse(any("walls" in it and "CAUTION" in it for it in of(displacement, most).notes))
+        self.assertTrue(any("times are too short" in it for it in of(Displacement, most).notes))
+        self.assertFalse(any("walls" in it and "CAUTION" in it for it in of(Displacement, most).notes))
         # v = 2.5, so the speeds are 1.2 and 1.6.
-        table = of(speeds, 3.0, 0.25)
+        table = of(Speeds, 3.0, 0.25)
         np.testing.assert_allclose(column(table, "speed")[column(table, "density") > 0], [1.125, 1.625])
 
     def test_diffusion_near_walls_is_cautioned(self):
@@ -117,9 +119,9 @@ class ByHand(unittest.TestCase):
         states = "".join(f"state {t}\ndisk 0 {400 + 3 * t} 500 3 0\n" for t in (5, 10, 15))
         last = "done 20\nwalls 0\npairs 0\nmomentum 3 0\nenergy 9 9\ndisk 0 460 500 3 0\n"
         for margin, is_near in [(0.41, True), (0.43, False)]:
-            for measure in (displacement, velocity_correlation):
+            for measure in (Displacement, VelocityCorrelation):
                 with self.subTest((margin, measure)):
-                    table = measure(read_text(states + last, scene), sampling(scene, 0, margin, 2), 10 / scene.time)
+                    table = measured(read_text(states + last, scene), measure(sampling(scene, 0, margin, 2), 10 / scene.time))
                     self.assertEqual(any("meet walls" in it for it in table.notes), is_near)
 
     def test_errors_of_blocks(self):
@@ -158,33 +160,33 @@ class Fluids(unittest.TestCase):
 
     def measured(self, measure, phi=0.45, every=0.5, *more):
         scene, report = fluid(900, phi, 24.0, every)
-        return measure(read_text(report, scene), sampling(scene, blocks=10), *more)
+        return measured(read_text(report, scene), measure(sampling(scene, blocks=10), *more))
 
     def test_virial_contact_and_walls_give_the_same_pressure(self):
-        table = self.measured(pressure)
+        table = self.measured(Pressure)
         virial = value(table, "Z"), value(table, "Z_error")
         self.agree(virial, (value(table, "Z_wall"), value(table, "Z_wall_error")))
         self.agree(virial, (value(table, "Z_virial"), 0), 0.01)
-        self.agree(virial, noted(self.measured(pair_distribution), "phi g"))
+        self.agree(virial, noted(self.measured(PairDistribution), "phi g"))
 
     def test_collisions_are_as_often_as_the_pressure_says(self):
         # Z = 1 + √π / 4 times the collisions of a disk in σ / v.
-        found, table = self.measured(rate), self.measured(pressure)
+        found, table = self.measured(Rate), self.measured(Pressure)
         by_rate = 1 + math.sqrt(math.pi) / 4 * value(found, "rate")
         self.agree((by_rate, value(found, "rate_error")), (value(table, "Z"), value(table, "Z_error")))
         self.assertAlmostEqual(value(found, "rate") / value(found, "rate_Enskog"), 1, delta=0.02)
 
     def test_displacements_and_velocities_give_the_same_diffusion(self):
-        moved, turned = (self.measured(it, 0.45, 0.05, 5.0) for it in (displacement, velocity_correlation))
+        moved, turned = (self.measured(it, 0.45, 0.05, 5.0) for it in (Displacement, VelocityCorrelation))
         self.agree(noted(moved, "D"), noted(turned, "D"))
         # The integral of C over close frames, by the rule of Simpson.
         from scipy.integrate import simpson
 
-        whole = simpson([1, *column(turned, "C")], x=[0, *column(turned, "time")])
+        whole = simpson(column(turned, "C"), x=column(turned, "time"))
         self.agree((whole, 0), noted(turned, "D"))
 
     def test_speeds_are_maxwells(self):
-        table = self.measured(speeds)
+        table = self.measured(Speeds)
         density, errors, wanted = (column(table, it) for it in ("density", "density_error", "Maxwell"))
         self.assertLess(np.abs(density - wanted).max(), 0.03)
         far = np.abs(density - wanted) > 4 * np.maximum(errors, 2e-3)
@@ -198,9 +200,9 @@ class Fluids(unittest.TestCase):
         lines = report.splitlines(True)
         end = lines.index(f"state {shorter.end}\n") + 1 + len(scene.disks)
         broken = "".join(lines[: end + 1]) + lines[end + 1][:5]
-        for measure, more in [(pressure, ()), (pair_distribution, (2.0,)), (displacement, (0.5,)), (speeds, ())]:
+        for measure, more in [(Pressure, ()), (PairDistribution, (2.0,)), (Displacement, (0.5,)), (Speeds, ())]:
             rows = [
-                measure(it, sampling(shorter, blocks=4), *more).rows
+                measured(it, measure(sampling(shorter, blocks=4), *more)).rows
                 for it in (read_text(whole, shorter), Run(scene, io.StringIO(broken), until=shorter.end))
             ]
             np.testing.assert_array_equal(*rows)
@@ -210,7 +212,7 @@ class Fluids(unittest.TestCase):
 
     def test_pairs_of_sizes_add_up_to_all(self):
         scene, report = fluid(400, 0.4, 8.0, 0.5, ((1.0, 0.7), (1.4, 0.3)))
-        table = pair_distribution(read_text(report, scene), sampling(scene), most=3.0)
+        table = measured(read_text(report, scene), PairDistribution(sampling(scene), most=3.0))
         whole, parts = column(table, "g"), [column(table, f"g_{it}") for it in ("00", "01", "11")]
         r = column(table, "r")
         # By their shares, which are those inside to a few percent.
@@ -229,14 +231,14 @@ class Fluids(unittest.TestCase):
         self.assertGreater(sums.pairs, 50_000)
 
     def test_the_structure_factor_begins_at_the_compressibility(self):
-        table = self.measured(structure_factor, 0.45, 0.5, 3.0)
+        table = self.measured(StructureFactor, 0.45, 0.5, 3.0)
         phi = 0.455
         slope = (theory.virial(phi + 1e-4) * (phi + 1e-4) - theory.virial(phi - 1e-4) * (phi - 1e-4)) / 2e-4
         self.assertAlmostEqual(column(table, "S")[1] * slope, 1, delta=0.25)
 
     def test_a_mixture_has_the_pressure_that_is_published(self):
         scene, report = fluid(400, 0.4, 8.0, None, ((1.0, 0.7), (1.4, 0.3)))
-        table = pressure(read_text(report, scene), sampling(scene))
+        table = measured(read_text(report, scene), Pressure(sampling(scene)))
         self.assertNotIn("Z_Henderson", table.columns)
         self.agree((value(table, "Z"), value(table, "Z_error")), (value(table, "Z_mixture"), 0))
 

@@ -1,0 +1,85 @@
+"""Measures of runs: several at once, in one pass over a report.
+
+A measure is shown what the report says, adds it up by blocks of time, and makes a table of it in the end. It keeps no more
+of the report than it compares, so a report may be as long as it likes."""
+from typing import Iterable
+
+import numpy as np
+
+from .motion import Followed
+from .runs import Frame, Run, Sample
+from .sampling import Sampling, Table, block_error
+from .scenes import Refused
+
+
+class Measure:
+    """A measure of one run; each kind of measure is a class of its own."""
+
+    # Whether it looks at collisions: one that doesn't takes a report without them too.
+    needs_collisions = False
+
+    def __init__(self, sampling: Sampling):
+        self.sampling, self.scene = sampling, sampling.scene
+
+    def sample_ticks(self) -> Iterable[int]:
+        """The ticks at which it wants to see all disks between states; only one that needs collisions may want some."""
+        return ()
+
+    def add_state(self, frame: Frame) -> None:
+        """A state from the sampling's start on: the scene's own if that is 0, those of the report, and the end."""
+
+    def add_sample(self, sample: Sample) -> None:
+        """All disks at a tick that some measure of the pass wants to see."""
+
+    def add_collisions(self, found: Followed) -> None:
+        """Collisions in the report's order, those before the sampling's start too."""
+
+    def table(self) -> Table:
+        """What was found."""
+        raise NotImplementedError
+
+
+def watch(run: Run, measures: list[Measure]) -> None:
+    """Shows measures what the report of a run says, in one pass."""
+    colliding = [it for it in measures if it.needs_collisions]
+    samples = sorted({tick for it in measures for tick in it.sample_ticks()})
+    has_states = False
+    for item in run.followed(samples) if colliding else run.frames():
+        if isinstance(item, Followed):
+            for it in colliding:
+                it.add_collisions(item)
+        elif isinstance(item, Sample):
+            for it in colliding:
+                it.add_sample(item)
+        else:
+            for it in measures:
+                if item.tick >= it.sampling.start:
+                    has_states = True
+                    it.add_state(item)
+    if not has_states and len(colliding) < len(measures):
+        raise Refused("the report has no state: it is a summary, or ends before the measure begins")
+
+
+def measured(run: Run, measure: Measure) -> Table:
+    """The table of one measure of a run."""
+    watch(run, [measure])
+    return measure.table()
+
+
+def together(runs: list[Measure]) -> Table:
+    """The table of one measure of a run, or of several runs that differ by their seeds alone: then the mean over the runs,
+    with the errors that follow from the spread over them."""
+    tables = [it.table() for it in runs]
+    if len(tables) == 1:
+        return tables[0]
+    first, count = tables[0], min(len(it.rows) for it in tables)
+    if any(it.columns != first.columns for it in tables):
+        raise Refused("the tables of these runs have different columns: their scenes differ by more than a seed")
+    # An axis for the runs, one for rows, one for columns.
+    numbers = np.array([it.rows[:count] for it in tables], float)
+    means, errors = numbers.mean(axis=0), block_error(numbers)
+    for place, name in enumerate(first.columns):
+        if f"{name}_error" in first.columns:
+            means[:, first.columns.index(f"{name}_error")] = errors[:, place]
+    notes = [f"{len(tables)} runs: means over them, and standard errors by the spread over them"]
+    return Table(first.columns, means.tolist(), notes + [it for it in first.notes if "+/-" not in it])
