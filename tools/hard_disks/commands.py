@@ -5,7 +5,8 @@ import sys
 from dataclasses import dataclass
 from pathlib import Path
 
-from .scenes import Refused, read_scene
+from .scene_text import read_scene
+from .scenes import Refused
 
 ABOUT = "From a packing fraction to a figure: scenes for the program hard_disks, and what its reports say."
 TIMES = "times are in sigma/v, with sigma the mean diameter and v the root mean square of a velocity component"

@@ -10,7 +10,8 @@ import subprocess
 from typing import Iterator
 
 from .reports import Collision, Collisions, Limit, Sums, read_report
-from .scenes import Refused, Scene, parse_scene
+from .scene_text import parse_scene
+from .scenes import Refused, Scene
 
 
 def squared(velocity: tuple[int, int]) -> int:

@@ -11,7 +11,8 @@ import numpy as np
 from .motion import Followed, Motion
 from .progress import Progress
 from .reports import Collision, Collisions, Limit, State, Sums, read_report
-from .scenes import Refused, Scene, parse_scene, read_scene
+from .scene_text import parse_scene, read_scene
+from .scenes import Refused, Scene
 
 FIELDS = len(Collision._fields)
 NO_EVENTS = np.zeros((0, FIELDS), np.int64)

@@ -1,9 +1,8 @@
-"""Scenes of hard_disks: what their files say, and the units that belong to them.
+"""Scenes of hard_disks, and the units that belong to them.
 
 A scene's own numbers are whole: units of length, ticks, units per tick. Reduced numbers are in the mean diameter σ, the
 thermal speed v (the root mean square of a velocity component) and the time σ / v; all disks have the mass 1."""
 import math
-import tomllib
 from dataclasses import dataclass, replace
 from functools import cached_property
 
@@ -104,42 +103,3 @@ class Scene:
         if between is not None and not 1 <= between <= MOST_TICK:
             raise Refused(f"every {every} is {between} ticks, and a scene has 1 to {MOST_TICK}")
         return replace(self, end=end, every=between)
-
-
-def read_scene(path) -> Scene:
-    """The scene of a file."""
-    with open(path, encoding="utf-8") as file:
-        return parse_scene(file.read())
-
-
-def parse_scene(text: str) -> Scene:
-    """The scene that a text says. Whether it is valid in all the program says; here no two disks are compared."""
-    try:
-        said = tomllib.loads(text)
-    except tomllib.TOMLDecodeError as why:
-        raise Refused(f"the scene is no TOML: {why}") from why
-    for key, (least, most) in RANGES.items():
-        if not is_whole(said.get(key), least, most):
-            raise Refused(f"the scene has no whole number {key} from {least} to {most}")
-    if "every" in said and not is_whole(said["every"], 1, MOST_TICK):
-        raise Refused(f"the scene's every is no whole number from 1 to {MOST_TICK}")
-    if not isinstance(said.get("disks"), list) or len(said["disks"]) > MOST_DISKS:
-        raise Refused(f"the scene has no list of up to {MOST_DISKS} disks")
-    disks = tuple(disk(number, row, said) for number, row in enumerate(said["disks"]))
-    return Scene(*(said[key] for key in RANGES), said.get("every"), disks)
-
-
-def disk(number: int, row: object, said: dict) -> tuple[int, ...]:
-    """The five numbers of a disk's row, whose own diameter may be left out."""
-    if not isinstance(row, list) or len(row) not in (4, 5):
-        raise Refused(f"row {number} of the scene's disks hasn't four or five numbers")
-    x, y, vx, vy, size = row if len(row) == 5 else (*row, said["diameter"])
-    speed = said["speed_limit"]
-    ranges = [(x, 0, said["width"]), (y, 0, said["height"]), (vx, -speed, speed), (vy, -speed, speed), (size, 2, said["diameter"])]
-    if not all(is_whole(*it) for it in ranges):
-        raise Refused(f"row {number} of the scene's disks has a number that is out of its range")
-    return x, y, vx, vy, size
-
-
-def is_whole(value: object, least: int, most: int) -> bool:
-    return isinstance(value, int) and not isinstance(value, bool) and least <= value <= most

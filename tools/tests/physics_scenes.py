@@ -12,7 +12,8 @@ from places import SCENES
 
 from hard_disks.__main__ import other_python
 from hard_disks.program import find_program
-from hard_disks.scenes import Refused, Scene, read_scene
+from hard_disks.scene_text import read_scene
+from hard_disks.scenes import Refused, Scene
 
 try:
     import numpy as np

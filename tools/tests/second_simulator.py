@@ -13,7 +13,8 @@ from typing import NamedTuple
 
 import places  # makes the package importable
 
-from hard_disks.scenes import Scene, parse_scene
+from hard_disks.scene_text import parse_scene
+from hard_disks.scenes import Scene
 
 DONE, SPEED_LIMIT, ROUND_LIMIT = 0, 4, 5
 WALL, PAIR = 1, 2

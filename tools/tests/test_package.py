@@ -20,7 +20,8 @@ from hard_disks.commands import main as command
 from hard_disks.converting import FORMATS, write_csv, write_xyz
 from hard_disks.making import fit, make
 from hard_disks.runs import Frame, Sample, read
-from hard_disks.scenes import Refused, parse_scene, read_scene
+from hard_disks.scene_text import parse_scene, read_scene
+from hard_disks.scenes import Refused
 
 
 class Reading(unittest.TestCase):

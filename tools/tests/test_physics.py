@@ -22,7 +22,8 @@ from hard_disks.reports import read_report
 from hard_disks.rests import rest
 from hard_disks.runs import Run
 from hard_disks.sampling import block_error, sampling
-from hard_disks.scenes import Refused, parse_scene
+from hard_disks.scene_text import parse_scene
+from hard_disks.scenes import Refused
 from hard_disks.structure import PairDistribution, StructureFactor, bond_order
 
 

@@ -20,7 +20,7 @@ import second_simulator as second
 import test_program as program
 from places import SCENES, TOP, program_or_exit
 
-from hard_disks.scenes import read_scene
+from hard_disks.scene_text import read_scene
 
 SPECIFICATION = TOP / "docs" / "SPECIFICATION.md"
 # Above so many disks the second simulator takes too long.

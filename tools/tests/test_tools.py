@@ -22,7 +22,8 @@ from hard_disks.conservation import check, check_drawn, draw
 from hard_disks.explaining import explain
 from hard_disks.program import find_program
 from hard_disks.reports import Collision, Collisions, Limit, State, Sums, read_report
-from hard_disks.scenes import Refused, parse_scene, read_scene
+from hard_disks.scene_text import parse_scene, read_scene
+from hard_disks.scenes import Refused
 
 NAMES = sorted(it.stem for it in SCENES.glob("*.toml"))
 LIMIT = "0 0 wall 0 0 2 -2\nlimit rounds 0 1 wall 0 2\nwalls 1\npairs 0\n"
@@ -120,10 +121,10 @@ class Scenes(unittest.TestCase):
     def test_what_no_measure_could_use_is_refused(self):
         text = Path(scene_file("pair")).read_text()
         for old, new, said in [
-            ("width = 40", "width = 0", "width from 2"), ("end = 5", "end = 5.0", "end from 0"),
-            ("end = 5", "end = 5\nevery = 0", "every"),
-            ("[10, 10, 1, 0]", "[10, 10, 1]", "row 0"), ("[10, 10, 1, 0]", "[10, 10, 9, 0]", "row 0"),
-            ("[10, 10, 1, 0]", "[10, 10, 1, 0, 0]", "row 0"), ("disks", "discs", "no list"), ("width", "width =", "no TOML"),
+            ("width = 40", "width = 0", "isn't from 2"), ("end = 5", "end = 5.0", "end = 5.0 isn't an integer"),
+            ("end = 5", "end = 5\nevery = 0", "every"), ("[10, 10, 1, 0]", "[1, 10, 1, 0]", "disk 0: x = 1"),
+            ("[10, 10, 1, 0]", "[10, 10, 1]", "disk 0"), ("[10, 10, 1, 0]", "[10, 10, 9, 0]", "disk 0"),
+            ("[10, 10, 1, 0]", "[10, 10, 1, 0, 0]", "disk 0"), ("disks", "discs", "key 'discs'"), ("width", "width =", "no TOML"),
         ]:
             with self.subTest(new), self.assertRaisesRegex(Refused, said):
                 parse_scene(text.replace(old, new))
@@ -146,15 +147,23 @@ class Explained(unittest.TestCase):
         ("[20, 10,", "[13, 8,", "disks 0 and 1 overlap: their centres are 3.60555 apart, and have to be 4"),
     ]
 
-    def test_each_fault_is_said_and_refused(self):
+    def changes(self):
         text = Path(scene_file("pair")).read_text()
         for old, new, said in self.CHANGES:
-            with self.subTest(new):
-                changed = text.replace(old, new, 1).encode("latin-1")
+            self.assertIn(old, text)
+            yield text.replace(old, new, 1).encode("latin-1"), said
+
+    def test_each_fault_is_said(self):
+        for changed, said in self.changes():
+            with self.subTest(said):
                 found = explain(changed)
                 self.assertEqual(len(found), 1, found)
                 self.assertRegex(found[0], said)
-                self.assertTrue(self.is_refused(changed))
+
+    def test_the_program_refuses_each_fault(self):
+        for changed, said in self.changes():
+            with self.subTest(said):
+                self.assertRegex(answer_of_the_program(changed), "^refused")
 
     def test_of_a_valid_scene_nothing_is_said(self):
         for name in NAMES:
@@ -167,13 +176,62 @@ class Explained(unittest.TestCase):
         text = Path(scene_file("pair")).read_text().replace("disks = [", "disks = [" + "[10, 10, 9, 0], " * 9)
         self.assertEqual(explain(text.encode())[5:6], [".. and 4 more too fast"])
 
-    @staticmethod
-    def is_refused(text):
-        try:
-            program = find_program()
-        except Refused:
-            return True
-        return subprocess.run([program, "--mode", "check"], input=text, capture_output=True).returncode == 3
+
+class Toml(unittest.TestCase):
+    """Documents in the words of TOML 1.1: what is read of the scene pair with one line more or less is what the program
+    reads, or both say that it is no TOML."""
+
+    VALID = [
+        ("width", r'"wi\x64th"'), ("width", r'"\u0077idth"'), ("width", "'width'"), ("end = 5", "end = +5 # five"), ("end = 5", "end = 0x5"),
+        ("width = 40", "width = 4_0"), ("end = 5", "end = 0b101"), ("[10, 10, 1, 0],", "[10, 10, # \" [\n 1, 0,],"),
+    ]
+    # Lines that are TOML 1.1, but of a key that no scene has.
+    MORE = [
+        r'note = "\e[1m \x41 \\x \\e"', 'note = """\n\\x41 "" \\\n """""', "note = '''\\x4 '' \\e'''''", "note = 07:32", "note = 1979-05-27 07:32",
+        "note = 1979-05-27T07:32-07:00", "note = 1979-05-27T07:32:00.5Z", "note = 23:59:60", "note = 0000-02-29", "note = {\n a = 1, # \"}\n}",
+        "note = { a = [1,\n 2], b = { c = 1, }, }", "note = {}", "note = 1e308", "note = inf", "note = -9223372036854775808",
+        "note = " + 80 * "[" + 80 * "]", ".".join(80 * "a") + " = 1", "[" + ".".join(80 * "a") + "]", "\"\" = 1", "'a.b'.\"c\" = 1.5",
+        "note = [" + 100 * "[]," + "]",
+    ]
+    NEVER = [
+        "note = " + 81 * "[" + 81 * "]", "note = " + 20_000 * "[", ".".join(81 * "a") + " = 1", "[" + ".".join(81 * "a") + "]",
+        "note = 9223372036854775808", "note = 0xffffffffffffffff", "note = " + 5_000 * "9", "note = 1e309", "note = -1e400", r'note = "\x4"', r'note = "\q"',
+        "note = 1979-02-29", "note = 24:00:00", "note = 07:60", "note = 07:32.5", "note = { , }", "note = { a = 1,, }", "note = {\n", "note = 1979-05-27T07:32+24:00",
+        "note = \x01", "a = 1\na = 2", "a.b = 1\na = 2", "note = 'a\nb'",
+    ]
+
+    def test_valid_words_are_read(self):
+        text, scene = Path(scene_file("pair")).read_text(), read_scene(scene_file("pair"))
+        for old, new in self.VALID:
+            for start in ("", "\ufeff"):
+                with self.subTest(new):
+                    changed = (start + text.replace(old, new, 1)).encode()
+                    self.assertEqual(explain(changed), [])
+                    self.assertEqual(parse_scene(changed), scene)
+                    self.assertEqual(answer_of_the_program(changed), scene.text())
+
+    def assert_told(self, lines, said, line_of_the_program):
+        text = Path(scene_file("pair")).read_text()
+        for line in lines:
+            with self.subTest(line[:100]):
+                changed = f"{text}\n{line}\n".encode()
+                self.assertRegex(explain(changed)[0], said)
+                self.assertRegex(answer_of_the_program(changed), line_of_the_program)
+
+    def test_what_no_scene_has_is_told_as_that(self):
+        self.assert_told(self.MORE, "there is a key", "^refused 3")
+
+    def test_what_is_no_toml_is_told(self):
+        self.assert_told(self.NEVER, "no TOML", "^refused 2")
+
+
+def answer_of_the_program(text):
+    """What the program writes of a scene in its mode check; without a program the test is skipped."""
+    try:
+        program = find_program()
+    except Refused as why:
+        raise unittest.SkipTest(str(why)) from why
+    return subprocess.run([program, "--mode", "check"], input=text, capture_output=True).stdout.decode()
 
 
 def rows(items):
