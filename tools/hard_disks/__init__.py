@@ -11,7 +11,7 @@ As a command: python3 -m hard_disks --help"""
 __all__ = ["Refused", "Run", "Scene", "fit", "make", "read", "read_scene"]
 
 # What each name's module is; they are loaded when they are asked for, as not all of them can do without numpy.
-HOMES = {"Refused": "scenes", "Scene": "scenes", "read_scene": "scene_text", "Run": "runs", "read": "runs", "fit": "making", "make": "making"}
+HOMES = {"Refused": "scenes", "Scene": "scenes", "read_scene": "scene_text", "Run": "runs", "read": "runs", "fit": "fitting", "make": "making"}
 
 
 def __getattr__(name):

@@ -1,12 +1,14 @@
 """The words of `python3 -m hard_disks`."""
 import argparse
+import contextlib
 import os
+import re
 import sys
 from dataclasses import dataclass
 from pathlib import Path
 
-from .scene_text import read_scene
-from .scenes import Refused
+from .scene_text import parse_scene, read_scene
+from .scenes import MOST_DISKS, MOST_TICK, Refused
 
 ABOUT = "From a packing fraction to a figure: scenes for the program hard_disks, and what its reports say."
 TIMES = "times are in sigma/v, with sigma the mean diameter and v the root mean square of a velocity component"
@@ -60,6 +62,17 @@ def positive(text):
     return value
 
 
+def whole(least, most):
+    """A reader of whole numbers of a range."""
+
+    def read(text):
+        if not re.fullmatch(r"[+-]?[0-9]{1,18}", text) or not least <= int(text) <= most:
+            raise argparse.ArgumentTypeError(f"{text} isn't a whole number from {least} to {most}")
+        return int(text)
+
+    return read
+
+
 def not_negative(text):
     value = float(text)
     if not 0 <= value < float("inf"):
@@ -70,7 +83,8 @@ def not_negative(text):
 def sizes(text):
     """1:0.7,1.4:0.3 as pairs of a relative diameter and a share."""
     try:
-        return [tuple(map(float, part.split(":", 1))) if ":" in part else (float(part), 1.0) for part in text.split(",")]
+        pairs = [part.split(":", 1) if ":" in part else (part, 1) for part in text.split(",")]
+        return [(positive(size), positive(share)) for size, share in pairs]
     except ValueError:
         raise argparse.ArgumentTypeError(f"{text} isn't of the form 1:0.7,1.4:0.3") from None
 
@@ -126,10 +140,17 @@ def add_times(words, time):
     words.add_argument("--every", type=positive, help="the time between two written states (only the end is written)")
 
 
+def say(what):
+    """Says something that is no output, in one line."""
+    print(f"hard_disks: {' '.join(what.split())}", file=sys.stderr)
+
+
 def standard_input(wanted):
     """Standard input; whoever sits at a terminal is told that it is waited for."""
+    if sys.stdin is None:
+        raise Refused("standard input is closed")
     if sys.stdin.isatty():
-        print(f"hard_disks: waiting for {wanted} on standard input, as by <FILE", file=sys.stderr)
+        say(f"waiting for {wanted} on standard input, as by <FILE")
     return sys.stdin
 
 
@@ -139,12 +160,12 @@ def add_report(words):
 
 def add_scene(commands):
     words = add_command(commands, "scene", run_scene, "writes a scene of a packing fraction", "Units are as fine as fits.")
-    words.add_argument("--disks", type=int, default=2000, help="(%(default)s)")
+    words.add_argument("--disks", type=whole(1, MOST_DISKS), default=2000, help="(%(default)s)")
     words.add_argument("--phi", type=positive, required=True, help="packing fraction over the whole box")
     words.add_argument(
         "--sizes", type=sizes, default=[(1.0, 1.0)], metavar="D:SHARE,..", help="relative diameters, as 1:0.7,1.4:0.3"
     )
-    words.add_argument("--seed", type=int, default=1, help="(%(default)s)")
+    words.add_argument("--seed", type=whole(0, MOST_TICK), default=1, help="(%(default)s)")
     words.add_argument("--lattice", choices=["hex", "square", "random"], default="hex", help="where disks begin (%(default)s)")
     add_times(words, 40.0)
 
@@ -152,8 +173,6 @@ def add_scene(commands):
 def run_scene(asked):
     from .making import make
 
-    if asked.seed < 0:
-        raise Refused("a seed is 0 or more")
     made = make(asked.disks, asked.phi, asked.sizes, asked.seed, asked.lattice, asked.time, asked.every)
     sys.stdout.write(made.text())
 
@@ -168,8 +187,9 @@ def add_fit(commands):
 
 def run_fit(asked):
     import csv
+    from statistics import mean
 
-    from .making import fit
+    from .fitting import fit
 
     names = ["x", "y", "vx", "vy", "diameter"]
     table = csv.DictReader(standard_input("a table"))
@@ -177,9 +197,14 @@ def run_fit(asked):
         raise Refused(f"the first line has no {', '.join(it for it in names if it in missing)}")
     try:
         disks = [[float(row[name]) for name in names] for row in table]
-    except (TypeError, ValueError) as why:
+    except (TypeError, ValueError, csv.Error) as why:
         raise Refused(f"line {table.line_num}: {why}") from why
-    sys.stdout.write(fit(asked.width, asked.height, disks, asked.time, asked.every).text())
+    scene = fit(asked.width, asked.height, disks, asked.time, asked.every)
+    # What a mean diameter is of the greater side, in the scene and as it was given.
+    lost = 1 - scene.sigma / max(scene.width, scene.height) * max(asked.width, asked.height) / mean(row[4] for row in disks)
+    if lost > 1e-5:
+        say(f"diameters are {lost:.2%} smaller: disks that touch have no room to move in")
+    sys.stdout.write(scene.text())
 
 
 def add_explain(commands):
@@ -189,20 +214,22 @@ def add_explain(commands):
 
 
 def run_explain(asked):
-    from .explaining import explain
+    from .explaining import explain, jammed
 
     with open(asked.scene, "rb") as file:
-        found = explain(file.read())
-    if found:
+        text = file.read()
+    if found := explain(text):
         sys.exit("\n".join(found))
     print("nothing is wrong with this scene")
+    if hint := jammed(parse_scene(text)):
+        print(f"CAUTION: {hint}")
 
 
 def add_rest(commands):
     words = add_command(commands, "rest", run_rest, "writes what is left of a scene after a state in its report, as a scene",
                         "The report may break off, as that of a run that was stopped.")
     add_report(words)
-    words.add_argument("--tick", type=int, help="the tick of the state (the last whole one)")
+    words.add_argument("--tick", type=whole(0, MOST_TICK), help="the tick of the state (the last whole one)")
 
 
 def run_rest(asked):
@@ -236,7 +263,7 @@ def add_measure(commands):
     words.add_argument(
         "--margin", type=not_negative, help="how much along the walls is left out, in sigma (10, or a quarter of the box)"
     )
-    words.add_argument("--blocks", type=int, default=20, help="blocks of time for the errors (%(default)s)")
+    words.add_argument("--blocks", type=whole(2, 10_000), default=20, help="blocks of time for the errors (%(default)s)")
     words.add_argument("--series", action="store_true",
                        help=f"a row for each block or state in place of means: {those_with('has_series')}")
     bounds = ", ".join(f"{name} {kind.most}" for name, kind in MEASURES.items() if kind.most)
@@ -311,7 +338,7 @@ def add_draw(commands):
     words = add_command(commands, "draw", run_draw, "draws a frame, or all of them as a movie")
     add_report(words)
     what = words.add_mutually_exclusive_group()
-    what.add_argument("--tick", type=int, help="the first frame from this tick on (the last one)")
+    what.add_argument("--tick", type=whole(0, MOST_TICK), help="the first frame from this tick on (the last one)")
     what.add_argument("--movie", action="store_true", help="all frames, as a page for a browser")
     words.add_argument("--colour", choices=["speed", "psi6", "neighbours"], default="speed", help="(%(default)s)")
     words.add_argument("-o", "--output", required=True, metavar="FILE", help="ends in .svg, .png or .pdf; a movie in .html")
@@ -350,7 +377,7 @@ def add_check(commands):
     words = add_command(commands, "check", run_check, "checks what a report says of momentum and energy",
                         "These laws are proved of each run; docs/PHYSICS.md says them.")
     words.add_argument("scene", metavar="SCENE", nargs="?", help="the scene's file; the report is read from standard input")
-    words.add_argument("--drawn", type=int, metavar="N", help="checks the reports of N drawn scenes by the program")
+    words.add_argument("--drawn", type=whole(1, 1_000_000), metavar="N", help="checks the reports of N drawn scenes by the program")
     words.add_argument("--program", help="the program that runs them (that which is built here, or the variable HARD_DISKS)")
 
 
@@ -373,9 +400,9 @@ def add_equation(commands):
     words.add_argument(
         "--phi", type=fractions, default=[0.2, 0.35, 0.5, 0.6], metavar="PHI,..", help="packing fractions (0.2,0.35,0.5,0.6)"
     )
-    words.add_argument("--disks", type=int, default=2000, help="(%(default)s)")
+    words.add_argument("--disks", type=whole(1, MOST_DISKS), default=2000, help="(%(default)s)")
     words.add_argument("--time", type=positive, default=100.0, help=f"of each run; {TIMES} (%(default)s)")
-    words.add_argument("--seed", type=int, default=1, help="(%(default)s)")
+    words.add_argument("--seed", type=whole(0, MOST_TICK), default=1, help="(%(default)s)")
     words.add_argument("--program", help="the program that runs them (that which is built here, or the variable HARD_DISKS)")
 
 
@@ -389,20 +416,29 @@ def run_equation(asked):
 def main(words=None):
     """Runs a command; what can't be done is said in one line, with status 2."""
     asked = parser().parse_args(words)
+    if sys.stdout is None:
+        refuse("standard output is closed")
     try:
         asked.call(asked)
         sys.stdout.flush()
     except BrokenPipeError:
-        # Whoever reads wants no more; nothing is left to be flushed.
-        os.dup2(os.open(os.devnull, os.O_WRONLY), sys.stdout.fileno())
+        # Whoever reads wants no more.
+        drop_output()
     except KeyboardInterrupt:
         sys.exit(130)
     except ModuleNotFoundError as why:
         refuse(f"there is no Python module {why.name} here; tools/setup installs what the commands stand on")
-    except (Refused, OSError, UnicodeDecodeError, MemoryError) as why:
+    except (Refused, OSError, UnicodeError, MemoryError) as why:
+        drop_output()
         refuse(str(why) or type(why).__name__)
 
 
+def drop_output():
+    """Has nothing left that would be flushed at the end, and might fail again."""
+    with contextlib.suppress(OSError, ValueError, AttributeError):
+        os.dup2(os.open(os.devnull, os.O_WRONLY), sys.stdout.fileno())
+
+
 def refuse(why):
-    print(f"hard_disks: {' '.join(why.split())}", file=sys.stderr)
+    say(why)
     sys.exit(2)

@@ -100,32 +100,6 @@ def thermal_speed(diameters: np.ndarray, limit: float) -> float:
     return min(max(LEAST_SPEED, diameters.mean() / TICKS_BY_DIAMETER), MOST_SPEED / limit)
 
 
-def fit(width: float, height: float, disks, time: float = 40.0, every: float | None = None) -> Scene:
-    """The scene of disks in any units: rows of x, y, vx, vy and the diameter. The scene's units are as fine as fits, and its
-    times are reduced.
-
-    Radii lose a unit or two, of some millions, so that disks that touch don't overlap when places have been rounded."""
-    given = np.array(disks, float).reshape(-1, 5)
-    if not 1 <= len(given) <= MOST_DISKS:
-        raise Refused(f"a scene has 1 to {MOST_DISKS} disks, not {len(given)}")
-    if not (np.isfinite(given).all() and (given[:, 4] > 0).all() and 0 < min(width, height) <= max(width, height) < np.inf):
-        raise Refused("a number isn't finite, or a side or a diameter isn't above 0")
-    unit = MOST_WIDTH / max(width, height)
-    radii = np.floor(given[:, 4] * unit / 2).astype(np.int64) - 1
-    if radii.min() < TICKS_BY_DIAMETER:
-        raise Refused("disks are too small for the finest units of a scene")
-    squares = (given[:, 2:4] ** 2).mean()
-    if not squares:
-        raise Refused("no disk moves, so there is no unit of time")
-    velocities = given[:, 2:4] / math.sqrt(squares)
-    limit = max(LIMIT_SPEEDS, 4 * np.abs(velocities).max())
-    speed = thermal_speed(2 * radii, limit)
-    whole = np.rint(np.hstack([given[:, :2] * unit, velocities * speed])).astype(np.int64)
-    rows = np.column_stack([whole, 2 * radii]).tolist()
-    box = int(width * unit), int(height * unit)
-    return Scene(*box, 2 * int(radii.max()), round(limit * speed), ROUND_LIMIT, 0, None, tuple(map(tuple, rows))).timed(time, every)
-
-
 def settle(sites: np.ndarray, gap: float, count: int, chance: np.random.Generator) -> np.ndarray:
     """Places on the lattice, in units; sites that are too many stay empty, drawn by chance."""
     chosen = np.sort(chance.choice(len(sites), count, replace=False))

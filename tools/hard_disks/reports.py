@@ -20,8 +20,8 @@ WHOLE, SIGNED = r"\d{1,18}", r"-?\d{1,18}"
 COLLISION = rf"{WHOLE} {WHOLE} (?:pair {WHOLE} {WHOLE} {SIGNED} {SIGNED}|wall {WHOLE} [0-3]) {SIGNED} {SIGNED}\n"
 DISK = rf"disk {WHOLE} {SIGNED} {SIGNED} {SIGNED} {SIGNED}\n"
 # As many like lines as follow each other; a line that is neither stands alone.
-SECTION = re.compile(rf"(?P<collisions>(?:{COLLISION})++)|(?P<disks>(?:{DISK})++)|(?P<line>.*\n)")
-WALL = re.compile(r" wall (\d+) (\d) (.*)")
+SECTION = re.compile(rf"(?P<collisions>(?:{COLLISION})++)|(?P<disks>(?:{DISK})++)|(?P<line>.*\n)", re.A)
+WALL = re.compile(r" wall (\d+) (\d) (.*)", re.A)
 BROKEN = "the report breaks off before its end"
 
 
@@ -95,12 +95,12 @@ def read_report(stream: TextIO) -> Iterator[Collisions | State | Limit | Sums]:
             yield Collisions(collision_numbers(text))
             continue
         match text.split():
-            case ["state", tick] if tick.isdigit():
+            case ["state", tick] if re.fullmatch(WHOLE, tick, re.A):
                 yield State(int(tick), sections.disks())
-            case ["done", end] if end.isdigit():
+            case ["done", end] if re.fullmatch(WHOLE, end, re.A):
                 yield from done(int(end), sections)
                 return
-            case ["limit", name, tick, *_] if tick.isdigit():
+            case ["limit", name, tick, *_] if re.fullmatch(WHOLE, tick, re.A):
                 yield Limit(name, int(tick))
                 yield Sums(*sections.numbers("walls", 1), *sections.numbers("pairs", 1))
                 return
@@ -145,7 +145,7 @@ class Sections:
     def numbers(self, word: str, count: int) -> tuple[int, ...]:
         """The numbers of a line that begins with a word."""
         text = self.next()[1]
-        if not re.fullmatch(rf"{word}(?: {SIGNED}){{{count}}}\n", text):
+        if not re.fullmatch(rf"{word}(?: {SIGNED}){{{count}}}\n", text, re.A):
             raise Refused(f"{text.splitlines()[0]!r} where a line '{word}' is wanted")
         return tuple(map(int, text.split()[1:]))
 

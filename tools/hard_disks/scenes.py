@@ -65,7 +65,10 @@ class Scene:
 
     def ticks(self, time: float) -> int:
         """A reduced time as the nearest number of ticks."""
-        return round(time * self.time)
+        ticks = time * self.time
+        if not 0 <= ticks <= MOST_TICK:
+            raise Refused(f"a time of {time:g} is {ticks:.4g} ticks, and a scene has 0 to {MOST_TICK}")
+        return round(ticks)
 
     def reduced_time(self, tick: float) -> float:
         """A tick as a reduced time, with as few digits as keep it to a tenth of a tick or a hundred thousandth: v was rounded,
@@ -94,12 +97,10 @@ class Scene:
 
     def timed(self, time: float, every: float | None) -> "Scene":
         """The same scene with an end, and states every so often, in reduced time; `every` may be None."""
-        between = None if every is None else self.ticks(every)
-        # As many whole spaces as are asked for, so that the end is the last of the evenly spaced states.
-        is_even = every is not None and abs(time / every - round(time / every)) < 1e-9
-        end = round(time / every) * between if is_even else self.ticks(time)
-        if not 0 <= end <= MOST_TICK:
-            raise Refused(f"a time of {time} is {end} ticks, and a scene has 0 to {MOST_TICK}")
-        if between is not None and not 1 <= between <= MOST_TICK:
-            raise Refused(f"every {every} is {between} ticks, and a scene has 1 to {MOST_TICK}")
+        end, between = self.ticks(time), None if every is None else self.ticks(every)
+        if between == 0:
+            raise Refused(f"every {every:g} is less than a tick")
+        if between is not None and abs(time / every - round(time / every)) < 1e-9:
+            # As many whole spaces as are asked for, so that the end is the last of the evenly spaced states.
+            end = min(round(time / every) * between, MOST_TICK)
         return replace(self, end=end, every=between)

@@ -50,12 +50,17 @@ def run_of(name):
 @lru_cache(maxsize=None)
 def fluid(count, phi, time, every, sizes=((1.0, 1.0),), seed=1):
     """A made scene and the text of its report, by the program."""
+    scene = make(count, phi, sizes=sizes, seed=seed, time=time, every=every)
+    return scene, report_of(scene)
+
+
+def report_of(scene):
+    """The text of a scene's report, by the program; without one the test is skipped."""
     try:
         program = find_program()
     except Refused as why:
         raise unittest.SkipTest(str(why)) from why
-    scene = make(count, phi, sizes=sizes, seed=seed, time=time, every=every)
-    return scene, subprocess.run([program], input=scene.text(), capture_output=True, text=True, check=True).stdout
+    return subprocess.run([program], input=scene.text(), capture_output=True, text=True, check=True).stdout
 
 
 def column(table, name):

@@ -7,18 +7,23 @@ What can't be tested, without a library or the program, is said."""
 import contextlib
 import io
 import os
+import pty
+import subprocess
+import sys
 import tempfile
 import time
 import unittest
 from pathlib import Path
 from unittest import mock
 
-from physics_scenes import NAMES, SCENES, end_of, fluid, main, needs, np, read_text, run_of, scene_of
+from places import TOOLS
+from physics_scenes import NAMES, SCENES, end_of, fluid, main, needs, np, read_text, report_of, run_of, scene_of
 
 from hard_disks.commands import MEASURES
 from hard_disks.commands import main as command
 from hard_disks.converting import FORMATS, write_csv, write_xyz
-from hard_disks.making import fit, make
+from hard_disks.fitting import fit
+from hard_disks.making import make
 from hard_disks.runs import Frame, Sample, read
 from hard_disks.scene_text import parse_scene, read_scene
 from hard_disks.scenes import Refused
@@ -134,9 +139,10 @@ class Making(unittest.TestCase):
                 make(*words)
 
     def test_disks_of_any_units_are_fitted(self):
-        # A triangle of disks that touch each other and two walls, in units that no power of 2 divides.
+        # A triangle of disks that nearly touch each other and two walls, in units that no power of 2 divides.
         size, unit = 0.3, 2**30 / 1.7
         places = np.array([[size / 2, size / 2], [3 * size / 2, size / 2], [size, size / 2 + size * np.sqrt(3) / 2]])
+        size *= 0.999
         disks = np.column_stack([places, [[0.1, 0], [0, -1e-3], [-0.1, 1e-3]], [size, size, size]])
         scene = fit(1.7, 1.1, disks, time=2, every=0.5)
         self.check_valid(np.array(scene.disks), scene)
@@ -145,6 +151,24 @@ class Making(unittest.TestCase):
         np.testing.assert_allclose(found[:, 4] / unit, size, atol=1e-8)
         np.testing.assert_allclose(found[:, 2:4] / found[0, 2], disks[:, 2:4] / 0.1, atol=1e-4)
         self.assertEqual((scene.width, scene.end), (2**30, 4 * scene.every))
+
+    def test_disks_that_touch_get_room_and_run(self):
+        from hard_disks.making import hexagonal
+
+        shape = hexagonal(30)
+        chance = np.random.default_rng(1)
+        disks = np.column_stack([shape.sites, chance.normal(size=shape.sites.shape), np.ones(len(shape.sites))])
+        scene = fit(shape.width, shape.height, disks, time=0.1)
+        self.assertAlmostEqual(scene.sigma / scene.width * shape.width, 1 - 5e-4, delta=1e-6)
+        self.assertIn(f"done {scene.end}\n", report_of(scene))
+
+    def test_speeds_of_any_size_are_fitted(self):
+        rows = [[2, 3, 0, 1.5, 1], [7, 8, -1, 0, 1]]
+        for speed in (1e300, 1e-300, 5e-324 / 1.5):
+            faster = [[x, y, vx * speed, vy * speed, size] for x, y, vx, vy, size in rows]
+            with self.subTest(speed):
+                self.assertEqual(fit(10, 10, faster).disks[0][3] > 0, True)
+        self.assertEqual(fit(10, 10, [[x, y, 1e300 * vx, 1e300 * vy, size] for x, y, vx, vy, size in rows]), fit(10, 10, rows))
 
     def test_one_fast_disk_among_slow_ones_keeps_the_limit(self):
         scene = fit(100, 100, [[i % 10 * 10 + 5, i // 10 * 10 + 5, 0, float(i == 0), 1] for i in range(100)])
@@ -310,6 +334,105 @@ class Commands(unittest.TestCase):
         self.command("draw", gas, "--colour", "neighbours", "-o", folder / "c.svg", report="gas")
         self.assertEqual(first, (folder / "c.svg").read_bytes())
 
+    def test_bad_input_is_refused_in_one_line_with_status_2(self):
+        """Numbers without bounds, texts that are no scenes and no reports, and files that aren't there."""
+        folder = Path(self.enterContext(tempfile.TemporaryDirectory()))
+        good, head = (SCENES / "states.toml").read_text(), "x,y,vx,vy,diameter\n"
+        number = 0
+
+        def file(text):
+            nonlocal number
+            number += 1
+            path = folder / f"{number}.toml"
+            path.write_bytes(text if isinstance(text, bytes) else text.encode())
+            return path
+
+        scene, measure, fitting = SCENES / "states.toml", ["measure", "pressure"], ["fit", "--width", "10", "--height", "10"]
+        many, deep = "9" * 5_000, "[" * 20_000
+        for words, report, said in [
+            # Words
+            (["scene", "--phi", "0.5", "--sizes", "1:inf"], "states", "isn't above 0"),
+            (["scene", "--phi", "0.5", "--sizes", "1:nan,2"], "states", "isn't above 0"),
+            (["scene", "--phi", "0.5", "--every", "1e308"], "states", "ticks"),
+            (["scene", "--phi", "0.5", "--every", "1e-300"], "states", "less than a tick"),
+            (["scene", "--phi", "0.5", "--time", "1e308", "--every", "1"], "states", "ticks"),
+            (["scene", "--phi", "0.5", "--disks", many], "states", "isn't a whole number"),
+            (["scene", "--phi", "0.5", "--disks", "1e3"], "states", "isn't a whole number"),
+            (["scene", "--phi", "0.5", "--seed", "-1"], "states", "isn't a whole number"),
+            (["scene", "--phi", "1e-300"], "states", "too small"),
+            (["scene", "--phi", "\u0660"], "states", "isn't above 0"),
+            (["scene"], "states", "--phi"),
+            (["continue", scene, "--time", "1e300"], "states", "ticks"),
+            ([*measure, scene, "--from", "1e308"], "states", "ticks"),
+            ([*measure, scene, "--until", "1e308"], "states", "ticks"),
+            ([*measure, scene, "--margin", "1e308"], "states", "leaves nothing"),
+            ([*measure, scene, "--blocks", many], "states", "isn't a whole number"),
+            ([*measure, scene, "--most", "3"], "states", "take it"),
+            (["measure", "pressure,pressure", scene], "states", "twice"),
+            (["measure", "pressure,frob", scene], "states", "no measure 'frob'"),
+            (["measure", "gr", scene, "--series"], "states", "no series of gr"),
+            (["measure", "gr", scene, "--most", "1e308"], "states", "too small"),
+            (["measure", "msd", scene, "--most", "1e308"], "states", "ticks"),
+            (["measure", "speeds", scene, "--width", "1e-300"], "states", "bins"),
+            (["draw", scene, "--tick", "1.5", "-o", "a.png"], "states", "isn't a whole number"),
+            (["draw", scene, "-o", folder / "gone" / "a.png"], "states", "No such file"),
+            (["check", "--drawn", "-3"], "states", "isn't a whole number"),
+            # Scenes
+            ([*measure, file(f"end = {many}\n")], "states", "64 bits"),
+            ([*measure, file(f"disks = {deep}")], "states", "brackets"),
+            ([*measure, file(b"\xff\xfe" + good.encode("utf-16-le"))], "states", "UTF-8"),
+            ([*measure, file("")], "states", "missing"),
+            ([*measure, file(good.replace("[10,", "[10.5,"))], "states", "disk 0"),
+            ([*measure, file(good.replace("[10,", f"[{'9' * 19},"))], "states", "64 bits"),
+            ([*measure, file(good.replace("disks", 'note = "\\q"\ndisks'))], "states", "no TOML"),
+            ([*measure, folder], "states", "directory"),
+            (["continue", file("disks = []")], "states", "missing"),
+            (["rest", file("disks")], "states", "no TOML"),
+            # Reports
+            ([*measure, scene], "\n", "no line of a report"),
+            ([*measure, scene], "state \u00b2\n", "no line of a report"),
+            ([*measure, scene], f"state {many}\n", "no line of a report"),
+            ([*measure, scene], "done 5\nwalls x\n", "line 'walls'"),
+            ([*measure, scene], f"{many} 0 wall 0 0 1 1\n", "no line of a report"),
+            (["check", scene], "limit rounds\n", "no line of a report"),
+            # Tables
+            (fitting, head, "disks, not 0"),
+            (fitting, head + "1,1,1e999,0,1\n", "finite"),
+            (fitting, head + "1,1,0,0,1\n", "no disk moves"),
+            (fitting, head + "1,1,1,0,-1\n", "above 0"),
+            (fitting, head + "1,1,1,0,1e-9\n", "too small"),
+            (fitting, head + "11,1,1,0,1\n", "disk 0 isn't inside"),
+            (fitting, head + "0.3,1,1,0,1\n", "disk 0 isn't inside"),
+            (fitting, head + "5,5,1,0,1\n1,1,0,0,1\n5.5,5,0,0,1\n", "disks 0 and 2 overlap"),
+            (fitting, head + "1,1,1\n", "line 2"),
+            (fitting, "a,b\n\0,1\n", "no x, y"),
+            (["fit", "--width", "1e-320", "--height", "1"], head + "1,1,1,0,1\n", "isn't inside"),
+        ]:
+            with self.subTest([str(it)[:40] for it in words], report=report[:40]):
+                status, out, error = self.command(*words, report=report)
+                self.assertEqual((status, out, error.count("\n")), (2, "", 1), error)
+                self.assertRegex(error, said)
+
+    def test_streams_that_are_closed_or_full_are_told_in_one_line(self):
+        command = f"{sys.executable} -m hard_disks"
+        for words, said in [
+            (f"measure pressure {SCENES}/states.toml <&-", "standard input is closed"),
+            ("scene --phi 0.5 --disks 10 >&-", "standard output is closed"), ("scene --phi 0.5 --disks 10 >/dev/full", "No space"),
+        ]:
+            with self.subTest(words):
+                ran = subprocess.run(f"{command} {words}", shell=True, env={**os.environ, "PYTHONPATH": str(TOOLS)}, stderr=subprocess.PIPE)
+                self.assertEqual((ran.returncode, ran.stderr.count(b"\n")), (2, 1), ran.stderr)
+                self.assertIn(said, ran.stderr.decode())
+
+    def test_a_terminal_is_told_that_it_is_waited_for(self):
+        ours, theirs = pty.openpty()
+        words = [sys.executable, "-m", "hard_disks", "measure", "pressure", str(SCENES / "states.toml")]
+        with subprocess.Popen(words, env={**os.environ, "PYTHONPATH": str(TOOLS)}, stdin=theirs, stderr=subprocess.PIPE) as ran:
+            self.assertEqual(ran.stderr.readline(), b"hard_disks: waiting for a report on standard input, as by <FILE\n")
+            ran.kill()
+        os.close(ours)
+        os.close(theirs)
+
     def test_what_cannot_be_done_is_one_line_with_status_2(self):
         scene, fluid_scene = SCENES / "states.toml", SCENES / "fluid.toml"
         for words, report, said in [
@@ -321,7 +444,7 @@ class Commands(unittest.TestCase):
             (["measure", "pressure", scene], "no report\n", "no line of a report"),
             (["measure", "pressure", scene, "--margin", "99"], "states", "leaves nothing"),
             (["measure", "pressure", scene, "--from", "1e6"], "states", "the run ends"),
-            (["measure", "pressure", scene, "--blocks", "1"], "states", "two blocks"),
+            (["measure", "pressure", scene, "--blocks", "1"], "states", "from 2 to"),
             (["measure", "speeds", scene, "--width", "9"], "states", "bins of 9"),
             (["measure", "gr", scene], "states", "too small"),
             (["measure", "psi6", scene], "states", "three disks"),

@@ -279,6 +279,15 @@ class Commands(unittest.TestCase):
         status, out, error = self.command("explain", str(SCENES / "row.report"))
         self.assertEqual((status, out, error.count("\n")), (1, "", 1))
 
+    def test_disks_that_touch_are_told_of(self):
+        text = Path(scene_file("cradle")).read_text().replace("[15,", "[14,").replace("[20,", "[18,")
+        with tempfile.NamedTemporaryFile("w", suffix=".toml") as file:
+            file.write(text)
+            file.flush()
+            status, out, _ = self.command("explain", file.name)
+        self.assertEqual((status, out.splitlines()[0]), (0, "nothing is wrong with this scene"))
+        self.assertRegex(out, "CAUTION: gaps of 2 pairs .* limit of rounds")
+
     def test_a_report_leaves_a_rest(self):
         text, scene = report_of("states"), read_scene(scene_file("states"))
         at_2, at_4, at_5 = (
