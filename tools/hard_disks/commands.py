@@ -1,6 +1,7 @@
 """The words of `python3 -m hard_disks`."""
 import argparse
 import contextlib
+import math
 import os
 import re
 import sys
@@ -122,6 +123,7 @@ def parser():
     add_rest(commands)
     add_continue(commands)
     add_measure(commands)
+    add_plot(commands)
     add_draw(commands)
     add_convert(commands)
     add_check(commands)
@@ -334,28 +336,79 @@ def write_tables(tables, folder):
                 table.write(file)
 
 
+def add_plot(commands):
+    words = add_command(commands, "plot", run_plot, "draws tables, with errors, and theory where a table has it",
+                        "Tables of one kind share a panel; those of one row each, as of several runs, are one curve over phi.")
+    words.add_argument("tables", nargs="*", metavar="TABLE", help="files that measure or equation wrote (standard input)")
+    words.add_argument("--log", choices=["x", "y", "xy"], default="", help="which axes are logarithmic")
+    words.add_argument("--x", type=bounds, metavar="FROM:TO", help="what part of the x axis is shown")
+    words.add_argument("--y", type=bounds, metavar="FROM:TO")
+    add_figure(words, "ends in .svg, .png or .pdf")
+
+
+def bounds(text):
+    """0.9:3 as two numbers."""
+    numbers = text.split(":")
+    if len(numbers) != 2 or not all(math.isfinite(float(it)) for it in numbers) or float(numbers[0]) >= float(numbers[1]):
+        raise argparse.ArgumentTypeError(f"{text} isn't of the form FROM:TO, with FROM below TO")
+    return tuple(map(float, numbers))
+
+
+def window(text):
+    """0:10,5:15 as four numbers."""
+    across, comma, up = text.partition(",")
+    if not comma:
+        raise argparse.ArgumentTypeError(f"{text} isn't of the form LEFT:RIGHT,BOTTOM:TOP")
+    return *bounds(across), *bounds(up)
+
+
+def add_figure(words, formats):
+    words.add_argument("-o", "--output", required=True, metavar="FILE", help=formats)
+    words.add_argument("--dpi", type=whole(10, 2_400), help="dots per inch, of .png and movies (150, of a movie 90)")
+
+
+def run_plot(asked):
+    from .figures import DPI, require_format
+    from .plotting import plot, read_tables
+
+    require_format(asked.output)
+    tables = [] if asked.tables else list(read_tables(standard_input("a table"), "standard input"))
+    for path in asked.tables:
+        with open(path, encoding="utf-8") as file:
+            tables += read_tables(file, Path(path).stem)
+    if not tables:
+        raise Refused("there is no table to draw")
+    ranges = {name: value for name in "xy" if (value := getattr(asked, name)) is not None}
+    plot(tables, asked.output, asked.log, ranges, asked.dpi or DPI)
+
+
 def add_draw(commands):
     words = add_command(commands, "draw", run_draw, "draws a frame, or all of them as a movie")
     add_report(words)
     what = words.add_mutually_exclusive_group()
     what.add_argument("--tick", type=whole(0, MOST_TICK), help="the first frame from this tick on (the last one)")
-    what.add_argument("--movie", action="store_true", help="all frames, as a page for a browser")
-    words.add_argument("--colour", choices=["speed", "psi6", "neighbours"], default="speed", help="(%(default)s)")
-    words.add_argument("-o", "--output", required=True, metavar="FILE", help="ends in .svg, .png or .pdf; a movie in .html")
+    what.add_argument("--movie", action="store_true", help="all frames, as a page for a browser or a GIF")
+    words.add_argument("--colour", choices=["speed", "psi6", "direction", "neighbours"], default="speed",
+                       help="psi6: its size; direction: that of psi6; beyond walls there are mirror images (%(default)s)")
+    words.add_argument("--window", type=window, metavar="X:X,Y:Y", help="the part of the box that is shown, in sigma")
+    words.add_argument("--fps", type=whole(1, 120), help="frames of a movie in a second (12)")
+    add_figure(words, "ends in .svg, .png or .pdf; a movie in .html or .gif")
 
 
 def run_draw(asked):
-    from .drawing import draw, movie
+    from .drawing import FRAMES_BY_SECOND, MOVIE_DPI, Window, draw, movie
+    from .figures import DPI, FORMATS, MOVIE_FORMATS, require_format
     from .runs import Run
 
-    endings = (".html",) if asked.movie else (".svg", ".png", ".pdf")
-    if not asked.output.endswith(endings):
-        raise Refused(f"{asked.output} doesn't end in {' or '.join(endings)}")
+    require_format(asked.output, MOVIE_FORMATS if asked.movie else FORMATS)
+    if asked.fps and not asked.movie:
+        raise Refused("--fps is of a movie, and --movie isn't there")
+    part = asked.window and Window(*asked.window)
     run = Run(read_scene(asked.scene), standard_input("a report"), shows_progress=True)
     if asked.movie:
-        movie(run, asked.colour, asked.output)
+        movie(run, asked.colour, asked.output, part, asked.dpi or MOVIE_DPI, asked.fps or FRAMES_BY_SECOND)
     else:
-        draw(run, asked.colour, asked.output, asked.tick)
+        draw(run, asked.colour, asked.output, asked.tick, part, asked.dpi or DPI)
 
 
 def add_convert(commands):

@@ -24,9 +24,11 @@ from hard_disks.commands import main as command
 from hard_disks.converting import FORMATS, write_csv, write_xyz
 from hard_disks.fitting import fit
 from hard_disks.making import make
+from hard_disks.plotting import Columns, curves_by_panel, joined, read_tables
 from hard_disks.runs import Frame, Sample, read
 from hard_disks.scene_text import parse_scene, read_scene
 from hard_disks.scenes import Refused
+from hard_disks.structure import bond_order
 
 
 class Reading(unittest.TestCase):
@@ -259,7 +261,7 @@ class Commands(unittest.TestCase):
         return status, out.getvalue(), error.getvalue()
 
     def test_each_command_has_help(self):
-        for words in [[], ["scene"], ["fit"], ["explain"], ["rest"], ["continue"], ["measure"], ["draw"], ["convert"], ["check"], ["equation"]]:
+        for words in [[], ["scene"], ["fit"], ["explain"], ["rest"], ["continue"], ["measure"], ["plot"], ["draw"], ["convert"], ["check"], ["equation"]]:
             status, out, _ = self.command(*words, "--help")
             self.assertEqual((status, out.startswith("usage: python3 -m hard_disks")), (0, True), words)
 
@@ -324,15 +326,72 @@ class Commands(unittest.TestCase):
         gas = SCENES / "gas.toml"
         for words, name, begins in [
             (["draw", scene, "--tick", "3"], "a.svg", b"<?xml"), (["draw", scene], "a.png", b"\x89PNG"),
-            (["draw", scene, "--movie"], "a.html", b""),
+            (["draw", scene, "--movie", "--dpi", "40"], "a.html", b""), (["draw", scene, "--movie", "--fps", "2"], "a.gif", b"GIF8"),
+            (["draw", scene, "--window", "1:4,0:3", "--dpi", "50"], "b.png", b"\x89PNG"), (["draw", scene], "a.pdf", b"%PDF"),
         ]:
             self.assertEqual(self.command(*words, "-o", folder / name), (0, "", ""))
             self.assertTrue((folder / name).read_bytes().startswith(begins))
-        for colour in ("psi6", "neighbours"):
+        for colour in ("psi6", "direction", "neighbours"):
             self.assertEqual(self.command("draw", gas, "--colour", colour, "-o", folder / "b.svg", report="gas"), (0, "", ""))
         first = (folder / "b.svg").read_bytes()
         self.command("draw", gas, "--colour", "neighbours", "-o", folder / "c.svg", report="gas")
         self.assertEqual(first, (folder / "c.svg").read_bytes())
+
+    @needs("matplotlib")
+    def test_disks_at_a_wall_have_neighbours_behind_it(self):
+        from hard_disks.drawing import order_in_box
+
+        scene = read_scene(SCENES / "fluid.toml")
+        rows = np.array(scene.disks)
+        # Every disk has six neighbours on average, but those at the rim of all.
+        self.assertLess(bond_order(rows[:, :2])[1].mean(), 5.95)
+        self.assertAlmostEqual(order_in_box(scene, rows)[1].mean(), 6, delta=0.02)
+
+    @needs("matplotlib")
+    def test_each_table_is_plotted(self):
+        folder = Path(self.enterContext(tempfile.TemporaryDirectory()))
+        scene, report = fluid(200, 0.4, 4.0, 0.25)
+        (folder / "fluid.toml").write_text(scene.text())
+        words = ["measure", ",".join(MEASURES), folder / "fluid.toml", "--most", "gr=2,msd=1,vacf=1"]
+        status, out, error = self.command(*words, "-o", folder, report=report)
+        self.assertEqual((status, error), (0, ""))
+        drawn = [name for name in MEASURES if name != "psi6"]
+        for name in drawn:
+            with self.subTest(name):
+                words = ["plot", folder / f"{name}.csv", "-o", folder / f"{name}.svg"]
+                self.assertEqual(self.command(*words), (0, "", ""))
+                first = (folder / f"{name}.svg").read_bytes()
+                self.assertEqual(self.command(*words), (0, "", ""))
+                self.assertEqual(first, (folder / f"{name}.svg").read_bytes())
+        series = [name for name, kind in MEASURES.items() if kind.has_series]
+        tables = self.command("measure", ",".join(series), folder / "fluid.toml", "--series", report=report)[1]
+        for ending, begins in (("png", b"\x89PNG"), ("pdf", b"%PDF")):
+            path = folder / f"all.{ending}"
+            self.assertEqual(self.command("plot", *(folder / f"{name}.csv" for name in drawn), "-o", path, "--dpi", "30"), (0, "", ""))
+            self.assertTrue(path.read_bytes().startswith(begins))
+            words = ["plot", "-o", path, "--x", "0.5:3", "--log", "y", "--dpi", "30"]
+            self.assertEqual(self.command(*words, report=tables), (0, "", ""))
+            self.assertTrue(path.read_bytes().startswith(begins))
+
+    def test_tables_of_one_row_are_one_curve(self):
+        tables = [
+            Columns(name, {"phi": np.array([phi]), "Z": np.array([z]), "Z_error": np.array([0.1]), "Z_virial": np.array([z + 0.1])})
+            for name, phi, z in [("b", 0.4, 3.0), ("a", 0.2, 1.5)]
+        ]
+        panels = curves_by_panel(joined(tables))
+        self.assertEqual(list(panels), [("phi", "Z"), ("phi", "Z by virial")])
+        measured, theory = panels["phi", "Z"]
+        self.assertEqual((measured.x.tolist(), measured.y.tolist()), ([0.2, 0.4], [1.5, 3.0]))
+        self.assertEqual((theory.is_theory, theory.y.tolist()), (True, [1.6, 3.1]))
+        np.testing.assert_allclose(panels["phi", "Z by virial"][0].y, [-100 * 0.1 / 1.6, -100 * 0.1 / 3.1])
+
+    def test_a_column_has_its_own_errors(self):
+        text = "# measure x\nphi,Z,Z_error,Z_error_given_phi,Z_wall\n0.2,1.5,0.2,unknown,1.4\n\n# another\ntime,C\n0,1\n1,0.5\n"
+        first, second = read_tables(io.StringIO(text), "x")
+        self.assertTrue(np.isnan(first.error("Z")))
+        self.assertIsNone(first.error("Z_wall"))
+        self.assertEqual(first.drawn(), ["Z", "Z_wall"])
+        self.assertEqual((second.axis(), second.values["C"].tolist()), ("time", [1, 0.5]))
 
     def test_bad_input_is_refused_in_one_line_with_status_2(self):
         """Numbers without bounds, texts that are no scenes and no reports, and files that aren't there."""
@@ -377,6 +436,17 @@ class Commands(unittest.TestCase):
             (["draw", scene, "--tick", "1.5", "-o", "a.png"], "states", "isn't a whole number"),
             (["draw", scene, "-o", folder / "gone" / "a.png"], "states", "No such file"),
             (["check", "--drawn", "-3"], "states", "isn't a whole number"),
+            (["draw", scene, "-o", "a.png", "--window", "0:99,0:1"], "states", "isn't a part of the box"),
+            (["draw", scene, "-o", "a.png", "--window", "1,0:1"], "states", "LEFT:RIGHT|FROM:TO"),
+            (["draw", scene, "-o", "a.png", "--fps", "3"], "states", "--movie isn't there"),
+            (["draw", scene, "-o", "a.png", "--dpi", "1e9"], "states", "isn't a whole number"),
+            (["plot", "-o", "a.gif"], "r,g\n1,2\n", "doesn't end in"),
+            (["plot", "-o", "a.png"], "\n", "no table"),
+            (["plot", "-o", "a.png"], "r,g\n1\n", "other lengths"),
+            (["plot", "-o", "a.png"], "a,b\n1,2\n", "none of the columns"),
+            (["plot", "-o", "a.png"], "r,g\n1,2\n\n\0", "a table has no rows|NUL"),
+            (["plot", "-o", "a.png", "--x", "nan:2"], "r,g\n1,2\n", "FROM:TO|bounds"),
+            (["plot", folder / "gone.csv", "-o", "a.png"], "states", "No such file"),
             # Scenes
             ([*measure, file(f"end = {many}\n")], "states", "64 bits"),
             ([*measure, file(f"disks = {deep}")], "states", "brackets"),
