@@ -8,7 +8,7 @@ import sys
 from dataclasses import dataclass
 from pathlib import Path
 
-from .scene_text import parse_scene, read_scene
+from .scene_text import GOES_ON, parse_scene, read_scene
 from .scenes import MOST_DISKS, MOST_TICK, Refused
 
 ABOUT = "From a packing fraction to a figure: scenes for the program hard_disks, and what its reports say."
@@ -163,7 +163,9 @@ def add_report(words):
 def add_scene(commands):
     words = add_command(commands, "scene", run_scene, "writes a scene of a packing fraction", "Units are as fine as fits.")
     words.add_argument("--disks", type=whole(1, MOST_DISKS), default=2000, help="(%(default)s)")
-    words.add_argument("--phi", type=positive, required=True, help="packing fraction over the whole box")
+    phi = words.add_mutually_exclusive_group(required=True)
+    phi.add_argument("--phi", type=positive, help="packing fraction over the whole box")
+    phi.add_argument("--phi-inside", type=positive, help="that of the fluid away from the walls, to 0.003 or so")
     words.add_argument(
         "--sizes", type=sizes, default=[(1.0, 1.0)], metavar="D:SHARE,..", help="relative diameters, as 1:0.7,1.4:0.3"
     )
@@ -174,8 +176,14 @@ def add_scene(commands):
 
 def run_scene(asked):
     from .making import make
+    from .theory import whole_fraction
 
-    made = make(asked.disks, asked.phi, asked.sizes, asked.seed, asked.lattice, asked.time, asked.every)
+    phi = asked.phi
+    if asked.phi_inside is not None:
+        if asked.phi_inside >= 1:
+            raise Refused(f"no packing fraction is {asked.phi_inside:g}")
+        phi = whole_fraction(asked.phi_inside, asked.disks, asked.sizes)
+    made = make(asked.disks, phi, asked.sizes, asked.seed, asked.lattice, asked.time, asked.every)
     sys.stdout.write(made.text())
 
 
@@ -237,7 +245,7 @@ def add_rest(commands):
 def run_rest(asked):
     from .rests import rest
 
-    sys.stdout.write(rest(read_scene(asked.scene), standard_input("a report"), asked.tick).text())
+    sys.stdout.write(GOES_ON + rest(read_scene(asked.scene), standard_input("a report"), asked.tick).text())
 
 
 def add_continue(commands):
@@ -248,7 +256,7 @@ def add_continue(commands):
 
 
 def run_continue(asked):
-    sys.stdout.write(read_scene(asked.rest).timed(asked.time, asked.every).text())
+    sys.stdout.write(GOES_ON + read_scene(asked.rest).timed(asked.time, asked.every).text())
 
 
 def add_measure(commands):
@@ -260,7 +268,7 @@ def add_measure(commands):
                        help="the scene's file; the report is read from standard input. Of several scenes, runs that differ by"
                             " their seeds alone, each report is beside its scene, and ends in .report")
     words.add_argument("-o", "--output", metavar="FOLDER", help="writes each table into a file MEASURE.csv of this folder")
-    words.add_argument("--from", dest="start", type=not_negative, help="when the measure begins (a fifth of the run)")
+    words.add_argument("--from", dest="start", type=not_negative, help="when the measure begins (a fifth of the run; with a rest at once)")
     words.add_argument("--until", type=positive, help="when it ends, as if the run did: the report may break off after that")
     words.add_argument(
         "--margin", type=not_negative, help="how much along the walls is left out, in sigma (10, or a quarter of the box)"

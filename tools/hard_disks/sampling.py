@@ -54,13 +54,13 @@ class Sampling:
 
 
 def sampling(scene: Scene, start: float | None = None, margin: float | None = None, blocks: int = 20) -> Sampling:
-    """The sampling with a start in σ / v (else a fifth of the run) and a margin in σ (else 10, or a quarter of the box).
+    """The sampling with a start in σ / v (else a fifth of the run, or at once if it goes on) and a margin in σ (else 10, or a quarter of the box).
 
     At φ = 0.6 the layers that disks form along walls reach some 8 σ into the box."""
     most = min(scene.width, scene.height) / 4
     return Sampling(
         scene,
-        scene.end // 5 if start is None else scene.ticks(start),
+        (0 if scene.goes_on else scene.end // 5) if start is None else scene.ticks(start),
         min(10 * scene.sigma, most) if margin is None else margin * scene.sigma,
         blocks,
     )

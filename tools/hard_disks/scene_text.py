@@ -7,6 +7,8 @@ from .scenes import MOST_DISKS, MOST_TICK, RANGES, Refused, Scene
 from .toml_text import read_toml
 
 MOST_BYTES = 2**26
+# The comment that a scene begins with which goes on from an earlier run; the program passes over it.
+GOES_ON = "# goes on from an earlier run\n"
 # So many findings of a kind are told.
 MOST_TOLD = 5
 # Of a value that is told, so much is shown.
@@ -26,10 +28,11 @@ def read_scene(path) -> Scene:
 
 def parse_scene(text: str | bytes) -> Scene:
     """The scene that a text says. All is looked at but whether two disks overlap, which the program says."""
-    said = read_text(text.encode() if isinstance(text, str) else text)
+    text = text.encode() if isinstance(text, str) else text
+    said = read_text(text)
     if faults := unusable(said) or misplaced(said):
         raise Refused(faults[0])
-    return Scene(*(said[key] for key in RANGES), said.get("every"), tuple(disks_of(said)))
+    return Scene(*(said[key] for key in RANGES), said.get("every"), tuple(disks_of(said)), text.startswith(GOES_ON.encode()))
 
 
 def read_text(text: bytes) -> dict:

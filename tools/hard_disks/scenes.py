@@ -3,7 +3,7 @@
 A scene's own numbers are whole: units of length, ticks, units per tick. Reduced numbers are in the mean diameter σ, the
 thermal speed v (the root mean square of a velocity component) and the time σ / v; all disks have the mass 1."""
 import math
-from dataclasses import dataclass, replace
+from dataclasses import dataclass, field, replace
 from functools import cached_property
 
 # The greatest numbers that a scene may have: docs/SPECIFICATION.md, section 1.
@@ -35,6 +35,8 @@ class Scene:
     end: int
     every: int | None
     disks: tuple[tuple[int, int, int, int, int], ...]
+    # Whether it goes on from an earlier run, so that its start is no beginning.
+    goes_on: bool = field(default=False, compare=False)
 
     @cached_property
     def sigma(self) -> float:

@@ -46,3 +46,13 @@ def diffusion(phi: float) -> float:
 def collision_rate(phi: float) -> float:
     """Collisions of a disk in the time σ / v, by Enskog's 2 √π ρ σ² g with Henderson's g."""
     return 8 * phi * contact(henderson(phi), phi) / math.sqrt(math.pi)
+
+
+def whole_fraction(inside: float, count: int, sizes) -> float:
+    """φ over the whole of a square box whose inside has another: pairs of diameters and shares. By scaled particle theory a
+    wall of the length L takes φ (1 - φ) / (1 + φ) L σ / 2 of the area that disks cover, as they can't lie across it."""
+    shares = sum(share for _, share in sizes)
+    mean, square = (sum(share * size**power for size, share in sizes) / shares for power in (1, 2))
+    # The root of φ solves a quadratic equation, as the box grows with 1 / φ and the walls with the root of that.
+    half = inside * (1 - inside) / (1 + inside) * mean / math.sqrt(count * math.pi / 4 * square)
+    return (math.sqrt(half**2 + inside) - half) ** 2

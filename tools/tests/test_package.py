@@ -13,6 +13,7 @@ import sys
 import tempfile
 import time
 import unittest
+from dataclasses import replace
 from pathlib import Path
 from unittest import mock
 
@@ -26,9 +27,11 @@ from hard_disks.fitting import fit
 from hard_disks.making import make
 from hard_disks.plotting import Columns, curves_by_panel, joined, read_tables
 from hard_disks.runs import Frame, Sample, read
+from hard_disks.sampling import sampling
 from hard_disks.scene_text import parse_scene, read_scene
 from hard_disks.scenes import Refused
 from hard_disks.structure import bond_order
+from hard_disks.theory import whole_fraction
 
 
 class Reading(unittest.TestCase):
@@ -124,6 +127,16 @@ class Making(unittest.TestCase):
         for i in range(min(len(disks), 300)):
             squares = ((disks[i + 1:, :2] - disks[i, :2]) ** 2).sum(axis=1)
             self.assertTrue((squares >= (radii[i + 1:] + radii[i]) ** 2).all())
+
+    def test_walls_take_what_scaled_particle_theory_says(self):
+        # Of 5,000 disks at 0.2, 0.35, 0.5 and 0.6 the inside had 0.2019(2), 0.3521(2), 0.5053(4) and 0.6035(3).
+        for whole, inside in [(0.2, 0.2019), (0.35, 0.3521), (0.5, 0.5053), (0.6, 0.6035)]:
+            self.assertAlmostEqual(whole_fraction(inside, 5_000, [(1.0, 1.0)]), whole, delta=0.002)
+        self.assertAlmostEqual(whole_fraction(0.5, 10**9, [(1.0, 1.0)]), 0.5, delta=1e-5)
+
+    def test_a_rest_is_measured_from_its_start(self):
+        scene = scene_of([(400, 500, 3, 0)])
+        self.assertEqual([sampling(replace(scene, goes_on=it)).start for it in (False, True)], [20, 0])
 
     def test_sizes_have_their_shares(self):
         sizes = np.array(make(1_000, 0.3, ((1.0, 0.7), (1.4, 0.3))).disks)[:, 4]
@@ -421,6 +434,8 @@ class Commands(unittest.TestCase):
             (["scene", "--phi", "1e-300"], "states", "too small"),
             (["scene", "--phi", "\u0660"], "states", "isn't above 0"),
             (["scene"], "states", "--phi"),
+            (["scene", "--phi", "0.5", "--phi-inside", "0.5"], "states", "not allowed with"),
+            (["scene", "--phi-inside", "1.5"], "states", "no packing fraction"),
             (["continue", scene, "--time", "1e300"], "states", "ticks"),
             ([*measure, scene, "--from", "1e308"], "states", "ticks"),
             ([*measure, scene, "--until", "1e308"], "states", "ticks"),

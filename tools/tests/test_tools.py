@@ -22,7 +22,7 @@ from hard_disks.conservation import check, check_drawn, draw
 from hard_disks.explaining import explain
 from hard_disks.program import find_program
 from hard_disks.reports import Collision, Collisions, Limit, State, Sums, read_report
-from hard_disks.scene_text import parse_scene, read_scene
+from hard_disks.scene_text import GOES_ON, parse_scene, read_scene
 from hard_disks.scenes import Refused
 
 NAMES = sorted(it.stem for it in SCENES.glob("*.toml"))
@@ -303,12 +303,13 @@ class Commands(unittest.TestCase):
             ([], text[:within_4], at_2), ([], text[: within_4 + 7], at_2), ([], text[: text.index("done")], at_4),
         ]:
             with self.subTest((words, report)):
-                self.assertEqual(self.command("rest", scene_file("states"), *words, text=report), (0, left.text(), ""))
+                self.assertEqual(self.command("rest", scene_file("states"), *words, text=report), (0, GOES_ON + left.text(), ""))
 
     def test_a_rest_goes_on(self):
         status, out, _ = self.command("continue", scene_file("gas"), "--time", "3", "--every", "0.5")
         before, after = read_scene(scene_file("gas")), parse_scene(out)
         self.assertEqual((status, after.disks, after.end), (0, before.disks, 6 * after.every))
+        self.assertEqual((before.goes_on, after.goes_on), (False, True))
 
     def test_what_cannot_be_done_is_one_line(self):
         for words, text, said in [
