@@ -170,7 +170,9 @@ def add_scene(commands):
         "--sizes", type=sizes, default=[(1.0, 1.0)], metavar="D:SHARE,..", help="relative diameters, as 1:0.7,1.4:0.3"
     )
     words.add_argument("--seed", type=whole(0, MOST_TICK), default=1, help="(%(default)s)")
-    words.add_argument("--lattice", choices=["hex", "square", "random"], default="hex", help="where disks begin (%(default)s)")
+    words.add_argument(
+        "--lattice", choices=["hex", "square", "random", "soft"], default="hex", help="where disks begin (%(default)s)"
+    )
     add_times(words, 40.0)
 
 

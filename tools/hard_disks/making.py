@@ -1,10 +1,11 @@
-"""Makes scenes from a packing fraction: disks on a lattice, or thrown in, with normal velocities and no drift."""
+"""Makes scenes from a packing fraction: disks on a lattice, thrown in or softened, with normal velocities and no drift."""
 import math
 from dataclasses import dataclass
 
 import numpy as np
 
 from .scenes import MOST_DISKS, MOST_SPEED, MOST_WIDTH, Refused, Scene
+from .soft import soften
 
 # A speed limit of so many thermal speeds is met by none in 10^100 collisions; a round limit of 64 neither.
 LIMIT_SPEEDS, ROUND_LIMIT = 25, 64
@@ -85,7 +86,10 @@ def make(
         most = phi * (gap / relative.max()) ** 2
         raise Refused(f"a {lattice} lattice holds these {count} disks up to a packing fraction of {most:.4f}, not {phi}")
     box = np.floor(np.array([shape.width, shape.height]) * gap * unit).astype(np.int64)
-    places = throw(box, diameters, chance) if shape.sites is None else settle(shape.sites, gap * unit, count, chance)
+    if shape.sites is None:
+        places = DISORDERED[lattice](box, diameters, chance)
+    else:
+        places = settle(shape.sites, gap * unit, count, chance)
     speed = thermal_speed(diameters, LIMIT_SPEEDS)
     rows = np.column_stack([places, velocities(count, speed, chance), diameters])
     scene = Scene(
@@ -144,4 +148,8 @@ def throw(box: np.ndarray, diameters: np.ndarray, chance: np.random.Generator) -
         good = np.flatnonzero(fits[len(placed):])[: len(waiting)]
         chosen = waiting[: len(good)]
         places[chosen], is_placed[chosen] = aims[good], True
-    raise Refused(f"{is_placed.sum()} of {len(diameters)} disks found a place at random; a lattice holds more, as hex does")
+    raise Refused(f"{is_placed.sum()} of {len(diameters)} disks found a place at random; soft or hex hold more")
+
+
+# How disks find places in a box where they have no lattice.
+DISORDERED = {"random": throw, "soft": soften}
