@@ -7,6 +7,7 @@ from .runs import Frame
 from .sampling import Sampling, Table, bin_edges, block_error, ratio
 from .scenes import Refused, Scene
 from .theory import contact, henderson
+from .waves import Waves
 
 # Up to which distance, in diameters, g is fitted to find it at contact.
 FIT = 1.25
@@ -131,10 +132,9 @@ class StructureFactor(Measure):
         scene = self.scene
         self.sides = (np.array([scene.width, scene.height]) - 2 * sampling.margin) / scene.sigma
         # Half of the wave vectors: S(-k) is S(k).
-        across, up = (most * self.sides / (2 * np.pi)).astype(int)
-        i, j = np.arange(across + 1), np.arange(-up, up + 1)
-        self.kx, self.ky = 2 * np.pi * i / self.sides[0], 2 * np.pi * j / self.sides[1]
-        size = np.hypot(self.kx[:, None], self.ky)
+        self.waves = Waves(*self.sides, *(most * self.sides / (2 * np.pi)).astype(int))
+        i, j = self.waves.numbers()
+        size = np.hypot(2 * np.pi * i[:, None] / self.sides[0], 2 * np.pi * j / self.sides[1])
         # The window itself has a part at the least wave vectors, where it would show the mean density.
         self.used = (size < most) & ((i > 1)[:, None] | (abs(j) > 1))
         self.edges, self.width = bin_edges(most, width), width
@@ -147,8 +147,7 @@ class StructureFactor(Measure):
         block = sampling.block(frame.tick)
         places = (places[sampling.inside(places)] - sampling.margin) / self.scene.sigma
         window = np.prod(np.sin(np.pi * places / self.sides) ** 2, axis=1)
-        wave = (np.exp(1j * np.outer(self.kx, places[:, 0])) * window) @ np.exp(1j * np.outer(places[:, 1], self.ky))
-        power = np.abs(wave[self.used]) ** 2
+        power = np.abs(self.waves.sums(places, window)[self.used]) ** 2
         self.sums[block] += np.bincount(self.bins, power, self.sums.shape[1])
         self.weights[block] += np.bincount(self.bins, minlength=self.sums.shape[1]) * (window**2).sum()
         self.frames += 1
