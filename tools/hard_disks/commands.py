@@ -41,6 +41,11 @@ MEASURES = {
     ),
     "sk": Kind("structure.StructureFactor", "the structure factor S(k)", "k, in 1/sigma (15)", has_width=True),
     "psi6": Kind("structure.HexaticOrder", "the hexatic bond order psi6", has_series=True),
+    "g6": Kind("hexatic.BondCorrelation", "how far bond order reaches, g6(r)", "r, in sigma (20)", has_width=True),
+    "profile": Kind(
+        "profiles.Profile", "phi, T and psi6 by the distance from the walls, and P by the density there",
+        "distance, in sigma (half of the box)", has_width=True,
+    ),
     "msd": Kind("dynamics.Displacement", "the mean squared displacement, and D by its slope", "time between states (10)"),
     "vacf": Kind("dynamics.VelocityCorrelation", "the velocity correlation, and D by its integral", "time between states (10)"),
     "speeds": Kind(

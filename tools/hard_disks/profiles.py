@@ -1,0 +1,118 @@
+"""What the walls do to a fluid: packing fraction, temperature and bond order by the distance from them, by states.
+
+The density of disks that touch a wall, times the temperature, is the pressure there: a third way to it, which needs no
+collisions."""
+from dataclasses import dataclass
+
+import numpy as np
+
+from .measuring import Measure
+from .runs import Frame
+from .sampling import Sampling, Table, bin_edges, block_error, ratio
+from .scenes import Refused
+from .structure import bond_order, contact_value
+
+# The gap between disks and walls is fitted up to this, in σ, in bins of this width.
+GAP, GAP_WIDTH = 0.25, 0.02
+# The deepest share of the strips is taken for what the bulk is; a strip differs from it by more than this share and two errors.
+DEEPEST, NEAR = 1 / 3, 0.01
+
+
+@dataclass(frozen=True)
+class Strips:
+    """Strips along the four walls, which leave out what is `corner` or less from another wall; lengths are in σ.
+
+    A disk belongs to the wall that is nearest to it."""
+
+    width: float
+    height: float
+    corner: float
+
+    def depths(self, places: np.ndarray) -> tuple[np.ndarray, np.ndarray]:
+        """How far each place is from the nearest wall, and whether it is in a strip."""
+        nearest = np.minimum(places, [self.width, self.height] - places)
+        return nearest.min(axis=1), nearest.max(axis=1) > self.corner
+
+    def area_within(self, depth: np.ndarray) -> np.ndarray:
+        """The area of the strips up to a depth."""
+        depth = np.minimum(depth, min(self.width, self.height) / 2)
+        # A strip ends at the corner or, deeper, at the diagonal, from which on the other wall is nearer.
+        lost = np.where(depth < self.corner, self.corner * depth, (depth**2 + self.corner**2) / 2)
+        return 2 * (self.width + self.height) * depth - 8 * lost
+
+    def areas(self, edges: np.ndarray) -> np.ndarray:
+        return np.diff(self.area_within(edges))
+
+    def length(self) -> float:
+        """How long they are together, along the walls."""
+        return 2 * (self.width + self.height) - 8 * self.corner
+
+
+class Profile(Measure):
+    """φ, T and |ψ6| by the distance of disks' centres from the walls, up to `most` in strips of a width, both in σ."""
+
+    def __init__(self, sampling: Sampling, most: float | None = None, width: float = 1.0):
+        super().__init__(sampling)
+        scene = self.scene
+        box = np.array([scene.width, scene.height]) / scene.sigma
+        most = box.min() / 2 if most is None else most
+        if most > box.min() / 2:
+            raise Refused(f"no disk is {most:g} sigma away from the walls: half of the box is {box.min() / 2:.4g}")
+        self.strips = Strips(*box, sampling.margin / scene.sigma)
+        self.edges, self.gaps, self.width = bin_edges(most, width), bin_edges(GAP, GAP_WIDTH), width
+        self.sizes = np.array([row[4] for row in scene.disks]) / scene.sigma
+        # Of the disks of each block and strip: how many they are, what they cover, their T, and their |ψ6|.
+        self.sums = np.zeros((4, sampling.blocks, len(self.edges) - 1))
+        self.touching = np.zeros((sampling.blocks, len(self.gaps) - 1))
+        self.frames = np.zeros((sampling.blocks, 1))
+
+    def add_state(self, frame: Frame) -> None:
+        scene, places = self.scene, frame.rows[:, :2]
+        block = self.sampling.block(frame.tick)
+        depth, is_used = self.strips.depths(places / scene.sigma)
+        squares = (frame.rows[:, 2:].astype(float) ** 2).sum(axis=1) / (2 * scene.speed**2)
+        each = [np.ones(len(places)), np.pi / 4 * self.sizes**2, squares, np.abs(bond_order(places)[0])]
+        for total, values in zip(self.sums, each):
+            total[block] += np.histogram(depth[is_used], self.edges, weights=values[is_used])[0]
+        self.touching[block] += np.histogram((depth - self.sizes / 2)[is_used], self.gaps)[0]
+        self.frames[block] += 1
+
+    def table(self) -> Table:
+        disks, covered, heat, order = self.sums
+        columns = [ratio(covered, self.frames * self.strips.areas(self.edges)), ratio(heat, disks), ratio(order, disks)]
+        known = disks.sum(axis=0) > 0
+        depths = self.edges[:-1][known]
+        (phi, phi_errors), _, (psi6, psi6_errors) = columns = [(values[known], errors[known]) for values, errors in columns]
+        notes = [
+            f"{int(self.frames.sum())} frames; by the distance of disks' centres from the nearest wall, away from the corners",
+            *contact_notes(self.touching, self.frames * self.strips.length() * np.diff(self.gaps), self.gaps),
+            *level_notes(depths, (phi, phi_errors), (psi6, psi6_errors)),
+        ]
+        names = ["distance", "phi", "phi_error", "T", "T_error", "psi6", "psi6_error"]
+        rows = np.column_stack([depths + self.width / 2, *(it for column in columns for it in column)]).tolist()
+        return Table(names, rows, [*notes, *self.sampling.notes()])
+
+
+def contact_notes(touching: np.ndarray, ideal: np.ndarray, gaps: np.ndarray) -> list[str]:
+    """The density of disks that touch a wall, which is P / T; the fit begins at a gap of 0 as that of g does at 1."""
+    found = contact_value(touching.sum(axis=0), ideal.sum(axis=0), gaps + 1)
+    error = block_error([contact_value(*both, gaps + 1) for both in zip(touching, ideal)])
+    return [f"at the walls rho = {found:.5g} +/- {error:.2g} per sigma^2, which is P / T"]
+
+
+def level_notes(depths: np.ndarray, *columns: tuple[np.ndarray, np.ndarray]) -> list[str]:
+    """From which distance on all strips are as the deepest; each column has values and errors."""
+    deepest = depths >= depths[-1] * (1 - DEEPEST)
+    level = max(level_from(depths, deepest, *column) for column in columns)
+    if level >= depths[deepest][0]:
+        return ["CAUTION: phi or psi6 hasn't levelled yet a third before the middle: it takes a larger box, or a longer run"]
+    return [f"phi and psi6 are level, to a percent or two errors, from {level:.4g} sigma on: a margin that is enough"]
+
+
+def level_from(depths: np.ndarray, deepest: np.ndarray, values: np.ndarray, errors: np.ndarray) -> float:
+    """The distance after the last strip whose value isn't that of the deepest ones."""
+    weights = 1 / np.maximum(np.nan_to_num(errors[deepest], nan=1.0), 1e-9) ** 2
+    bulk = (values[deepest] * weights).sum() / weights.sum()
+    far = np.abs(values - bulk) > np.maximum(NEAR * abs(bulk), 2 * np.nan_to_num(errors))
+    last = np.flatnonzero(far & ~deepest)
+    return float(depths[last[-1] + 1]) if len(last) else 0.0
