@@ -10,12 +10,16 @@ from .scenes import Refused
 SLACK = 1e-3
 # So many times at most the overlaps are looked for; places without any are found in some 50 to 200.
 LOOKS = 1_000
+# Sizes may differ by so much: each disk is compared with all that the greatest one could reach.
+MOST_RATIO = 10
 
 
 def soften(box: np.ndarray, diameters: np.ndarray, chance: np.random.Generator) -> np.ndarray:
     """Places in a box, in units, of disks with even diameters, with gaps of `SLACK` / 2 of the mean diameter or more."""
     from scipy.optimize import minimize
 
+    if diameters.max() > MOST_RATIO * diameters.min():
+        raise Refused(f"the sizes of soft disks may differ by a factor of {MOST_RATIO}, not more")
     unit = diameters.mean()
     sizes = diameters / unit * (1 + SLACK)
     least, most = np.broadcast_to(sizes[:, None] / 2, (len(sizes), 2)), box / unit - sizes[:, None] / 2
