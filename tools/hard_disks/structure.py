@@ -6,7 +6,7 @@ from .measuring import Measure
 from .runs import Frame
 from .sampling import Sampling, Table, bin_edges, block_error, ratio
 from .scenes import Refused, Scene
-from .theory import contact, henderson
+from .theory import REFERENCE, cautions, contact
 from .waves import Waves
 
 # Up to which distance, in diameters, g is fitted to find it at contact.
@@ -112,13 +112,15 @@ def contact_value(pairs: np.ndarray, ideal: np.ndarray, edges: np.ndarray) -> fl
 
 
 def contact_notes(pairs: np.ndarray, ideal: np.ndarray, edges: np.ndarray, density: float) -> list[str]:
-    """g at contact and the Z that it gives, with its error and Henderson's."""
+    """g at contact and the Z that it gives, with its error and that of the reference, if it is known at this density."""
     phi = np.pi / 4 * density
     g = contact_value(pairs.sum(axis=0), ideal.sum(axis=0), edges)
     error = block_error([contact_value(*both, edges) for both in zip(pairs, ideal)])
+    wanted = contact(REFERENCE(phi), phi)
     return [
-        f"at contact g = {g:.5g} +/- {error:.2g}, Henderson {contact(henderson(phi), phi):.5g};"
-        f" Z = 1 + 2 phi g = {1 + 2 * phi * g:.5g} +/- {2 * phi * error:.2g} at phi = {phi:.5g}"
+        f"at contact g = {g:.5g} +/- {error:.2g}{f', reference {wanted:.5g}' if np.isfinite(wanted) else ''};"
+        f" Z = 1 + 2 phi g = {1 + 2 * phi * g:.5g} +/- {2 * phi * error:.2g} at phi = {phi:.5g}",
+        *cautions(phi),
     ]
 
 

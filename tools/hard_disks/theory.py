@@ -1,10 +1,15 @@
-"""Equations of state of a fluid of hard disks of one size, by the packing fraction φ. Published:
+"""Equations of state of a fluid of hard disks, by the packing fraction φ, and up to where each of them holds.
+
+From memory of the publications, not looked up again:
 
 D. Henderson, Molecular Physics 30, 971 (1975), and with a correction 34, 301 (1977);
-N. Clisby and B. M. McCoy, Journal of Statistical Physics 122, 15 (2006): the virial coefficients up to the tenth.
+N. Clisby and B. M. McCoy, Journal of Statistical Physics 122, 15 (2006): the virial coefficients up to the tenth;
+A. Santos, S. B. Yuste and M. López de Haro, Molecular Physics 96, 1 (1999): disks of several sizes.
 
-And of one of several sizes: A. Santos, S. B. Yuste and M. López de Haro, Molecular Physics 96, 1 (1999)."""
+Simulated here: `SIMULATED`, by tools/reference/periodic.cpp."""
 import math
+from dataclasses import dataclass
+from typing import Callable, NamedTuple
 
 from numpy.polynomial import Polynomial
 
@@ -26,10 +31,55 @@ def virial(phi: float) -> float:
     return SMOOTH(phi) / (1 - phi) ** 2
 
 
+class Simulated(NamedTuple):
+    """Z of a fluid in a periodic box, with its standard error: several runs, so many collisions of two disks in all."""
+
+    phi: float
+    disks: int
+    collisions: float
+    factor: float
+    error: float
+
+
+# By tools/reference/periodic.cpp, which is no part of the program.
+SIMULATED = (
+    Simulated(0.5, 5_016, 5.3e6, 4.1081, 0.0017),
+)
+
+
+def reference(phi: float) -> float:
+    """Z by the virial series, less what the further coefficients take away near freezing, as fitted to `SIMULATED`."""
+    return virial(phi) - 0.0372 * math.exp(67.3 * (phi - 0.65))
+
+
+@dataclass(frozen=True)
+class Equation:
+    """An equation of state, and the greatest φ at which it is right to 0.2 % of Z; beyond, it isn't a number."""
+
+    name: str
+    factor: Callable[[float], float]
+    most: float
+
+    def __call__(self, phi: float) -> float:
+        return self.factor(phi) if phi <= self.most else math.nan
+
+
+REFERENCE = Equation("reference", reference, 0.69)
+EQUATIONS = (Equation("Henderson", henderson, 0.65), Equation("virial", virial, 0.625), REFERENCE)
+
+
+def cautions(phi: float) -> list[str]:
+    """What has to be said above a table that has values of these equations."""
+    if not phi > min(it.most for it in EQUATIONS):
+        return []
+    bounds = ", ".join(f"{it.name} up to {it.most:g}" for it in EQUATIONS)
+    return [f"CAUTION: phi is {phi:.4g}, near freezing, where equations of state fail: {bounds}; beyond that their values are left out"]
+
+
 def mixture(phi: float, sizes) -> float:
     """Z where disks have these diameters, by that of one size: exact up to the second virial coefficient."""
     share = sum(sizes) ** 2 / (len(sizes) * sum(size**2 for size in sizes))
-    return (1 - share) / (1 - phi) + share * virial(phi)
+    return (1 - share) / (1 - phi) + share * REFERENCE(phi)
 
 
 def contact(factor: float, phi: float) -> float:
@@ -38,14 +88,14 @@ def contact(factor: float, phi: float) -> float:
 
 
 def diffusion(phi: float) -> float:
-    """D in σ v by Enskog's theory in its first approximation, 1 / (2 √π ρ σ² g) with Henderson's g; v² = T is 1, so it is
+    """D in σ v by Enskog's theory in its first approximation, 1 / (2 √π ρ σ² g) with g of the reference; v² = T is 1, so it is
     also the time in σ / v in which C(t) falls."""
-    return math.sqrt(math.pi) / (8 * phi * contact(henderson(phi), phi))
+    return math.sqrt(math.pi) / (8 * phi * contact(REFERENCE(phi), phi))
 
 
 def collision_rate(phi: float) -> float:
-    """Collisions of a disk in the time σ / v, by Enskog's 2 √π ρ σ² g with Henderson's g."""
-    return 8 * phi * contact(henderson(phi), phi) / math.sqrt(math.pi)
+    """Collisions of a disk in the time σ / v, by Enskog's 2 √π ρ σ² g with g of the reference."""
+    return 8 * phi * contact(REFERENCE(phi), phi) / math.sqrt(math.pi)
 
 
 def whole_fraction(inside: float, count: int, sizes) -> float:
