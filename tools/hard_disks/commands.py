@@ -280,7 +280,7 @@ def add_measure(commands):
     words.add_argument(
         "--margin", type=not_negative, help="how much along the walls is left out, in sigma (10, or a quarter of the box)"
     )
-    words.add_argument("--blocks", type=whole(2, 10_000), default=20, help="blocks of time for the errors (%(default)s)")
+    words.add_argument("--blocks", type=whole(2, 10_000), default=20, help="rows of a series over collisions (%(default)s)")
     words.add_argument("--series", action="store_true",
                        help=f"a row for each block or state in place of means: {those_with('has_series')}")
     bounds = ", ".join(f"{name} {kind.most}" for name, kind in MEASURES.items() if kind.most)
@@ -324,14 +324,14 @@ def runs_of(asked):
 
 def run_measure(asked):
     from .measuring import together, watch
-    from .sampling import sampling
+    from .sampling import BLOCKS, sampling
 
     options, found = options_of(asked), []
     kinds = {name: MEASURES[name].load() for name in asked.measures}
     if asked.series and len(asked.scenes) > 1:
         raise Refused("a series is of one run")
     for run in runs_of(asked):
-        part = sampling(run.scene, asked.start, asked.margin, asked.blocks)
+        part = sampling(run.scene, asked.start, asked.margin, asked.blocks if asked.series else BLOCKS)
         found.append({name: kind(part, **options[name]) for name, kind in kinds.items()})
         watch(run, list(found[-1].values()))
     tables = {name: together([it[name] for it in found]) for name in kinds}
@@ -470,15 +470,27 @@ def add_equation(commands):
     )
     words.add_argument("--disks", type=whole(1, MOST_DISKS), default=2000, help="(%(default)s)")
     words.add_argument("--time", type=positive, default=100.0, help=f"of each run; {TIMES} (%(default)s)")
+    words.add_argument("--every", type=positive, help="has states written, and Z found by g at contact too: the time between two")
+    words.add_argument(
+        "--margin", type=not_negative, help="how much along the walls is left out, in sigma (10, or a quarter of the box)"
+    )
     words.add_argument("--seed", type=whole(0, MOST_TICK), default=1, help="(%(default)s)")
+    words.add_argument("--seeds", type=whole(1, 10_000), default=1,
+                       help="runs of each packing fraction, that differ by their seeds: errors are by the spread (%(default)s)")
     words.add_argument("--program", help="the program that runs them (that which is built here, or the variable HARD_DISKS)")
 
 
 def run_equation(asked):
-    from .equation import equation_of_state
+    from .equation import Series, equation_of_state
     from .program import find_program
 
-    equation_of_state(asked.phi, asked.disks, asked.time, asked.seed, find_program(asked.program)).write(sys.stdout)
+    series = Series(asked.disks, asked.time, asked.seed, asked.seeds, asked.every, asked.margin)
+    for place, table in enumerate(equation_of_state(asked.phi, series, find_program(asked.program))):
+        if place:
+            table.write_rows(sys.stdout)
+        else:
+            table.write(sys.stdout)
+        sys.stdout.flush()
 
 
 def main(words=None):

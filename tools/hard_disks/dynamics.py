@@ -5,28 +5,31 @@ import numpy as np
 
 from .measuring import Measure
 from .runs import Frame
-from .sampling import Sampling, Table, bin_edges, block_error, ratio
+from .sampling import Sampling, Stated, Table, bin_edges
 from .scenes import Refused
 from .theory import diffusion as enskog_diffusion
 
 # Below so many times Enskog's time C(t) is still well above 0, and D well below what it comes to.
 LEAST_TIMES = 5
+# How far two states are apart at most, in σ / v, unless a quarter of the measure is less: then few pairs of states are left.
+MOST = 10.0
 
 
 class Lagged(Measure):
-    """Adds up, by block and lag, what it finds of each two states up to `most` σ / v apart, of the disks that are inside at
-    the earlier one. The first lag is 0: a state beside itself."""
+    """Adds up, by lag and the block of the earlier state, what it finds of each two states up to `most` σ / v apart, of the
+    disks that are inside at the earlier one. The first lag is 0: a state beside itself."""
 
     # How many numbers it finds of two states.
     width: int
 
-    def __init__(self, sampling: Sampling, most: float = 10.0):
+    def __init__(self, sampling: Sampling, most: float | None = None):
         super().__init__(sampling)
         every = self.scene.every
+        most = min(MOST, self.errors.time / 4) if most is None else most
         if every is None:
             raise Refused("the scene has no every, so its report has no states to compare")
         steps = max(int(self.scene.ticks(most) // every), 1)
-        self.earlier: deque[tuple[np.ndarray, np.ndarray]] = deque(maxlen=steps + 1)
+        self.earlier: deque[tuple[int, np.ndarray, np.ndarray]] = deque(maxlen=steps + 1)
         self.sums = np.zeros((self.width, sampling.blocks, steps + 1))
         self.weights = np.zeros((sampling.blocks, steps + 1))
 
@@ -37,9 +40,8 @@ class Lagged(Measure):
     def add_state(self, frame: Frame) -> None:
         if frame.tick % self.scene.every:
             return
-        block = self.sampling.block(frame.tick)
-        self.earlier.append((frame.rows, self.sampling.inside(frame.rows[:, :2])))
-        for apart, (rows, inside) in enumerate(reversed(self.earlier)):
+        self.earlier.append((self.sampling.block(frame.tick), frame.rows, self.sampling.inside(frame.rows[:, :2])))
+        for apart, (block, rows, inside) in enumerate(reversed(self.earlier)):
             self.weights[block, apart] += inside.sum()
             self.sums[:, block, apart] += self.found(rows[inside].astype(float), frame.rows[inside])
 
@@ -50,6 +52,11 @@ class Lagged(Measure):
             raise Refused("no two states of the measure have a disk inside: it needs a finer every, or a longer run")
         times = np.array([self.scene.reduced_time(lag * self.scene.every) for lag in np.flatnonzero(known)])
         return times, self.sums[:, :, known], self.weights[:, known]
+
+    def means(self, times: np.ndarray, sums: np.ndarray, weights: np.ndarray) -> tuple[np.ndarray, np.ndarray]:
+        """The means by lag, and their errors: each lag has blocks of its own."""
+        found = [self.errors.ratio(sums[:, lag], weights[:, lag], time) for lag, time in enumerate(times)]
+        return np.array(found).T
 
 
 class Displacement(Lagged):
@@ -63,14 +70,11 @@ class Displacement(Lagged):
     def table(self) -> Table:
         times, (squares,), weights = self.known()
         times, squares, weights = times[1:], squares[:, 1:] / self.scene.sigma**2, weights[:, 1:]
-        mean, errors = ratio(squares, weights)
-        with np.errstate(invalid="ignore"):
-            slopes = [slope(times, row) for row in squares / weights]
-        notes = [
-            f"D = {slope(times, mean) / 4:.5g} +/- {block_error(slopes) / 4:.2g} sigma v, by the slope over the second half"
-        ]
+        mean, errors = self.means(times, squares, weights)
+        diffusion = self.errors.of(lambda *sums: slope(times, np.divide(*sums)) / 4, squares, weights, lag=times[-1])
+        notes = [Stated("D", *map(float, diffusion), " sigma v, by the slope over the second half")]
         notes += cautions(self.sampling, times, mean)
-        return Table(["time", "msd", "msd_error"], list(zip(times, mean, errors)), [*notes, *self.sampling.notes()])
+        return Table(["time", "msd", "msd_error"], list(zip(times, mean, errors)), [*notes, *self.notes()])
 
 
 def cautions(sampling: Sampling, times: np.ndarray, squares: np.ndarray) -> list[str]:
@@ -115,14 +119,14 @@ class VelocityCorrelation(Lagged):
     def table(self) -> Table:
         times, (products, integrals, squares), weights = self.known()
         scene = self.scene
-        correlation, errors = ratio(products / (2 * scene.speed**2), weights)
-        diffusion, diffusion_errors = ratio(integrals / (2 * scene.speed * scene.sigma), weights)
-        notes = [
-            f"D = {diffusion[-1]:.5g} +/- {diffusion_errors[-1]:.2g} sigma v, by the integral up to {times[-1]:.4g} sigma/v"
-        ]
-        notes += cautions(self.sampling, times, ratio(squares / scene.sigma**2, weights)[0])
+        correlation, errors = self.means(times, products / (2 * scene.speed**2), weights)
+        diffusion, diffusion_errors = self.means(times, integrals / (2 * scene.speed * scene.sigma), weights)
+        # At the time 0 nothing has moved.
+        diffusion_errors[times == 0] = 0
+        notes = [Stated("D", diffusion[-1], diffusion_errors[-1], f" sigma v, by the integral up to {times[-1]:.4g} sigma/v")]
+        notes += cautions(self.sampling, times, squares.sum(axis=0) / weights.sum(axis=0) / scene.sigma**2)
         rows = list(zip(times, correlation, errors, diffusion, diffusion_errors))
-        return Table(["time", "C", "C_error", "D", "D_error"], rows, [*notes, *self.sampling.notes()])
+        return Table(["time", "C", "C_error", "D", "D_error"], rows, [*notes, *self.notes()])
 
 
 class Speeds(Measure):
@@ -150,12 +154,9 @@ class Speeds(Measure):
         if self.has_series:
             notes = ["T: half the mean of v^2; shape: <v^4> / <v^2>^2, Maxwell 2; all disks, near walls too"]
             return Table(["time", "T", "shape"], self.rows, [*notes, *self.sampling.notes()])
-        density, errors = ratio(self.counts, self.disks * self.width)
+        density, errors = self.errors.ratio(self.counts, self.disks * self.width)
         maxwell = -np.diff(np.exp(-(self.edges**2) / 2)) / self.width
-        second, fourth = self.moments
-        with np.errstate(invalid="ignore", divide="ignore"):
-            shape = self.disks[:, 0] * fourth / second**2
-        whole = self.disks.sum() * fourth.sum() / second.sum() ** 2
-        notes = [f"<v^4> / <v^2>^2 = {whole:.5g} +/- {block_error(shape):.2g}, Maxwell 2; all disks, near walls too"]
+        shape = self.errors.of(lambda disks, second, fourth: disks * fourth / second**2, self.disks[:, 0], *self.moments)
+        notes = [Stated("<v^4> / <v^2>^2", *map(float, shape), ", Maxwell 2; all disks, near walls too")]
         rows = list(zip(self.edges[:-1] + self.width / 2, density, errors, maxwell))
-        return Table(["speed", "density", "density_error", "Maxwell"], rows, [*notes, *self.sampling.notes()])
+        return Table(["speed", "density", "density_error", "Maxwell"], rows, [*notes, *self.notes()])

@@ -1,22 +1,58 @@
-"""The equation of state: makes a scene for each packing fraction, has the program run it, and measures its pressure."""
+"""The equation of state: makes scenes for each packing fraction, has the program run them, and measures their pressure."""
 import subprocess
+from dataclasses import dataclass
+from typing import Iterator
 
 from .making import make
-from .measuring import measured
+from .measuring import Measure, together, watch
 from .pressure import Pressure
 from .runs import Run
-from .sampling import Table, sampling
+from .sampling import Stated, Table, sampling
+from .structure import CONTACT_Z, PairDistribution
+
+# How far g(r) is counted to find it at contact, in σ.
+NEAR = 1.5
 
 
-def equation_of_state(fractions: list[float], count: int, time: float, seed: int, program: str) -> Table:
-    """The row of `measure pressure` for each packing fraction."""
-    rows, table = [], None
-    for phi in fractions:
-        scene = make(count, phi, seed=seed, time=time)
+@dataclass(frozen=True)
+class Series:
+    """What the runs have in common: `seeds` of each packing fraction, with one seed after the other. Times are in σ / v,
+    the margin is in σ; with `every` Z is found by states too."""
+
+    disks: int
+    time: float
+    seed: int = 1
+    seeds: int = 1
+    every: float | None = None
+    margin: float | None = None
+
+    def measured(self, phi: float, seed: int, program: str) -> list[Measure]:
+        """The measures of one run."""
+        scene = make(self.disks, phi, seed=seed, time=self.time, every=self.every)
+        part = sampling(scene, margin=self.margin)
+        found = [Pressure(part)] if self.every is None else [Pressure(part), PairDistribution(part, NEAR)]
         with subprocess.Popen([program], stdin=subprocess.PIPE, stdout=subprocess.PIPE, text=True) as running:
             running.stdin.write(scene.text())
             running.stdin.close()
-            table = measured(Run(scene, running.stdout, shows_progress=True), Pressure(sampling(scene)))
-        rows.append([phi, *table.rows[0]])
-    notes = [f"{count} disks each, {time:g} sigma/v, of which a fifth is left out; phi is that inside", table.notes[0]]
-    return Table(["asked_for", *table.columns], rows, notes)
+            watch(Run(scene, running.stdout, shows_progress=True), found)
+        return found
+
+    def row(self, phi: float, program: str) -> Table:
+        """The row of `measure pressure` after the packing fraction that was asked for, and Z by g at contact."""
+        runs = [self.measured(phi, seed, program) for seed in range(self.seed, self.seed + self.seeds)]
+        pressure, *others = [together(list(it)) for it in zip(*runs)]
+        columns, row = ["asked_for", *pressure.columns], [phi, *pressure.rows[0]]
+        for note in (it for table in others for it in table.notes):
+            if isinstance(note, Stated) and note.name == CONTACT_Z:
+                columns, row = [*columns, "Z_contact", "Z_contact_error"], [*row, note.value, note.error]
+        return Table(columns, [row], self.notes() + [it for it in pressure.notes if str(it).startswith("Z")])
+
+    def notes(self) -> list[str]:
+        by = f"by the spread over {self.seeds} runs" if self.seeds > 1 else "by one run"
+        return [f"{self.disks} disks, {self.time:g} sigma/v, of which a fifth is left out; errors {by}; phi is that inside"]
+
+
+def equation_of_state(fractions: list[float], series: Series, program: str) -> Iterator[Table]:
+    """For each packing fraction a table of one row, as soon as it is known."""
+    for phi in fractions:
+        yield series.row(phi, program)

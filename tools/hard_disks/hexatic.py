@@ -3,7 +3,7 @@ import numpy as np
 
 from .measuring import Measure
 from .runs import Frame
-from .sampling import Sampling, Table, bin_edges, ratio
+from .sampling import Sampling, Stated, Table, bin_edges
 from .scenes import Refused
 from .structure import bond_order
 from .waves import LINEAR, check_grid, spread
@@ -44,8 +44,8 @@ class BondCorrelation(Measure):
         self.frames += 1
 
     def table(self) -> Table:
-        correlation, errors = ratio(self.sums, self.weights)
-        own, own_error = ratio(self.squares, self.disks)
+        correlation, errors = self.errors.ratio(self.sums, self.weights)
+        own, own_error = map(float, self.errors.ratio(self.squares, self.disks))
         # Nearer than the least diameter there are none.
         least = min(row[4] for row in self.scene.disks) / self.scene.sigma
         known = (self.edges[1:] > least + 2 * STEP) & (self.weights.sum(axis=0) > 0)
@@ -53,9 +53,10 @@ class BondCorrelation(Measure):
         rows = list(zip(distance, correlation[known], errors[known], correlation[known] / own))
         notes = [
             f"{self.frames} frames; g6 is the mean of psi6* psi6' over two disks at a distance, so divided by g(r);"
-            f" g6_relative is divided by that at 0 too, the mean of |psi6|^2 = {own:.5g} +/- {own_error:.2g}"
+            " g6_relative is divided by that at 0 too",
+            Stated("there it is the mean of |psi6|^2", own, own_error),
         ]
-        return Table(["r", "g6", "g6_error", "g6_relative"], rows, [*notes, *self.sampling.notes()])
+        return Table(["r", "g6", "g6_error", "g6_relative"], rows, [*notes, *self.notes()])
 
 
 class Pairs:

@@ -6,9 +6,10 @@ from typing import Iterable
 
 import numpy as np
 
+from .errors import Errors, spread_error
 from .motion import Followed
 from .runs import Frame, Run, Sample
-from .sampling import Sampling, Table, block_error
+from .sampling import Sampling, Stated, Table
 from .scenes import Refused
 
 
@@ -19,7 +20,7 @@ class Measure:
     needs_collisions = False
 
     def __init__(self, sampling: Sampling):
-        self.sampling, self.scene = sampling, sampling.scene
+        self.sampling, self.scene, self.errors = sampling, sampling.scene, Errors(sampling)
 
     def sample_ticks(self) -> Iterable[int]:
         """The ticks at which it wants to see all disks between states; only one that needs collisions may want some."""
@@ -33,6 +34,10 @@ class Measure:
 
     def add_collisions(self, found: Followed) -> None:
         """Collisions in the report's order, those before the sampling's start too."""
+
+    def notes(self) -> list[str]:
+        """What every table says of the part of the run, and of its errors, which have to be made before."""
+        return [*self.errors.notes(), *self.sampling.notes()]
 
     def table(self) -> Table:
         """What was found."""
@@ -50,12 +55,15 @@ def watch(run: Run, measures: list[Measure]) -> None:
                 it.add_collisions(item)
         elif isinstance(item, Sample):
             for it in colliding:
+                it.errors.heat.add(item.tick, item.rows)
                 it.add_sample(item)
         else:
             for it in measures:
                 if item.tick >= it.sampling.start:
                     has_states = True
                     it.add_state(item)
+                    if not it.needs_collisions:
+                        it.errors.heat.add(item.tick, item.rows)
     if not has_states and len(colliding) < len(measures):
         raise Refused("the report has no state: it is a summary, or ends before the measure begins")
 
@@ -77,9 +85,23 @@ def together(runs: list[Measure]) -> Table:
         raise Refused("the tables of these runs have different columns: their scenes differ by more than a seed")
     # An axis for the runs, one for rows, one for columns.
     numbers = np.array([it.rows[:count] for it in tables], float)
-    means, errors = numbers.mean(axis=0), block_error(numbers)
+    means, errors = numbers.mean(axis=0), spread_error(numbers)
     for place, name in enumerate(first.columns):
         if f"{name}_error" in first.columns:
             means[:, first.columns.index(f"{name}_error")] = errors[:, place]
+        if name.endswith("_error_given_phi"):
+            means[:, place] = np.sqrt((numbers[:, :, place] ** 2).mean(axis=0) / len(tables))
     notes = [f"{len(tables)} runs: means over them, and standard errors by the spread over them"]
-    return Table(first.columns, means.tolist(), notes + [it for it in first.notes if "+/-" not in it])
+    return Table(first.columns, means.tolist(), notes + notes_together([it.notes for it in tables]))
+
+
+def notes_together(notes: list[list[str | Stated]]) -> list[str | Stated]:
+    """The notes that all runs have, and numbers as means over the runs; not those about errors of one run."""
+    found = []
+    for note in notes[0]:
+        if isinstance(note, Stated):
+            alike = [it.value for own in notes for it in own if isinstance(it, Stated) and it.name == note.name]
+            found.append(Stated(note.name, float(np.mean(alike)), float(spread_error(alike))))
+        elif all(note in own for own in notes):
+            found.append(note)
+    return found

@@ -16,16 +16,17 @@ import numpy as np
 from .measuring import Measure
 from .motion import Followed
 from .runs import Sample
-from .sampling import Sampling, Table, block_error
+from .sampling import Sampling, Table
 from .theory import collision_rate, henderson, mixture, virial
 
-# At how many ticks of each block the disks inside are counted.
-SAMPLES = 50
+# At how many ticks the disks inside are counted, at least.
+SAMPLES = 1_000
 
 
 @dataclass
 class Counts:
-    """What is summed up in each block: an array with a row for each. Places are in units, times in ticks."""
+    """What is summed up in each block, or in some together: an array with a row for each. Places are in units, times in
+    ticks."""
 
     virial: np.ndarray
     touching: np.ndarray  # the virial if each two disks touched
@@ -35,11 +36,7 @@ class Counts:
     covered: np.ndarray
     squared: np.ndarray
     samples: np.ndarray
-    blocks: np.ndarray
-
-    def whole(self) -> "Counts":
-        """The same of the whole time, in one row."""
-        return Counts(*(it.sum(axis=0, keepdims=True) for it in vars(self).values()))
+    time: np.ndarray
 
 
 class Colliding(Measure):
@@ -50,12 +47,12 @@ class Colliding(Measure):
     def __init__(self, sampling: Sampling, series: bool = False):
         super().__init__(sampling)
         self.has_series = series
-        self.counts = Counts(*np.zeros((8, sampling.blocks)), np.ones(sampling.blocks))
+        self.counts = Counts(*np.zeros((8, sampling.blocks)), np.full(sampling.blocks, sampling.block_time()))
         self.sizes = np.array([row[4] for row in sampling.scene.disks], float)
 
     def sample_ticks(self) -> list[int]:
-        blocks = self.sampling.blocks
-        ticks = np.linspace(self.sampling.start, self.scene.end, 2 * blocks * SAMPLES + 1)[1::2]
+        samples = math.ceil(SAMPLES / self.sampling.blocks) * self.sampling.blocks
+        ticks = np.linspace(self.sampling.start, self.scene.end, 2 * samples + 1)[1::2]
         return ticks.astype(np.int64).tolist()
 
     def add_sample(self, sample: Sample) -> None:
@@ -73,6 +70,14 @@ class Colliding(Measure):
     def add_collisions(self, found: Followed) -> None:
         self.add_pairs(found)
         self.add_walls(found)
+
+    def estimate(self) -> tuple[np.ndarray, ...]:
+        """The four values of the whole time, their errors, and what these were if the packing fraction were known."""
+        # The pressure at the walls is that inside, so in the long run both Z have one slope.
+        return self.errors.by_density(self.values_of, *vars(self.counts).values(), follow=[0, 1, 1, 3])
+
+    def values_of(self, *sums: np.ndarray) -> np.ndarray:
+        return values(Counts(*sums), self.sampling)
 
     def add_pairs(self, found: Followed) -> None:
         """The virial of collisions of two disks."""
@@ -101,7 +106,7 @@ class Colliding(Measure):
 
 def values(counts: Counts, sampling: Sampling) -> np.ndarray:
     """For each row the packing fraction, Z by the virial, Z by the walls, and how often a disk collides in σ / v."""
-    scene, ticks = sampling.scene, sampling.block_time() * counts.blocks
+    scene, ticks = sampling.scene, counts.time
     wall_length = 2 * (scene.width + scene.height) - 8 * sampling.margin
     with np.errstate(invalid="ignore", divide="ignore"):
         disks, temperature = counts.disks / counts.samples, counts.squared / counts.disks / 2
@@ -110,12 +115,6 @@ def values(counts: Counts, sampling: Sampling) -> np.ndarray:
         rate = 2 * counts.collisions / disks / ticks * scene.sigma / np.sqrt(temperature)
         covered = counts.covered / counts.samples / sampling.area()
     return np.array([covered, factor, wall, rate])
-
-
-def estimate(counts: Counts, sampling: Sampling) -> tuple[np.ndarray, np.ndarray]:
-    """The four values of the whole time, and their errors."""
-    whole = values(counts.whole(), sampling)[:, 0]
-    return whole, block_error(values(counts, sampling).T)
 
 
 def block_times(sampling: Sampling) -> list[float]:
@@ -132,19 +131,22 @@ class Pressure(Colliding):
         if self.has_series:
             columns = values(counts, sampling)[:3]
             return Table(["time", "phi", "Z", "Z_wall"], list(zip(block_times(sampling), *columns)), sampling.notes())
-        (phi, factor, wall, _), errors = estimate(counts, sampling)
-        row = [phi, errors[0], int(counts.collisions.sum()), factor, errors[1], wall, errors[2]]
-        names = ["phi", "phi_error", "collisions", "Z", "Z_error", "Z_wall", "Z_wall_error"]
+        (phi, factor, wall, _), errors, at_phi = self.estimate()
+        row = [phi, errors[0], int(counts.collisions.sum()), factor, errors[1], at_phi[1], wall, errors[2]]
+        names = ["phi", "phi_error", "collisions", "Z", "Z_error", "Z_error_given_phi", "Z_wall", "Z_wall_error"]
         if scene.has_one_size:
             names, row = [*names, "Z_Henderson", "Z_virial"], [*row, henderson(phi), virial(phi)]
         else:
             names, row = [*names, "Z_mixture"], [*row, mixture(phi, [disk[4] for disk in scene.disks])]
-        notes = ["Z = P A / (N T): by the virial of collisions inside, and by the walls away from corners; phi is that inside"]
+        notes = [
+            "Z = P A / (N T): by the virial of collisions inside, and by the walls away from corners; phi is that inside",
+            "Z_error is that of the mean Z; beside an equation of state at the phi of this row Z_error_given_phi counts",
+        ]
         early = counts.virial.sum() / counts.touching.sum() - 1 if counts.collisions.any() else 0
         notes.append(
             f"collisions come early, as if disks were larger by {early:.2g} of their diameter, so Z is of disks that large"
         )
-        return Table(names, [row], [*notes, *sampling.notes()])
+        return Table(names, [row], [*notes, *self.notes()])
 
 
 class Rate(Colliding):
@@ -155,11 +157,11 @@ class Rate(Colliding):
         if self.has_series:
             columns = values(counts, sampling)[[0, 3]]
             return Table(["time", "phi", "rate"], list(zip(block_times(sampling), *columns)), sampling.notes())
-        (phi, _, _, found), errors = estimate(counts, sampling)
+        (phi, _, _, found), errors, _ = self.estimate()
         path = math.sqrt(math.pi / 2) / found if found else math.inf
         row = [phi, int(counts.collisions.sum()), found, errors[3], path, path * errors[3] / found if found else math.nan]
         names = ["phi", "collisions", "rate", "rate_error", "free_path", "free_path_error"]
         if self.scene.has_one_size:
-            names, row = [*names, "rate_Enskog"], [*row, collision_rate(phi)]
+            names, row = [*names, "rate_Enskog"], [*row, collision_rate(phi) if phi > 0 else math.nan]
         notes = ["collisions of a disk in the time sigma/v; free_path is the mean speed divided by that, in sigma"]
-        return Table(names, [row], [*notes, *sampling.notes()])
+        return Table(names, [row], [*notes, *self.notes()])

@@ -6,9 +6,10 @@ from dataclasses import dataclass
 
 import numpy as np
 
+from .errors import Errors
 from .measuring import Measure
 from .runs import Frame
-from .sampling import Sampling, Table, bin_edges, block_error, ratio
+from .sampling import Sampling, Stated, Table, bin_edges
 from .scenes import Refused
 from .structure import bond_order, contact_value
 
@@ -79,25 +80,25 @@ class Profile(Measure):
 
     def table(self) -> Table:
         disks, covered, heat, order = self.sums
-        columns = [ratio(covered, self.frames * self.strips.areas(self.edges)), ratio(heat, disks), ratio(order, disks)]
+        areas, errors = self.frames * self.strips.areas(self.edges), self.errors
+        columns = [errors.ratio(covered, areas), errors.ratio(heat, disks), errors.ratio(order, disks)]
         known = disks.sum(axis=0) > 0
         depths = self.edges[:-1][known]
         (phi, phi_errors), _, (psi6, psi6_errors) = columns = [(values[known], errors[known]) for values, errors in columns]
         notes = [
             f"{int(self.frames.sum())} frames; by the distance of disks' centres from the nearest wall, away from the corners",
-            *contact_notes(self.touching, self.frames * self.strips.length() * np.diff(self.gaps), self.gaps),
+            contact_note(errors, self.touching, self.frames * self.strips.length() * np.diff(self.gaps), self.gaps),
             *level_notes(depths, (phi, phi_errors), (psi6, psi6_errors)),
         ]
         names = ["distance", "phi", "phi_error", "T", "T_error", "psi6", "psi6_error"]
         rows = np.column_stack([depths + self.width / 2, *(it for column in columns for it in column)]).tolist()
-        return Table(names, rows, [*notes, *self.sampling.notes()])
+        return Table(names, rows, [*notes, *self.notes()])
 
 
-def contact_notes(touching: np.ndarray, ideal: np.ndarray, gaps: np.ndarray) -> list[str]:
+def contact_note(errors: Errors, touching: np.ndarray, ideal: np.ndarray, gaps: np.ndarray) -> Stated:
     """The density of disks that touch a wall, which is P / T; the fit begins at a gap of 0 as that of g does at 1."""
-    found = contact_value(touching.sum(axis=0), ideal.sum(axis=0), gaps + 1)
-    error = block_error([contact_value(*both, gaps + 1) for both in zip(touching, ideal)])
-    return [f"at the walls rho = {found:.5g} +/- {error:.2g} per sigma^2, which is P / T"]
+    found, error = map(float, errors.of(lambda *sums: contact_value(*sums, gaps + 1), touching, ideal))
+    return Stated("at the walls rho", found, error, " per sigma^2, which is P / T")
 
 
 def level_notes(depths: np.ndarray, *columns: tuple[np.ndarray, np.ndarray]) -> list[str]:

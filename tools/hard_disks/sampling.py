@@ -1,4 +1,4 @@
-"""What all measures share: which part of the box and of the run counts, means with errors by blocks, and tables."""
+"""What all measures share: which part of the box and of the run counts, and tables."""
 import csv
 from dataclasses import dataclass, field
 from typing import TextIO
@@ -7,10 +7,15 @@ import numpy as np
 
 from .scenes import Refused, Scene
 
+# Of how many blocks of time sums are kept, from which errors make longer ones; and how many there may be.
+BLOCKS, MOST_BLOCKS = 240, 10_000
+
 
 @dataclass(frozen=True)
 class Sampling:
-    """The part of a run that is measured: from the tick `start` on, and `margin` units away from the walls."""
+    """The part of a run that is measured: from the tick `start` on, and `margin` units away from the walls.
+
+    Sums are kept for each of some `blocks` of time."""
 
     scene: Scene
     start: int
@@ -22,8 +27,8 @@ class Sampling:
             raise Refused(f"the measure would begin at tick {self.start}, and the run ends at {self.scene.end}")
         if not 0 <= self.margin < min(self.scene.width, self.scene.height) / 2:
             raise Refused(f"a margin of {self.margin / self.scene.sigma:.4g} sigma leaves nothing of the box")
-        if self.blocks < 2:
-            raise Refused("errors need two blocks or more")
+        if not 2 <= self.blocks <= MOST_BLOCKS:
+            raise Refused(f"there may be 2 to {MOST_BLOCKS} blocks, not {self.blocks}")
 
     def block(self, tick: int | np.ndarray):
         """The block of the run to which a tick belongs, from 0 on; the end belongs to the last one."""
@@ -48,13 +53,14 @@ class Sampling:
         unit = "the diameter" if scene.has_one_size else "the mean diameter"
         return [
             f"sigma = {scene.sigma:.10g} units, {unit}; v = {scene.speed:.6g} units per tick; sigma/v = {scene.time:.6g} ticks",
-            f"{len(scene.disks)} disks; from {self.start / scene.time:.4g} to {scene.end / scene.time:.4g} sigma/v,"
-            f" in {self.blocks} blocks; {self.margin / scene.sigma:.4g} sigma along the walls are left out",
+            f"{len(scene.disks)} disks; from {self.start / scene.time:.4g} to {scene.end / scene.time:.4g} sigma/v;"
+            f" {self.margin / scene.sigma:.4g} sigma along the walls are left out",
         ]
 
 
-def sampling(scene: Scene, start: float | None = None, margin: float | None = None, blocks: int = 20) -> Sampling:
-    """The sampling with a start in σ / v (else a fifth of the run, or at once if it goes on) and a margin in σ (else 10, or a quarter of the box).
+def sampling(scene: Scene, start: float | None = None, margin: float | None = None, blocks: int = BLOCKS) -> Sampling:
+    """The sampling with a start in σ / v (else a fifth of the run, or at once if it goes on) and a margin in σ (else 10, or
+    a quarter of the box).
 
     At φ = 0.6 the layers that disks form along walls reach some 8 σ into the box."""
     most = min(scene.width, scene.height) / 4
@@ -73,22 +79,20 @@ def bin_edges(most: float, width: float) -> np.ndarray:
     return np.arange(0, most + width / 2, width)
 
 
-def block_error(values) -> np.ndarray:
-    """The standard error of the mean of independent values along the first axis; those that aren't numbers don't count."""
-    values = np.asarray(values, float)
-    known = np.isfinite(values)
-    count = known.sum(axis=0)
-    mean = np.where(known, values, 0).sum(axis=0) / np.maximum(count, 1)
-    squares = np.where(known, (values - mean) ** 2, 0).sum(axis=0)
-    with np.errstate(invalid="ignore", divide="ignore"):
-        return np.where(count > 1, np.sqrt(squares / (count - 1) / count), np.nan)
+@dataclass(frozen=True)
+class Stated:
+    """A note about a number that has an error; `after` is what else it says."""
 
+    name: str
+    value: float
+    error: float
+    after: str = ""
 
-def ratio(sums, weights) -> tuple[np.ndarray, np.ndarray]:
-    """The ratio of two sums over all blocks, and its error: both have a row for each block."""
-    sums, weights = np.asarray(sums, float), np.asarray(weights, float)
-    with np.errstate(invalid="ignore", divide="ignore"):
-        return sums.sum(axis=0) / weights.sum(axis=0), block_error(sums / weights)
+    def __contains__(self, words: str) -> bool:
+        return words in str(self)
+
+    def __str__(self) -> str:
+        return f"{self.name} = {as_text(self.value, 5)} +/- {as_text(self.error, 2)}{self.after}"
 
 
 @dataclass
@@ -97,17 +101,19 @@ class Table:
 
     columns: list[str]
     rows: list
-    notes: list[str] = field(default_factory=list)
+    notes: list[str | Stated] = field(default_factory=list)
 
     def write(self, out: TextIO) -> None:
         out.writelines(f"# {note}\n" for note in self.notes)
-        writer = csv.writer(out, lineterminator="\n")
-        writer.writerow(self.columns)
-        writer.writerows([as_text(value) for value in row] for row in self.rows)
+        csv.writer(out, lineterminator="\n").writerow(self.columns)
+        self.write_rows(out)
+
+    def write_rows(self, out: TextIO) -> None:
+        csv.writer(out, lineterminator="\n").writerows([as_text(value) for value in row] for row in self.rows)
 
 
-def as_text(value) -> str:
-    """A number with six digits; what isn't known is empty."""
+def as_text(value: float, digits: int = 6) -> str:
+    """A number with some digits, unless it is whole by its type."""
     if isinstance(value, (int, np.integer)):
         return str(value)
-    return f"{value:.6g}" if np.isfinite(value) else ""
+    return f"{value:.{digits}g}" if np.isfinite(value) else "unknown"

@@ -2,15 +2,18 @@
 import numpy as np
 from numpy.polynomial import Polynomial
 
+from .errors import Errors
 from .measuring import Measure
 from .runs import Frame
-from .sampling import Sampling, Table, bin_edges, block_error, ratio
+from .sampling import Sampling, Stated, Table, bin_edges
 from .scenes import Refused, Scene
 from .theory import REFERENCE, cautions, contact
 from .waves import Waves
 
 # Up to which distance, in diameters, g is fitted to find it at contact.
 FIT = 1.25
+# How the Z that follows from that is called.
+CONTACT_Z = "by that Z = 1 + 2 phi g"
 
 
 class PairDistribution(Measure):
@@ -52,16 +55,16 @@ class PairDistribution(Measure):
         density = self.inside / self.frames / sampling.area() * scene.sigma**2
         shells = np.pi * np.diff(edges.clip(0) ** 2)
         ideal = self.looked_at[:, None] * density * shells
-        g, errors = ratio(self.pairs, ideal)
-        names, columns = self.partial.columns(self.frames * sampling.area() / scene.sigma**2, shells)
+        g, errors = self.errors.ratio(self.pairs, ideal)
+        names, columns = self.partial.columns(self.errors, self.frames * sampling.area() / scene.sigma**2, shells)
         rows = list(zip(edges[:-1] + self.width / 2, g, errors, *columns))
         notes = [
             f"{self.frames} frames; g of the disks inside and {self.most:.4g} sigma from the walls;"
             f" density {density:.6g} per sigma^2"
         ]
         if scene.has_one_size and self.most > FIT:
-            notes += contact_notes(self.pairs, ideal, edges, density)
-        return Table(["r", "g", "g_error", *names], rows, [*notes, *self.partial.notes(), *sampling.notes()])
+            notes += contact_notes(self.errors, self.pairs, ideal, edges, density)
+        return Table(["r", "g", "g_error", *names], rows, [*notes, *self.partial.notes(), *self.notes()])
 
 
 class Partial:
@@ -85,14 +88,14 @@ class Partial:
         for place, (a, b) in enumerate(self.both):
             self.pairs[place, block] += np.histogram(distance[(low == a) & (high == b)], edges)[0]
 
-    def columns(self, area: float, shells: np.ndarray) -> tuple[list[str], list]:
+    def columns(self, errors: Errors, area: float, shells: np.ndarray) -> tuple[list[str], list]:
         """The columns and their names; `area` is that inside, over all frames."""
         names, columns, density = [], [], self.inside / area
         for pairs, (a, b) in zip(self.pairs, self.both):
             # A pair of two sizes is looked at from either.
             near = self.looked_at[:, a] * density[b] + (self.looked_at[:, b] * density[a] if a < b else 0)
             names += [f"g_{a}{b}", f"g_{a}{b}_error"]
-            columns += ratio(pairs, near[:, None] * shells)
+            columns += errors.ratio(pairs, near[:, None] * shells)
         return names, columns
 
     def notes(self) -> list[str]:
@@ -104,22 +107,23 @@ class Partial:
 def contact_value(pairs: np.ndarray, ideal: np.ndarray, edges: np.ndarray) -> float:
     """g at contact: ln g just outside contact as a polynomial of the second degree, taken at the distance 1."""
     middle = (edges[:-1] + edges[1:]) / 2
-    used = (middle > 1) & (middle < FIT) & (pairs > 0)
+    used = (middle > 1) & (middle < FIT) & (pairs > 0) & (ideal > 0)
     if used.sum() < 4:
         return np.nan
     fit = Polynomial.fit(middle[used], np.log(pairs[used] / ideal[used]), 2, w=np.sqrt(pairs[used]))
     return float(np.exp(fit(1.0)))
 
 
-def contact_notes(pairs: np.ndarray, ideal: np.ndarray, edges: np.ndarray, density: float) -> list[str]:
-    """g at contact and the Z that it gives, with its error and that of the reference, if it is known at this density."""
+def contact_notes(
+    errors: Errors, pairs: np.ndarray, ideal: np.ndarray, edges: np.ndarray, density: float
+) -> list[str | Stated]:
+    """g at contact and the Z that it gives, with errors, and the reference's g if it is known at this density."""
     phi = np.pi / 4 * density
-    g = contact_value(pairs.sum(axis=0), ideal.sum(axis=0), edges)
-    error = block_error([contact_value(*both, edges) for both in zip(pairs, ideal)])
-    wanted = contact(REFERENCE(phi), phi)
+    g, error = map(float, errors.of(lambda *sums: contact_value(*sums, edges), pairs, ideal))
+    wanted = contact(REFERENCE(phi), phi) if phi > 0 else np.nan
     return [
-        f"at contact g = {g:.5g} +/- {error:.2g}{f', reference {wanted:.5g}' if np.isfinite(wanted) else ''};"
-        f" Z = 1 + 2 phi g = {1 + 2 * phi * g:.5g} +/- {2 * phi * error:.2g} at phi = {phi:.5g}",
+        Stated("at contact g", g, error, f", reference {wanted:.5g}" if np.isfinite(wanted) else ""),
+        Stated(CONTACT_Z, 1 + 2 * phi * g, 2 * phi * error, f" at phi = {phi:.5g}"),
         *cautions(phi),
     ]
 
@@ -155,12 +159,12 @@ class StructureFactor(Measure):
         self.frames += 1
 
     def table(self) -> Table:
-        s, errors = ratio(self.sums, self.weights)
+        s, errors = self.errors.ratio(self.sums, self.weights)
         middle = self.edges + self.width / 2
         known = self.weights.sum(axis=0) > 0
         notes = [f"{self.frames} frames; S(k) by a window of Hann over {self.sides[0]:.4g} times {self.sides[1]:.4g} sigma"]
         rows = list(zip(middle[known], s[known], errors[known]))
-        return Table(["k", "S", "S_error"], rows, [*notes, *self.sampling.notes()])
+        return Table(["k", "S", "S_error"], rows, [*notes, *self.notes()])
 
 
 def bond_order(places: np.ndarray) -> tuple[np.ndarray, np.ndarray]:
@@ -200,14 +204,14 @@ class HexaticOrder(Measure):
         if not self.found:
             raise Refused("no disk is inside")
         sampling, names = self.sampling, ["local", "whole", "six_neighbours"]
-        notes = [f"{len(self.found)} frames; local: the mean of |psi6|; whole: the size of the mean of psi6", *sampling.notes()]
+        notes = [f"{len(self.found)} frames; local: the mean of |psi6|; whole: the size of the mean of psi6"]
         if self.has_series:
             times = [self.scene.reduced_time(tick) for tick in self.ticks]
-            return Table(["time", *names], [[time, *row] for time, row in zip(times, self.found)], notes)
+            return Table(["time", *names], [[time, *row] for time, row in zip(times, self.found)], [*notes, *sampling.notes()])
         sums, frames = np.zeros((sampling.blocks, 3)), np.zeros((sampling.blocks, 1))
         blocks = sampling.block(np.array(self.ticks))
         np.add.at(sums, blocks, self.found)
         np.add.at(frames, blocks, 1)
-        mean, errors = ratio(sums, frames)
+        mean, errors = self.errors.ratio(sums, frames)
         columns = [name for it in names for name in (it, f"{it}_error")]
-        return Table(columns, [np.column_stack([mean, errors]).ravel().tolist()], notes)
+        return Table(columns, [np.column_stack([mean, errors]).ravel().tolist()], [*notes, *self.notes()])

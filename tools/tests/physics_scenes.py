@@ -73,7 +73,7 @@ def value(table, name):
 
 def noted(table, word):
     """The number and the error of a note `word = number +/- error`."""
-    words = next(it for it in table.notes if f"{word} = " in it).split(f"{word} = ")[1].split()
+    words = next(it for it in map(str, table.notes) if f"{word} = " in it).split(f"{word} = ")[1].split()
     return float(words[0]), float(words[2].rstrip(",;"))
 
 

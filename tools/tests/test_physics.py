@@ -15,13 +15,14 @@ from physics_scenes import column, end_of, fluid, main, noted, np, read_text, sc
 
 from hard_disks import theory
 from hard_disks.dynamics import Displacement, Speeds, VelocityCorrelation
+from hard_disks.errors import spread_error
 from hard_disks.measuring import measured
 from hard_disks.pressure import Pressure, Rate
 from hard_disks.program import find_program
 from hard_disks.reports import read_report
 from hard_disks.rests import rest
 from hard_disks.runs import Run
-from hard_disks.sampling import block_error, sampling
+from hard_disks.sampling import sampling
 from hard_disks.scene_text import parse_scene
 from hard_disks.scenes import Refused
 from hard_disks.structure import PairDistribution, StructureFactor, bond_order
@@ -127,8 +128,10 @@ class ByHand(unittest.TestCase):
 
     def test_errors_of_blocks(self):
         # Of 1, 2 and 3 the standard deviation is 1.
-        self.assertAlmostEqual(float(block_error([1, 2, 3, math.nan])), 1 / math.sqrt(3))
-        self.assertTrue(np.isnan(block_error([1])))
+        self.assertAlmostEqual(float(spread_error([1, 2, 3])), 1 / math.sqrt(3))
+        # Of one value, and of values that don't differ, the error isn't known.
+        self.assertTrue(np.isnan(spread_error([1])))
+        self.assertTrue(np.isnan(spread_error([2, 2, 2])))
 
 
 class Theory(unittest.TestCase):

@@ -1,0 +1,142 @@
+"""The heat of the inside: the one thing in a box of fluid that changes slowly, and that all other things follow.
+
+Sound evens out pressure within some widths of the box over the speed of sound. What is left is a fluid that is here warmer
+and thinner, there cooler and denser, at one pressure; that goes by conduction alone, which takes L² / (4 π² D_T) for a
+wave that fits the box of the width L: 22 σ/v for 2,000 disks at φ = 0.5. (L. D. Landau and G. Placzek; see J. P. Hansen and
+I. R. McDonald, Theory of Simple Liquids, the chapter on hydrodynamics.) So a mean over a time that isn't much longer than
+that depends on how warm the inside happened to be, and no blocks of that time can say by how much. Hydrodynamics can: it
+says which share of the variance at one time is left in the mean.
+
+D_T is by Enskog's conductivity of hard disks (D. M. Gass, Journal of Chemical Physics 54, 1898, 1971; its numbers are given
+here from memory, and tests compare what follows with the spread over seeds)."""
+import math
+from dataclasses import dataclass
+from functools import cached_property
+
+import numpy as np
+
+from .sampling import Sampling
+from .theory import reference
+
+# How many waves along each side are looked at.
+WAVES = 24
+# The equation of state is that of a fluid. What is denser is taken to be like the densest.
+DENSEST = 0.69
+
+
+@dataclass(frozen=True)
+class Fluid:
+    """Hydrodynamics of hard disks at a packing fraction, in σ, v and their mass."""
+
+    phi: float
+
+    @property
+    def factor(self) -> float:
+        """Z."""
+        return reference(self.phi)
+
+    @property
+    def stiffness(self) -> float:
+        """The slope of P by the density at constant temperature."""
+        step = 1e-4 * self.phi
+        low, high = ((self.phi + it) * reference(self.phi + it) for it in (-step, step))
+        return (high - low) / (2 * step)
+
+    @property
+    def heat_capacity(self) -> float:
+        """Of a disk, at constant pressure; it is 1 at constant area."""
+        return 1 + self.factor**2 / self.stiffness
+
+    @property
+    def expansion(self) -> float:
+        """The slope of the packing fraction by the entropy of a disk, at constant pressure."""
+        return -self.phi * self.factor / (self.factor**2 + self.stiffness)
+
+    @property
+    def sound_speed(self) -> float:
+        return math.sqrt(self.stiffness + self.factor**2)
+
+    @property
+    def heat_diffusion(self) -> float:
+        """D_T in σ v, by Enskog's conductivity."""
+        excess = self.factor - 1
+        conductivity = 1.029 * 2 / math.sqrt(math.pi) * 2 * self.phi * (1 / excess + 3 / 2 + 0.8718 * excess)
+        return conductivity / (4 * self.phi / math.pi * self.heat_capacity)
+
+
+def waves(length: float, margin: float) -> tuple[np.ndarray, np.ndarray]:
+    """Of the cosine waves between two walls their wave numbers, and which share of the inside's fluctuations each makes.
+
+    Waves that are odd about the middle have no part in it, as the margin is the same on both sides."""
+    number = 2 * np.pi / length * np.arange(1, WAVES)
+    share = 2 * ((np.sin(number * (length - margin)) - np.sin(number * margin)) / (number * length)) ** 2
+    return np.append(0, number), np.append((1 - 2 * margin / length) ** 2, share)
+
+
+def share_left(sampling: Sampling, fluid: Fluid, time: float) -> float:
+    """Which share of the variance of the heat inside at one time is left in its mean over a time, in σ / v."""
+    scene = sampling.scene
+    (kx, share_x), (ky, share_y) = (waves(it / scene.sigma, sampling.margin / scene.sigma) for it in (scene.width, scene.height))
+    share = np.outer(share_x, share_y)
+    share[0, 0] = 0
+    if not share.sum():
+        return 0.0
+    squares = kx[:, None] ** 2 + ky**2
+    # Heat goes by no way faster than disks fly.
+    steps = np.minimum(fluid.heat_diffusion * squares, np.sqrt(squares)) * time
+    steps[0, 0] = 1
+    left = 2 * (steps - 1 + np.exp(-steps)) / steps**2
+    return float((share * left).sum() / share.sum())
+
+
+class Heat:
+    """How many disks are inside and how fast they are, at all ticks that are shown. Only then it says what it found."""
+
+    def __init__(self, sampling: Sampling):
+        self.sampling = sampling
+        self.rows: list[tuple[int, int, float]] = []
+
+    def add(self, tick: int, rows: np.ndarray) -> None:
+        inside = rows[self.sampling.inside(rows[:, :2])]
+        if len(inside):
+            self.rows.append((tick, len(inside), float((inside[:, 2:].astype(float) ** 2).sum())))
+
+    @cached_property
+    def is_known(self) -> bool:
+        """Whether it changes, so that something may follow it."""
+        return len(self.rows) > 2 and self.entropy.std() > 0
+
+    @cached_property
+    def fluid(self) -> Fluid:
+        """That of the mean packing fraction inside; of several sizes as if they were one."""
+        scene, sampling = self.sampling.scene, self.sampling
+        areas = [math.pi / 4 * row[4] ** 2 for row in scene.disks]
+        disks = sum(row[1] for row in self.rows) / len(self.rows)
+        return Fluid(min(disks * sum(areas) / len(areas) / sampling.area(), DENSEST))
+
+    @cached_property
+    def ticks(self) -> np.ndarray:
+        return np.array([row[0] for row in self.rows])
+
+    @cached_property
+    def entropy(self) -> np.ndarray:
+        """That of a disk inside at each tick, less its mean: δT / T - Z δρ / ρ, which sound leaves as it is."""
+        _, disks, squares = np.array(self.rows, float).T
+        temperature = squares / disks
+        if not temperature.any():
+            return np.zeros(len(disks))
+        found = temperature / temperature.mean() - self.fluid.factor * disks / disks.mean()
+        return found - found.mean()
+
+    def variance_of_mean(self, time: float) -> float:
+        """That of the mean of the entropy over the time of the measure, in σ / v."""
+        left = share_left(self.sampling, self.fluid, time)
+        # The mean takes the same share off the variance about it.
+        return float(self.entropy.var() * left / (1 - left))
+
+    @cached_property
+    def times(self) -> tuple[float, float]:
+        """How long sound takes to cross the box, and heat to leave a wave that fits it, in σ / v."""
+        scene, fluid = self.sampling.scene, self.fluid
+        length = max(scene.width, scene.height) / scene.sigma
+        return length / fluid.sound_speed, (length / (2 * math.pi)) ** 2 / fluid.heat_diffusion
