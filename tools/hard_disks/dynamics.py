@@ -85,7 +85,8 @@ def cautions(sampling: Sampling, times: np.ndarray, squares: np.ndarray) -> list
     notes = []
     if sampling.scene.has_one_size:
         wanted = enskog_diffusion(sampling.scene.phi)
-        notes.append(f"Enskog D = {wanted:.4g} sigma v at phi = {sampling.scene.phi:.4g}, that of the whole box")
+        known = f"{wanted:.4g} sigma v" if wanted == wanted else "unknown"
+        notes.append(f"Enskog D = {known} at phi = {sampling.scene.phi:.4g}, that of the whole box")
         if times[-1] < LEAST_TIMES * wanted:
             notes.append(f"CAUTION: D is too small, as the times are too short: take --most {LEAST_TIMES * wanted:.2g} or more")
     is_held = 2 * squares * sampling.scene.sigma**2 > sampling.margin**2

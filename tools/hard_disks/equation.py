@@ -9,6 +9,7 @@ from .pressure import Pressure
 from .runs import Run
 from .sampling import Stated, Table, sampling
 from .structure import CONTACT_Z, PairDistribution
+from .theory import cautions
 
 # How far g(r) is counted to find it at contact, in σ.
 NEAR = 1.5
@@ -55,4 +56,7 @@ class Series:
 def equation_of_state(fractions: list[float], series: Series, program: str) -> Iterator[Table]:
     """For each packing fraction a table of one row, as soon as it is known."""
     for phi in fractions:
-        yield series.row(phi, program)
+        table = series.row(phi, program)
+        # Notes are written above the first row, and stand for all.
+        table.notes += cautions(max(fractions))
+        yield table

@@ -17,7 +17,7 @@ from .measuring import Measure
 from .motion import Followed
 from .runs import Sample
 from .sampling import Sampling, Table
-from .theory import collision_rate, henderson, mixture, virial
+from .theory import EQUATIONS, cautions, collision_rate, mixture
 
 # At how many ticks the disks inside are counted, at least.
 SAMPLES = 1_000
@@ -124,7 +124,7 @@ def block_times(sampling: Sampling) -> list[float]:
 
 
 class Pressure(Colliding):
-    """Z by the virial and by the walls, beside what is published."""
+    """Z by the virial and by the walls, beside equations of state where they hold."""
 
     def table(self) -> Table:
         counts, sampling, scene = self.counts, self.sampling, self.scene
@@ -135,7 +135,7 @@ class Pressure(Colliding):
         row = [phi, errors[0], int(counts.collisions.sum()), factor, errors[1], at_phi[1], wall, errors[2]]
         names = ["phi", "phi_error", "collisions", "Z", "Z_error", "Z_error_given_phi", "Z_wall", "Z_wall_error"]
         if scene.has_one_size:
-            names, row = [*names, "Z_Henderson", "Z_virial"], [*row, henderson(phi), virial(phi)]
+            names, row = [*names, *(f"Z_{it.name}" for it in EQUATIONS)], [*row, *(it(phi) for it in EQUATIONS)]
         else:
             names, row = [*names, "Z_mixture"], [*row, mixture(phi, [disk[4] for disk in scene.disks])]
         notes = [
@@ -146,7 +146,7 @@ class Pressure(Colliding):
         notes.append(
             f"collisions come early, as if disks were larger by {early:.2g} of their diameter, so Z is of disks that large"
         )
-        return Table(names, [row], [*notes, *self.notes()])
+        return Table(names, [row], [*notes, *cautions(phi), *self.notes()])
 
 
 class Rate(Colliding):
@@ -164,4 +164,4 @@ class Rate(Colliding):
         if self.scene.has_one_size:
             names, row = [*names, "rate_Enskog"], [*row, collision_rate(phi) if phi > 0 else math.nan]
         notes = ["collisions of a disk in the time sigma/v; free_path is the mean speed divided by that, in sigma"]
-        return Table(names, [row], [*notes, *self.notes()])
+        return Table(names, [row], [*notes, *cautions(phi), *self.notes()])

@@ -15,8 +15,9 @@ from .structure import bond_order, contact_value
 
 # The gap between disks and walls is fitted up to this, in σ, in bins of this width.
 GAP, GAP_WIDTH = 0.25, 0.02
-# The deepest share of the strips is taken for what the bulk is; a strip differs from it by more than this share and two errors.
-DEEPEST, NEAR = 1 / 3, 0.01
+# The deepest share of the strips is taken for what the bulk is. Another place differs from it if the mean of the strips over
+# so many σ around it does, by more than this share and three errors.
+DEEPEST, TOGETHER, NEAR = 1 / 3, 4.0, 0.01
 
 
 @dataclass(frozen=True)
@@ -107,13 +108,16 @@ def level_notes(depths: np.ndarray, *columns: tuple[np.ndarray, np.ndarray]) -> 
     level = max(level_from(depths, deepest, *column) for column in columns)
     if level >= depths[deepest][0]:
         return ["CAUTION: phi or psi6 hasn't levelled yet a third before the middle: it takes a larger box, or a longer run"]
-    return [f"phi and psi6 are level, to a percent or two errors, from {level:.4g} sigma on: a margin that is enough"]
+    return [f"phi and psi6 are level, to a percent or three errors, from {level:.4g} sigma on: that is margin enough"]
 
 
 def level_from(depths: np.ndarray, deepest: np.ndarray, values: np.ndarray, errors: np.ndarray) -> float:
-    """The distance after the last strip whose value isn't that of the deepest ones."""
-    weights = 1 / np.maximum(np.nan_to_num(errors[deepest], nan=1.0), 1e-9) ** 2
-    bulk = (values[deepest] * weights).sum() / weights.sum()
-    far = np.abs(values - bulk) > np.maximum(NEAR * abs(bulk), 2 * np.nan_to_num(errors))
+    """The distance after the last strip that isn't as the deepest ones, by the mean around it."""
+    errors = np.maximum(np.nan_to_num(errors, nan=1.0), 1e-9)
+    weights = 1 / errors**2
+    bulk = (values * weights)[deepest].sum() / weights[deepest].sum()
+    near = np.abs(depths[:, None] - depths) < TOGETHER / 2
+    means, sure = near @ (values * weights) / (near @ weights), 1 / np.sqrt(near @ weights)
+    far = np.abs(means - bulk) > np.maximum(NEAR * abs(bulk), 3 * sure)
     last = np.flatnonzero(far & ~deepest)
     return float(depths[last[-1] + 1]) if len(last) else 0.0

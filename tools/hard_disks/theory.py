@@ -73,7 +73,7 @@ def cautions(phi: float) -> list[str]:
     if not phi > min(it.most for it in EQUATIONS):
         return []
     bounds = ", ".join(f"{it.name} up to {it.most:g}" for it in EQUATIONS)
-    return [f"CAUTION: phi is {phi:.4g}, near freezing, where equations of state fail: {bounds}; beyond that their values are left out"]
+    return [f"CAUTION: near freezing equations of state fail, and are unknown from where they do: {bounds} of phi"]
 
 
 def mixture(phi: float, sizes) -> float:

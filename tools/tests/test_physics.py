@@ -139,7 +139,7 @@ class Theory(unittest.TestCase):
         # Each two collide at a distance D; with π D² / 2 each, Z is 1 + φ (1 + ⟨σ⟩² / ⟨σ²⟩) to the first order.
         sizes = [1.0] * 7 + [1.4] * 3
         self.assertAlmostEqual((theory.mixture(1e-5, sizes) - 1) / 1e-5, 1 + 1.12**2 / 1.288, delta=1e-3)
-        self.assertEqual(theory.mixture(0.4, [2.0, 2.0]), theory.virial(0.4))
+        self.assertAlmostEqual(theory.mixture(0.4, [2.0, 2.0]), theory.virial(0.4), delta=1e-6)
 
     def test_diffusion_of_a_thin_gas(self):
         # √(T / π m) / (2 ρ σ), where g at contact is 1 + 25 π ρ σ² / 64 to the first order.
