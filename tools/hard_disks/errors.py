@@ -62,7 +62,8 @@ class Errors:
         if parts is None:
             return whole, np.full(whole.shape, np.nan)
         rest, heat = self.without_heat(parts.reshape(len(parts), -1), lag)
-        error = np.sqrt(self.blocked(rest, lag) ** 2 + heat)
+        error = self.blocked(rest, lag)
+        error = np.where(heat > 0, np.sqrt(np.nan_to_num(error) ** 2 + heat), error)
         return whole, error.reshape(whole.shape)
 
     def ratio(self, sums: np.ndarray, weights: np.ndarray, lag: float = 0.0) -> tuple[np.ndarray, np.ndarray]:

@@ -79,7 +79,7 @@ def share_left(sampling: Sampling, fluid: Fluid, time: float) -> float:
     (kx, share_x), (ky, share_y) = (waves(it / scene.sigma, sampling.margin / scene.sigma) for it in (scene.width, scene.height))
     share = np.outer(share_x, share_y)
     share[0, 0] = 0
-    if not share.sum():
+    if share.sum() < 1e-12:
         return 0.0
     squares = kx[:, None] ** 2 + ky**2
     # Heat goes by no way faster than disks fly.

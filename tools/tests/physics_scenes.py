@@ -43,6 +43,12 @@ def end_of(scene, events=()):
     return "\n".join([*events, *sums, *disks]) + "\n"
 
 
+def disks_at(scene, tick):
+    """The lines of the disks in a report at a tick, if nothing happens before."""
+    rows = enumerate(scene.disks)
+    return "".join(f"disk {i} {x + vx * tick} {y + vy * tick} {vx} {vy}\n" for i, (x, y, vx, vy, _) in rows)
+
+
 def run_of(name):
     return Run(read_scene(SCENES / f"{name}.toml"), SCENES / f"{name}.report")
 

@@ -9,14 +9,16 @@ import io
 import math
 import subprocess
 import unittest
+import warnings
 from dataclasses import replace
 
-from physics_scenes import column, end_of, fluid, main, noted, np, read_text, scene_of, value
+from physics_scenes import column, disks_at, end_of, fluid, main, noted, np, read_text, scene_of, value
 
 from hard_disks import theory
 from hard_disks.dynamics import Displacement, Speeds, VelocityCorrelation
-from hard_disks.errors import spread_error
-from hard_disks.measuring import measured
+from hard_disks.errors import Errors, spread_error
+from hard_disks.heat import Fluid, share_left, waves
+from hard_disks.measuring import measured, watch
 from hard_disks.pressure import Pressure, Rate
 from hard_disks.program import find_program
 from hard_disks.reports import read_report
@@ -25,7 +27,7 @@ from hard_disks.runs import Run
 from hard_disks.sampling import sampling
 from hard_disks.scene_text import parse_scene
 from hard_disks.scenes import Refused
-from hard_disks.structure import PairDistribution, StructureFactor, bond_order
+from hard_disks.structure import HexaticOrder, PairDistribution, StructureFactor, bond_order
 
 
 class ByHand(unittest.TestCase):
@@ -126,12 +128,108 @@ class ByHand(unittest.TestCase):
                     table = measured(read_text(states + last, scene), measure(sampling(scene, 0, margin, 2), 10 / scene.time))
                     self.assertEqual(any("meet walls" in it for it in table.notes), is_near)
 
-    def test_errors_of_blocks(self):
+    def test_what_nothing_says_is_unknown(self):
+        # Two disks that never meet, one disk, and none inside.
+        for disks, margin in [([(300, 300, 1, 0), (600, 600, 0, 1)], 1), ([(500, 500, 1, 0)], 1), ([(60, 60, 1, 0)], 4)]:
+            scene = scene_of(disks, every=10)
+            states = "".join(f"state {t}\n" + disks_at(scene, t) for t in range(10, 100, 10))
+            report = states + end_of(scene).replace(disks_at(scene, 0), disks_at(scene, 100))
+            for measure in (Pressure, Rate, Speeds):
+                with self.subTest((disks, measure)), warnings.catch_warnings():
+                    warnings.simplefilter("error")
+                    table = measured(read_text(report, scene), measure(sampling(scene, 0, margin)))
+                    out = io.StringIO()
+                    table.write(out)
+                    self.assertIn("unknown", out.getvalue())
+                    self.assertNotIn("nan", out.getvalue())
+                    for place, name in enumerate(table.columns):
+                        if name in ("Z_error", "Z_wall_error", "rate_error"):
+                            self.assertTrue(np.isnan(table.rows[0][place]), name)
+
+
+class MadeUp(unittest.TestCase):
+    """Errors of sums that are drawn: 480 blocks of time, of 1 σ / v each."""
+
+    def errors(self, heat=None):
+        scene = scene_of([(400, 500, 1, 0), (600, 500, -1, 0)], end=480 * 141)
+        found = Errors(sampling(scene, 0, 1, 480))
+        ticks = [int((block + 0.5) * 141) for block in range(480)]
+        found.heat.rows = [(tick, 100, 100.0 + (0 if heat is None else it)) for tick, it in zip(ticks, np.resize(heat, 480))]
+        return found
+
+    def stated(self, series, lag=0.0):
+        """The root mean square of stated errors, and the spread of the means."""
+        found = [self.errors().ratio(it, np.ones(len(it)), lag) for it in series]
+        return math.sqrt(np.mean([float(error) ** 2 for _, error in found])), np.std([float(it) for it, _ in found])
+
+    def test_the_error_of_some_values(self):
         # Of 1, 2 and 3 the standard deviation is 1.
         self.assertAlmostEqual(float(spread_error([1, 2, 3])), 1 / math.sqrt(3))
-        # Of one value, and of values that don't differ, the error isn't known.
+        # Of one value, and of values that don't differ, it isn't known.
         self.assertTrue(np.isnan(spread_error([1])))
         self.assertTrue(np.isnan(spread_error([2, 2, 2])))
+
+    def test_independent_values(self):
+        stated, spread = self.stated(np.random.default_rng(1).normal(size=(200, 480)))
+        self.assertAlmostEqual(stated * math.sqrt(480), 1, delta=0.1)
+        self.assertAlmostEqual(stated / spread, 1, delta=0.15)
+
+    def test_values_that_remember(self):
+        # Each has nine tenths of the one before, so they remember ten.
+        series = np.random.default_rng(2).normal(size=(200, 480))
+        for block in range(1, 480):
+            series[:, block] += 0.9 * series[:, block - 1]
+        stated, spread = self.stated(series)
+        self.assertAlmostEqual(stated / spread, 0.95, delta=0.2)
+
+    def test_values_that_overlap(self):
+        # Means over the next 30, as displacements in 30 σ / v are.
+        drawn = np.cumsum(np.random.default_rng(3).normal(size=(200, 510)), axis=1)
+        stated, spread = self.stated(drawn[:, 30:] - drawn[:, :-30], 30.0)
+        self.assertAlmostEqual(stated / spread, 0.9, delta=0.25)
+        for lag in (0.0, 30.0, 100.0):
+            self.assertLessEqual(self.errors().independent(lag) * lag, 480 - lag)
+
+    def test_what_follows_the_heat_has_its_error(self):
+        heat = np.sin(np.arange(480) / 40)
+        errors = self.errors(heat)
+        _, alone = errors.ratio(np.random.default_rng(4).normal(size=480) / 100, np.ones(480))
+        _, following = errors.ratio(heat, np.ones(480))
+        slope = 1 / (errors.heat.entropy.std() / heat.std())
+        wanted = slope * math.sqrt(errors.heat.variance_of_mean(errors.time))
+        self.assertAlmostEqual(float(following) / wanted, 1, delta=0.05)
+        self.assertLess(float(alone), 0.001)
+
+    def test_blocks_that_never_are_long_enough_are_cautioned(self):
+        for values, is_growing in [(np.arange(480.0), True), (np.random.default_rng(5).normal(size=480), False)]:
+            errors = self.errors()
+            errors.ratio(values, np.ones(480))
+            self.assertEqual(any("the least that they can be" in it for it in errors.notes()), is_growing)
+
+
+class HeatInside(unittest.TestCase):
+    def test_a_thin_gas(self):
+        # Its heat capacities are 1 and 2, and sound goes with √2 v.
+        gas = Fluid(1e-5)
+        self.assertAlmostEqual(gas.heat_capacity, 2, delta=1e-3)
+        self.assertAlmostEqual(gas.sound_speed, math.sqrt(2), delta=1e-3)
+        # The conductivity has no density in it: 2 / √π, times 1.029.
+        self.assertAlmostEqual(gas.heat_diffusion * 4e-5 / math.pi * 2, 1.029 * 2 / math.sqrt(math.pi), delta=1e-3)
+
+    def test_waves_make_up_the_inside(self):
+        # The squares of all parts of a function that is 1 inside add up to its width.
+        _, shares = waves(56.0, 10.0)
+        self.assertAlmostEqual(shares.sum(), 36 / 56, delta=0.01)
+
+    def test_what_is_left_in_a_mean(self):
+        scene = scene_of([(400, 500, 1, 0), (600, 500, -1, 0)], width=5_600, height=5_600)
+        part, fluid = sampling(scene, 0, 10), Fluid(0.5)
+        self.assertAlmostEqual(share_left(part, fluid, 1e-3), 1, delta=0.01)
+        # A long mean has 2 / (time · rate) of the slowest wave, and of others less.
+        slowest = 2 / (1e4 * fluid.heat_diffusion * (2 * math.pi / 56) ** 2)
+        self.assertTrue(0.6 * slowest < share_left(part, fluid, 1e4) < slowest)
+        # The whole box keeps its heat.
+        self.assertEqual(share_left(sampling(scene, 0, 0), fluid, 1.0), 0)
 
 
 class Theory(unittest.TestCase):
@@ -172,6 +270,20 @@ class Fluids(unittest.TestCase):
         self.agree(virial, (value(table, "Z_wall"), value(table, "Z_wall_error")))
         self.agree(virial, (value(table, "Z_virial"), 0), 0.01)
         self.agree(virial, noted(self.measured(PairDistribution), "phi g"))
+
+    def test_errors_are_the_spread_over_seeds(self):
+        # Three numbers by 16 runs, so to some 20 %: error_ratios.py looks at all, with more disks and seeds.
+        runs = []
+        for seed in range(1, 17):
+            scene, report = fluid(300, 0.4, 20.0, 0.5, seed=seed)
+            measures = [kind(sampling(scene)) for kind in (Pressure, HexaticOrder)]
+            watch(read_text(report, scene), measures)
+            first, second = [it.table() for it in measures]
+            runs.append([(value(table, it), value(table, f"{it}_error"))
+                         for table, it in ((first, "phi"), (first, "Z"), (second, "local"))])
+        values, errors = np.array(runs).T
+        for ratio in np.sqrt((errors**2).mean(axis=1)) / values.std(axis=1, ddof=1):
+            self.assertTrue(0.6 < ratio < 1.6, ratio)
 
     def test_collisions_are_as_often_as_the_pressure_says(self):
         # Z = 1 + √π / 4 times the collisions of a disk in σ / v.
