@@ -95,7 +95,7 @@ class Errors:
         """How many blocks there are that don't know of each other; two at least."""
         used, sound = self.time - lag, self.heat.times[0]
         most = min(MOST, self.sampling.blocks, used / lag if lag else MOST)
-        return int(np.clip(used / max(lag, sound), min(3, max(most, 2)), max(most, 2)))
+        return int(np.clip(used / max(lag, sound), min(4, max(most, 2)), max(most, 2)))
 
     def parts(self, value: Callable, sums: tuple[np.ndarray, ...], lag: float) -> np.ndarray | None:
         """Values of blocks by leaving out each in turn: a whole number of them for each that is independent. None if there
