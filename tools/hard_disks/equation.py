@@ -46,7 +46,8 @@ class Series:
         for note in (it for table in others for it in table.notes):
             if isinstance(note, Stated) and note.name == CONTACT_Z:
                 columns, row = [*columns, "Z_contact", "Z_contact_error"], [*row, note.value, note.error]
-        return Table(columns, [row], self.notes() + [it for it in pressure.notes if str(it).startswith("Z")])
+        notes = [it for it in pressure.notes if str(it).startswith(("Z", "P"))]
+        return Table(columns, [row], self.notes() + notes + (runs[0][0].errors.notes() if self.seeds == 1 else []))
 
     def notes(self) -> list[str]:
         by = f"by the spread over {self.seeds} runs" if self.seeds > 1 else "by one run"

@@ -79,6 +79,13 @@ class Colliding(Measure):
     def values_of(self, *sums: np.ndarray) -> np.ndarray:
         return values(Counts(*sums), self.sampling)
 
+    def pressure_of(self, *sums: np.ndarray) -> np.ndarray:
+        """P σ² / v²: not by the temperature inside, so it doesn't follow the heat, but is the same all over the box."""
+        counts, scene = Counts(*sums), self.scene
+        with np.errstate(invalid="ignore", divide="ignore"):
+            moving = counts.squared / 2 / counts.samples + counts.virial / 2 / counts.time
+        return moving / self.sampling.area() * (scene.sigma / scene.speed) ** 2
+
     def add_pairs(self, found: Followed) -> None:
         """The virial of collisions of two disks."""
         counts, sampling = self.counts, self.sampling
@@ -132,8 +139,9 @@ class Pressure(Colliding):
             columns = values(counts, sampling)[:3]
             return Table(["time", "phi", "Z", "Z_wall"], list(zip(block_times(sampling), *columns)), sampling.notes())
         (phi, factor, wall, _), errors, at_phi = self.estimate()
-        row = [phi, errors[0], int(counts.collisions.sum()), factor, errors[1], at_phi[1], wall, errors[2]]
-        names = ["phi", "phi_error", "collisions", "Z", "Z_error", "Z_error_given_phi", "Z_wall", "Z_wall_error"]
+        uniform = self.errors.of(self.pressure_of, *vars(counts).values())
+        row = [phi, errors[0], int(counts.collisions.sum()), factor, errors[1], at_phi[1], wall, errors[2], *map(float, uniform)]
+        names = ["phi", "phi_error", "collisions", "Z", "Z_error", "Z_error_given_phi", "Z_wall", "Z_wall_error", "P", "P_error"]
         if scene.has_one_size:
             names, row = [*names, *(f"Z_{it.name}" for it in EQUATIONS)], [*row, *(it(phi) for it in EQUATIONS)]
         else:
@@ -141,6 +149,7 @@ class Pressure(Colliding):
         notes = [
             "Z = P A / (N T): by the virial of collisions inside, and by the walls away from corners; phi is that inside",
             "Z_error is that of the mean Z; beside an equation of state at the phi of this row Z_error_given_phi counts",
+            "P is in v^2 / sigma^2, with disks of mass 1: by the virial inside, and the same all over the box",
         ]
         early = counts.virial.sum() / counts.touching.sum() - 1 if counts.collisions.any() else 0
         notes.append(
