@@ -278,7 +278,8 @@ def add_measure(commands):
     words.add_argument("--from", dest="start", type=not_negative, help="when the measure begins (a fifth of the run; with a rest at once)")
     words.add_argument("--until", type=positive, help="when it ends, as if the run did: the report may break off after that")
     words.add_argument(
-        "--margin", type=not_negative, help="how much along the walls is left out, in sigma (10, or a quarter of the box)"
+        "--margin", type=not_negative,
+        help="how much along the walls is left out, in sigma (10, near freezing up to 20, or a quarter of the box)",
     )
     words.add_argument("--blocks", type=whole(2, 10_000), default=20, help="rows of a series over collisions (%(default)s)")
     words.add_argument("--series", action="store_true",
@@ -464,7 +465,7 @@ def run_check(asked):
 
 
 def add_equation(commands):
-    words = add_command(commands, "equation", run_equation, "runs fluids and writes the pressure of each beside published values")
+    words = add_command(commands, "equation", run_equation, "runs fluids and writes the pressure of each beside equations of state")
     words.add_argument(
         "--phi", type=fractions, default=[0.2, 0.35, 0.5, 0.6], metavar="PHI,..", help="packing fractions (0.2,0.35,0.5,0.6)"
     )
@@ -472,7 +473,8 @@ def add_equation(commands):
     words.add_argument("--time", type=positive, default=100.0, help=f"of each run; {TIMES} (%(default)s)")
     words.add_argument("--every", type=positive, help="has states written, and Z found by g at contact too: the time between two")
     words.add_argument(
-        "--margin", type=not_negative, help="how much along the walls is left out, in sigma (10, or a quarter of the box)"
+        "--margin", type=not_negative,
+        help="how much along the walls is left out, in sigma (10, near freezing up to 20, or a quarter of the box)",
     )
     words.add_argument("--seed", type=whole(0, MOST_TICK), default=1, help="(%(default)s)")
     words.add_argument("--seeds", type=whole(1, 10_000), default=1,

@@ -9,6 +9,15 @@ from .scenes import Refused, Scene
 
 # Of how many blocks of time sums are kept, from which errors make longer ones; and how many there may be.
 BLOCKS, MOST_BLOCKS = 240, 10_000
+# The margin that is left out where none is asked for, in σ; a denser fluid keeps the walls' order to the depths below, by
+# its packing fraction: so `measure profile` has it, where |ψ6| comes to a percent of what it is in the middle.
+MARGIN = 10.0
+DENSE, DEPTHS = (0.65, 0.69, 0.70), (10.0, 15.0, 20.0)
+
+
+def wall_depth(scene: Scene) -> float:
+    """How far from the walls their order reaches, in σ; 0 where the least of margins is enough, as in a mixture."""
+    return float(np.interp(scene.phi, DENSE, DEPTHS, left=0.0)) if scene.has_one_size else 0.0
 
 
 @dataclass(frozen=True)
@@ -55,19 +64,27 @@ class Sampling:
             f"sigma = {scene.sigma:.10g} units, {unit}; v = {scene.speed:.6g} units per tick; sigma/v = {scene.time:.6g} ticks",
             f"{len(scene.disks)} disks; from {self.start / scene.time:.4g} to {scene.end / scene.time:.4g} sigma/v;"
             f" {self.margin / scene.sigma:.4g} sigma along the walls are left out",
+            *self.cautions(),
         ]
+
+    def cautions(self) -> list[str]:
+        """That the margin is too small near freezing, if it is."""
+        depth = wall_depth(self.scene)
+        if self.margin >= 0.999 * depth * self.scene.sigma:
+            return []
+        return [f"CAUTION: at this phi the walls' order reaches some {depth:.3g} sigma: measure profile shows it; take a greater box"]
 
 
 def sampling(scene: Scene, start: float | None = None, margin: float | None = None, blocks: int = BLOCKS) -> Sampling:
-    """The sampling with a start in σ / v (else a fifth of the run, or at once if it goes on) and a margin in σ (else 10, or
-    a quarter of the box).
+    """The sampling with a start in σ / v (else a fifth of the run, or at once if it goes on) and a margin in σ (else 10,
+    near freezing up to 20, or a quarter of the box).
 
     At φ = 0.6 the layers that disks form along walls reach some 8 σ into the box."""
     most = min(scene.width, scene.height) / 4
     return Sampling(
         scene,
         (0 if scene.goes_on else scene.end // 5) if start is None else scene.ticks(start),
-        min(10 * scene.sigma, most) if margin is None else margin * scene.sigma,
+        min(max(MARGIN, wall_depth(scene)) * scene.sigma, most) if margin is None else margin * scene.sigma,
         blocks,
     )
 

@@ -124,7 +124,7 @@ class Profiles(unittest.TestCase):
         depths, errors = np.arange(30.0), np.full(30, 1e-3)
         for reach, said in [(0.0, "from 0 sigma"), (2.0, "from 8 sigma"), (8.0, "CAUTION")]:
             values = 0.7 + 0.3 * np.exp(-depths / reach) if reach else np.full(30, 0.7)
-            self.assertIn(said, level_notes(depths, (values, errors))[0])
+            self.assertIn(said, level_notes(depths, (values, errors))[0], reach)
 
     def test_the_density_at_walls_is_the_pressure_on_them(self):
         scene, report = fluid(900, 0.45, 24.0, 0.5)
@@ -133,6 +133,18 @@ class Profiles(unittest.TestCase):
         table = measured(read_text(report, scene), Pressure(part))
         by_collisions = value(table, "Z_wall") * value(table, "phi") * 4 / math.pi
         self.assertLess(abs(density / by_collisions - 1), 4 * error / density + 0.01)
+
+
+class Margins(unittest.TestCase):
+    def test_the_margin_grows_near_freezing_and_a_caution_says_if_it_is_too_small(self):
+        for count, phi, sizes, margin, is_cautioned in [
+            (2_000, 0.6, ((1.0, 1.0),), 10, False), (10_000, 0.7, ((1.0, 1.0),), 20, False), (2_000, 0.7, ((1.0, 1.0),), 11.8, True),
+            (900, 0.8, MIXTURE, 7.5, False),
+        ]:
+            scene = make(count, phi, sizes, lattice="soft" if len(sizes) > 1 else "hex")
+            found = sampling(scene)
+            self.assertAlmostEqual(found.margin / scene.sigma, margin, delta=0.3)
+            self.assertEqual(any("walls' order" in note for note in found.notes()), is_cautioned, (count, phi))
 
 
 class Soft(unittest.TestCase):
