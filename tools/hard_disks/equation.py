@@ -1,18 +1,31 @@
 """The equation of state: makes scenes for each packing fraction, has the program run them, and measures their pressure."""
 import subprocess
+from contextlib import contextmanager
 from dataclasses import dataclass
-from typing import Iterator
+from tempfile import TemporaryFile
+from typing import Iterator, TextIO
 
 from .making import make
 from .measuring import Measure, together, watch
 from .pressure import Pressure
 from .runs import Run
 from .sampling import Stated, Table, sampling
+from .scenes import Scene
 from .structure import CONTACT_Z, PairDistribution
 from .theory import cautions
 
 # How far g(r) is counted to find it at contact, in σ.
 NEAR = 1.5
+
+
+@contextmanager
+def report_of(scene: Scene, program: str) -> Iterator[TextIO]:
+    """The report of a scene, as the program writes it."""
+    with TemporaryFile("w+") as file:
+        file.write(scene.text())
+        file.seek(0)
+        with subprocess.Popen([program], stdin=file, stdout=subprocess.PIPE, text=True) as running:
+            yield running.stdout
 
 
 @dataclass(frozen=True)
@@ -32,10 +45,8 @@ class Series:
         scene = make(self.disks, phi, seed=seed, time=self.time, every=self.every)
         part = sampling(scene, margin=self.margin)
         found = [Pressure(part)] if self.every is None else [Pressure(part), PairDistribution(part, NEAR)]
-        with subprocess.Popen([program], stdin=subprocess.PIPE, stdout=subprocess.PIPE, text=True) as running:
-            running.stdin.write(scene.text())
-            running.stdin.close()
-            watch(Run(scene, running.stdout, shows_progress=True), found)
+        with report_of(scene, program) as report:
+            watch(Run(scene, report, shows_progress=True), found)
         return found
 
     def row(self, phi: float, program: str) -> Table:

@@ -97,8 +97,9 @@ class Heat:
         self.rows: list[tuple[int, int, float]] = []
 
     def add(self, tick: int, rows: np.ndarray) -> None:
+        """All disks at a tick, as rows of x, y, vx and vy; those before the sampling begins don't count."""
         inside = rows[self.sampling.inside(rows[:, :2])]
-        if len(inside):
+        if len(inside) and tick >= self.sampling.start:
             self.rows.append((tick, len(inside), float((inside[:, 2:].astype(float) ** 2).sum())))
 
     @cached_property

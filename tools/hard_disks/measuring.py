@@ -7,6 +7,7 @@ from typing import Iterable
 import numpy as np
 
 from .errors import Errors, spread_error
+from .heat import Heat
 from .motion import Followed
 from .runs import Frame, Run, Sample
 from .sampling import Sampling, Stated, Table
@@ -48,24 +49,34 @@ def watch(run: Run, measures: list[Measure]) -> None:
     """Shows measures what the report of a run says, in one pass."""
     colliding = [it for it in measures if it.needs_collisions]
     samples = sorted({tick for it in measures for tick in it.sample_ticks()})
+    by_samples, by_states = (shared_heat([it for it in measures if it.needs_collisions is kind]) for kind in (True, False))
     has_states = False
     for item in run.followed(samples) if colliding else run.frames():
         if isinstance(item, Followed):
             for it in colliding:
                 it.add_collisions(item)
         elif isinstance(item, Sample):
+            for heat in by_samples:
+                heat.add(item.tick, item.rows)
             for it in colliding:
-                it.errors.heat.add(item.tick, item.rows)
                 it.add_sample(item)
         else:
+            for heat in by_states:
+                heat.add(item.tick, item.rows)
             for it in measures:
                 if item.tick >= it.sampling.start:
                     has_states = True
                     it.add_state(item)
-                    if not it.needs_collisions:
-                        it.errors.heat.add(item.tick, item.rows)
     if not has_states and len(colliding) < len(measures):
         raise Refused("the report has no state: it is a summary, or ends before the measure begins")
+
+
+def shared_heat(measures: list[Measure]) -> list[Heat]:
+    """Has measures of one sampling keep the heat of the inside together; all of these records."""
+    found: dict[int, Heat] = {}
+    for it in measures:
+        it.errors.heat = found.setdefault(id(it.sampling), it.errors.heat)
+    return list(found.values())
 
 
 def measured(run: Run, measure: Measure) -> Table:

@@ -8,11 +8,11 @@ It is run by hand, as it takes a minute or so for each seed and 100 σ/v; docs/P
 good error is 1 in the mean; by 20 seeds it comes out between 0.7 and 1.4 nine times of ten. The stated error is the root
 mean square of those of all runs."""
 import argparse
-import subprocess
 
 from physics_scenes import np
 
 from hard_disks.commands import MEASURES
+from hard_disks.equation import report_of
 from hard_disks.making import make
 from hard_disks.measuring import Measure, watch
 from hard_disks.program import find_program
@@ -31,10 +31,8 @@ def measured(scene, start: float | None, program: str) -> dict[str, Measure]:
     """All measures with errors of a run, by their names."""
     part = sampling(scene, start)
     found = {name: MEASURES[name].load()(part) for name in ("pressure", "rate", "psi6", *ROWS)}
-    with subprocess.Popen([program], stdin=subprocess.PIPE, stdout=subprocess.PIPE, text=True) as running:
-        running.stdin.write(scene.text())
-        running.stdin.close()
-        watch(Run(scene, running.stdout), list(found.values()))
+    with report_of(scene, program) as report:
+        watch(Run(scene, report), list(found.values()))
     return found
 
 

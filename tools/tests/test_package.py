@@ -539,6 +539,11 @@ class Commands(unittest.TestCase):
             (["draw", scene, "-o", "x.mp4"], "states", "doesn't end in"),
             (["draw", scene, "-o", "x.svg", "--tick", "9999"], "states", "no frame from tick"),
             (["equation", "--program", "/gone"], "states", "no program"),
+            (["equation", "--seeds", "0"], "states", "from 1 to"),
+            (["equation", "--every", "nan"], "states", "above 0"),
+            (["equation", "--program", "/bin/true", "--margin", "99"], "states", "leaves nothing"),
+            (["equation", "--program", "/bin/true", "--every", "1e308"], "states", "ticks"),
+            (["equation", "--program", "/bin/true", "--disks", "50"], "states", "breaks off"),
         ]:
             with self.subTest(words):
                 status, out, error = self.command(*words, report=report)
