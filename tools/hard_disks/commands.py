@@ -90,7 +90,10 @@ def sizes(text):
     """1:0.7,1.4:0.3 as pairs of a relative diameter and a share."""
     try:
         pairs = [part.split(":", 1) if ":" in part else (part, 1) for part in text.split(",")]
-        return [(positive(size), positive(share)) for size, share in pairs]
+        found = [(positive(size), positive(share)) for size, share in pairs]
+        if not all(1e-6 <= it <= 1e6 for pair in found for it in pair):
+            raise argparse.ArgumentTypeError(f"{text} has a size or a share that isn't from 1e-6 to 1e6")
+        return found
     except ValueError:
         raise argparse.ArgumentTypeError(f"{text} isn't of the form 1:0.7,1.4:0.3") from None
 

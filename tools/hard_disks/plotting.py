@@ -19,7 +19,7 @@ AXES = {
 # The labels of panels; one that isn't here has its column's name.
 LABELS = {
     "g": "g(r)", "g6": "g6(r)", "S": "S(k)", "C": "C(t)", "D": "D(t) / σ v", "msd": "mean squared displacement / σ²",
-    "Z": "Z = P A / (N T)", "P": "P σ² / T", "phi": "φ", "T": "T / v²", "psi6": "|ψ6|", "order": "bond order",
+    "Z": "Z = P A / (N T)", "P": "P σ² / v²", "phi": "φ", "T": "T / v²", "psi6": "|ψ6|", "order": "bond order",
     "density": "density of speeds", "shape": "⟨v⁴⟩ / ⟨v²⟩²", "rate": "collisions of a disk in σ/v", "free_path": "free path / σ",
 }
 # Columns that share a panel with others, and how they are called there.

@@ -425,7 +425,9 @@ class Commands(unittest.TestCase):
             # Words
             (["scene", "--phi", "0.5", "--sizes", "1:inf"], "states", "isn't above 0"),
             (["scene", "--phi", "0.5", "--sizes", "1:nan,2"], "states", "isn't above 0"),
+            (["scene", "--phi", "0.5", "--sizes", "1:1e308,2:1e308"], "states", "from 1e-6"),
             (["scene", "--phi", "0.5", "--every", "1e308"], "states", "ticks"),
+            (["equation", "--program", "/bin/false", "--phi", "0.3", "--disks", "100", "--time", "1"], "states", "breaks off"),
             (["scene", "--phi", "0.5", "--every", "1e-300"], "states", "less than a tick"),
             (["scene", "--phi", "0.5", "--time", "1e308", "--every", "1"], "states", "ticks"),
             (["scene", "--phi", "0.5", "--disks", many], "states", "isn't a whole number"),
