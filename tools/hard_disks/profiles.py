@@ -16,8 +16,8 @@ from .structure import bond_order, contact_value
 # The gap between disks and walls is fitted up to this, in σ, in bins of this width.
 GAP, GAP_WIDTH = 0.25, 0.02
 # The deepest share of the strips is taken for what the bulk is. Another place differs from it if the mean of the strips over
-# so many σ around it does, by more than this share and three errors.
-DEEPEST, TOGETHER, NEAR = 1 / 3, 4.0, 0.01
+# so many σ around it does, by more than a share and three errors of a strip: order makes strips beside each other alike.
+DEEPEST, TOGETHER, NEAR_PHI, NEAR_PSI6 = 1 / 3, 4.0, 0.003, 0.01
 
 
 @dataclass(frozen=True)
@@ -89,7 +89,7 @@ class Profile(Measure):
         notes = [
             f"{int(self.frames.sum())} frames; by the distance of disks' centres from the nearest wall, away from the corners",
             contact_note(errors, self.touching, self.frames * self.strips.length() * np.diff(self.gaps), self.gaps),
-            *level_notes(depths, (phi, phi_errors), (psi6, psi6_errors)),
+            *level_notes(depths, (phi, phi_errors, NEAR_PHI), (psi6, psi6_errors, NEAR_PSI6)),
         ]
         names = ["distance", "phi", "phi_error", "T", "T_error", "psi6", "psi6_error"]
         rows = np.column_stack([depths + self.width / 2, *(it for column in columns for it in column)]).tolist()
@@ -102,22 +102,26 @@ def contact_note(errors: Errors, touching: np.ndarray, ideal: np.ndarray, gaps: 
     return Stated("at the walls rho", found, error, " per sigma^2, which is P / T")
 
 
-def level_notes(depths: np.ndarray, *columns: tuple[np.ndarray, np.ndarray]) -> list[str]:
-    """From which distance on all strips are as the deepest; each column has values and errors."""
+def level_notes(depths: np.ndarray, *columns: tuple[np.ndarray, np.ndarray, float]) -> list[str]:
+    """From which distance on all strips are as the deepest; each column has values, errors and how near is alike."""
+    known = np.isfinite([errors for _, errors, _ in columns]).all(axis=0)
+    if known.sum() < 3:
+        return ["CAUTION: errors are unknown, and so it is from where on phi and psi6 are level"]
+    depths = depths[known]
     deepest = depths >= depths[-1] * (1 - DEEPEST)
-    level = max(level_from(depths, deepest, *column) for column in columns)
+    level = max(level_from(depths, deepest, values[known], errors[known], share) for values, errors, share in columns)
     if level >= depths[deepest][0]:
         return ["CAUTION: phi or psi6 hasn't levelled yet a third before the middle: it takes a larger box, or a longer run"]
-    return [f"phi and psi6 are level, to a percent or three errors, from {level:.4g} sigma on: that is margin enough"]
+    alike = f"{100 * NEAR_PHI:g} % and {100 * NEAR_PSI6:g} %, or three errors"
+    return [f"phi and psi6 are level, to {alike}, from {level:.4g} sigma on: take a margin of that at least"]
 
 
-def level_from(depths: np.ndarray, deepest: np.ndarray, values: np.ndarray, errors: np.ndarray) -> float:
+def level_from(depths: np.ndarray, deepest: np.ndarray, values: np.ndarray, errors: np.ndarray, share: float) -> float:
     """The distance after the last strip that isn't as the deepest ones, by the mean around it."""
-    errors = np.maximum(np.nan_to_num(errors, nan=1.0), 1e-9)
-    weights = 1 / errors**2
+    weights = 1 / np.maximum(errors, 1e-9) ** 2
     bulk = (values * weights)[deepest].sum() / weights[deepest].sum()
     near = np.abs(depths[:, None] - depths) < TOGETHER / 2
-    means, sure = near @ (values * weights) / (near @ weights), 1 / np.sqrt(near @ weights)
-    far = np.abs(means - bulk) > np.maximum(NEAR * abs(bulk), 3 * sure)
+    means, sure = near @ (values * weights) / (near @ weights), np.sqrt(near.sum(axis=1) / (near @ weights))
+    far = np.abs(means - bulk) > np.maximum(share * abs(bulk), 3 * sure)
     last = np.flatnonzero(far & ~deepest)
     return float(depths[last[-1] + 1]) if len(last) else 0.0

@@ -10,9 +10,9 @@ from .scenes import Refused, Scene
 # Of how many blocks of time sums are kept, from which errors make longer ones; and how many there may be.
 BLOCKS, MOST_BLOCKS = 240, 10_000
 # The margin that is left out where none is asked for, in σ; a denser fluid keeps the walls' order to the depths below, by
-# its packing fraction: so `measure profile` has it, where |ψ6| comes to a percent of what it is in the middle.
+# its packing fraction. At 0.69 Z of all that is 10 σ and more from the walls is 0.5 % too small, and from 20 σ on it is right.
 MARGIN = 10.0
-DENSE, DEPTHS = (0.65, 0.69, 0.70), (10.0, 15.0, 20.0)
+DENSE, DEPTHS = (0.65, 0.69), (10.0, 20.0)
 
 
 def wall_depth(scene: Scene) -> float:

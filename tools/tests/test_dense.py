@@ -8,11 +8,15 @@ without numpy or a program, is said."""
 import contextlib
 import io
 import math
+import shutil
 import subprocess
+import tempfile
 import time
 import unittest
 
 from physics_scenes import column, end_of, fluid, main, noted, np, read_text, scene_of, value
+
+from places import TOOLS
 
 from hard_disks import theory
 from hard_disks.commands import main as command
@@ -124,7 +128,8 @@ class Profiles(unittest.TestCase):
         depths, errors = np.arange(30.0), np.full(30, 1e-3)
         for reach, said in [(0.0, "from 0 sigma"), (2.0, "from 8 sigma"), (8.0, "CAUTION")]:
             values = 0.7 + 0.3 * np.exp(-depths / reach) if reach else np.full(30, 0.7)
-            self.assertIn(said, level_notes(depths, (values, errors))[0], reach)
+            self.assertIn(said, level_notes(depths, (values, errors, 0.01))[0], reach)
+        self.assertIn("unknown", level_notes(depths, (np.full(30, 0.7), np.full(30, np.nan), 0.01))[0])
 
     def test_the_density_at_walls_is_the_pressure_on_them(self):
         scene, report = fluid(900, 0.45, 24.0, 0.5)
@@ -176,6 +181,21 @@ class Soft(unittest.TestCase):
                 command(["scene", "--disks", "200", "--lattice", "soft", *words])
             self.assertEqual((end.exception.code, error.getvalue().count("\n")), (2, 1))
             self.assertIn(said, error.getvalue())
+
+
+@unittest.skipUnless(shutil.which("g++"), "there is no g++")
+class Periodic(unittest.TestCase):
+    def test_the_program_that_the_reference_stands_on(self):
+        folder = tempfile.TemporaryDirectory()
+        self.addCleanup(folder.cleanup)
+        program, source = f"{folder.name}/periodic", TOOLS / "reference" / "periodic.cpp"
+        subprocess.run(["g++", "-O2", "-o", program, source], check=True)
+        for phi, time_measured in ((0.3, 200), (0.6, 50)):
+            words = [phi, 24, 28, 1, 20, time_measured, 4]
+            found = subprocess.run([program, *map(str, words)], capture_output=True, text=True, check=True).stdout
+            rows = np.array([line.split(",") for line in found.splitlines()], float)
+            self.assertEqual(rows.shape, (4, 6))
+            self.assertAlmostEqual(rows[:, 5].mean() / theory.virial(phi), 1, delta=0.01)
 
 
 class Equations(unittest.TestCase):
