@@ -32,7 +32,7 @@ def virial(phi: float) -> float:
 
 
 class Simulated(NamedTuple):
-    """Z of a fluid in a periodic box, with its standard error: several runs, so many collisions of two disks in all."""
+    """Z of a fluid in a periodic box by so many collisions of two disks, with its standard error by blocks."""
 
     phi: float
     disks: int
@@ -44,12 +44,20 @@ class Simulated(NamedTuple):
 # By tools/reference/periodic.cpp, which is no part of the program.
 SIMULATED = (
     Simulated(0.5, 5_016, 5.3e6, 4.1081, 0.0017),
+    Simulated(0.6, 5_016, 18.5e6, 6.4568, 0.0017),
+    Simulated(0.625, 5_016, 21.6e6, 7.3470, 0.0016),
+    Simulated(0.648, 5_016, 41.4e6, 8.3168, 0.0015),
+    Simulated(0.648, 10_044, 41.5e6, 8.3167, 0.0020),
+    Simulated(0.67, 5_016, 71.0e6, 9.3627, 0.0023),
+    Simulated(0.67, 10_044, 71.1e6, 9.3644, 0.0023),
+    Simulated(0.69, 5_016, 187.5e6, 10.203, 0.005),
+    Simulated(0.69, 10_044, 104.3e6, 10.204, 0.004),
 )
 
 
 def reference(phi: float) -> float:
-    """Z by the virial series, less what the further coefficients take away near freezing, as fitted to `SIMULATED`."""
-    return virial(phi) - 0.0372 * math.exp(67.3 * (phi - 0.65))
+    """Z by the virial series less what it lacks near freezing, which is fitted to `SIMULATED`, and met to 0.05 %."""
+    return virial(phi) - 0.0366 * math.exp(68.5 * (phi - 0.65))
 
 
 @dataclass(frozen=True)
