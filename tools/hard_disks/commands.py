@@ -1,15 +1,14 @@
 """The words of `python3 -m hard_disks`."""
 import argparse
 import contextlib
-import math
 import os
-import re
 import sys
 from dataclasses import dataclass
 from pathlib import Path
 
 from .scene_text import GOES_ON, parse_scene, read_scene
 from .scenes import MOST_DISKS, MOST_TICK, Refused
+from .words import bounds, by_measure, fractions, not_negative, positive, sizes, whole, window
 
 ABOUT = "From a packing fraction to a figure: scenes for the program hard_disks, and what its reports say."
 TIMES = "times are in sigma/v, with sigma the mean diameter and v the root mean square of a velocity component"
@@ -61,47 +60,6 @@ class Words(argparse.ArgumentParser):
         self.exit(2, f"{self.prog}: {message}\n")
 
 
-def positive(text):
-    value = float(text)
-    if not 0 < value < float("inf"):
-        raise argparse.ArgumentTypeError(f"{text} isn't above 0")
-    return value
-
-
-def whole(least, most):
-    """A reader of whole numbers of a range."""
-
-    def read(text):
-        if not re.fullmatch(r"[+-]?[0-9]{1,18}", text) or not least <= int(text) <= most:
-            raise argparse.ArgumentTypeError(f"{text} isn't a whole number from {least} to {most}")
-        return int(text)
-
-    return read
-
-
-def not_negative(text):
-    value = float(text)
-    if not 0 <= value < float("inf"):
-        raise argparse.ArgumentTypeError(f"{text} isn't 0 or more")
-    return value
-
-
-def sizes(text):
-    """1:0.7,1.4:0.3 as pairs of a relative diameter and a share."""
-    try:
-        pairs = [part.split(":", 1) if ":" in part else (part, 1) for part in text.split(",")]
-        found = [(positive(size), positive(share)) for size, share in pairs]
-        if not all(1e-6 <= it <= 1e6 for pair in found for it in pair):
-            raise argparse.ArgumentTypeError(f"{text} has a size or a share that isn't from 1e-6 to 1e6")
-        return found
-    except ValueError:
-        raise argparse.ArgumentTypeError(f"{text} isn't of the form 1:0.7,1.4:0.3") from None
-
-
-def fractions(text):
-    return [positive(part) for part in text.split(",")]
-
-
 def measures(text):
     """gr,psi6 as the names of measures."""
     names = text.split(",")
@@ -111,15 +69,6 @@ def measures(text):
     if len(set(names)) < len(names):
         raise argparse.ArgumentTypeError(f"{text} names a measure twice")
     return names
-
-
-def by_measure(text):
-    """gr=4,sk=9 as a number for each measure; 4 alone is for the only one that takes the option."""
-    found = {}
-    for part in text.split(","):
-        name, _, number = part.rpartition("=")
-        found[name] = positive(number)
-    return found
 
 
 def parser():
@@ -207,7 +156,7 @@ def add_fit(commands):
 
 def run_fit(asked):
     import csv
-    from statistics import mean
+    from statistics import fmean
 
     from .fitting import fit
 
@@ -221,7 +170,7 @@ def run_fit(asked):
         raise Refused(f"line {table.line_num}: {why}") from why
     scene = fit(asked.width, asked.height, disks, asked.time, asked.every)
     # What a mean diameter is of the greater side, in the scene and as it was given.
-    lost = 1 - scene.sigma / max(scene.width, scene.height) * max(asked.width, asked.height) / mean(row[4] for row in disks)
+    lost = 1 - scene.sigma / max(scene.width, scene.height) * max(asked.width, asked.height) / fmean(row[4] for row in disks)
     if lost > 1e-5:
         say(f"diameters are {lost:.2%} smaller: disks that touch have no room to move in")
     sys.stdout.write(scene.text())
@@ -278,7 +227,7 @@ def add_measure(commands):
                        help="the scene's file; the report is read from standard input. Of several scenes, runs that differ by"
                             " their seeds alone, each report is beside its scene, and ends in .report")
     words.add_argument("-o", "--output", metavar="FOLDER", help="writes each table into a file MEASURE.csv of this folder")
-    words.add_argument("--from", dest="start", type=not_negative, help="when the measure begins (a fifth of the run; with a rest at once)")
+    words.add_argument("--from", dest="start", type=not_negative, help="when the measure begins (a fifth of the run; of a rest its start)")
     words.add_argument("--until", type=positive, help="when it ends, as if the run did: the report may break off after that")
     words.add_argument(
         "--margin", type=not_negative,
@@ -365,22 +314,6 @@ def add_plot(commands):
     add_figure(words, "ends in .svg, .png or .pdf")
 
 
-def bounds(text):
-    """0.9:3 as two numbers."""
-    numbers = text.split(":")
-    if len(numbers) != 2 or not all(math.isfinite(float(it)) for it in numbers) or float(numbers[0]) >= float(numbers[1]):
-        raise argparse.ArgumentTypeError(f"{text} isn't of the form FROM:TO, with FROM below TO")
-    return tuple(map(float, numbers))
-
-
-def window(text):
-    """0:10,5:15 as four numbers."""
-    across, comma, up = text.partition(",")
-    if not comma:
-        raise argparse.ArgumentTypeError(f"{text} isn't of the form LEFT:RIGHT,BOTTOM:TOP")
-    return *bounds(across), *bounds(up)
-
-
 def add_figure(words, formats):
     words.add_argument("-o", "--output", required=True, metavar="FILE", help=formats)
     words.add_argument("--dpi", type=whole(10, 2_400), help="dots per inch, of .png and movies (150, of a movie 90)")
@@ -392,13 +325,19 @@ def run_plot(asked):
 
     require_format(asked.output)
     tables = [] if asked.tables else list(read_tables(standard_input("a table"), "standard input"))
-    for path in asked.tables:
+    for path, name in zip(asked.tables, names_of(asked.tables)):
         with open(path, encoding="utf-8") as file:
-            tables += read_tables(file, Path(path).stem)
+            tables += read_tables(file, name)
     if not tables:
         raise Refused("there is no table to draw")
     ranges = {name: value for name in "xy" if (value := getattr(asked, name)) is not None}
     plot(tables, asked.output, asked.log, ranges, asked.dpi or DPI)
+
+
+def names_of(paths):
+    """How tables of these files are called: without folders, if that tells them apart."""
+    stems = [Path(it).stem for it in paths]
+    return stems if len(set(stems)) == len(stems) else [str(Path(it).with_suffix("")) for it in paths]
 
 
 def add_draw(commands):

@@ -22,6 +22,7 @@ from physics_scenes import NAMES, SCENES, end_of, fluid, main, needs, np, read_t
 
 from hard_disks.commands import MEASURES
 from hard_disks.commands import main as command
+from hard_disks.commands import names_of
 from hard_disks.converting import FORMATS, write_csv, write_xyz
 from hard_disks.fitting import fit
 from hard_disks.making import make
@@ -385,6 +386,10 @@ class Commands(unittest.TestCase):
             words = ["plot", "-o", path, "--x", "0.5:3", "--log", "y", "--dpi", "30"]
             self.assertEqual(self.command(*words, report=tables), (0, "", ""))
             self.assertTrue(path.read_bytes().startswith(begins))
+
+    def test_files_of_one_name_are_told_apart(self):
+        self.assertEqual(names_of(["a/gr.csv", "a/sk.csv"]), ["gr", "sk"])
+        self.assertEqual(names_of(["a/gr.csv", "b/gr.csv"]), ["a/gr", "b/gr"])
 
     def test_tables_of_one_row_are_one_curve(self):
         tables = [
