@@ -8,8 +8,10 @@ from .scenes import Refused
 
 # Disks are taken for larger by this share, so that gaps stay between them: half of it at least.
 SLACK = 1e-3
-# So many times at most the overlaps are looked for; places without any are found in some 50 to 200.
-LOOKS = 1_000
+# So many times at most the overlaps are looked for; places without any are found in some 50 to 500.
+LOOKS = 600
+# What is denser than the hexagonal lattice of equal disks is refused at once.
+DENSEST = 0.907
 # Sizes may differ by so much: each disk is compared with all that the greatest one could reach.
 MOST_RATIO = 10
 
@@ -25,6 +27,10 @@ def soften(box: np.ndarray, diameters: np.ndarray, chance: np.random.Generator) 
     least, most = np.broadcast_to(sizes[:, None] / 2, (len(sizes), 2)), box / unit - sizes[:, None] / 2
     if (most < least).any():
         raise Refused("the box is too small for a disk")
+    phi = (np.pi / 4 * diameters.astype(float) ** 2).sum() / box.astype(float).prod()
+    jammed = Refused(f"{len(sizes)} soft disks overlap at a packing fraction of {phi:.4g} wherever they are pushed: too many jam")
+    if phi > DENSEST:
+        raise jammed
     found = minimize(
         overlap_energy, chance.uniform(least, most).ravel(), (sizes,), jac=True, method="L-BFGS-B",
         bounds=np.column_stack([least.ravel(), most.ravel()]),
@@ -33,8 +39,7 @@ def soften(box: np.ndarray, diameters: np.ndarray, chance: np.random.Generator) 
     places = found.x.reshape(-1, 2)
     _, overlaps, _ = overlapping(places, sizes)
     if overlaps.max(initial=0) > SLACK / 2:
-        phi = (np.pi / 4 * diameters.astype(float) ** 2).sum() / box.astype(float).prod()
-        raise Refused(f"{len(sizes)} soft disks overlap at a packing fraction of {phi:.4g} wherever they are pushed: too many jam")
+        raise jammed
     return np.rint(places * unit).astype(np.int64)
 
 
