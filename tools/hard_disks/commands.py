@@ -57,7 +57,7 @@ class Words(argparse.ArgumentParser):
     """A parser that refuses in one line."""
 
     def error(self, message):
-        self.exit(2, f"{self.prog}: {message}\n")
+        self.exit(2, f"{self.prog}: {' '.join(message.split())}\n")
 
 
 def measures(text):
@@ -202,9 +202,10 @@ def add_rest(commands):
 
 
 def run_rest(asked):
+    report = standard_input("a report")
     from .rests import rest
 
-    sys.stdout.write(GOES_ON + rest(read_scene(asked.scene), standard_input("a report"), asked.tick).text())
+    sys.stdout.write(GOES_ON + rest(read_scene(asked.scene), report, asked.tick).text())
 
 
 def add_continue(commands):
@@ -265,25 +266,27 @@ def options_of(asked):
     return options
 
 
-def runs_of(asked):
-    """The runs that are measured: of one scene with the report on standard input, or of several with theirs beside them."""
+def runs_of(asked, reports):
+    """The runs that are measured."""
     from .runs import Run
 
-    for path in asked.scenes:
+    for path, report in zip(asked.scenes, reports):
         scene = read_scene(path)
-        report = standard_input("a report") if len(asked.scenes) == 1 else Path(path).with_suffix(".report")
         yield Run(scene, report, True, None if asked.until is None else scene.ticks(asked.until))
 
 
 def run_measure(asked):
+    options, found = options_of(asked), []
+    if asked.series and len(asked.scenes) > 1:
+        raise Refused("a series is of one run")
+    # That it is waited for is told before numpy is loaded, which may take a second.
+    is_one = len(asked.scenes) == 1
+    reports = [standard_input("a report")] if is_one else [Path(it).with_suffix(".report") for it in asked.scenes]
     from .measuring import together, watch
     from .sampling import BLOCKS, sampling
 
-    options, found = options_of(asked), []
     kinds = {name: MEASURES[name].load() for name in asked.measures}
-    if asked.series and len(asked.scenes) > 1:
-        raise Refused("a series is of one run")
-    for run in runs_of(asked):
+    for run in runs_of(asked, reports):
         part = sampling(run.scene, asked.start, asked.margin, asked.blocks if asked.series else BLOCKS)
         found.append({name: kind(part, **options[name]) for name, kind in kinds.items()})
         watch(run, list(found[-1].values()))
@@ -331,6 +334,8 @@ def run_plot(asked):
     if not tables:
         raise Refused("there is no table to draw")
     ranges = {name: value for name in "xy" if (value := getattr(asked, name)) is not None}
+    if any(name in asked.log and low <= 0 for name, (low, _) in ranges.items()):
+        raise Refused("a logarithmic axis begins above 0")
     plot(tables, asked.output, asked.log, ranges, asked.dpi or DPI)
 
 
@@ -354,6 +359,7 @@ def add_draw(commands):
 
 
 def run_draw(asked):
+    report = standard_input("a report")
     from .drawing import FRAMES_BY_SECOND, MOVIE_DPI, Window, draw, movie
     from .figures import DPI, FORMATS, MOVIE_FORMATS, require_format
     from .runs import Run
@@ -362,7 +368,7 @@ def run_draw(asked):
     if asked.fps and not asked.movie:
         raise Refused("--fps is of a movie, and --movie isn't there")
     part = asked.window and Window(*asked.window)
-    run = Run(read_scene(asked.scene), standard_input("a report"), shows_progress=True)
+    run = Run(read_scene(asked.scene), report, shows_progress=True)
     if asked.movie:
         movie(run, asked.colour, asked.output, part, asked.dpi or MOVIE_DPI, asked.fps or FRAMES_BY_SECOND)
     else:
@@ -378,10 +384,11 @@ def add_convert(commands):
 
 
 def run_convert(asked):
+    report = standard_input("a report")
     from .converting import FORMATS
     from .runs import Run
 
-    FORMATS[asked.format](Run(read_scene(asked.scene), standard_input("a report"), shows_progress=True), asked.output)
+    FORMATS[asked.format](Run(read_scene(asked.scene), report, shows_progress=True), asked.output)
 
 
 def add_check(commands):

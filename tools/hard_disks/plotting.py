@@ -2,6 +2,7 @@
 
 Each column that is drawn belongs to a panel, by what it is and by the axis that it stands over; columns of several tables
 that are of one kind share a panel."""
+import warnings
 from dataclasses import dataclass
 from itertools import cycle
 from typing import Iterator, TextIO
@@ -38,6 +39,8 @@ NOT_DRAWN = {"asked_for", "collisions", "runs", "disks"}
 # From so many rows on a column is a line with a band for its errors, not points with bars.
 MANY = 40
 GREYS = ["#333333", "#888888"]
+# Greater numbers can't be drawn.
+MOST_NUMBER = 1e100
 PANEL_HEIGHT, MOST_CURVES = 2.9, 60
 
 
@@ -96,9 +99,10 @@ def columns_of(rows: list[list[str]], name: str) -> Columns:
 
 def number(text: str) -> float:
     try:
-        return float(text)
+        value = float(text)
     except ValueError:
         return np.nan
+    return value if abs(value) < MOST_NUMBER else np.nan
 
 
 def panel_of(column: str) -> tuple[str, str]:
@@ -198,15 +202,18 @@ def plot(
     panels = curves_by_panel(joined(tables))
     figure = new_figure((WIDTH, PANEL_HEIGHT * len(panels) + 0.3))
     all_axes = figure.subplots(len(panels), squeeze=False)
-    for axes, ((axis, panel), curves) in zip(all_axes[:, 0], panels.items()):
-        draw_panel(axes, panel, curves)
-        label = f"Z less that {panel[2:]}, in %" if panel.startswith("Z by ") else LABELS.get(panel, panel)
-        axes.set(xlabel=AXES[axis], ylabel=label)
-        for name in logarithmic:
-            axes.set(**{f"{name}scale": "log"})
-        for name, bounds in (ranges or {}).items():
-            axes.set(**{f"{name}lim": bounds})
-    save(figure, path, dpi)
+    # matplotlib warns of each point that a logarithmic axis leaves out.
+    with warnings.catch_warnings():
+        warnings.simplefilter("ignore", UserWarning)
+        for axes, ((axis, panel), curves) in zip(all_axes[:, 0], panels.items()):
+            draw_panel(axes, panel, curves)
+            label = f"Z less that {panel[2:]}, in %" if panel.startswith("Z by ") else LABELS.get(panel, panel)
+            axes.set(xlabel=AXES[axis], ylabel=label)
+            for name in logarithmic:
+                axes.set(**{f"{name}scale": "log"})
+            for name, bounds in (ranges or {}).items():
+                axes.set(**{f"{name}lim": bounds})
+        save(figure, path, dpi)
 
 
 def without_twins(curves: list[Curve]) -> list[Curve]:

@@ -463,6 +463,8 @@ class Commands(unittest.TestCase):
             (["draw", scene, "-o", "a.png", "--fps", "3"], "states", "--movie isn't there"),
             (["draw", scene, "-o", "a.png", "--dpi", "1e9"], "states", "isn't a whole number"),
             (["plot", "-o", "a.gif"], "r,g\n1,2\n", "doesn't end in"),
+            (["plot", "-o", "a.png", "--log", "x", "--x", "0:2"], "r,g\n1,2\n", "begins above 0"),
+            (["plot", "-o", "a.png", "--x", "a\n:2"], "r,g\n1,2\n", "bounds|FROM"),
             (["plot", "-o", "a.png"], "\n", "no table"),
             (["plot", "-o", "a.png"], "r,g\n1\n", "other lengths"),
             (["plot", "-o", "a.png"], "a,b\n1,2\n", "none of the columns"),
