@@ -374,9 +374,9 @@ class Commands(unittest.TestCase):
             with self.subTest(name):
                 words = ["plot", folder / f"{name}.csv", "-o", folder / f"{name}.svg"]
                 self.assertEqual(self.command(*words), (0, "", ""))
-                first = (folder / f"{name}.svg").read_bytes()
-                self.assertEqual(self.command(*words), (0, "", ""))
-                self.assertEqual(first, (folder / f"{name}.svg").read_bytes())
+        first = (folder / "gr.svg").read_bytes()
+        self.command("plot", folder / "gr.csv", "-o", folder / "gr.svg")
+        self.assertEqual(first, (folder / "gr.svg").read_bytes())
         series = [name for name, kind in MEASURES.items() if kind.has_series]
         tables = self.command("measure", ",".join(series), folder / "fluid.toml", "--series", report=report)[1]
         for ending, begins in (("png", b"\x89PNG"), ("pdf", b"%PDF")):
