@@ -18,6 +18,8 @@ GAP, GAP_WIDTH = 0.25, 0.02
 # The deepest share of the strips is taken for what the bulk is. Another place differs from it if the mean of the strips over
 # so many σ around it does, by more than a share and three errors of a strip: order makes strips beside each other alike.
 DEEPEST, TOGETHER, NEAR_PHI, NEAR_PSI6 = 1 / 3, 4.0, 0.003, 0.01
+# If three errors are so many times that share as a rule, nothing is seen.
+ROUGH = 5
 
 
 @dataclass(frozen=True)
@@ -106,10 +108,13 @@ def level_notes(depths: np.ndarray, *columns: tuple[np.ndarray, np.ndarray, floa
     """From which distance on all strips are as the deepest; each column has values, errors and how near is alike."""
     known = np.isfinite([errors for _, errors, _ in columns]).all(axis=0)
     if known.sum() < 3:
-        return ["CAUTION: errors are unknown, and so it is from where on phi and psi6 are level"]
+        return ["CAUTION: errors are unknown, and so is from where on phi and psi6 are level"]
     depths = depths[known]
     deepest = depths >= depths[-1] * (1 - DEEPEST)
-    level = max(level_from(depths, deepest, values[known], errors[known], share) for values, errors, share in columns)
+    columns = [(values[known], errors[known], share) for values, errors, share in columns]
+    if any(np.median(3 * errors / np.abs(values)) > ROUGH * share for values, errors, share in columns):
+        return ["CAUTION: errors are too great to see from where on phi and psi6 are level: it takes a longer run"]
+    level = max(level_from(depths, deepest, *column) for column in columns)
     if level >= depths[deepest][0]:
         return ["CAUTION: phi or psi6 hasn't levelled yet a third before the middle: it takes a larger box, or a longer run"]
     alike = f"{100 * NEAR_PHI:g} % and {100 * NEAR_PSI6:g} %, or three errors"

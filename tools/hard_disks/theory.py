@@ -81,8 +81,8 @@ def cautions(phi: float) -> list[str]:
     """What has to be said above a table that has values of these equations."""
     if not phi > min(it.most for it in EQUATIONS):
         return []
-    bounds = ", ".join(f"{it.name} up to {it.most:g}" for it in EQUATIONS)
-    return [f"CAUTION: near freezing equations of state fail, and are unknown from where they do: {bounds} of phi"]
+    bounds = ", ".join(f"{it.most:g} ({it.name})" for it in EQUATIONS)
+    return [f"CAUTION: near freezing equations of state fail; they are unknown above a phi of {bounds}"]
 
 
 def mixture(phi: float, sizes) -> float:

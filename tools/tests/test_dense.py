@@ -129,7 +129,8 @@ class Profiles(unittest.TestCase):
         for reach, said in [(0.0, "from 0 sigma"), (2.0, "from 8 sigma"), (8.0, "CAUTION")]:
             values = 0.7 + 0.3 * np.exp(-depths / reach) if reach else np.full(30, 0.7)
             self.assertIn(said, level_notes(depths, (values, errors, 0.01))[0], reach)
-        self.assertIn("unknown", level_notes(depths, (np.full(30, 0.7), np.full(30, np.nan), 0.01))[0])
+        for errors, said in [(math.nan, "unknown"), (0.02, "too great"), (1e-3, "from 0 sigma")]:
+            self.assertIn(said, level_notes(depths, (np.full(30, 0.7), np.full(30, errors), 0.01))[0])
 
     def test_the_density_at_walls_is_the_pressure_on_them(self):
         scene, report = fluid(900, 0.45, 24.0, 0.5)
