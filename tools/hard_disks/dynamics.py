@@ -155,9 +155,10 @@ class Speeds(Measure):
         if self.has_series:
             notes = ["T: half the mean of v^2; shape: <v^4> / <v^2>^2, Maxwell 2; all disks, near walls too"]
             return Table(["time", "T", "shape"], self.rows, [*notes, *self.sampling.notes()])
-        density, errors = self.errors.ratio(self.counts, self.disks * self.width)
+        density, errors = self.errors.of(np.divide, self.counts, self.disks * self.width, follows_heat=False)
         maxwell = -np.diff(np.exp(-(self.edges**2) / 2)) / self.width
-        shape = self.errors.of(lambda disks, second, fourth: disks * fourth / second**2, self.disks[:, 0], *self.moments)
+        moments = self.disks[:, 0], *self.moments
+        shape = self.errors.of(lambda disks, second, fourth: disks * fourth / second**2, *moments, follows_heat=False)
         notes = [Stated("<v^4> / <v^2>^2", *map(float, shape), ", Maxwell 2; all disks, near walls too")]
         rows = list(zip(self.edges[:-1] + self.width / 2, density, errors, maxwell))
         return Table(["speed", "density", "density_error", "Maxwell"], rows, [*notes, *self.notes()])

@@ -52,16 +52,21 @@ class Errors:
         self.blocks = 0
         self.is_growing = self.is_short = False
 
-    def of(self, value: Callable, *sums: np.ndarray, lag: float = 0.0) -> tuple[np.ndarray, np.ndarray]:
+    def of(
+        self, value: Callable, *sums: np.ndarray, lag: float = 0.0, follows_heat: bool = True
+    ) -> tuple[np.ndarray, np.ndarray]:
         """A value and its error, where `value` takes sums over time: arrays whose first axis is the sampling's blocks.
 
-        If states are compared that are `lag` apart, in σ / v, the sums are by the earlier one."""
+        If states are compared that are `lag` apart, in σ / v, the sums are by the earlier one. What is the same all over
+        the box doesn't follow the heat of the inside."""
         with np.errstate(invalid="ignore", divide="ignore"):
             whole = np.asarray(value(*(it.sum(axis=0) for it in sums)), float)
         parts = self.parts(value, sums, lag)
         if parts is None:
             return whole, np.full(whole.shape, np.nan)
-        rest, heat = self.without_heat(parts.reshape(len(parts), -1), lag)
+        rest, heat = parts.reshape(len(parts), -1), 0.0
+        if follows_heat:
+            rest, heat = self.without_heat(rest, lag)
         error = self.blocked(rest, lag)
         error = np.where(heat > 0, np.sqrt(np.nan_to_num(error) ** 2 + heat), error)
         return whole, error.reshape(whole.shape)
@@ -95,7 +100,7 @@ class Errors:
         """How many blocks there are that don't know of each other; two at least."""
         used, sound = self.time - lag, self.heat.times[0]
         most = min(MOST, self.sampling.blocks, used / lag if lag else MOST)
-        return int(np.clip(used / max(lag, sound), min(4, max(most, 2)), max(most, 2)))
+        return int(np.clip(used / max(lag, sound), min(3, max(most, 2)), max(most, 2)))
 
     def parts(self, value: Callable, sums: tuple[np.ndarray, ...], lag: float) -> np.ndarray | None:
         """Values of blocks by leaving out each in turn: a whole number of them for each that is independent. None if there

@@ -139,7 +139,7 @@ class Pressure(Colliding):
             columns = values(counts, sampling)[:3]
             return Table(["time", "phi", "Z", "Z_wall"], list(zip(block_times(sampling), *columns)), sampling.notes())
         (phi, factor, wall, _), errors, at_phi = self.estimate()
-        uniform = self.errors.of(self.pressure_of, *vars(counts).values())
+        uniform = self.errors.of(self.pressure_of, *vars(counts).values(), follows_heat=False)
         row = [phi, errors[0], int(counts.collisions.sum()), factor, errors[1], at_phi[1], wall, errors[2], *map(float, uniform)]
         names = ["phi", "phi_error", "collisions", "Z", "Z_error", "Z_error_given_phi", "Z_wall", "Z_wall_error", "P", "P_error"]
         if scene.has_one_size:

@@ -11,6 +11,7 @@ import subprocess
 import unittest
 import warnings
 from dataclasses import replace
+from unittest import mock
 
 from physics_scenes import column, disks_at, end_of, fluid, main, noted, np, read_text, scene_of, value
 
@@ -271,6 +272,7 @@ class Fluids(unittest.TestCase):
         self.agree(virial, (value(table, "Z_virial"), 0), 0.01)
         self.agree(virial, noted(self.measured(PairDistribution), "phi g"))
 
+    @mock.patch("hard_disks.pressure.SAMPLES", 240)
     def test_errors_are_the_spread_over_seeds(self):
         # Three numbers by 16 runs, so to some 20 %: error_ratios.py looks at all, with more disks and seeds.
         runs = []
@@ -280,7 +282,7 @@ class Fluids(unittest.TestCase):
             watch(read_text(report, scene), measures)
             first, second = [it.table() for it in measures]
             runs.append([(value(table, it), value(table, f"{it}_error"))
-                         for table, it in ((first, "phi"), (first, "Z"), (second, "local"))])
+                         for table, it in ((first, "phi"), (first, "Z"), (second, "six_neighbours"))])
         values, errors = np.array(runs).T
         for ratio in np.sqrt((errors**2).mean(axis=1)) / values.std(axis=1, ddof=1):
             self.assertTrue(0.6 < ratio < 1.6, ratio)
