@@ -72,7 +72,9 @@ class Sampling:
         depth = wall_depth(self.scene)
         if self.margin >= 0.999 * depth * self.scene.sigma:
             return []
-        return [f"CAUTION: at this phi the walls' order reaches some {depth:.3g} sigma: measure profile shows it; take a greater box"]
+        return [
+            f"CAUTION: at this phi the walls' order reaches some {depth:.3g} sigma, as measure profile shows: take a greater box"
+        ]
 
 
 def sampling(scene: Scene, start: float | None = None, margin: float | None = None, blocks: int = BLOCKS) -> Sampling:

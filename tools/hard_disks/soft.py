@@ -28,7 +28,7 @@ def soften(box: np.ndarray, diameters: np.ndarray, chance: np.random.Generator) 
     if (most < least).any():
         raise Refused("the box is too small for a disk")
     phi = (np.pi / 4 * diameters.astype(float) ** 2).sum() / box.astype(float).prod()
-    jammed = Refused(f"{len(sizes)} soft disks overlap at a packing fraction of {phi:.4g} wherever they are pushed: too many jam")
+    jammed = Refused(f"{len(sizes)} soft disks overlap at a packing fraction of {phi:.4g} wherever they are pushed: they jam")
     if phi > DENSEST:
         raise jammed
     found = minimize(

@@ -17,7 +17,7 @@ MOST_POINTS = 2**26
 
 def check_grid(shape: tuple[int, int]) -> None:
     if math.prod(shape) > MOST_POINTS:
-        raise Refused(f"that takes a grid of {shape[0]} times {shape[1]} points; {MOST_POINTS} are the most: take a lesser --most")
+        raise Refused(f"that takes a grid of {shape[0]} times {shape[1]} points, of {MOST_POINTS} at most: take a lesser --most")
 
 
 @dataclass(frozen=True)

@@ -144,8 +144,8 @@ class Profiles(unittest.TestCase):
 class Margins(unittest.TestCase):
     def test_the_margin_grows_near_freezing_and_a_caution_says_if_it_is_too_small(self):
         for count, phi, sizes, margin, is_cautioned in [
-            (2_000, 0.6, ((1.0, 1.0),), 10, False), (10_000, 0.7, ((1.0, 1.0),), 20, False), (2_000, 0.7, ((1.0, 1.0),), 11.8, True),
-            (900, 0.8, MIXTURE, 7.5, False),
+            (2_000, 0.6, ((1.0, 1.0),), 10, False), (10_000, 0.7, ((1.0, 1.0),), 20, False),
+            (2_000, 0.7, ((1.0, 1.0),), 11.8, True), (900, 0.8, MIXTURE, 7.5, False),
         ]:
             scene = make(count, phi, sizes, lattice="soft" if len(sizes) > 1 else "hex")
             found = sampling(scene)
