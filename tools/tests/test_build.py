@@ -133,7 +133,10 @@ class Script(unittest.TestCase):
         for number in (signal.SIGTERM, signal.SIGINT, signal.SIGHUP):
             with self.subTest(number):
                 write(f"{self.top}/hangs", "")
-                with subprocess.Popen([f"{self.top}/hard_disks"], env=self.environment(), stderr=subprocess.DEVNULL) as script:
+                # Where tests run in the background, signals may be ignored that are sent here.
+                how = {"stderr": subprocess.DEVNULL, "preexec_fn": lambda: signal.signal(number, signal.SIG_DFL)}
+                with subprocess.Popen([f"{self.top}/hard_disks"], env=self.environment(), **how) as script:
+                    self.addCleanup(script.kill)
                     self.wait_for(lambda: read(f"{self.top}/child"))
                     script.send_signal(number)
                     self.assertEqual(script.wait(20), -number)
