@@ -116,16 +116,15 @@ class Script(unittest.TestCase):
         self.assertEqual(self.builds(), 2)
 
     def test_a_program_that_the_gate_built_is_run(self):
-        sources = self.run_script(["--sources"]).stdout.decode().strip()
         program = f"{self.top}/crates/hard_disks_program/out/hard_disks_program"
         write(program, "#!/bin/bash\nprintf '<%s>' \"$@\"; cat; exit 7\n")
-        self.assertEqual(self.run_script(["--built", sources]).returncode, 0)
+        self.assertEqual(self.run_script(["--built", "0"]).returncode, 0)
         ran = self.run_script()
         self.assert_ran(ran)
         self.assertEqual((ran.stderr, self.builds()), (b"", 0))
-        # One that was built from other sources isn't.
+        # One isn't if a source was written since the gate began.
         write(f"{self.top}/crates/hard_disks_program/src/main.rt", "fn main() { }\n")
-        self.assertEqual(self.run_script(["--built", sources]).returncode, 1)
+        self.assertEqual(self.run_script(["--built", "60"]).returncode, 1)
         self.assert_ran(self.run_script())
         self.assertEqual(self.builds(), 1)
 
