@@ -70,8 +70,9 @@ def write(rows: list[tuple[str, float, float, float]]) -> None:
     print("| Number | Mean | Spread | Stated by spread |\n|---|---|---|---|")
     for key, mean, spread, ratio in rows:
         print(f"| {key} | {mean:.5g} | {spread:.2g} | {ratio:.2f} |")
-    good = sum(LEAST <= it[3] <= MOST for it in rows)
-    print(f"\n{good} of {len(rows)} are {LEAST} to {MOST}; the median is {np.median([it[3] for it in rows]):.2f}")
+    known = [it[3] for it in rows if not np.isnan(it[3])]
+    good = sum(LEAST <= it <= MOST for it in known)
+    print(f"\n{good} of {len(known)} are {LEAST} to {MOST}; the median is {np.median(known):.2f}")
 
 
 def main() -> None:
