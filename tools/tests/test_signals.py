@@ -35,8 +35,8 @@ FEW = ["--mode", "load", "--disks", "36"]
 # In mode `plain` each event of so many disks takes some milliseconds, and the first 65,536 bytes many seconds.
 SLOW_DISKS = 1_600
 DONE, WRITE_FAULT = 0, 7
-# Runs for some seconds, and writes little.
-LONG = ["--mode", "load", "--disks", "60000", "--format", "summary"]
+# Runs for some seconds, by short bursts that take most of the time, and writes little.
+LONG = "--mode load --disks 60000 --format summary --regions 16 --workers 1 --turns 4 --steps 8".split()
 # The line is shown after a second, and some times in each that follows.
 SHOWN_FOR = 3
 # How long, in seconds, such a run may take.
