@@ -79,6 +79,7 @@ def parser():
     add_explain(commands)
     add_rest(commands)
     add_continue(commands)
+    add_margin(commands)
     add_measure(commands)
     add_plot(commands)
     add_draw(commands)
@@ -219,6 +220,27 @@ def run_continue(asked):
     sys.stdout.write(GOES_ON + read_scene(asked.rest).timed(asked.time, asked.every).text())
 
 
+def add_margin(commands):
+    words = add_command(commands, "margin", run_margin, "writes the program's --margin for sums that measure pressure and rate take",
+                        "As in ./hard_disks --format sums --margin $(python3 -m hard_disks margin SCENE) <SCENE.")
+    words.add_argument("scene", metavar="SCENE", help="the scene's file")
+    add_layer(words)
+
+
+def add_layer(words):
+    words.add_argument(
+        "--margin", type=not_negative,
+        help="how much along the walls is left out, in sigma (10, near freezing up to 20, or a quarter of the box)",
+    )
+
+
+def run_margin(asked):
+    from .part_sums import margin_in_units
+    from .sampling import sampling
+
+    print(margin_in_units(sampling(read_scene(asked.scene), 0.0, asked.margin)))
+
+
 def add_measure(commands):
     listed = "; ".join(f"{name}: {kind.about}" for name, kind in MEASURES.items())
     words = add_command(commands, "measure", run_measure, "writes tables of what a report says, with errors",
@@ -230,10 +252,7 @@ def add_measure(commands):
     words.add_argument("-o", "--output", metavar="FOLDER", help="writes each table into a file MEASURE.csv of this folder")
     words.add_argument("--from", dest="start", type=not_negative, help="when the measure begins (a fifth of the run; of a rest its start)")
     words.add_argument("--until", type=positive, help="when it ends, as if the run did: the report may break off after that")
-    words.add_argument(
-        "--margin", type=not_negative,
-        help="how much along the walls is left out, in sigma (10, near freezing up to 20, or a quarter of the box)",
-    )
+    add_layer(words)
     words.add_argument("--blocks", type=whole(2, 10_000), default=20, help="rows of a series over collisions (%(default)s)")
     words.add_argument("--series", action="store_true",
                        help=f"a row for each block or state in place of means: {those_with('has_series')}")
@@ -421,10 +440,7 @@ def add_equation(commands):
     words.add_argument("--disks", type=whole(1, MOST_DISKS), default=2000, help="(%(default)s)")
     words.add_argument("--time", type=positive, default=100.0, help=f"of each run; {TIMES} (%(default)s)")
     words.add_argument("--every", type=positive, help="has states written, and Z found by g at contact too: the time between two")
-    words.add_argument(
-        "--margin", type=not_negative,
-        help="how much along the walls is left out, in sigma (10, near freezing up to 20, or a quarter of the box)",
-    )
+    add_layer(words)
     words.add_argument("--seed", type=whole(0, MOST_TICK), default=1, help="(%(default)s)")
     words.add_argument("--seeds", type=whole(1, 10_000), default=1,
                        help="runs of each packing fraction, that differ by their seeds: errors are by the spread (%(default)s)")

@@ -7,6 +7,7 @@ from typing import Iterator, TextIO
 
 from .making import make
 from .measuring import Measure, together, watch
+from .part_sums import margin_in_units
 from .pressure import Pressure
 from .runs import Run
 from .sampling import Stated, Table, sampling
@@ -16,15 +17,17 @@ from .theory import cautions
 
 # How far g(r) is counted to find it at contact, in σ.
 NEAR = 1.5
+# In how many times of a run the program sums up, if no states are asked for.
+SUMS = 300
 
 
 @contextmanager
-def report_of(scene: Scene, program: str) -> Iterator[TextIO]:
-    """The report of a scene, as the program writes it."""
+def report_of(scene: Scene, program: str, *words: str) -> Iterator[TextIO]:
+    """The report of a scene, as the program writes it by these words."""
     with TemporaryFile("w+") as file:
         file.write(scene.text())
         file.seek(0)
-        with subprocess.Popen([program], stdin=file, stdout=subprocess.PIPE, text=True) as running:
+        with subprocess.Popen([program, *words], stdin=file, stdout=subprocess.PIPE, text=True) as running:
             yield running.stdout
 
 
@@ -42,10 +45,12 @@ class Series:
 
     def measured(self, phi: float, seed: int, program: str) -> list[Measure]:
         """The measures of one run."""
-        scene = make(self.disks, phi, seed=seed, time=self.time, every=self.every)
+        scene = make(self.disks, phi, seed=seed, time=self.time, every=self.every or self.time / SUMS)
         part = sampling(scene, margin=self.margin)
-        found = [Pressure(part)] if self.every is None else [Pressure(part), PairDistribution(part, NEAR)]
-        with report_of(scene, program) as report:
+        found, words = [Pressure(part)], ["--format", "sums", "--margin", str(margin_in_units(part))]
+        if self.every is not None:
+            found, words = [*found, PairDistribution(part, NEAR)], []
+        with report_of(scene, program, *words) as report:
             watch(Run(scene, report, shows_progress=True), found)
         return found
 

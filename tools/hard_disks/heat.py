@@ -99,8 +99,12 @@ class Heat:
     def add(self, tick: int, rows: np.ndarray) -> None:
         """All disks at a tick, as rows of x, y, vx and vy; those before the sampling begins don't count."""
         inside = rows[self.sampling.inside(rows[:, :2])]
-        if len(inside) and tick >= self.sampling.start:
-            self.rows.append((tick, len(inside), float((inside[:, 2:].astype(float) ** 2).sum())))
+        self.add_inside(tick, len(inside), float((inside[:, 2:].astype(float) ** 2).sum()))
+
+    def add_inside(self, tick: int, disks: int, squares: float) -> None:
+        """How many disks are inside at a tick, and the sum of their squared speeds."""
+        if disks and tick >= self.sampling.start:
+            self.rows.append((tick, disks, squares))
 
     @cached_property
     def is_known(self) -> bool:

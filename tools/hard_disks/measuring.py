@@ -9,6 +9,7 @@ import numpy as np
 from .errors import Errors, spread_error
 from .heat import Heat
 from .motion import Followed
+from .reports import PartSums
 from .runs import Frame, Run, Sample
 from .sampling import Sampling, Stated, Table
 from .scenes import Refused
@@ -36,6 +37,10 @@ class Measure:
     def add_collisions(self, found: Followed) -> None:
         """Collisions in the report's order, those before the sampling's start too."""
 
+    def add_sums(self, sums: PartSums) -> None:
+        """The sums up to a tick, if that is all that the report has."""
+        raise Refused("the report has sums alone, and by these there are only pressure and rate: ask for --format states or lines")
+
     def notes(self) -> list[str]:
         """What every table says of the part of the run, and of its errors, which have to be made before."""
         return [*self.errors.notes(), *self.sampling.notes()]
@@ -60,6 +65,11 @@ def watch(run: Run, measures: list[Measure]) -> None:
                 heat.add(item.tick, item.rows)
             for it in colliding:
                 it.add_sample(item)
+        elif isinstance(item, PartSums):
+            for heat in by_samples:
+                heat.add_inside(item.tick, item.disks, float(item.squares))
+            for it in measures:
+                it.add_sums(item)
         else:
             for heat in by_states:
                 heat.add(item.tick, item.rows)

@@ -7,14 +7,19 @@ of two disks inside in the time t gives
 
 where r is the place of the first disk less that of the second, and Δv the change of the first disk's velocity. The walls
 say it a second time: P is what disks hand over to a wall by its length and the time, away from the corners. A collision
-is inside where the middle between its two disks is."""
+is inside where the middle between its two disks is.
+
+All that is needed for it the program can sum up itself, in its format `sums`: see `part_sums`."""
 import math
 from dataclasses import dataclass
+from functools import cached_property
 
 import numpy as np
 
 from .measuring import Measure
 from .motion import Followed
+from .part_sums import Between
+from .reports import PartSums
 from .runs import Sample
 from .sampling import Sampling, Table
 from .theory import EQUATIONS, cautions, collision_rate, mixture
@@ -47,7 +52,8 @@ class Colliding(Measure):
     def __init__(self, sampling: Sampling, series: bool = False):
         super().__init__(sampling)
         self.has_series = series
-        self.counts = Counts(*np.zeros((8, sampling.blocks)), np.full(sampling.blocks, sampling.block_time()))
+        self.counted = Counts(*np.zeros((8, sampling.blocks)), np.full(sampling.blocks, sampling.block_time()))
+        self.sums: list[PartSums] = []
         self.sizes = np.array([row[4] for row in sampling.scene.disks], float)
 
     def sample_ticks(self) -> list[int]:
@@ -55,12 +61,35 @@ class Colliding(Measure):
         ticks = np.linspace(self.sampling.start, self.scene.end, 2 * samples + 1)[1::2]
         return ticks.astype(np.int64).tolist()
 
+    def add_sums(self, sums: PartSums) -> None:
+        if sums.tick >= self.sampling.start:
+            self.sums.append(sums)
+
+    @cached_property
+    def between(self) -> Between | None:
+        """What the program summed up; none if it wrote collisions."""
+        return Between(self.sums, self.sampling) if self.sums else None
+
+    @cached_property
+    def counts(self) -> Counts:
+        """What happened inside in each block, once all is known."""
+        return Counts(**self.between.columns()) if self.between else self.counted
+
+    def block_times(self) -> list[float]:
+        """The middle of each block, in σ / v."""
+        sampling = self.sampling
+        ticks = sampling.start + (np.arange(sampling.blocks) + 0.5) * sampling.block_time()
+        return [sampling.scene.reduced_time(tick) for tick in (self.between.middles() if self.between else ticks)]
+
+    def notes(self) -> list[str]:
+        return [*(self.between.notes() if self.between else []), *super().notes()]
+
     def add_sample(self, sample: Sample) -> None:
         """Counts the disks inside, and their squared speeds.
 
         A part of the fluid may be denser and cooler than the rest for long, at the same pressure; its own temperature
         counts."""
-        counts, inside = self.counts, self.sampling.inside(sample.rows[:, :2])
+        counts, inside = self.counted, self.sampling.inside(sample.rows[:, :2])
         block = self.sampling.block(sample.tick)
         counts.samples[block] += 1
         counts.disks[block] += inside.sum()
@@ -88,7 +117,7 @@ class Colliding(Measure):
 
     def add_pairs(self, found: Followed) -> None:
         """The virial of collisions of two disks."""
-        counts, sampling = self.counts, self.sampling
+        counts, sampling = self.counted, self.sampling
         counted = found.is_pair & (found.tick >= sampling.start)
         counted &= sampling.inside((found.place_first + found.place_second) / 2)
         apart = (found.place_first - found.place_second)[counted].astype(float)
@@ -108,7 +137,7 @@ class Colliding(Measure):
         counted = ~found.is_pair & (found.tick >= sampling.start)
         counted &= (along >= sampling.margin) & (along <= length - sampling.margin)
         push = 2.0 * np.abs(found.before_first[rows, across][counted])
-        self.counts.wall += np.bincount(sampling.block(found.tick[counted]), push, sampling.blocks)
+        self.counted.wall += np.bincount(sampling.block(found.tick[counted]), push, sampling.blocks)
 
 
 def values(counts: Counts, sampling: Sampling) -> np.ndarray:
@@ -124,12 +153,6 @@ def values(counts: Counts, sampling: Sampling) -> np.ndarray:
     return np.array([covered, factor, wall, rate])
 
 
-def block_times(sampling: Sampling) -> list[float]:
-    """The middle of each block, in σ / v."""
-    ticks = sampling.start + (np.arange(sampling.blocks) + 0.5) * sampling.block_time()
-    return [sampling.scene.reduced_time(tick) for tick in ticks]
-
-
 class Pressure(Colliding):
     """Z by the virial and by the walls, beside equations of state where they hold."""
 
@@ -137,7 +160,7 @@ class Pressure(Colliding):
         counts, sampling, scene = self.counts, self.sampling, self.scene
         if self.has_series:
             columns = values(counts, sampling)[:3]
-            return Table(["time", "phi", "Z", "Z_wall"], list(zip(block_times(sampling), *columns)), sampling.notes())
+            return Table(["time", "phi", "Z", "Z_wall"], list(zip(self.block_times(), *columns)), sampling.notes())
         (phi, factor, wall, _), errors, at_phi = self.estimate()
         uniform = self.errors.of(self.pressure_of, *vars(counts).values(), follows_heat=False)
         row = [phi, errors[0], int(counts.collisions.sum()), factor, errors[1], at_phi[1], wall, errors[2], *map(float, uniform)]
@@ -165,7 +188,7 @@ class Rate(Colliding):
         counts, sampling = self.counts, self.sampling
         if self.has_series:
             columns = values(counts, sampling)[[0, 3]]
-            return Table(["time", "phi", "rate"], list(zip(block_times(sampling), *columns)), sampling.notes())
+            return Table(["time", "phi", "rate"], list(zip(self.block_times(), *columns)), sampling.notes())
         (phi, _, _, found), errors, _ = self.estimate()
         path = math.sqrt(math.pi / 2) / found if found else math.inf
         row = [phi, int(counts.collisions.sum()), found, errors[3], path, path * errors[3] / found if found else math.nan]

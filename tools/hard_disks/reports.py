@@ -17,6 +17,7 @@ from .scenes import Refused
 
 PIECE = 1 << 18  # characters that are read at once
 WHOLE, SIGNED = r"\d{1,18}", r"-?\d{1,18}"
+LONG = r"\d{1,39}"  # sums have up to 128 bits
 COLLISION = rf"{WHOLE} {WHOLE} (?:pair {WHOLE} {WHOLE} {SIGNED} {SIGNED}|wall {WHOLE} [0-3]) {SIGNED} {SIGNED}\n"
 DISK = rf"disk {WHOLE} {SIGNED} {SIGNED} {SIGNED} {SIGNED}\n"
 # As many like lines as follow each other; a line that is neither stands alone.
@@ -86,8 +87,23 @@ class Sums:
     energies: tuple | None = None
 
 
-def read_report(stream: TextIO) -> Iterator[Collisions | State | Limit | Sums]:
-    """What a report says, in its order: collisions and states, then a limit or the last state, and the sums."""
+@dataclass(frozen=True)
+class PartSums:
+    """What the format `sums` says of a tick: how many disks are in the part of the box that is a margin away from the sides,
+    and their squared speeds; and of all collisions before it how many pairs hit each other there, with the sum of r·J, and
+    how often and how hard disks hit the sides away from the corners."""
+
+    tick: int
+    disks: int
+    squares: int
+    pairs: int
+    virial: int
+    walls: int
+    taken: tuple[int, ...]  # the momentum that each side took
+
+
+def read_report(stream: TextIO) -> Iterator[Collisions | State | PartSums | Limit | Sums]:
+    """What a report says, in its order: collisions, states and sums, then a limit or the last state, and the counts."""
     sections = Sections(stream)
     while True:
         kind, text = sections.next()
@@ -97,6 +113,8 @@ def read_report(stream: TextIO) -> Iterator[Collisions | State | Limit | Sums]:
         match text.split():
             case ["state", tick] if re.fullmatch(WHOLE, tick, re.A):
                 yield State(int(tick), sections.disks())
+            case ["inside", *_]:
+                yield sections.part_sums(text)
             case ["done", end] if re.fullmatch(WHOLE, end, re.A):
                 yield from done(int(end), sections)
                 return
@@ -108,13 +126,15 @@ def read_report(stream: TextIO) -> Iterator[Collisions | State | Limit | Sums]:
                 raise Refused(f"no line of a report of a run: {text.splitlines()[0]}")
 
 
-def done(end: int, sections: "Sections") -> Iterator[State | Sums]:
-    """The end of a run that came to its end; a summary has no last state."""
+def done(end: int, sections: "Sections") -> Iterator[State | PartSums | Sums]:
+    """The end of a run that came to its end; a summary has no last state and no sums."""
     counts = *sections.numbers("walls", 1), *sections.numbers("pairs", 1)
     momentum, energies = sections.numbers("momentum", 2), sections.numbers("energy", 2)
     disks = sections.disks()
     if len(disks):
         yield State(end, disks, is_last=True)
+    elif sections.held:
+        yield sections.part_sums(sections.next()[1])
     yield Sums(*counts, momentum, energies)
 
 
@@ -143,11 +163,16 @@ class Sections:
         return section
 
     def numbers(self, word: str, count: int) -> tuple[int, ...]:
-        """The numbers of a line that begins with a word."""
-        text = self.next()[1]
-        if not re.fullmatch(rf"{word}(?: {SIGNED}){{{count}}}\n", text, re.A):
-            raise Refused(f"{text.splitlines()[0]!r} where a line '{word}' is wanted")
-        return tuple(map(int, text.split()[1:]))
+        """The numbers of the next line, which begins with a word."""
+        return numbers_after(word, count, self.next()[1])
+
+    def part_sums(self, text: str) -> PartSums:
+        """The sums of a line `inside` and of the line `sides` behind it."""
+        tick, *inside = numbers_after("inside", 5, text, LONG)
+        other, walls, *taken = numbers_after("sides", 6, self.next()[1], LONG)
+        if other != tick:
+            raise Refused(f"sides of tick {other} behind an inside of tick {tick}")
+        return PartSums(tick, *inside, walls, tuple(taken))
 
     def disks(self):
         """The numbers of the lines `disk` that follow, whose disks have to stand in their order."""
@@ -162,6 +187,13 @@ class Sections:
             if number != wanted:
                 raise Refused(f"disk {number} where disk {wanted} is wanted")
         return found
+
+
+def numbers_after(word: str, count: int, text: str, number: str = SIGNED) -> tuple[int, ...]:
+    """The numbers of a line that begins with a word."""
+    if not re.fullmatch(rf"{word}(?: {number}){{{count}}}\n", text, re.A):
+        raise Refused(f"{text.splitlines()[0]!r} where a line '{word}' is wanted")
+    return tuple(map(int, text.split()[1:]))
 
 
 def sections(stream: TextIO) -> Iterator[tuple[str, str]]:

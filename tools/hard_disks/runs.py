@@ -10,7 +10,7 @@ import numpy as np
 
 from .motion import Followed, Motion
 from .progress import Progress
-from .reports import Collision, Collisions, Limit, State, Sums, read_report
+from .reports import Collision, Collisions, Limit, PartSums, State, Sums, read_report
 from .scene_text import parse_scene, read_scene
 from .scenes import Refused, Scene
 
@@ -75,14 +75,17 @@ class Run:
             if isinstance(item, Collisions):
                 yield item.numbers.reshape(-1, FIELDS)
 
-    def followed(self, samples: list[int]) -> Iterator[Followed | Sample | Frame]:
+    def followed(self, samples: list[int]) -> Iterator[Followed | Sample | Frame | PartSums]:
         """Collisions with the disks' places and velocities, and a sample at each of these ticks, in order. Between them are
-        the frames: the scene's own, those of the report, and the end."""
+        the frames: the scene's own, those of the report, and the end. Of a report that has sums it is these, in their order."""
         motion, waiting = Motion(self.scene), deque(samples)
         yield self.start()
         for item in self.items():
             if isinstance(item, State) and item.tick > 0:
                 yield frame_of(item)
+            if isinstance(item, PartSums):
+                waiting.clear()
+                yield item
             if not isinstance(item, Collisions):
                 continue
             events = item.numbers.reshape(-1, FIELDS)
@@ -95,11 +98,11 @@ class Run:
                     yield Sample(waiting[0], motion.at(waiting.popleft()))
         yield from (Sample(tick, motion.at(tick)) for tick in waiting)
 
-    def items(self, is_about_states: bool = False) -> Iterator[Collisions | State | Sums]:
+    def items(self, is_about_states: bool = False) -> Iterator[Collisions | State | PartSums | Sums]:
         """What the report says, which has to be of this scene and to come to its end.
 
         If only its states are asked for, all lines of collisions may have been left out."""
-        counted = 0
+        counted, has_sums = 0, False
         with Progress(self.scene.end, self.shows_progress) as progress, self.opened() as stream:
             for item in self.first_part(read_report(stream)) if self.is_part else read_report(stream):
                 if isinstance(item, Limit):
@@ -107,16 +110,20 @@ class Run:
                 if isinstance(item, State):
                     self.check_state(item)
                     progress.show(item.tick)
+                if isinstance(item, PartSums):
+                    has_sums = True
+                    self.check_sums(item)
+                    progress.show(item.tick)
                 if isinstance(item, Collisions):
                     counted += len(item.numbers) // FIELDS
                     self.check_collisions(item.numbers.reshape(-1, FIELDS))
                     progress.show(int(item.numbers[-FIELDS]))
                 lacks_some = isinstance(item, Sums) and item.walls + item.pairs > counted
-                if lacks_some and (counted or not is_about_states):
+                if lacks_some and not has_sums and (counted or not is_about_states):
                     raise Refused("the report lacks collisions that it counts: it is a summary, or broken")
                 yield item
 
-    def first_part(self, items: Iterator) -> Iterator[Collisions | State]:
+    def first_part(self, items: Iterator) -> Iterator[Collisions | State | PartSums]:
         """What comes before the end, and the state at the end if there is one."""
         for item in items:
             if isinstance(item, Collisions):
@@ -126,7 +133,7 @@ class Run:
                     yield Collisions(early.ravel())
                 if len(early) * FIELDS < len(item.numbers):
                     return
-            elif isinstance(item, State) and item.tick <= self.scene.end:
+            elif isinstance(item, (State, PartSums)) and item.tick <= self.scene.end:
                 yield item
             else:
                 return
@@ -146,6 +153,10 @@ class Run:
             raise Refused(f"{found} disks at tick {state.tick}, and {wanted} in the scene: is it the report of this scene?")
         if state.is_last and state.tick != self.scene.end:
             raise Refused(f"the report ends at tick {state.tick}, and the scene at {self.scene.end}")
+
+    def check_sums(self, sums: PartSums) -> None:
+        if sums.disks > len(self.scene.disks) or sums.tick > self.scene.end:
+            raise Refused(f"{sums.disks} disks at tick {sums.tick}: are these sums of this scene?")
 
     def check_collisions(self, events: np.ndarray) -> None:
         named = int(events[:, 3:5].max())

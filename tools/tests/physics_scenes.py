@@ -60,13 +60,13 @@ def fluid(count, phi, time, every, sizes=((1.0, 1.0),), seed=1):
     return scene, report_of(scene)
 
 
-def report_of(scene):
-    """The text of a scene's report, by the program; without one the test is skipped."""
+def report_of(scene, *words):
+    """The text of a scene's report, by the program with these words; without one the test is skipped."""
     try:
         program = find_program()
     except Refused as why:
         raise unittest.SkipTest(str(why)) from why
-    return subprocess.run([program], input=scene.text(), capture_output=True, text=True, check=True).stdout
+    return subprocess.run([program, *words], input=scene.text(), capture_output=True, text=True, check=True).stdout
 
 
 def column(table, name):

@@ -285,6 +285,62 @@ def report(scene: Scene, made: Run) -> str:
     return events_and_blocks(scene, made) + summary(scene, made) + final
 
 
+def states(scene: Scene, made: Run) -> str:
+    """5. The report: its format `states`."""
+    return "".join(text for text in report(scene, made).splitlines(True) if not text[0].isdigit())
+
+
+def is_away(margin: int, length: int, along: int) -> bool:
+    """5.5 Sums: whether a place along a side is at least the margin from both ends."""
+    return margin <= along <= length - margin
+
+
+def is_in_part(scene: Scene, margin: int, point: Vector) -> bool:
+    """5.5 Sums: whether a point is in the part."""
+    return is_away(margin, scene.width, point[0]) and is_away(margin, scene.height, point[1])
+
+
+def has_middle_in_part(scene: Scene, margin: int, p: Vector, q: Vector) -> bool:
+    """5.5 Sums: whether the middle between two places is in the part."""
+    twice = replace(scene, width=2 * scene.width, height=2 * scene.height)
+    return is_in_part(twice, 2 * margin, (p[0] + q[0], p[1] + q[1]))
+
+
+def inside_line(scene: Scene, made: Run, margin: int, tick: int) -> str:
+    """5.5 Sums: the disks and the pairs of the part."""
+    disks = [disk for disk in state_before(scene, made, tick) if is_in_part(scene, margin, place(disk, tick))]
+    pairs = virial = 0
+    for (event, _), before in zip(made.events, [records_at_start(scene), *(after for _, after in made.events)]):
+        if event.kind == PAIR and event.tick < tick:
+            first, second = before[event.first], before[event.second]
+            if has_middle_in_part(scene, margin, place(first, event.tick), place(second, event.tick)):
+                pairs += 1
+                virial += dot(r_and_u(first, second, event.tick)[0], impulse(first, second, event.tick))
+    return line("inside", tick, len(disks), energy(disks), pairs, virial)
+
+
+def sides_line(scene: Scene, made: Run, margin: int, tick: int) -> str:
+    """5.5 Sums: what the sides took."""
+    walls, taken = 0, [0, 0, 0, 0]
+    for event, after in made.events:
+        if event.kind == WALL and event.tick < tick:
+            disk, side = after[event.first], event.second
+            x, y = place(disk, event.tick)
+            if is_away(margin, *((scene.height, y) if side < 2 else (scene.width, x))):
+                walls += 1
+                taken[side] += 2 * abs(disk.vx if side < 2 else disk.vy)
+    return line("sides", tick, walls, *taken)
+
+
+def sums(scene: Scene, made: Run, margin: int) -> str:
+    """5.5 Sums: the report in this format."""
+    def at(tick):
+        return inside_line(scene, made, margin, tick) + sides_line(scene, made, margin, tick)
+
+    last = at(scene.end) if made.status == DONE else ""
+    return "".join(map(at, block_ticks(scene, made))) + summary(scene, made) + last
+
+
 def cut(scene: Scene, at: int) -> tuple[str, int]:
     """6.5 Runs in parts: the canonical text of the rest after a tick, or why there is none, and the status."""
     made = run(replace(scene, end=at))

@@ -489,6 +489,14 @@ class Commands(unittest.TestCase):
             ([*measure, scene], "done 5\nwalls x\n", "line 'walls'"),
             ([*measure, scene], f"{many} 0 wall 0 0 1 1\n", "no line of a report"),
             (["check", scene], "limit rounds\n", "no line of a report"),
+            ([*measure, scene], "inside 2 2 2 0\n", "line 'inside'"),
+            ([*measure, scene], f"inside 2 2 2 0 {many}\n", "line 'inside'"),
+            ([*measure, scene], "inside 2 2 2 0 0\nsides 4 0 0 0 0 0\n", "sides of tick 4"),
+            ([*measure, scene], "inside 2 3 2 0 0\nsides 2 0 0 0 0 0\n", "3 disks at tick 2"),
+            ([*measure, scene], "inside 2 2 2 0 0\nsides 2 0 0 0 0 0\n", "breaks off"),
+            (["measure", "pressure,psi6", scene], "inside 2 2 2 0 0\nsides 2 0 0 0 0 0\n", "sums alone"),
+            (["measure", "psi6", scene], "inside 2 2 2 0 0\nsides 2 0 0 0 0 0\ndone 5\nwalls 0\npairs 1\nmomentum 0 0\n"
+                                       "energy 2 2\ninside 5 2 2 1 8\nsides 5 0 0 0 0 0\n", "no state"),
             # Tables
             (fitting, head, "disks, not 0"),
             (fitting, head + "1,1,1e999,0,1\n", "finite"),

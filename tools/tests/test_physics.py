@@ -13,13 +13,14 @@ import warnings
 from dataclasses import replace
 from unittest import mock
 
-from physics_scenes import column, disks_at, end_of, fluid, main, noted, np, read_text, scene_of, value
+from physics_scenes import column, disks_at, end_of, fluid, main, noted, np, read_text, report_of, scene_of, value
 
 from hard_disks import theory
 from hard_disks.dynamics import Displacement, Speeds, VelocityCorrelation
 from hard_disks.errors import Errors, spread_error
 from hard_disks.heat import Fluid, share_left, waves
 from hard_disks.measuring import measured, watch
+from hard_disks.part_sums import margin_in_units
 from hard_disks.pressure import Pressure, Rate
 from hard_disks.program import find_program
 from hard_disks.reports import read_report
@@ -46,6 +47,16 @@ class ByHand(unittest.TestCase):
         found = measured(read_text(report, scene), Rate(sampling(scene, start=0, margin=1, blocks=2)))
         # Each of them collides once in 100 ticks, and v is 3 / √2, so σ / v is 100 √2 / 3 ticks.
         self.assertAlmostEqual(value(found, "rate"), 100 * math.sqrt(2) / 3 / 100)
+
+    def test_pressure_of_two_disks_by_sums(self):
+        # The scene of states.toml for 6 ticks: at tick 3 r·J is 8, and N = 2, T = 1/2 and t = 6.
+        scene = scene_of([(10, 10, 1, 0), (20, 10, -1, 0)], 40, 20, 4, end=6, every=2)
+        sums = [f"inside {tick} 2 2 {hits} {8 * hits}\nsides {tick} 0 0 0 0 0\n" for tick, hits in ((2, 0), (4, 1), (6, 1))]
+        report = "".join([*sums[:2], "done 6\nwalls 0\npairs 1\nmomentum 0 0\nenergy 2 2\n", sums[2]])
+        table = measured(read_text(report, scene), Pressure(sampling(scene, start=0.0, margin=0.0)))
+        self.assertEqual((value(table, "Z"), value(table, "collisions")), (1 + 8 / (2 * 2 * 0.5 * 6), 1))
+        self.assertAlmostEqual(value(table, "phi"), 2 * math.pi * 4 / 800)
+        self.assertEqual(value(table, "Z_wall"), 0)
 
     def test_pressure_of_a_disk_on_a_wall(self):
         # It hands over 2 · 10 once in 100 ticks to walls of 4 · 800; N T / A is 50 / 800².
@@ -286,6 +297,20 @@ class Fluids(unittest.TestCase):
         values, errors = np.array(runs).T
         for ratio in np.sqrt((errors**2).mean(axis=1)) / values.std(axis=1, ddof=1):
             self.assertTrue(0.6 < ratio < 1.6, ratio)
+
+    def test_sums_of_the_program_are_those_of_its_collisions(self):
+        scene, report = fluid(300, 0.4, 20.0, 0.05)
+        part = sampling(scene, start=0.0)
+        by_sums, by_lines = Pressure(part), Pressure(part)
+        watch(read_text(report, scene), [by_lines])
+        watch(read_text(report_of(scene, "--format", "sums", "--margin", str(margin_in_units(part))), scene), [by_sums])
+        for name in ("virial", "collisions", "wall", "time"):
+            found, wanted = (getattr(it.counts, name).sum() for it in (by_sums, by_lines))
+            self.assertAlmostEqual(found / wanted, 1, delta=1e-9)
+        first, second = by_sums.table(), by_lines.table()
+        for name in ("phi", "Z", "Z_wall", "P"):
+            self.assertAlmostEqual(value(first, name) / value(second, name), 1, delta=2e-3)
+            self.assertAlmostEqual(value(first, f"{name}_error") / value(second, f"{name}_error"), 1, delta=0.5)
 
     def test_collisions_are_as_often_as_the_pressure_says(self):
         # Z = 1 + √π / 4 times the collisions of a disk in σ / v.

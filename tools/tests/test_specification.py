@@ -167,6 +167,19 @@ class Specification(unittest.TestCase):
                 words = f"--format summary {settings.words()}"
                 self.assert_output(words, scene.text(), second.summary(scene, run), run.status)
 
+    def test_states_leave_events_out(self):
+        for title, settings, _, scene, run in drawn_scenes():
+            with self.subTest(title):
+                words = f"--format states {settings.words()}"
+                self.assert_output(words, scene.text(), second.states(scene, run), run.status)
+
+    def test_sums_are_those_of_the_run(self):
+        for title, settings, at, scene, run in drawn_scenes():
+            margin = random.Random(at).choice([0, scene.diameter, random.Random(at).randint(0, scene.width)])
+            with self.subTest(f"--margin {margin}, {title}"):
+                words = f"--format sums --margin {margin} {settings.words()}"
+                self.assert_output(words, scene.text(), second.sums(scene, run, margin), run.status)
+
     def test_a_cut_leaves_what_goes_on_with_the_run(self):
         for title, settings, at, scene, run in drawn_scenes():
             rest, status = second.cut(scene, at)
