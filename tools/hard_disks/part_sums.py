@@ -29,9 +29,8 @@ class Between:
         spaces = len(known) - 1
         if spaces < 2:
             raise Refused("sums at two ticks or more are wanted after the measure's start: give the scene an `every`")
-        rows = min(sampling.blocks, spaces)
-        self.each = spaces // rows
-        self.states = known[spaces - rows * self.each :]
+        self.each = math.ceil(spaces / sampling.blocks)
+        self.states = known[spaces % self.each :]
         self.edges = self.states[:: self.each]
         self.sampling = sampling
 

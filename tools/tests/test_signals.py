@@ -17,6 +17,7 @@ import tempfile
 import termios
 import time
 import unittest
+from unittest import mock
 
 from places import program_of_words
 
@@ -228,14 +229,14 @@ class Screen:
         return [row for row in self.rows if row]
 
 
-def fork_at_terminal(words, is_behind=False):
+def fork_at_terminal(words, is_behind=False, output=None):
     """Starts the program at a terminal of its own, where its errors go: in the background, and where whoever writes from
-    there is stopped, if it is to be behind."""
+    there is stopped, if it is to be behind. Its output goes nowhere, or where it is told."""
     pid, terminal = pty.fork()
     if pid == 0:
         nowhere = os.open(os.devnull, os.O_RDWR)
         os.dup2(nowhere, 0)
-        os.dup2(nowhere, 1)
+        os.dup2(nowhere if output is None else output, 1)
         if is_behind:
             modes = termios.tcgetattr(2)
             modes[3] |= termios.TOSTOP
@@ -299,6 +300,24 @@ class Lines(unittest.TestCase):
                 self.show_for(SOON)
                 self.assertEqual(self.end(pid), -number)
                 self.assertEqual((self.screen.row, self.screen.column), (1, 0))
+
+    def test_it_is_gone_at_the_end_of_a_run_into_a_file(self):
+        with tempfile.TemporaryFile() as file:
+            pid = self.begin(LONG, output=file.fileno())
+            self.show_for(AGES)
+            self.assertEqual((self.end(pid), self.screen.shown()), (DONE, []))
+            self.assertGreater(os.fstat(file.fileno()).st_size, 0)
+
+    def test_nothing_is_shown_beside_a_pipe_unless_it_is_asked_for(self):
+        for is_asked in (False, True):
+            reader, writer = os.pipe()
+            with self.subTest(is_asked), mock.patch.dict(os.environ, {"HARD_DISKS_LINE": "1"} if is_asked else {}):
+                pid = self.begin(LONG, output=writer)
+                os.close(writer)
+                text = "".join(read_for(self.terminal, AGES))
+                self.assertEqual(self.end(pid), DONE)
+                self.assertEqual("tick " in text, is_asked)
+            os.close(reader)
 
     def test_nothing_is_shown_from_the_background(self):
         pid = self.begin(LONG, is_behind=True)
