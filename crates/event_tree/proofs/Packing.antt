@@ -44,7 +44,7 @@ number_below s room =
     let range = room.in_range in
     omega (arith, room.tick, range.0, range.1, range.2, kind_below s.kind)
 
-not_none : (n : ℕ) (s : Stamp) → n < 2 ^ 115 → stamp_of_number n ≡ s → unpack n ≡ Some s
+pub not_none : (n : ℕ) (s : Stamp) → n < 2 ^ 115 → stamp_of_number n ≡ s → unpack n ≡ Some s
 not_none n s lt e = grind (arith, nat_tests)
 
 pub key_again : (key : Key) → IfSome key HasRoom → unpack (pack key) ≡ key

@@ -1,5 +1,6 @@
 -- Keys as numbers of 64 bits, if they are small.
 use Rattle.std.specs.Prelude.{◌≡◌, ◌⊎◌, ℕ, ◌+◌, ◌-◌, ◌*◌, ◌/◌, ◌%◌, ◌^◌, ◌<◌, ◌==◌, if◌then◌else◌}
+use Rattle.event_stamps.specs.declared.Stamp.{Stamp}
 use Rattle.event_tree.specs.Keys.{Key}
 use Rattle.event_tree.specs.Packing.{pack, unpack, IsPacked}
 
@@ -23,3 +24,10 @@ key_of c = unpack (widened c)
 pub record IsCode (c : ℕ) : Type 0 where
   pub exact : narrowed (pack (key_of c)) ≡ c
   pub packed : IsPacked (widened c)
+
+-- a stamp that has a code
+pub record IsCoded (s : Stamp) : Type 0 where
+  pub tick : s.tick < 2 ^ 27
+  pub round : s.round < 2 ^ 3
+  pub first : s.first < 2 ^ 16
+  pub second : s.second < 2 ^ 16

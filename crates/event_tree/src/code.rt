@@ -1,11 +1,16 @@
 //! Keys as numbers of 8 bytes, if they are small.
 
-ghost use Rattle.std.specs.Prelude.{◌≡◌, ◌↔◌, ◌<◌, ◌^◌, None, IfSome, IsTrue};
+ghost use Rattle.std.specs.Prelude.{◌≡◌, ◌≢◌, ◌↔◌, ◌-◌, ◌<◌, ◌^◌, Some, None, IfSome, IsTrue};
+ghost use Rattle.event_stamps.specs.declared.Stamp.{Stamp};
+ghost use Rattle.event_stamps.specs.declared.Kind.TheVariants.{Cross, Pair};
+ghost use Rattle.event_stamps.specs.Order.{Before, IsInRange};
 ghost use Rattle.event_stamps.specs.Least.{earlier_of};
-ghost use Rattle.event_tree.specs.Packing.{IsPacked};
-ghost use Rattle.event_tree.specs.Codes.{narrowed, widened, HasCode};
+ghost use Rattle.event_tree.specs.Keys.{IsKeyBefore};
+ghost use Rattle.event_tree.specs.Packing.{HasRoom, IsPacked};
+ghost use Rattle.event_tree.specs.Codes.{narrowed, widened, key_of, HasCode, IsCoded};
 
-use crate::packed::Packed;
+use crate::packed::{Packed, kind_number, kind_of};
+use event_stamps::{Kind, Stamp};
 use std::marker::Model;
 
 // How many numbers belong to one tick.
@@ -14,8 +19,14 @@ const TICK: u128 = 1 << 51;
 // How many codes belong to one tick. Both are powers of two, so that codes are put together and taken apart by shifts.
 const CODES: u64 = 1 << 37;
 
-// How many ticks have codes.
-const TICKS: u128 = 1 << 27;
+// How many ticks, rounds, kinds and disks codes distinguish.
+const TICKS: u64 = 1 << 27;
+
+const ROUNDS: u64 = 1 << 3;
+
+const KINDS: u64 = 1 << 2;
+
+const DISKS: u64 = 1 << 16;
 
 // The bits of a round that have no room in a code, as a power of two.
 const ROUNDS_LEFT_OUT: u128 = 1 << 14;
@@ -25,10 +36,10 @@ const NO_KEY: u128 = u128::MAX;
 
 const NO_CODE: u64 = u64::MAX;
 
-// A key, a stamp or none, as a number of 8 bytes: its number of 16 bytes without the upper 14 bits of the round, which
-// are 0. The codes are ordered as the keys are, and no key is the greatest of all.
+/// A key, a stamp or none, as a number of 8 bytes: its number of 16 bytes without the upper 14 bits of the round, which
+/// are 0. The codes are ordered as the keys are, and no key is the greatest of all.
 #[derive(Clone, Copy)]
-pub(crate) struct Code {
+pub struct Code {
     code: u64,
 }
 
@@ -49,7 +60,7 @@ impl Model for Code {
 }
 
 impl Code {
-    // No key.
+    /// No key.
     #[inline(always)]
     pub fn none() -> Code
         ensures { result ≡ None }
@@ -57,7 +68,7 @@ impl Code {
         Code { code: NO_CODE }
     }
 
-    // The code of a key; none if the key doesn't fit.
+    /// The code of a key; none if the key doesn't fit.
     #[inline(always)]
     pub fn of(key: Packed) -> Option<Code>
         ensures { IfSome result (λ code. code ≡ key) }
@@ -72,7 +83,88 @@ impl Code {
         }
     }
 
-    // The key, packed.
+    /// The code of a disk's crossing in round 0.
+    #[inline(always)]
+    pub fn crossing(tick: u64, disk: u32) -> Code
+        requires tick { tick < 2 ^ 27 }
+        requires disk { disk < 2 ^ 16 }
+        ensures { result ≡ Some (record { tick = tick; round = 0; kind = Cross; first = disk; second = 0 }) }
+    {
+        Code::of_stamp(Stamp {
+            tick,
+            round: 0,
+            kind: Kind::Cross,
+            first: disk,
+            second: 0,
+        })
+    }
+
+    /// The code of an event of two disks, the lower one first.
+    #[inline(always)]
+    pub fn pair(tick: u64, round: u32, first: u32, second: u32) -> Code
+        requires tick { tick < 2 ^ 27 }
+        requires round { round < 8 }
+        requires first { first < 2 ^ 16 }
+        requires second { second < 2 ^ 16 }
+        ensures { result ≡ Some (record { tick = tick; round = round; kind = Pair; first = first; second = second }) }
+    {
+        Code::of_stamp(Stamp {
+            tick,
+            round,
+            kind: Kind::Pair,
+            first,
+            second,
+        })
+    }
+
+    /// A bound for codes: those of the stamps before this one are before it, and no others.
+    pub fn limit(stamp: &Stamp) -> Code
+        requires { IsInRange stamp.now }
+        ensures { (s : Stamp) → IsCoded s → (IsKeyBefore (Some s) result ↔ Before s stamp.now) }
+    {
+        if stamp.tick >= TICKS {
+            return Code::none();
+        }
+        if u64::from(stamp.round) < ROUNDS {
+            return Code::of_stamp(*stamp);
+        }
+        // All codes of its tick are of earlier rounds.
+        let next = stamp.tick + 1;
+        if next < TICKS {
+            Code::of_stamp(Stamp::end_of(next))
+        } else {
+            Code::none()
+        }
+    }
+
+    // The code of a stamp.
+    #[inline(always)]
+    fn of_stamp(stamp: Stamp) -> Code
+        requires { IsCoded stamp }
+        ensures { result ≡ Some stamp }
+    {
+        let time = stamp.tick * ROUNDS + u64::from(stamp.round);
+        let event = time * KINDS + kind_number(stamp.kind) as u64;
+        Code {
+            code: (event * DISKS + u64::from(stamp.first)) * DISKS + u64::from(stamp.second),
+        }
+    }
+
+    /// The key.
+    #[inline(always)]
+    pub fn stamp(self) -> Option<Stamp>
+        ensures value { result ≡ self }
+        ensures room { IfSome result HasRoom }
+        ensures coded { IfSome result IsCoded }
+    {
+        if self.code == NO_CODE {
+            None
+        } else {
+            Some(stamp_of(self.code))
+        }
+    }
+
+    /// The key, packed.
     #[inline(always)]
     pub fn packed(self) -> Packed
         ensures { result ≡ self }
@@ -80,7 +172,7 @@ impl Code {
         Packed::numbered(widened(self.code))
     }
 
-    // Whether it is the same key.
+    /// Whether it is the same key.
     #[inline(always)]
     pub fn is(self, other: Code) -> bool
         ensures { IsTrue result ↔ self ≡ other }
@@ -88,7 +180,23 @@ impl Code {
         self.code == other.code
     }
 
-    // The earlier of two keys that are both there; else the one that is there, if any.
+    /// Whether it comes before another one; no key comes after all stamps.
+    #[inline(always)]
+    pub fn is_before(self, other: Code) -> bool
+        ensures { IsTrue result ↔ IsKeyBefore self other }
+    {
+        self.code < other.code
+    }
+
+    /// Whether it is no key or that of a pair's event: both have the upper bit of the kind.
+    #[inline(always)]
+    pub fn is_pair_or_none(self) -> bool
+        ensures { IsTrue result ↔ IfSome self (λ stamp. stamp.kind ≡ Pair) }
+    {
+        self.code / (2 * DISKS * DISKS) % 2 == 1
+    }
+
+    /// The earlier of two keys that are both there; else the one that is there, if any.
     #[inline(always)]
     pub fn earlier(self, other: Code) -> Code
         ensures { result ≡ earlier_of self other }
@@ -102,7 +210,8 @@ impl Code {
 fn has_code(number: u128) -> bool
     ensures { IsTrue result ↔ HasCode number }
 {
-    number == NO_KEY || (number / u128::from(CODES) % ROUNDS_LEFT_OUT == 0 && number / TICK < TICKS)
+    number == NO_KEY
+        || (number / u128::from(CODES) % ROUNDS_LEFT_OUT == 0 && number / TICK < u128::from(TICKS))
 }
 
 // The code of a number.
@@ -110,7 +219,7 @@ fn has_code(number: u128) -> bool
 fn narrowed(number: u128) -> u64
     ensures { result ≡ narrowed number }
 {
-    let tick = (number / TICK % TICKS) as u64;
+    let tick = (number / TICK % u128::from(TICKS)) as u64;
     tick * CODES + (number % u128::from(CODES)) as u64
 }
 
@@ -123,4 +232,22 @@ fn widened(code: u64) -> u128
         return NO_KEY;
     }
     u128::from(code / CODES) * TICK + u128::from(code % CODES)
+}
+
+// The stamp of a code that isn't that of no key.
+#[inline(always)]
+fn stamp_of(code: u64) -> Stamp
+    requires { code ≢ (2 ^ 64 - 1) }
+    ensures key { key_of code ≡ Some result }
+    ensures coded { IsCoded result }
+{
+    let event = code / DISKS / DISKS;
+    let time = event / KINDS;
+    Stamp {
+        tick: time / ROUNDS,
+        round: (time % ROUNDS) as u32,
+        kind: kind_of(u128::from(event % KINDS)),
+        first: (code / DISKS % DISKS) as u32,
+        second: (code % DISKS) as u32,
+    }
 }

@@ -85,6 +85,59 @@ impl Entries {
         }
     }
 
+    /// The least of the keys, as a code; none if some key or bound has no code.
+    #[inline(always)]
+    pub fn top_code(&self) -> Option<Code>
+        ensures { IfSome result (IsLeastKey self.now.keys) }
+    {
+        match &self.wide {
+            Some(_) => None,
+            None => Some(self.narrow.top()),
+        }
+    }
+
+    /// The key of a disk, as a code; none if some key or bound has no code.
+    #[inline(always)]
+    pub fn key_code(&self, disk: u32) -> Option<Code>
+        ensures { IfSome result (λ code. code ≡ key_at self.now.keys disk) }
+    {
+        match &self.wide {
+            Some(_) => None,
+            None => Some(self.narrow.key(disk)),
+        }
+    }
+
+    /// The bound of a disk, as a code; none if some key or bound has no code.
+    #[inline(always)]
+    pub fn bound_code(&self, disk: u32) -> Option<Code>
+        ensures { IfSome result (λ code. code ≡ key_at self.now.bounds disk) }
+    {
+        match &self.wide {
+            Some(_) => None,
+            None => Some(self.narrow.bound(disk)),
+        }
+    }
+
+    /// Sets the key and the bound of a disk.
+    ///
+    /// # Errors
+    /// Out of memory. Nothing is claimed of the entries then.
+    #[inline(always)]
+    pub fn set_codes(
+        &mut self,
+        alloc: Global,
+        disk: u32,
+        key: Code,
+        bound: Code,
+    ) -> Result<(), AllocError>
+        ensures { OnOk result (IsEntered disk (key, bound) self.old self.new) }
+    {
+        if self.wide.is_none() {
+            return self.narrow.set(alloc, disk, NarrowEntry { key, bound });
+        }
+        self.set_wide(alloc, disk, key.packed(), bound.packed())
+    }
+
     /// Sets the key and the bound of a disk.
     ///
     /// # Errors

@@ -14,6 +14,7 @@ mod narrow;
 mod packed;
 mod wide;
 
+pub use code::Code;
 pub use entries::Entries;
 use event_stamps::Stamp;
 pub use packed::Packed;

@@ -178,7 +178,8 @@ fn stamp_of(number: u128) -> Stamp
     }
 }
 
-fn kind_number(kind: Kind) -> u128
+// The number of a kind.
+pub(crate) fn kind_number(kind: Kind) -> u128
     ensures value { result ≡ kind_number kind }
     ensures small { result < 3 }
 {
@@ -189,7 +190,8 @@ fn kind_number(kind: Kind) -> u128
     }
 }
 
-fn kind_of(number: u128) -> Kind
+// The kind that has a number.
+pub(crate) fn kind_of(number: u128) -> Kind
     ensures { result ≡ kind_of number }
 {
     if number == 0 {
