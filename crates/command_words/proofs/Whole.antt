@@ -9,13 +9,13 @@ use Rattle.clap.specs.ValueTests.{accepts, is_unsigned_in}
 use Rattle.clap.specs.declared.builder.value_parser.ValueParser.TheVariants as value_parser
 use Rattle.clap.proofs.ValueTestLemmas.{Accepts-accepts, accepts-Accepts}
 use Rattle.command_words.proofs.InRange.{together}
-use Rattle.command_words.proofs.Numbers.{HasName, HasNumber, at_passed, burst_passed, disks_passed, format_passed, mode_passed, number_passed, regions_passed, steps_passed, turns_passed, workers_passed}
+use Rattle.command_words.proofs.Numbers.{HasName, HasNumber, at_passed, burst_passed, disks_passed, format_passed, margin_passed, mode_passed, number_passed, regions_passed, steps_passed, turns_passed, workers_passed}
 use Rattle.command_words.specs.Laws.{MatchesHaveSettings}
 use Rattle.command_words.specs.Options.{burst_names, command, format_names, mode_names, names_of}
 use Rattle.command_words.specs.Words.{burst_of, format_named, mode_of, number_up_to, settings_in, settings_of}
 use Rattle.command_words.specs.declared.settings.Mode.{Mode}
 use Rattle.command_words.specs.declared.settings.Mode.TheVariants.{Run, Plain, Check, Load, Cut, Audit}
-use Rattle.command_words.specs.declared.settings.OutputFormat.TheVariants.{Lines, Summary}
+use Rattle.command_words.specs.declared.settings.OutputFormat.TheVariants.{Lines, Summary, States, Sums}
 use Rattle.command_words.specs.declared.settings.OutputFormat.{OutputFormat}
 use Rattle.command_words.specs.declared.settings.BurstKind.{BurstKind}
 use Rattle.command_words.specs.declared.settings.BurstKind.TheVariants.{Locks, Table}
@@ -29,10 +29,10 @@ number_there least most greatest o below has =
     let read : number_up_to greatest has.0 ≡ Some (digits_value 10 (without_leading_plus has.0)) = rw wide refl in
     (digits_value 10 (without_leading_plus has.0), ap (option_and_then (number_up_to greatest)) has.1 ∙ read)
 
-together_there : (mode : Option Mode) (format : Option OutputFormat) (regions workers turns steps number disks at : Option ℕ) (burst : Option BurstKind) (m : Mode) (f : OutputFormat) (r w t s n d a : ℕ) (b : BurstKind)
-    → mode ≡ Some m → format ≡ Some f → regions ≡ Some r → workers ≡ Some w → turns ≡ Some t → steps ≡ Some s → number ≡ Some n → disks ≡ Some d → at ≡ Some a → burst ≡ Some b
-    → is_some (together mode format regions workers turns steps number disks at burst) ≡ true
-together_there mode format regions workers turns steps number disks at burst m f r w t s n d a b e0 e1 e2 e3 e4 e5 e6 e7 e8 e9 = rw (e0, e1, e2, e3, e4, e5, e6, e7, e8, e9) refl
+together_there : (mode : Option Mode) (format : Option OutputFormat) (regions workers turns steps number disks at margin : Option ℕ) (burst : Option BurstKind) (m : Mode) (f : OutputFormat) (r w t s n d a g : ℕ) (b : BurstKind)
+    → mode ≡ Some m → format ≡ Some f → regions ≡ Some r → workers ≡ Some w → turns ≡ Some t → steps ≡ Some s → number ≡ Some n → disks ≡ Some d → at ≡ Some a → margin ≡ Some g → burst ≡ Some b
+    → is_some (together mode format regions workers turns steps number disks at margin burst) ≡ true
+together_there mode format regions workers turns steps number disks at margin burst m f r w t s n d a g b e0 e1 e2 e3 e4 e5 e6 e7 e8 e9 e10 = rw (e0, e1, e2, e3, e4, e5, e6, e7, e8, e9, e10) refl
 
 -- of names that each say something, one says something
 abbrev EachSays : {X : Type 0} → (Text → Option X) → List Text → Type 0
@@ -57,7 +57,7 @@ pub matches_have_settings : MatchesHaveSettings
 unfolding settings_of
 matches_have_settings words none =
     let mode = choice_there mode_of mode_names (first_of (codes "mode") (matches_of command words)) ((Run, refl), ((Plain, refl), ((Check, refl), ((Load, refl), ((Cut, refl), ((Audit, refl), tt)))))) (mode_passed words none) in
-    let format = choice_there format_named format_names (first_of (codes "format") (matches_of command words)) ((Lines, refl), ((Summary, refl), tt)) (format_passed words none) in
+    let format = choice_there format_named format_names (first_of (codes "format") (matches_of command words)) ((Lines, refl), ((Summary, refl), ((States, refl), ((Sums, refl), tt)))) (format_passed words none) in
     let regions = number_there 1 64 4294967295 (one_of (codes "regions") (matches_of command words)) (omega arith) (regions_passed words none) in
     let workers = number_there 1 64 4294967295 (one_of (codes "workers") (matches_of command words)) (omega arith) (workers_passed words none) in
     let turns = number_there 1 65536 4294967295 (one_of (codes "turns") (matches_of command words)) (omega arith) (turns_passed words none) in
@@ -65,8 +65,9 @@ matches_have_settings words none =
     let number = number_there 0 18446744073709551615 18446744073709551615 (one_of (codes "number") (matches_of command words)) (omega arith) (number_passed words none) in
     let disks = number_there 0 65536 4294967295 (one_of (codes "disks") (matches_of command words)) (omega arith) (disks_passed words none) in
     let at = number_there 0 1099511627776 18446744073709551615 (one_of (codes "at") (matches_of command words)) (omega arith) (at_passed words none) in
+    let margin = number_there 0 1073741824 4294967295 (one_of (codes "margin") (matches_of command words)) (omega arith) (margin_passed words none) in
     let burst = choice_there burst_of burst_names (first_of (codes "burst") (matches_of command words)) ((Locks, refl), ((Table, refl), tt)) (burst_passed words none) in
     let there : is_some (settings_in (matches_of command words)) ≡ true =
-    together_there _ _ _ _ _ _ _ _ _ _ mode.0 format.0 regions.0 workers.0 turns.0 steps.0 number.0 disks.0 at.0 burst.0 mode.1 format.1 regions.1 workers.1 turns.1 steps.1 number.1
-    disks.1 at.1 burst.1 in
+    together_there _ _ _ _ _ _ _ _ _ _ _ mode.0 format.0 regions.0 workers.0 turns.0 steps.0 number.0 disks.0 at.0 margin.0 burst.0 mode.1 format.1 regions.1 workers.1 turns.1 steps.1 number.1
+    disks.1 at.1 margin.1 burst.1 in
     rw none there

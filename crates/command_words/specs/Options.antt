@@ -40,7 +40,7 @@ mode_names = codes "run" ∷ codes "plain" ∷ codes "check" ∷ codes "load" �
 
 -- the names of the formats
 abbrev pub format_names : List Text
-format_names = codes "lines" ∷ codes "summary" ∷ []
+format_names = codes "lines" ∷ codes "summary" ∷ codes "states" ∷ codes "sums" ∷ []
 
 -- the names of the kinds of burst
 abbrev pub burst_names : List Text
@@ -55,12 +55,13 @@ run_options =
     ∷ number_option (codes "steps") 1 4096 (codes "64")
     ∷ []
 
--- the scene that is made, and the tick at which a run is cut
+-- the scene that is made, the tick at which a run is cut, and how far from the sides collisions are summed
 abbrev pub scene_options : List Rule
 scene_options =
     number_option (codes "number") 0 18446744073709551615 (codes "1")
     ∷ number_option (codes "disks") 0 65536 (codes "100")
     ∷ number_option (codes "at") 0 1099511627776 (codes "0")
+    ∷ number_option (codes "margin") 0 1073741824 (codes "0")
     ∷ []
 
 -- all options, with these names of modes, formats and kinds of burst

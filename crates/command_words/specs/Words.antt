@@ -10,7 +10,7 @@ use Rattle.command_words.specs.declared.settings.Settings.{Settings}
 use Rattle.command_words.specs.declared.settings.Mode.{Mode}
 use Rattle.command_words.specs.declared.settings.Mode.TheVariants.{Run, Plain, Check, Load, Cut, Audit}
 use Rattle.command_words.specs.declared.settings.OutputFormat.{OutputFormat}
-use Rattle.command_words.specs.declared.settings.OutputFormat.TheVariants.{Lines, Summary}
+use Rattle.command_words.specs.declared.settings.OutputFormat.TheVariants.{Lines, Summary, States, Sums}
 use Rattle.command_words.specs.declared.settings.BurstKind.{BurstKind}
 use Rattle.command_words.specs.declared.settings.BurstKind.TheVariants.{Locks, Table}
 
@@ -35,6 +35,8 @@ abbrev pub format_named : Text → Option OutputFormat
 format_named text =
     if bytes_eq text (codes "lines") then Some Lines
     else if bytes_eq text (codes "summary") then Some Summary
+    else if bytes_eq text (codes "states") then Some States
+    else if bytes_eq text (codes "sums") then Some Sums
     else None
 
 -- the kind of burst of this name, if there is one
@@ -69,6 +71,7 @@ settings_in rows = do
   number ← one_of (codes "number") rows >>= long_number
   disks ← one_of (codes "disks") rows >>= short_number
   at ← one_of (codes "at") rows >>= long_number
+  margin ← one_of (codes "margin") rows >>= short_number
   burst ← first_of (codes "burst") rows >>= burst_of
   Some (record {
     mode = mode;
@@ -80,6 +83,7 @@ settings_in rows = do
     number = number;
     disks = disks;
     at = at;
+    margin = margin;
     burst = burst;
   })
 

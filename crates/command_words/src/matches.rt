@@ -28,6 +28,8 @@ fn format_of(text: &str) -> Option<OutputFormat>
     match text {
         "lines" => Some(OutputFormat::Lines),
         "summary" => Some(OutputFormat::Summary),
+        "states" => Some(OutputFormat::States),
+        "sums" => Some(OutputFormat::Sums),
         _ => None,
     }
 }
@@ -91,6 +93,7 @@ pub(crate) fn settings_in(matches: &ArgMatches<'_>) -> Option<Settings>
         number: long_number_in(matches, "number")?,
         disks: short_number_in(matches, "disks")?,
         at: long_number_in(matches, "at")?,
+        margin: short_number_in(matches, "margin")?,
         burst: burst_in(matches)?,
     })
 }

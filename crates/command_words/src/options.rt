@@ -17,7 +17,7 @@ struct WordOption {
     default: &'static str,
 }
 
-static OPTIONS: [WordOption; 10] = [
+static OPTIONS: [WordOption; 11] = [
     // What is done, and the form in which it is written.
     WordOption {
         name: "mode",
@@ -26,7 +26,7 @@ static OPTIONS: [WordOption; 10] = [
     },
     WordOption {
         name: "format",
-        parser: ValueParser::Names(&["lines", "summary"]),
+        parser: ValueParser::Names(&["lines", "summary", "states", "sums"]),
         default: "lines",
     },
     // How a run is divided.
@@ -65,6 +65,12 @@ static OPTIONS: [WordOption; 10] = [
     WordOption {
         name: "at",
         parser: ValueParser::Unsigned(0, 1_099_511_627_776),
+        default: "0",
+    },
+    // How far from the sides of the box collisions are summed.
+    WordOption {
+        name: "margin",
+        parser: ValueParser::Unsigned(0, 1_073_741_824),
         default: "0",
     },
     // Where the regions lie while workers run them.

@@ -24,6 +24,10 @@ pub enum OutputFormat {
     Lines,
     /// The end of the report without the disks.
     Summary,
+    /// What `Lines` has, without the lines of collisions.
+    States,
+    /// Sums over the collisions, and then the end of the report without the disks.
+    Sums,
 }
 
 /// Where the regions lie while workers run them, between two commits.
@@ -56,6 +60,9 @@ pub struct Settings {
     pub disks: u32,
     /// The tick at which a run is cut, `--at`, 0 to 1,099,511,627,776; 0 by default.
     pub at: u64,
+    /// How far from the sides of the box collisions are summed, in units of length, `--margin`, 0 to 1,073,741,824; 0 by
+    /// default.
+    pub margin: u32,
     /// Where the regions lie while workers run them, `--burst`; [`BurstKind::Locks`] by default.
     pub burst: BurstKind,
 }

@@ -6,4 +6,4 @@ use Rattle.command_words.proofs.options.all_options.Goals as goal
 pub returns : goal.returns
 returns c =
     let options = c.as_slice.result.now in
-    (first_names options, first_names (drop 1 options), first_names (drop 9 options), search rules, search rules, search rules, search rules)
+    (first_names options, first_names (drop 1 options), first_names (drop 10 options), search rules, search rules, search rules, search rules)
