@@ -1,0 +1,4 @@
+-- The definitions that the contracts cite.
+pub mod Samples
+pub mod Meaning
+pub mod Laws
