@@ -4,7 +4,6 @@ ghost use Rattle.cell_grid.specs.Grid.{IsAsked};
 
 use region_core::{Beside, Burst, Idle, Region};
 use std::alloc::{AllocError, Global};
-use std::sync::Wait;
 use std::thread::Threads;
 
 /// A burst with nothing to do beside, and the number of regions on which it is to work.
@@ -26,7 +25,7 @@ impl<S: Beside<W>, W, B: Burst<Idle, ()>> Burst<S, W> for OverBurst<'_, B> {
         self.burst.keeps()
     }
 
-    fn burst<R: Threads + Wait + Sync>(
+    fn burst<R: Threads + Sync>(
         &mut self,
         rt: &R,
         alloc: Global,
@@ -43,7 +42,7 @@ impl<S: Beside<W>, W, B: Burst<Idle, ()>> Burst<S, W> for OverBurst<'_, B> {
 pub struct NoBurst;
 
 impl Burst<Idle, ()> for NoBurst {
-    fn burst<R: Threads + Wait + Sync>(
+    fn burst<R: Threads + Sync>(
         &mut self,
         _rt: &R,
         _alloc: Global,

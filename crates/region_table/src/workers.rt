@@ -20,7 +20,6 @@ use cell_grid::Grid;
 use region_core::{Gate, Region};
 use region_workers::Workers;
 use std::alloc::{AllocError, Global};
-use std::sync::Wait;
 use std::thread;
 use std::thread::Threads;
 
@@ -29,7 +28,7 @@ use std::thread::Threads;
 ///
 /// # Errors
 /// Out of memory.
-pub fn burst_in_table<R: Threads + Wait + Sync, G: Gate>(
+pub fn burst_in_table<R: Threads + Sync, G: Gate>(
     workers: &Workers<'_, G>,
     rt: &R,
     alloc: Global,
@@ -56,7 +55,7 @@ pub fn burst_in_table<R: Threads + Wait + Sync, G: Gate>(
 }
 
 // Runs the given number of jobs side by side. Each takes a seat along that is split off this one, and brings it back.
-fn run_jobs<R: Threads + Wait + Sync, G: Gate>(
+fn run_jobs<R: Threads + Sync, G: Gate>(
     workers: &Workers<'_, G>,
     rt: &R,
     alloc: Global,

@@ -4,7 +4,6 @@ use crate::call::Call;
 use region_core::{Beside, Burst, Region};
 use std::alloc::{AllocError, Global};
 use std::marker::{Model, PhantomData};
-use std::sync::Wait;
 use std::thread::Threads;
 
 /// A burst that hands the regions to a call, which gives back each at its place, run on, with what is done beside.
@@ -48,7 +47,7 @@ impl<S: Beside<W>, W, C: Call<S, W>> Burst<S, W> for ByCall<S, W, C> {
         true
     }
 
-    fn burst<R: Threads + Wait + Sync>(
+    fn burst<R: Threads + Sync>(
         &mut self,
         _rt: &R,
         _alloc: Global,

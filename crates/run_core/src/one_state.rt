@@ -46,7 +46,6 @@ use fixed_motion::{Disk, Rules, Scene};
 use region_core::{Beside, Burst};
 use region_view::Placed;
 use std::alloc::{AllocError, Global};
-use std::sync::Wait;
 use std::thread::Threads;
 
 impl Standing {
@@ -102,7 +101,7 @@ impl Standing {
     ///
     /// # Errors
     /// Out of memory.
-    pub(crate) fn work<R: Threads + Wait + Sync, S: Beside<W>, W, B: Burst<S, W>>(
+    pub(crate) fn work<R: Threads + Sync, S: Beside<W>, W, B: Burst<S, W>>(
         self,
         rt: &R,
         alloc: Global,
@@ -122,7 +121,7 @@ impl Standing {
     }
 
     // Lets a burst that keeps the regions work on them.
-    fn work_keeping<R: Threads + Wait + Sync, S: Beside<W>, W, B: Burst<S, W>>(
+    fn work_keeping<R: Threads + Sync, S: Beside<W>, W, B: Burst<S, W>>(
         self,
         rt: &R,
         alloc: Global,
@@ -146,7 +145,7 @@ impl Standing {
     }
 
     // Lets a burst work on the regions, and adopts what it gives back.
-    fn work_adopting<R: Threads + Wait + Sync, S: Beside<W>, W, B: Burst<S, W>>(
+    fn work_adopting<R: Threads + Sync, S: Beside<W>, W, B: Burst<S, W>>(
         self,
         rt: &R,
         alloc: Global,

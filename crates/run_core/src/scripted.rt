@@ -25,7 +25,6 @@ ghost use Rattle.run_core.specs.Plays.{Plays};
 use crate::playing::play;
 use region_core::{Beside, Burst, Region};
 use std::alloc::{AllocError, Global};
-use std::sync::Wait;
 use std::thread::Threads;
 
 impl Scripted {
@@ -43,7 +42,7 @@ impl Scripted {
 }
 
 impl<S: Beside<W>, W> Burst<S, W> for Scripted {
-    fn burst<R: Threads + Wait + Sync>(
+    fn burst<R: Threads + Sync>(
         &mut self,
         _rt: &R,
         alloc: Global,

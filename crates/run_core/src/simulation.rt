@@ -17,7 +17,6 @@ use event_rules::{Listener, Outcome, RunFault};
 use fixed_motion::{MAX_DISKS, Scene};
 use region_core::Burst;
 use std::alloc::Global;
-use std::sync::Wait;
 use std::thread::Threads;
 
 /// Runs a scene over this many regions, 1 to [`MAX_REGIONS`](cell_grid::MAX_REGIONS), and tells each change in
@@ -26,7 +25,7 @@ use std::thread::Threads;
 ///
 /// # Errors
 /// The listener refused a change, and its count of refusals rose; or out of memory.
-pub fn simulate<B: Burst<Telling, L>, R: Threads + Wait + Sync, L: Listener>(
+pub fn simulate<B: Burst<Telling, L>, R: Threads + Sync, L: Listener>(
     rt: &R,
     alloc: Global,
     scene: &Scene,
@@ -65,7 +64,7 @@ pub fn simulate<B: Burst<Telling, L>, R: Threads + Wait + Sync, L: Listener>(
 
 // Lets a burst work on regions, while actions that are untold are told beside it, and then advances. All that was
 // untold before is told then, and what the advance made final is untold.
-fn work<B: Burst<Telling, L>, R: Threads + Wait + Sync, L: Listener>(
+fn work<B: Burst<Telling, L>, R: Threads + Sync, L: Listener>(
     rt: &R,
     alloc: Global,
     standing: Standing,

@@ -51,7 +51,7 @@ struct Replacing<'s> {
 }
 
 impl Burst<Idle, ()> for Replacing<'_> {
-    fn burst<R: Threads + Wait + Sync>(
+    fn burst<R: Threads + Sync>(
         &mut self,
         _rt: &R,
         alloc: Global,

@@ -46,7 +46,7 @@ struct Tampering<'a> {
 }
 
 impl<'a, S: Beside<W>, W> Burst<S, W> for Tampering<'a> {
-    fn burst<R: Threads + Wait + Sync>(
+    fn burst<R: Threads + Sync>(
         &mut self,
         _rt: &R,
         alloc: Global,

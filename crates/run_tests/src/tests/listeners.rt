@@ -71,7 +71,7 @@ struct Reading<'a> {
 }
 
 impl<'a, S: Beside<W>, W> Burst<S, W> for Reading<'a> {
-    fn burst<R: Threads + Wait + Sync>(
+    fn burst<R: Threads + Sync>(
         &mut self,
         _rt: &R,
         _alloc: Global,
@@ -146,7 +146,7 @@ struct CallCounter {
 }
 
 impl<S: Beside<W>, W> Burst<S, W> for CallCounter {
-    fn burst<R: Threads + Wait + Sync>(
+    fn burst<R: Threads + Sync>(
         &mut self,
         _rt: &R,
         alloc: Global,
