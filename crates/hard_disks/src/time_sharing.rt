@@ -27,6 +27,9 @@ const STINT: u64 = 3_000;
 // How many microseconds a worker sleeps to give its processor away.
 const AWAY: u64 = 1;
 
+// How many microseconds a worker sleeps that has nothing to do.
+const REST: u64 = 20;
+
 /// A gate at which a worker gives its processor away for a moment, if others seem to want it and the worker has had it
 /// for some milliseconds.
 #[derive(Drop)]
@@ -79,6 +82,10 @@ impl<'r, R: Clock + Sync> Gate for TimeSharing<'r, R> {
             self.rt.sleep(Duration::from_micros(AWAY));
             stint.come(micros(self.rt), true);
         }
+    }
+
+    fn rest(&self, _worker: u32) {
+        self.rt.sleep(Duration::from_micros(REST));
     }
 }
 
