@@ -1,5 +1,5 @@
 -- The commit horizon of the regions of a cell state: what they did before it is final.
-use Rattle.std.specs.Prelude.{◌≡◌, ◌⊎◌, ℕ, List, [], ◌∷◌, ⊤, Option, Some, None, length, slice_get}
+use Rattle.std.specs.Prelude.{◌≡◌, ◌⊎◌, ℕ, List, [], ◌∷◌, ⊤, Option, Some, None, slice_get}
 use Rattle.std.specs.FinMap as map
 use Rattle.event_stamps.specs.declared.Stamp.{Stamp}
 use Rattle.event_stamps.specs.Order.{Before, first_stamp, end_stamp}
@@ -13,7 +13,7 @@ use Rattle.local_run.specs.declared.entry.Entry.TheVariants.{Native}
 use Rattle.local_run.specs.LocalRun.{Local, now_of, sent_to, trail_of, IsOffered, IsRight}
 use Rattle.local_run.specs.Opening.{RegionData, home_of}
 use Rattle.local_run.specs.Keeping.{IsKept}
-use Rattle.local_run.specs.Standing.{StandsOn}
+pub use Rattle.run_floors.specs.Regions.{AllStand}
 
 -- ---- the regions of a state
 -- the local run of each region, by its number
@@ -85,12 +85,6 @@ run_of (Some region) = local_run_in region.run
 -- the local runs of some regions, by their places
 unfoldable pub runs_of : List RegionData → LocalRuns
 runs_of regions k = run_of (slice_get regions k)
-
--- as many regions as the grid has, and each stands on the state with its place as its number
-pub record AllStand (state : CellStateData) (regions : List RegionData) : Type 0 where
-  pub count : length regions ≡ state.grid.regions
-  pub each : (k : ℕ) (region : RegionData) → slice_get regions k ≡ Some region →
-      StandsOn state k region
 
 -- what each region keeps
 abbrev pub AllKept : List RegionData → Type 0
