@@ -1,52 +1,43 @@
--- Posts of regions that were put under locks.
-use Rattle.std.proofs.Common.{◌≡◌, ◌≢◌, ℕ, List, Some, slice_get, None, sym, ap, ◌∙◌, subst}
+-- Posts of the regions of a run.
+use Rattle.std.proofs.Common.{◌≡◌, ◌≢◌, ℕ, List, None, sym, ap, ◌∙◌, subst}
+use Rattle.fixed_motion.specs.declared.rules.Rules.{Rules}
 use Rattle.event_stamps.specs.declared.Stamp.{Stamp}
+use Rattle.cell_grid.specs.Grid.{GridData}
 use Rattle.region_view.specs.declared.rows.Message.{Message}
+use Rattle.cell_sequence.specs.State.{CellStateData}
 use Rattle.local_run.specs.declared.home.Home.{Home}
 use Rattle.local_run.specs.LocalRun.{IsHearable}
-use Rattle.local_run.specs.Opening.{RegionData}
-use Rattle.local_run.specs.Bursts.{AreTogether}
+use Rattle.local_run.specs.Opening.{RegionData, home_of}
 use Rattle.region_core.specs.Posts.{home_at, IsPost}
 use Rattle.region_locks.specs.Holding.{IsHeld}
-use Rattle.region_locks.specs.Posting.{IsPosted}
 
--- the hearer of a post as its sender knows it: of its own rules, grid and floor
-record IsHearerOf (region hearer : RegionData) (to : ℕ) : Type 0 where
-  home : home_at region.home to ≡ hearer.home
-  floor : region.floor ≡ hearer.floor
-
-hearer_of : (given : List RegionData) (region hearer : RegionData) (to : ℕ) → AreTogether given →
-    IsHeld given region → region.run ≢ None → slice_get given to ≡ Some hearer → IsHearerOf region hearer to
-hearer_of given region hearer to together held alive at =
-    let was = held alive in
-    let own = together.each region.home.number was.0 was.1 in
-    let its = together.each to hearer at in
-    record {
-      home = ap (λ (h : Home). home_at h to) (was.2.home ∙ own.home) ∙ sym its.home;
-      floor = was.2.floor ∙ own.floor_is ∙ sym its.floor_is;
-    }
+-- at a number, it is the home of the run
+home_in_run : (opening : CellStateData) (region : RegionData) (number : ℕ) → IsHeld opening region →
+    region.run ≢ None → home_at region.home number ≡ home_of opening number
+home_in_run opening region number held alive =
+    let there = held alive in
+    let rules : region.home.rules ≡ opening.rules = there.stands.rules ∙ sym there.one.rules in
+    let grid : region.home.grid ≡ opening.grid = there.stands.grid ∙ sym there.one.grid in
+    λ i. record { number = number; rules = rules i; grid = grid i }
 
 -- what its sender brings up to date is still such
-pub still_posted : (given : List RegionData) (region : RegionData) (from to : ℕ) (old new : List Message) →
-    IsPosted given from to old → IsHeld given region → region.run ≢ None → region.home.number ≡ from →
-    (IsPost region to old → IsPost region to new) → IsPosted given from to new
-still_posted given region from to old new was held alive number brings = record {
-  together = was.together;
-  hearable = λ hearer at.
-      let is = hearer_of given region hearer to was.together held alive at in
-      there hearer is (brings (back hearer is (was.hearable hearer at)));
-}
+pub still_hearable : (opening : CellStateData) (region : RegionData) (from to : ℕ) (floor : Stamp)
+    (old new : List Message) → IsHeld opening region → region.run ≢ None → region.home.number ≡ from →
+    region.floor ≡ floor → (IsPost region to old → IsPost region to new) →
+    IsHearable (home_of opening to) floor from old → IsHearable (home_of opening to) floor from new
+still_hearable opening region from to floor old new held alive number same brings was =
+    subst (λ (v : Type 0). v) (there new) (brings (subst (λ (v : Type 0). v) (sym (there old)) was))
   where
-    there : (hearer : RegionData) → IsHearerOf region hearer to → IsPost region to new →
-        IsHearable hearer.home hearer.floor from new
-    there hearer is h =
-        subst (λ (k : ℕ). IsHearable hearer.home hearer.floor k new) number
-        (subst (λ (f : Stamp). IsHearable hearer.home f region.home.number new) is.floor
-        (subst (λ (x : Home). IsHearable x region.floor region.home.number new) is.home h))
+    there : (ms : List Message) → IsPost region to ms ≡ IsHearable (home_of opening to) floor from ms
+    there ms =
+        let home = home_in_run opening region to held alive in
+        λ i. IsHearable (home i) (same i) (number i) ms
 
-    back : (hearer : RegionData) → IsHearerOf region hearer to → IsHearable hearer.home hearer.floor from old →
-        IsPost region to old
-    back hearer is h =
-        subst (λ (k : ℕ). IsHearable (home_at region.home to) region.floor k old) (sym number)
-        (subst (λ (f : Stamp). IsHearable (home_at region.home to) f from old) (sym is.floor)
-        (subst (λ (x : Home). IsHearable x hearer.floor from old) (sym is.home) h))
+-- and the region to which it goes may hear it
+pub hearable_there : (opening : CellStateData) (region : RegionData) (from to : ℕ) (floor : Stamp) (ms : List Message) →
+    IsHeld opening region → region.run ≢ None → region.home.number ≡ to → region.floor ≡ floor →
+    IsHearable (home_of opening to) floor from ms → IsHearable region.home region.floor from ms
+hearable_there opening region from to floor ms held alive number same was =
+    subst (λ (h : Home). IsHearable h region.floor from ms) (sym (home_in_run opening region region.home.number held alive))
+    (subst (λ (n : ℕ). IsHearable (home_of opening n) region.floor from ms) (sym number)
+    (subst (λ (f : Stamp). IsHearable (home_of opening to) f from ms) (sym same) was))

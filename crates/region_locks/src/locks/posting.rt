@@ -2,71 +2,71 @@
 
 ghost use Rattle.std.specs.Prelude.{◌<◌};
 
-use super::{FARTHEST, LOOKS, Locks};
+use super::{FARTHEST, Locks};
 use crate::held::Held;
 use crate::origin::Origin;
-use crate::pause::Pause;
 use crate::post::Post;
 use crate::progress::RegionProgress;
+use crate::trying::try_often;
 use event_stamps::Stamp;
 use std::alloc::{AllocError, Global};
 use std::sync::atomic::Ordering;
-use std::sync::{Mutex, MutexGuard, Wait};
+use std::sync::{Mutex, MutexGuard};
 
 impl<O: Origin> Locks<O> {
     /// Under the lock of a region, has it hear what others posted to it; lets it run up to `steps` steps while what is
-    /// due there is before a bound; and has it post what it sends. The answer says how far it came. If the region was
-    /// taken back, it makes no step, and the first stamp of all counts as due.
+    /// due there is before a bound; and has it post what it sends. The answer says how far it came; it is none if
+    /// somebody else holds the lock. If the region was taken back, it makes no step, and the first stamp of all counts
+    /// as due.
     ///
-    /// A post is taken while the region's lock is held, and no other lock while a post is held, so that no two threads
-    /// wait for each other. [`Locks::meet`] isn't to be called in a burst in which regions post: it marks as heard what
-    /// wasn't posted yet.
+    /// A post that somebody else holds is left for the next call, and counts as news: else a burst might end though the
+    /// region has something to hear or to post.
     ///
     /// # Errors
     /// Out of memory: the region is spent, or a post lacks the last messages.
-    pub fn hear_and_run<R: Wait>(
+    pub fn hear_and_run(
         &self,
-        rt: &R,
         alloc: Global,
         region: u32,
         steps: u32,
         bound: Stamp,
-    ) -> Result<RegionProgress, AllocError>
+    ) -> Result<Option<RegionProgress>, AllocError>
         requires region { region < self.now }
         requires steps { 0 < steps }
     {
-        let mut held = self.hold(rt, region);
-        let heard_news = self.hear_posts(rt, alloc, region, &mut held)?;
+        let Some(mut held) = self.try_hold(region) else {
+            return Ok(None);
+        };
+        let has_heard = self.hear_posts(alloc, region, &mut held)?;
         let progress = held.run_before(alloc, steps, bound)?;
-        self.post_all(rt, region, &mut held)?;
-        Ok(RegionProgress {
-            heard_news,
+        let is_left = self.post_all(region, &mut held)?;
+        Ok(Some(RegionProgress {
+            has_news: has_heard || is_left,
             ..progress
-        })
+        }))
     }
 
-    // Has a region, whose lock is held, hear what others posted to it. The answer says whether anything was new.
-    fn hear_posts<R: Wait>(
+    // Has a region, whose lock is held, hear what others posted to it. The answer says whether anything was new, or may
+    // be new in a post that somebody else holds.
+    fn hear_posts(
         &self,
-        rt: &R,
         alloc: Global,
         region: u32,
         held: &mut Held<O>,
     ) -> Result<bool, AllocError> {
         let end = region.saturating_add(FARTHEST + 1).min(self.count());
-        let mut heard_news = false;
+        let mut has_news = false;
         for from in region.saturating_sub(FARTHEST)..end {
             if from != region && self.has_news(from, region) {
-                let is_new = self.hear_post(rt, alloc, from, region, held)?;
-                heard_news = heard_news || is_new;
+                let is_new = self.hear_post(alloc, from, region, held)?;
+                has_news = has_news || is_new;
             }
         }
-        Ok(heard_news)
+        Ok(has_news)
     }
 
-    fn hear_post<R: Wait>(
+    fn hear_post(
         &self,
-        rt: &R,
         alloc: Global,
         from: u32,
         region: u32,
@@ -77,7 +77,9 @@ impl<O: Origin> Locks<O> {
         let Some(lock) = self.post(from, region) else {
             return Ok(false);
         };
-        let mut post = take_post(rt, lock);
+        let Some(mut post) = try_often(lock) else {
+            return Ok(true);
+        };
         let is_new = held.hear(alloc, &mut post)?;
         if !post.has_news() {
             self.regions[from as usize]
@@ -88,32 +90,32 @@ impl<O: Origin> Locks<O> {
     }
 
     // Brings the posts of a region, whose lock is held, up to date: those that lack something, and those in which
-    // something is still new, since their hearers may wait for its clock.
-    fn post_all<R: Wait>(&self, rt: &R, number: u32, held: &mut Held<O>) -> Result<(), AllocError>
+    // something is still new, since their hearers may wait for its clock. The answer says whether one is left, since
+    // somebody else holds it.
+    fn post_all(&self, number: u32, held: &mut Held<O>) -> Result<bool, AllocError>
         requires { number < self.now }
     {
         let end = number.saturating_add(FARTHEST + 1).min(self.count());
+        let mut is_left = false;
         for to in number.saturating_sub(FARTHEST)..end {
             if to != number && (held.has_news(to) || self.has_news(number, to)) {
-                self.post_one(rt, number, to, held)?;
+                let is_posted = self.post_one(number, to, held)?;
+                is_left = is_left || !is_posted;
             }
         }
-        Ok(())
+        Ok(is_left)
     }
 
-    fn post_one<R: Wait>(
-        &self,
-        rt: &R,
-        number: u32,
-        to: u32,
-        held: &mut Held<O>,
-    ) -> Result<(), AllocError>
+    // Brings one post up to date. False if somebody else holds it.
+    fn post_one(&self, number: u32, to: u32, held: &mut Held<O>) -> Result<bool, AllocError>
         requires { number < self.now }
     {
         let Some(lock) = self.post(number, to) else {
-            return Ok(());
+            return Ok(true);
         };
-        let mut post = take_post(rt, lock);
+        let Some(mut post) = try_often(lock) else {
+            return Ok(false);
+        };
         held.bring(&mut post)?;
         // The bit is only written if it changes, since other workers have its line of the cache.
         if post.has_news() && !self.has_news(number, to) {
@@ -121,7 +123,7 @@ impl<O: Origin> Locks<O> {
                 .news
                 .fetch_or(bit(to), Ordering::SeqCst);
         }
-        Ok(())
+        Ok(true)
     }
 
     // Whether a region posted something that another may find new. Takes no lock.
@@ -129,6 +131,14 @@ impl<O: Origin> Locks<O> {
         requires { from < self.now }
     {
         self.regions[from as usize].news.load(Ordering::SeqCst) & bit(to) != 0
+    }
+
+    /// Takes the lock of the post of a region to another, if it is free at one of some looks; none also if the two are
+    /// too far apart to be linked. Nobody else reads or writes that post until the guard that is answered is dropped.
+    pub fn try_hold_post(&self, from: u32, to: u32) -> Option<MutexGuard<'_, Post<O>>>
+        requires { from < self.now }
+    {
+        try_often(self.post(from, to)?)
     }
 
     // The post of a region to another; none if the two are too far apart to be linked.
@@ -141,20 +151,6 @@ impl<O: Origin> Locks<O> {
             None => None,
         }
     }
-}
-
-// Takes the lock of a post.
-fn take_post<'a, O: Origin, R: Wait>(rt: &R, lock: &'a Mutex<Post<O>>) -> MutexGuard<'a, Post<O>> {
-    let mut pause = Pause::new();
-    for _ in 0..LOOKS {
-        if let Some(post) = lock.try_lock() {
-            return post;
-        }
-        if !pause.wait() {
-            break;
-        }
-    }
-    lock.lock(rt)
 }
 
 // The bit of a number. If there are more numbers than bits, some share a bit, and look for each other's news.

@@ -1,11 +1,11 @@
 use Rattle.std.proofs.Common.{◌+◌, length, ap, ◌∙◌, arith}
-use Rattle.region_locks.proofs.Holds.{none_out}
+use Rattle.region_locks.proofs.Holds.{none_taken}
 use Rattle.region_locks.proofs.locks.Locks.take_back.Goals as goal
 
 pub loop-lock-init : goal.loop-lock-init
 loop-lock-init g c =
     let empty = c.in_ok-regions.ensures.items in
-    (ap length empty, none_out g.O.Origin.given _ empty)
+    (ap length empty, none_taken g.O.Origin.opening _ _ empty)
 
 pub loop-lock-preserved : goal.loop-lock-preserved
 loop-lock-preserved g c =
