@@ -10,7 +10,6 @@ ghost use Rattle.hard_disks.specs.Gathers.{IsFresh, Finishes};
 
 use crate::calls::top_watched;
 use crate::status::Status;
-use crate::timely::Timely;
 use gathered_sink::GatheringSink;
 use live_progress::Board;
 use region_core::Gate;
@@ -19,6 +18,7 @@ use std::alloc::Global;
 use std::sync::Wait;
 use std::thread::Threads;
 use std::time::Clock;
+use terminal_line::Timely;
 
 /// Does what [`top`] does, but gathers the pieces of the output, up to `room` bytes, before it gives them to the sink;
 /// the rest is given before the call returns. At the beginning the sink has taken nothing, if it tells its bytes, and

@@ -10,26 +10,19 @@ mod calls;
 mod crew;
 mod cut;
 mod engines;
-mod forecast;
-mod foreground;
 mod gathering;
 mod laws;
-mod moments;
 mod over_burst;
 mod process;
-mod progress_line;
 mod refusals;
 mod rest;
 mod show;
 mod status;
-mod time_sharing;
-mod timely;
 mod verdicts;
 
 pub use auditing::{AuditFault, audit};
 pub use calls::{refuse_words, top, top_watched};
 pub use cut::{Cut, cut_at};
-pub use foreground::{Terminal, is_in_foreground};
 pub use gathering::top_gathered;
 pub use laws::{
     audits_accept, audits_keep_refusals, audits_refuse, checks_stay, cuts_add_up, cuts_resume,
@@ -38,5 +31,3 @@ pub use laws::{
 pub use process::{Terminals, run_over, run_process, run_process_over, run_streams};
 pub use report_audit::{Line, Verdict};
 pub use status::Status;
-pub use time_sharing::TimeSharing;
-pub use timely::Timely;

@@ -11,12 +11,8 @@ ghost use Rattle.hard_disks.specs.Gathers.{IsFresh, Serves};
 ghost use Rattle.command_words.specs.Words.{settings_of};
 
 use crate::calls::top_watched;
-use crate::foreground::Terminal;
 use crate::gathering::{finish, top_gathered};
-use crate::progress_line::{BesideLine, ProgressLine};
 use crate::status::Status;
-use crate::time_sharing::TimeSharing;
-use crate::timely::Timely;
 use gathered_sink::GatheringSink;
 use live_progress::{Board, Pen};
 use report_ports::{Sink, Source, StdSink, StdSource};
@@ -25,6 +21,7 @@ use std::sync::Wait;
 use std::thread::Threads;
 use std::time::Clock;
 use std::{io, thread};
+use terminal_line::{BesideLine, ProgressLine, Terminal, TimeSharing, Timely};
 
 // How many bytes of output are written together, unless it goes to a terminal: what a pipe holds.
 const ROOM: usize = 65_536;

@@ -7,7 +7,7 @@ ghost use Rattle.hard_disks.specs.Laws.{Begins};
 
 use super::helpers::{AMPLE_ROOM, MEETING, MEETING_REPORT, PLAIN, RUN};
 use gathered_sink::GatheringSink;
-use hard_disks::{Status, Timely, prefixes_may_be_asked, top};
+use hard_disks::{Status, prefixes_may_be_asked, top};
 use region_core::OpenGate;
 use report_ports::{Given, MemorySink, MemorySource, Sink};
 use std::alloc::{AllocError, Global};
@@ -18,6 +18,7 @@ use std::sync::atomic::{AtomicU64, Ordering};
 use std::test::Fail;
 use std::thread::Threads;
 use std::time::{Clock, Duration};
+use terminal_line::Timely;
 
 // A sink that takes a text, and nothing else. That it is never given another byte is proved.
 #[derive(Drop)]

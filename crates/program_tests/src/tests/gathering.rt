@@ -4,7 +4,7 @@ use super::helpers::{
     AMPLE_ROOM, BOTH_ENGINES, MEETING, MEETING_REPORT, PLAIN, StandingClock, expect, first_lines,
 };
 use gathered_sink::GatheringSink;
-use hard_disks::{Status, Timely, run_streams, top_gathered};
+use hard_disks::{Status, run_streams, top_gathered};
 use region_core::OpenGate;
 use report_ports::{Given, MemorySink, MemorySource, Sink};
 use std::alloc::{AllocError, Global};
@@ -13,6 +13,7 @@ use std::sync::Wait;
 use std::sync::atomic::Ordering;
 use std::test::Fail;
 use std::thread::Threads;
+use terminal_line::Timely;
 
 // The room, the call of the sink that fails, the status, and how many lines of the report the sink has taken.
 type Row = (usize, u64, Status, usize);

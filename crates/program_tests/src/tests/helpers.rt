@@ -1,6 +1,6 @@
 //! Words, scenes and calls that several tests share.
 
-use hard_disks::{Status, Terminal, Terminals, top};
+use hard_disks::{Status, Terminals, top};
 use region_core::{Gate, OpenGate};
 use report_ports::{MemorySink, MemorySource};
 use std::alloc::{AllocError, Global};
@@ -11,6 +11,7 @@ use std::sync::Wait;
 use std::sync::atomic::{AtomicU64, Ordering};
 use std::thread::Threads;
 use std::time::{Clock, Duration};
+use terminal_line::Terminal;
 use test_scenes::{FOUR_IN_A_ROW, LONG, scene};
 
 pub const RUN: &[&str] = &["--mode", "run"];

@@ -1,10 +1,10 @@
 //! When a worker gives its processor away, by a clock that stands still except while somebody sleeps.
 
 use super::helpers::StandingClock;
-use hard_disks::TimeSharing;
 use region_core::Gate;
 use std::alloc::Global;
 use std::sync::atomic::Ordering;
+use terminal_line::TimeSharing;
 
 // Why a worker comes to the gate: for a turn of this number, or for a phase.
 #[derive(Clone, Copy, Debug, PartialEq, Eq)]

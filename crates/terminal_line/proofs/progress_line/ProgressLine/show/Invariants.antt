@@ -1,6 +1,6 @@
 -- The glass stays one of the board.
 use Rattle.std.proofs.Common.{◌≡◌}
-use Rattle.hard_disks.proofs.progress_line.ProgressLine.show.Given as goal
+use Rattle.terminal_line.proofs.progress_line.ProgressLine.show.Given as goal
 
 abbrev pub invariant-loop : goal.invariant-loop
 invariant-loop g l =
