@@ -16,6 +16,7 @@ mod Few
 mod Simulating
 mod Calls
 mod OneState
+mod Floors
 pub mod SoFar
 mod Spots
 mod Prefixes

@@ -18,6 +18,7 @@ use Rattle.cell_sequence.specs.State.{CellStateData, IsCellState, last_stamp, fo
 use Rattle.cell_sequence.proofs.Orderly.{known, cell_states_are_orderly}
 use Rattle.local_run.specs.LocalRun.{Local}
 use Rattle.local_run.specs.Opening.{RegionData}
+use Rattle.run_floors.specs.Floors.{IsPast}
 use Rattle.region_core.specs.FirstRows.{row_in, first_row}
 use Rattle.commit_horizon.specs.Horizon.{runs_of, AllStand}
 use Rattle.commit_horizon.proofs.Rows.{rows_are_of_owners}
@@ -121,16 +122,18 @@ with_rows earlier last floor regions state goes rows are =
 
 -- ---- a committed state
 pub stands_on_it : (state : CellStateData) (floor : Stamp) (regions : List RegionData) → IsCellState state →
-    floor ≡ state.floor → AllStand state regions → GoesOnTo state None floor regions state
-stands_on_it state floor regions is floor_is stand = record {
+    floor ≡ state.floor → AllStand state regions → IsPast state.last state.floor →
+    GoesOnTo state None floor regions state
+stands_on_it state floor regions is floor_is stand past = record {
   is = is;
+  past = past;
   stand = stand;
   is_later = λ i. record state { floor = sym floor_is i };
   count = refl;
 }
 
 -- ---- after more actions
-opening_after : (xs : List Action) (state : CellStateData) → (followed_by state xs).opening ≡ state.opening
+pub opening_after : (xs : List Action) (state : CellStateData) → (followed_by state xs).opening ≡ state.opening
 opening_after [] state = refl
 opening_after (x ∷ xs) state = opening_after xs (followed state x)
 
@@ -164,11 +167,12 @@ or_in_turn (Some s) b c = refl
 -- the run goes on from a state by more actions
 pub goes_on_by : (earlier : CellStateData) (last : Option Stamp) (floor : Stamp) (given : List RegionData)
     (state : CellStateData) → GoesOnTo earlier last floor given state → (batch : List Action) (made : Option Stamp)
-    (h : Stamp) (left : List RegionData) (new : CellStateData) → IsCellState new → AllStand new left →
+    (h : Stamp) (left : List RegionData) (new : CellStateData) → IsCellState new → IsPast new.last new.floor → AllStand new left →
     new ≡ raised h (followed_by state batch) → made ≡ last_stamp batch →
     GoesOnTo earlier (option_or made last) h left new
-goes_on_by earlier last floor given state goes batch made h left new is stand new_is made_is = record {
+goes_on_by earlier last floor given state goes batch made h left new is past stand new_is made_is = record {
   is = is;
+  past = past;
   stand = stand;
   is_later = λ i. record {
     rules = rules i;
@@ -218,7 +222,7 @@ pub still_goes : (earlier : CellStateData) (last : Option Stamp) (floor : Stamp)
     (state : CellStateData) → GoesOnTo earlier last floor given state → AllStand state worked →
     GoesOnTo earlier last floor worked state
 still_goes earlier last floor given worked state goes stand =
-    record { is = goes.is; stand = stand; is_later = goes.is_later; count = goes.count }
+    record { is = goes.is; past = goes.past; stand = stand; is_later = goes.is_later; count = goes.count }
 
 -- what a vector has after all of it was written
 pub written_back : {A : Type 0} (new items : List A) (len : ℕ) → length new ≡ len → length items ≡ len →

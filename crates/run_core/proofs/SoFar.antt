@@ -21,6 +21,7 @@ use Rattle.region_view.specs.declared.action.Action.{Action}
 use Rattle.cell_sequence.proofs.Followed.{start_is}
 use Rattle.local_run.specs.Opening.{RegionData}
 use Rattle.local_run.specs.Bursts.{AreTogether}
+use Rattle.run_floors.specs.Floors.{AreOfOneRun}
 use Rattle.commit_horizon.specs.Horizon.{AllStand}
 use Rattle.commit_horizon.specs.Telling.{HitsCutShort}
 use Rattle.run_core.specs.declared.answers.Advance.{Advance}
@@ -30,11 +31,15 @@ use Rattle.run_core.specs.Advances.{FailsNext}
 use Rattle.event_rules.proofs.RunsTold.{run_told, cut_short}
 use Rattle.run_core.proofs.Simulating.{IsTold, open_told, awaits_untold, tells_rest, untold_cut, goes_on}
 use Rattle.run_core.proofs.Simulating.{done_told, limit_told, leads_of}
+use Rattle.run_core.proofs.Floors.{one_run_on}
 use Rattle.run_core.proofs.Left.{advances_end}
 
 -- after an advance
 pub cell_after : {old new : CellStateData} {answer : Advance} → Advances old answer new → IsCellState new
 cell_after {old} {new} {answer} advance = (leads_of old new advance.0 answer advance.1.is).cell
+
+pub one_after : {old new : CellStateData} {answer : Advance} → Advances old answer new → AreOfOneRun old new
+one_after {old} {new} {answer} advance = one_run_on old new advance.0 answer advance.1.is
 
 module _ {M : Type 0} {after : M → Change → M} (torn : M → Change → M → Type 0) {scene : SceneData}
     (asked : ℕ) (valid : IsValidScene scene) (some : IsAsked asked) where

@@ -30,6 +30,7 @@ use Rattle.run_core.specs.Passing.{Agrees}
 use Rattle.run_core.specs.Simulates.{batch_of, AdvancesBy}
 use Rattle.run_core.specs.Standing.{GoesOnTo, ComesOf}
 use Rattle.run_core.specs.Taking.{StandOnCells, RunsEvent}
+use Rattle.run_core.proofs.Floors.{past_on}
 use Rattle.run_core.proofs.OneState.{goes_on_by}
 use Rattle.run_core.proofs.Simulating.{leads_of}
 use Rattle.run_core.proofs.Homes.{event_ran, event_halted, event_idled}
@@ -198,7 +199,8 @@ module _ (earlier : CellStateData) (last : Option Stamp) (floor : Stamp) (given 
     (batch : List Action) (made : Final) (advance : AdvanceMade old given kind batch made left) where
   pub goes_to : GoesOnTo earlier (option_or made.last last) made.floor left advance.new
   goes_to = goes_on_by earlier last floor given old goes batch made.last made.floor left advance.new
-      (leads_of old advance.new (runs_of given) (answer_with kind batch) advance.is).cell advance.stand
+      (leads_of old advance.new (runs_of given) (answer_with kind batch) advance.is).cell
+      (past_on old advance.new (runs_of given) (answer_with kind batch) left goes.past advance.works) advance.stand
       advance.state advance.is_last
 
   pub advances_to : (new : CellStateData) → new ≡ advance.new →

@@ -6,12 +6,14 @@ use Rattle.event_rules.specs.declared.outcome.Outcome.{Outcome}
 use Rattle.event_rules.specs.declared.outcome.Outcome.TheVariants.{Limit as Fails}
 use Rattle.cell_sequence.specs.Run.{CellRuns}
 use Rattle.cell_sequence.specs.State.{CellStateData, IsCellState}
+use Rattle.local_run.specs.Opening.{RegionData}
+use Rattle.run_floors.specs.Floors.{IsAtFloor, AreOfOneRun}
 use Rattle.commit_horizon.specs.Horizon.{LocalRuns, AreStanding, IsBound}
 use Rattle.region_view.specs.declared.action.Action.{Action}
 use Rattle.run_core.specs.declared.answers.Advance.{Advance}
 use Rattle.run_core.specs.declared.answers.Advance.TheVariants.{Raised, End, Limit}
 use Rattle.run_core.specs.Hearings.{Call, Hearings, Passes, entry_count, AllHeard, SameBases}
-use Rattle.run_core.specs.Advances.{IsAdvance}
+use Rattle.run_core.specs.Advances.{IsAdvance, Works}
 use Rattle.run_core.specs.Simulates.{work_left}
 
 -- what hearings keep
@@ -63,3 +65,9 @@ abbrev pub LimitsEndTheRun : Type 0
 LimitsEndTheRun = (old new : CellStateData) (runs : LocalRuns) (batch : List Action) (limit : Failure) →
     IsAdvance old runs (Limit batch limit) new →
     CellRuns old.rules old.grid old.placed batch (Fails limit)
+
+-- an advance from a state whose floor comes after its last action leads to such a state of the same run
+abbrev pub AdvancesStayAtFloors : Type 0
+AdvancesStayAtFloors = (old new : CellStateData) (runs : LocalRuns) (answer : Advance) (left : List RegionData) →
+    IsAtFloor old → IsAdvance old runs answer new → Works old runs answer new left →
+    IsAtFloor new × AreOfOneRun old new

@@ -6,6 +6,7 @@ use Rattle.region_view.specs.declared.action.Placed.{Placed}
 use Rattle.cell_sequence.specs.State.{CellStateData, IsCellState, later}
 use Rattle.local_run.specs.Opening.{RegionData}
 use Rattle.region_core.specs.FirstRows.{first_row}
+use Rattle.run_floors.specs.Floors.{IsPast}
 use Rattle.commit_horizon.specs.Horizon.{AllStand}
 
 -- the row of a disk in the first of some regions that begins with one
@@ -22,11 +23,12 @@ rows_among regions (suc n) = rows_among regions n ++ option_to_list (row_among r
 abbrev pub seen_as : CellStateData → Option Stamp → Stamp → List RegionData → CellStateData
 seen_as earlier last floor regions = later earlier (rows_among regions (length earlier.placed)) last floor
 
--- a state on which the regions stand, to which the run goes on from an earlier one; it has this floor, and the last
--- action has this stamp, if there is any
+-- a state on which the regions stand, to which the run goes on from an earlier one; it has this floor, which comes after
+-- its last action, and the last action since the earlier one has this stamp, if there is any
 pub record GoesOnTo (earlier : CellStateData) (last : Option Stamp) (floor : Stamp) (regions : List RegionData)
     (state : CellStateData) : Type 0 where
   pub is : IsCellState state
+  pub past : IsPast state.last state.floor
   pub stand : AllStand state regions
   pub is_later : state ≡ later earlier state.placed last floor
   pub count : length state.placed ≡ length earlier.placed

@@ -1,6 +1,6 @@
 //! Laws of runs over regions, for those who read the definitions alone.
 
-ghost use Rattle.run_core.specs.Laws.{HearingsKeepBounds, PassesEnd, PassesEndInAgreement, AdvancesEnd, FewAdvances, LimitsEndTheRun};
+ghost use Rattle.run_core.specs.Laws.{HearingsKeepBounds, PassesEnd, PassesEndInAgreement, AdvancesEnd, FewAdvances, LimitsEndTheRun, AdvancesStayAtFloors};
 
 /// Regions that stand on a state go on standing on it whatever they hear from each other, and each of their bounds
 /// stays a bound: so hearing never lowers the commit horizon.
@@ -32,4 +32,10 @@ pub fn few_advances()
 /// It is never one that a region met only on its own way.
 pub fn limits_end_the_run()
     ensures { LimitsEndTheRun }
+{}
+
+/// An advance from a state whose floor comes after its last action leads to such a state of the same run. So regions
+/// that stand are told by the floor alone to stand on the same state.
+pub fn advances_stay_at_floors()
+    ensures { AdvancesStayAtFloors }
 {}

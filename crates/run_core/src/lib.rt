@@ -10,17 +10,19 @@ mod pairs;
 mod passes;
 mod playing;
 mod progress;
+mod run_burst;
 mod scripted;
 mod simulation;
 mod telling;
 
 pub use answers::Advance;
 pub use laws::{
-    advances_end, few_advances, hearings_keep_bounds, limits_end_the_run, passes_end,
-    passes_end_in_agreement,
+    advances_end, advances_stay_at_floors, few_advances, hearings_keep_bounds, limits_end_the_run,
+    passes_end, passes_end_in_agreement,
 };
 pub use playing::{Answer, CoreStep, Played, play};
 pub use progress::advance;
+pub use run_burst::RunBurst;
 pub use scripted::Scripted;
-pub use simulation::simulate;
+pub use simulation::{simulate, simulate_by};
 pub use telling::Telling;

@@ -38,12 +38,14 @@ ghost use Rattle.event_rules.specs.Run.{spots_of, spot_of};
 ghost use Rattle.cell_grid.specs.Grid.{IsAsked};
 ghost use Rattle.cell_sequence.specs.Run.{disks_of};
 ghost use Rattle.cell_sequence.specs.State.{CellStateData, IsCellState, opening_state};
+ghost use Rattle.run_floors.specs.Floors.{IsPast, IsAtFloor, IsOfRun};
 ghost use Rattle.commit_horizon.specs.Horizon.{AllStand};
 ghost use Rattle.run_core.specs.Standing.{GoesOnTo, row_among};
 
+use crate::run_burst::RunBurst;
 use event_rules::{FinalState, Spot};
 use fixed_motion::{Disk, Rules, Scene};
-use region_core::{Beside, Burst};
+use region_core::Beside;
 use region_view::Placed;
 use std::alloc::{AllocError, Global};
 use std::thread::Threads;
@@ -70,7 +72,8 @@ impl Standing {
 
     /// Regions that stand on a committed state.
     pub(crate) fn on(committed: Committed, regions: Vec<Region>) -> Standing
-        requires { AllStand committed regions.items }
+        requires stand { AllStand committed regions.items }
+        requires past { IsPast committed.last committed.floor }
         ensures { result ≡ committed }
     {
         let floor = committed.state().floor();
@@ -101,7 +104,7 @@ impl Standing {
     ///
     /// # Errors
     /// Out of memory.
-    pub(crate) fn work<R: Threads + Sync, S: Beside<W>, W, B: Burst<S, W>>(
+    pub(crate) fn work<R: Threads + Sync, S: Beside<W>, W, B: RunBurst<S, W>>(
         self,
         rt: &R,
         alloc: Global,
@@ -109,7 +112,9 @@ impl Standing {
         beside: &mut S,
         lent: &mut W,
     ) -> Result<Standing, AllocError>
+        requires of { IsOfRun (B.of burst.old) self }
         requires fits { S.fits beside.old lent.old }
+        ensures of { B.of burst.new ≡ B.of burst.old }
         ensures state { IfOk result (λ worked. worked ≡ self) }
         ensures beside { S.goes beside.old lent.old beside.new lent.new }
     {
@@ -121,7 +126,7 @@ impl Standing {
     }
 
     // Lets a burst that keeps the regions work on them.
-    fn work_keeping<R: Threads + Sync, S: Beside<W>, W, B: Burst<S, W>>(
+    fn work_keeping<R: Threads + Sync, S: Beside<W>, W, B: RunBurst<S, W>>(
         self,
         rt: &R,
         alloc: Global,
@@ -130,7 +135,9 @@ impl Standing {
         lent: &mut W,
     ) -> Result<Standing, AllocError>
         requires keeping { B.keeping burst.old }
+        requires of { IsOfRun (B.of burst.old) self }
         requires fits { S.fits beside.old lent.old }
+        ensures of { B.of burst.new ≡ B.of burst.old }
         ensures state { IfOk result (λ worked. worked ≡ self) }
         ensures beside { S.goes beside.old lent.old beside.new lent.new }
     {
@@ -145,7 +152,7 @@ impl Standing {
     }
 
     // Lets a burst work on the regions, and adopts what it gives back.
-    fn work_adopting<R: Threads + Sync, S: Beside<W>, W, B: Burst<S, W>>(
+    fn work_adopting<R: Threads + Sync, S: Beside<W>, W, B: RunBurst<S, W>>(
         self,
         rt: &R,
         alloc: Global,
@@ -153,7 +160,9 @@ impl Standing {
         beside: &mut S,
         lent: &mut W,
     ) -> Result<Standing, AllocError>
+        requires of { IsOfRun (B.of burst.old) self }
         requires fits { S.fits beside.old lent.old }
+        ensures of { B.of burst.new ≡ B.of burst.old }
         ensures state { IfOk result (λ worked. worked ≡ self) }
         ensures beside { S.goes beside.old lent.old beside.new lent.new }
     {
@@ -168,7 +177,8 @@ impl Standing {
         committed: Committed,
         given: Vec<Region>,
     ) -> Result<Standing, AllocError>
-        requires { length given.items ≡ committed.grid.regions }
+        requires count { length given.items ≡ committed.grid.regions }
+        requires past { IsPast committed.last committed.floor }
         ensures { IfOk result (λ standing. standing ≡ committed) }
     {
         let adopted = committed.adopt_all(alloc, given)?;
@@ -179,6 +189,7 @@ impl Standing {
     fn settle(self, alloc: Global) -> Result<(Committed, Vec<Region>), AllocError>
         ensures state { IfOk result (λ parts. parts.0 ≡ self) }
         ensures stand { IfOk result (λ parts. AllStand self parts.1.items) }
+        ensures at { IfOk result (λ _. IsAtFloor self) }
     {
         let placed = self.rows(alloc)?;
         let Standing {

@@ -5,6 +5,8 @@ ghost use Rattle.event_rules.specs.Told.{Told, AwaitsAll};
 ghost use Rattle.event_rules.specs.Tellings.{AwaitsRun, RunTold, RunCutShort, CountsRun};
 ghost use Rattle.cell_grid.specs.Grid.{IsAsked};
 ghost use Rattle.cell_sequence.specs.Run.{hits};
+ghost use Rattle.cell_sequence.specs.State.{opening_state};
+ghost use Rattle.run_floors.specs.Floors.{IsOfRun};
 ghost use Rattle.commit_horizon.specs.Telling.{HitsCutShort};
 ghost use Rattle.run_core.specs.AdvancesUntold.{answer_with};
 ghost use Rattle.run_core.specs.Simulates.{Advances};
@@ -12,6 +14,7 @@ ghost use Rattle.run_core.specs.Simulates.{Advances};
 use crate::advance_untold::advance_untold;
 use crate::answers::AdvanceKind;
 use crate::one_state::Standing;
+use crate::run_burst::{AnyRun, RunBurst};
 use crate::telling::Telling;
 use event_rules::{Listener, Outcome, RunFault};
 use fixed_motion::{MAX_DISKS, Scene};
@@ -42,6 +45,32 @@ pub fn simulate<B: Burst<Telling, L>, R: Threads + Sync, L: Listener>(
         (L.meaning listener.old) (L.meaning listener.new)) }
     ensures counts { CountsRun (L.faults listener.old) (L.faults listener.new) result }
 {
+    let mut any = AnyRun { burst };
+    simulate_by(rt, alloc, scene, regions, &mut any, listener)
+}
+
+/// The same with a burst that may be of this run alone.
+///
+/// # Errors
+/// The listener refused a change, and its count of refusals rose; or out of memory.
+pub fn simulate_by<B: RunBurst<Telling, L>, R: Threads + Sync, L: Listener>(
+    rt: &R,
+    alloc: Global,
+    scene: &Scene,
+    regions: u32,
+    burst: &mut B,
+    listener: &mut L,
+) -> Result<Outcome, RunFault>
+    requires asked { IsAsked regions }
+    requires of { IsOfRun (B.of burst.old) (opening_state scene.now regions) }
+    requires awaited { AwaitsRun L.after L.awaits scene.now (L.meaning listener.old) }
+    ensures run { IfOk result (λ outcome.
+        RunTold L.after scene.now outcome (L.meaning listener.old) (L.meaning listener.new)) }
+    ensures cut_short { IfErr result (λ fault.
+        RunCutShort L.after L.torn scene.now fault
+        (L.meaning listener.old) (L.meaning listener.new)) }
+    ensures counts { CountsRun (L.faults listener.old) (L.faults listener.new) result }
+{
     prove!(scene.disks.len() <= MAX_DISKS);
     let mut standing = Standing::open(rt, alloc, scene, regions)?;
     let mut telling = Telling::new(alloc);
@@ -64,7 +93,7 @@ pub fn simulate<B: Burst<Telling, L>, R: Threads + Sync, L: Listener>(
 
 // Lets a burst work on regions, while actions that are untold are told beside it, and then advances. All that was
 // untold before is told then, and what the advance made final is untold.
-fn work<B: Burst<Telling, L>, R: Threads + Sync, L: Listener>(
+fn work<B: RunBurst<Telling, L>, R: Threads + Sync, L: Listener>(
     rt: &R,
     alloc: Global,
     standing: Standing,
@@ -72,8 +101,10 @@ fn work<B: Burst<Telling, L>, R: Threads + Sync, L: Listener>(
     telling: &mut Telling,
     listener: &mut L,
 ) -> Result<(AdvanceKind, Standing), RunFault>
+    requires of { IsOfRun (B.of burst.old) standing }
     requires heard { telling.old.fault ≡ None }
     requires awaited { AwaitsAll L.after L.awaits (L.meaning listener.old) (hits telling.old.untold) }
+    ensures of { B.of burst.new ≡ B.of burst.old }
     ensures advances { IfOk result (λ advanced.
         Advances standing (answer_with advanced.0 telling.new.untold) advanced.1) }
     ensures told { IfOk result (λ _.

@@ -22,3 +22,9 @@ returns-clause-state c =
 pub returns-clause-stand : goal.returns-clause-stand
 returns-clause-stand c = subst (λ (v : CellStateData). AllStand v c.self.inside.regions.items) c.self.view_is
     c.self.invariant.stand
+
+pub returns-clause-at : goal.returns-clause-at
+returns-clause-at c =
+    let goes = subst (GoesOnTo c.self.inside.earlier c.self.inside.last c.self.inside.floor
+    c.self.inside.regions.items) c.self.view_is c.self.invariant in
+    record { is = goes.is; past = goes.past }

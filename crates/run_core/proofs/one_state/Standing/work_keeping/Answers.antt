@@ -9,7 +9,16 @@ pub burst-requires : goal.burst-requires
 burst-requires g c =
     let goes = subst (GoesOnTo c.self.inside.earlier c.self.inside.last c.self.inside.floor
     c.self.inside.regions.items) c.self.view_is c.self.invariant in
-    record { together = stand_together c.args.self c.self.inside.regions.items goes.stand; fits = c.requires.fits }
+    record {
+      together = stand_together c.args.self c.self.inside.regions.items goes.stand;
+      stand = λ opening given. record {
+        state = c.args.self;
+        at = record { is = goes.is; past = goes.past };
+        one = c.requires.of opening given;
+        stand = goes.stand;
+      };
+      fits = c.requires.fits;
+    }
 
 pub after-requires : goal.after-requires
 after-requires g c =

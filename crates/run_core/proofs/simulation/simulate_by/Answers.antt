@@ -1,10 +1,12 @@
-use Rattle.std.proofs.Common.{◌∙◌, ℕ, [], Result, Err, None, ap, subst, refl, rules}
+use Rattle.std.proofs.Common.{◌∙◌, ℕ, [], Result, Err, None, sym, ap, subst, refl, rules}
 use Rattle.std.specs.Prelude.{IfErr}
 use Rattle.std.proofs.lemmas.Result.{err_from_is_err_and}
 use Rattle.fixed_motion.specs.Scene.{IsValidScene}
-use Rattle.cell_sequence.specs.State.{CellStateData}
+use Rattle.cell_sequence.specs.State.{CellStateData, opening_state}
+use Rattle.run_floors.specs.Floors.{AreOfOneRun}
+use Rattle.run_floors.proofs.Floors.{same_run, run_goes_on}
 use Rattle.run_core.proofs.SoFar.{at_start, awaits_now, all_so_far, cut_so_far, rest_told, told_on}
-use Rattle.run_core.proofs.SoFar.{ends, fails, cell_at_start, cell_after, less_left, none_left, next_fails}
+use Rattle.run_core.proofs.SoFar.{ends, fails, cell_at_start, cell_after, one_after, less_left, none_left, next_fails}
 use Rattle.run_core.specs.declared.answers.AdvanceKind.{AdvanceKind}
 use Rattle.run_core.specs.AdvancesUntold.{answer_with}
 use Rattle.event_rules.specs.declared.outcome.Outcome.{Outcome}
@@ -14,7 +16,7 @@ use Rattle.event_rules.specs.Tellings.{CountsRun, RunCutShort}
 use Rattle.commit_horizon.proofs.Goes.{torn_prefix}
 use Rattle.run_core.proofs.ToldOn.{fits_unheard, hits_all, torn_counts, hits_on, torn_on}
 use Rattle.run_core.proofs.Untold.{batch_in, at_fault, counts_of_err}
-use Rattle.run_core.proofs.simulation.simulate.Goals as goal
+use Rattle.run_core.proofs.simulation.simulate_by.Goals as goal
 
 pub returns-in_err-standing-clause-cut_short : goal.returns-in_err-standing-clause-cut_short
 returns-in_err-standing-clause-cut_short g c =
@@ -42,6 +44,9 @@ bursts-init g c =
     record {
       cell = cell_at_start c.args.scene.now c.args.regions start valid c.requires.asked
           c.in_ok-standing.ensures;
+      one = subst (AreOfOneRun (opening_state c.args.scene.now c.args.regions)) (sym c.in_ok-standing.ensures)
+          (same_run (opening_state c.args.scene.now c.args.regions));
+      of = refl;
       heard = c.new-telling.ensures.heard;
       told = at_start L.torn c.args.regions valid c.requires.asked (L.meaning c.args.listener.now) start
           c.new-telling.result.untold c.in_ok-standing.ensures c.new-telling.ensures.untold;
@@ -51,12 +56,17 @@ bursts-init g c =
 pub work-requires : goal.work-requires
 work-requires g c =
     let L = g.L.Listener in
-    let valid = subst IsValidScene c.scene.view_is c.scene.invariant in (
+    let valid = subst IsValidScene c.scene.view_is c.scene.invariant in
+    let start = opening_state c.args.scene.now c.args.regions in (
       search rules,
       (
-        c.bursts.invariant.heard,
-        awaits_now L.torn c.args.regions valid c.requires.asked
-            c.bursts.invariant.told L.awaits c.requires.awaited,
+        λ opening given. run_goes_on opening start c.bursts.standing
+            (c.requires.of opening (sym c.bursts.invariant.of ∙ given)) c.bursts.invariant.one,
+        (
+          c.bursts.invariant.heard,
+          awaits_now L.torn c.args.regions valid c.requires.asked
+              c.bursts.invariant.told L.awaits c.requires.awaited,
+        ),
       ),
     )
 
@@ -250,6 +260,9 @@ bursts-preserved g c =
     let batch = c.work.new.telling.untold in
     record {
       cell = cell_after c.in_ok-kind.ensures.advances;
+      one = run_goes_on (opening_state c.args.scene.now c.args.regions) c.bursts.standing c.in_ok-kind.left
+          c.bursts.invariant.one (one_after c.in_ok-kind.ensures.advances);
+      of = c.work.ensures.of ∙ c.bursts.invariant.of;
       heard = c.in_ok-kind.ensures.heard;
       told = told_on L.torn c.args.regions valid c.requires.asked c.bursts.invariant.told
           (L.meaning c.work.new.listener) c.in_ok-kind.ensures.told c.in_ok-kind.ensures.advances batch
