@@ -1,26 +1,28 @@
 """How sure a mean over time is: the one place in which errors are made. A stated error is one standard deviation.
 
-The time of the measure is cut into blocks, and the error is that of the mean of independent blocks; of a value that isn't a
-mean itself, each block is left out in turn (the jackknife). Blocks are as long as sound takes to cross the box at least, and
-no shorter than the time between two states that are compared. They are doubled as long as that makes the error greater
-(H. Flyvbjerg and H. G. Petersen, Journal of Chemical Physics 91, 461, 1989); if it does so to the end, a note says it.
+What is measured is a series in time, of some short blocks; of a value that isn't a mean itself, each block is left out in
+turn (the jackknife). Its slow waves say the error of its mean: see `spectra`. A wave is slow if half of its period is as
+long as sound takes to cross the box, as the time between two states that are compared, and as order remembers: see `order`.
 
-The heat of the inside changes over times that are longer than blocks, and what is measured follows it. So its slope by
-the heat is found by regression over blocks. What the heat makes of it is taken off, as by a control variate, and comes
-back as the slope times the error of the mean heat, which hydrodynamics says: see `heat`."""
+The heat of the inside changes over times that are longer than that, and what is measured follows it. So its slope by the
+heat is found by regression over the same waves. What the heat makes of it is taken off, as by a control variate, and comes
+back as the slope times the error of the mean heat, which hydrodynamics says: see `heat`. Near freezing it doesn't, and the
+measure has to be much longer than all that."""
 from typing import Callable
 
 import numpy as np
 
 from .heat import Heat
+from .order import SLOW
 from .sampling import Sampling
+from .spectra import LEAST_FOR_FIT, MOST, cosines, slowest
 
-# The greatest number of blocks, and the least for which a slope is looked for.
-MOST, LEAST_FOR_SLOPE = 20, 6
-# A slope counts if it is so many of its own errors.
-CLEAR = 2
-# Blocks are doubled if that makes errors greater by this factor.
-GROWTH = 1.3
+# Into how many blocks the time is cut.
+BLOCKS = 120
+# How many waves count at least, even if they aren't slow; and how many have a part in a slope at least.
+LEAST, FOR_SLOPE = 3, 12
+# If the slowest waves are by so much greater than the mean one, the series grows.
+GROWTH = 1.9
 # A measure that is shorter than so many times that of heat has errors that are rough.
 HEAT_TIMES = 5
 
@@ -30,17 +32,21 @@ def spread_error(values: np.ndarray) -> np.ndarray:
     values = np.asarray(values, float)
     if len(values) < 2:
         return np.full(values.shape[1:], np.nan)
-    error = values.std(axis=0, ddof=1) / np.sqrt(len(values))
-    return np.where(error > 1e-12 * np.abs(values.mean(axis=0)), error, np.nan)
+    return known_errors(values.var(axis=0, ddof=1) / len(values), values.mean(axis=0))
 
 
-def slopes(values: np.ndarray, by: np.ndarray) -> tuple[np.ndarray, np.ndarray]:
-    """The slopes of columns of values by one variable, and the squares of their errors."""
-    from_mean = by - by.mean()
-    squares = (from_mean**2).sum()
-    slope = from_mean @ values / squares
-    rest = values - values.mean(axis=0) - np.outer(from_mean, slope)
-    return slope, (rest**2).sum(axis=0) / (len(values) - 2) / squares
+def known_errors(squares: np.ndarray, values: np.ndarray) -> np.ndarray:
+    """The roots of squared errors of values, where they aren't those of roundings."""
+    with np.errstate(invalid="ignore"):
+        errors = np.sqrt(squares)
+        return np.where(errors > 1e-12 * np.abs(values), errors, np.nan)
+
+
+def slopes(waves: np.ndarray, by: np.ndarray) -> tuple[np.ndarray, np.ndarray, np.ndarray]:
+    """The slopes of columns of waves by those of one variable, what is left of them, and which share of each wave is left."""
+    squares = (by**2).sum()
+    slope = by @ waves / squares
+    return slope, waves - np.outer(by, slope), 1 - by**2 / squares
 
 
 class Errors:
@@ -49,8 +55,8 @@ class Errors:
     def __init__(self, sampling: Sampling):
         self.sampling, self.heat = sampling, Heat(sampling)
         self.time = (sampling.scene.end - sampling.start) / sampling.scene.time
-        self.blocks = 0
-        self.is_growing = self.is_short = False
+        self.used = 0
+        self.is_growing = False
 
     def of(
         self, value: Callable, *sums: np.ndarray, lag: float = 0.0, follows_heat: bool = True
@@ -61,15 +67,12 @@ class Errors:
         the box doesn't follow the heat of the inside."""
         with np.errstate(invalid="ignore", divide="ignore"):
             whole = np.asarray(value(*(it.sum(axis=0) for it in sums)), float)
-        parts = self.parts(value, sums, lag)
-        if parts is None:
+        waves = self.waves(value, sums, lag)
+        if waves is None:
             return whole, np.full(whole.shape, np.nan)
-        rest, heat = parts.reshape(len(parts), -1), 0.0
-        if follows_heat:
-            rest, heat = self.without_heat(rest, lag)
-        error = self.blocked(rest, lag)
-        error = np.where(heat > 0, np.sqrt(np.nan_to_num(error) ** 2 + heat), error)
-        return whole, error.reshape(whole.shape)
+        entropy = self.entropy(lag, len(waves)) if follows_heat else None
+        squares = self.squares(waves, lag) if entropy is None else self.with_heat(waves, entropy, lag)
+        return whole, known_errors(squares, whole.ravel()).reshape(whole.shape)
 
     def ratio(self, sums: np.ndarray, weights: np.ndarray, lag: float = 0.0) -> tuple[np.ndarray, np.ndarray]:
         """The ratio of two sums, and its error."""
@@ -81,36 +84,34 @@ class Errors:
 
         In the long run the value `follow[i]` has the slope by the packing fraction that the value i has."""
         whole = np.asarray(value(*(it.sum(axis=0) for it in sums)), float)
-        parts = self.parts(value, sums, 0.0)
-        if parts is None or len(parts) < LEAST_FOR_SLOPE or not parts[:, 0].std() > 0:
-            errors = np.full(whole.shape, np.nan) if parts is None else self.blocked(parts, 0.0)
+        waves = self.waves(value, sums, 0.0)
+        if waves is None or len(waves) < LEAST_FOR_FIT or not waves[:, 0].any():
+            errors = np.full(whole.shape, np.nan) if waves is None else known_errors(self.squares(waves, 0.0), whole)
             return whole, errors, np.full(whole.shape, np.nan)
-        slope = slopes(parts, parts[:, 0])[0][follow]
-        rest = parts - np.outer(parts[:, 0] - parts[:, 0].mean(), slope)
-        rest[:, 0], heat = self.without_heat_in_density(parts[:, 0])
-        errors = self.blocked(rest, 0.0)
-        errors[0] = np.sqrt(errors[0] ** 2 + heat)
-        # What follows nothing slow is forgotten within a block. One degree of freedom goes into the slope.
-        known = spread_error(rest) * np.sqrt((len(rest) - 1) / (len(rest) - 2))
+        density = waves[:, 0]
+        slope, rest, left = slopes(waves, density)
+        known = self.squares(rest, 0.0, left)
         is_own = np.array(follow) == np.arange(len(whole))
-        errors[1:] = np.hypot(np.where(is_own, known, errors), slope * errors[0])[1:]
-        return whole, errors, known
+        others = self.squares(waves - np.outer(density, slope[follow]), 0.0)
+        of_density = self.of_density(density)
+        of_slope = np.maximum(slope[follow] ** 2 - np.where(is_own, known, 0) / (density**2).sum(), 0)
+        squares = np.where(is_own, known, others) + of_slope * of_density
+        squares[0], known[0] = of_density, np.nan
+        return whole, known_errors(squares, whole), known_errors(np.where(is_own, known, others), whole)
 
-    def independent(self, lag: float) -> int:
-        """How many blocks there are that don't know of each other; two at least."""
-        used, sound = self.time - lag, self.heat.times[0]
-        most = min(MOST, self.sampling.blocks, used / lag if lag else MOST)
-        return int(np.clip(used / max(lag, sound), min(3, max(most, 2)), max(most, 2)))
+    def counted(self, lag: float) -> int:
+        """How many waves count."""
+        slow = max(lag, self.heat.times[0], SLOW * self.heat.order.memory)
+        return int(np.clip((self.time - lag) / slow, LEAST, MOST))
 
-    def parts(self, value: Callable, sums: tuple[np.ndarray, ...], lag: float) -> np.ndarray | None:
-        """Values of blocks by leaving out each in turn: a whole number of them for each that is independent. None if there
-        is too little for two blocks."""
-        if len(self.heat.rows) < 2 or self.time < 2 * lag:
+    def waves(self, value: Callable, sums: tuple[np.ndarray, ...], lag: float) -> np.ndarray | None:
+        """The slowest waves of values of blocks, by leaving out each in turn. None if there is too little for two blocks,
+        or if the measure is too short for what order remembers."""
+        if len(self.heat.rows) < 2 or self.time < 2 * lag or self.heat.order.is_unknown:
             return None
-        groups = self.independent(lag)
-        fine = int(min(MOST, len(sums[0]), len(self.heat.rows) / 2, (self.time - lag) / lag if lag else MOST))
-        count = groups * max(fine // groups, 1)
-        edges = np.rint(np.arange(count + 1) / count * (1 - lag / self.time) * len(sums[0])).astype(int)
+        used = (1 - lag / self.time) * len(sums[0])
+        count = max(int(min(BLOCKS, used, len(self.heat.rows) / 2)), 2)
+        edges = np.rint(np.arange(count + 1) / count * used).astype(int)
         if (np.diff(edges) < 1).any():
             return None
         blocks = [np.add.reduceat(it[: edges[-1]], edges[:-1], axis=0) for it in sums]
@@ -118,67 +119,64 @@ class Errors:
         with np.errstate(invalid="ignore", divide="ignore"):
             whole = np.asarray(value(*totals), float)
             others = [value(*(total - it[place] for total, it in zip(totals, blocks))) for place in range(count)]
-            return count * whole - (count - 1) * np.array(others, float)
+            parts = (count * whole - (count - 1) * np.array(others, float)).reshape(count, -1)
+            return cosines(parts, min(max(self.counted(lag), FOR_SLOPE), max(count // 2, 1)))
 
-    def entropy(self, count: int, lag: float) -> np.ndarray | None:
-        """The mean entropy of the inside in each of some blocks; none if it isn't known in all of them."""
-        if not self.heat.is_known:
+    def squares(self, waves: np.ndarray, lag: float, left: np.ndarray | None = None) -> np.ndarray:
+        """The squared errors of means by those waves that count; `left` is which share of each a regression has left."""
+        count = min(self.counted(lag), len(waves))
+        squares = waves[:count] ** 2
+        found = slowest(squares, None if left is None else left[:count])
+        self.used = min(self.used, count) if self.used else count
+        with np.errstate(invalid="ignore", divide="ignore"):
+            growth = found / squares.mean(axis=0)
+        if count >= LEAST_FOR_FIT and np.isfinite(growth).any():
+            self.is_growing |= bool(growth[np.isfinite(growth)].mean() > GROWTH)
+        return found
+
+    def entropy(self, lag: float, count: int) -> np.ndarray | None:
+        """The slowest waves of the mean entropy of the inside; none if it isn't known all the time, or says too little."""
+        if not self.heat.is_known or self.heat.order.is_dense or count < LEAST_FOR_FIT:
             return None
-        place = (self.heat.ticks - self.sampling.start) / self.sampling.scene.time / (self.time - lag) * count
-        place, values = np.minimum(place, count - (lag == 0)).astype(int), self.heat.entropy
-        numbers = np.bincount(place, minlength=count)[:count]
-        if not numbers.all():
-            return None
-        return np.bincount(place, values, count)[:count] / numbers
+        values = self.heat.until(self.sampling.scene.end - lag * self.sampling.scene.time, 4 * count)
+        return None if values is None else cosines(values[:, None], count)[:, 0]
 
-    def without_heat(self, parts: np.ndarray, lag: float) -> tuple[np.ndarray, np.ndarray]:
-        """The parts without what follows the heat of the inside, and the variance of the mean that comes from it."""
-        entropy = self.entropy(len(parts), lag) if len(parts) >= LEAST_FOR_SLOPE else None
-        if entropy is None or not entropy.std() > 0:
-            return parts, np.zeros(parts.shape[1])
-        slope, uncertain = slopes(parts, entropy)
-        slope = np.where(slope**2 > CLEAR**2 * uncertain, slope, 0)
-        known = np.maximum(slope**2 - uncertain, 0)
-        return parts - np.outer(entropy - entropy.mean(), slope), known * self.heat.variance_of_mean(self.time)
+    def with_heat(self, waves: np.ndarray, entropy: np.ndarray, lag: float) -> np.ndarray:
+        """The squared errors of means of what follows the heat of the inside."""
+        slope, rest, left = slopes(waves, entropy)
+        squares = self.squares(rest, lag, left)
+        # The square of a slope is too great by that of its error.
+        share = self.heat.variance_of_mean(self.time - lag) / (entropy**2).sum()
+        return squares * max(1 - share, 0) + slope**2 * share * (entropy**2).sum()
 
-    def without_heat_in_density(self, parts: np.ndarray) -> tuple[np.ndarray, float]:
-        """The same of the packing fraction, whose slope is known: heat comes and goes at one pressure."""
-        entropy = self.entropy(len(parts), 0.0)
+    def of_density(self, waves: np.ndarray) -> float:
+        """The squared error of the mean packing fraction, whose slope by the heat is known: it comes and goes at one
+        pressure."""
+        entropy = self.entropy(0.0, len(waves))
         if entropy is None:
-            return parts, 0.0
+            return float(self.squares(waves[:, None], 0.0)[0])
         slope = self.heat.fluid.expansion
-        return parts - slope * (entropy - entropy.mean()), slope**2 * self.heat.variance_of_mean(self.time)
-
-    def blocked(self, parts: np.ndarray, lag: float) -> np.ndarray:
-        """The error of the mean of the parts, by blocks that are doubled while it grows."""
-        groups = min(self.independent(lag), len(parts))
-        blocks = parts[: len(parts) // groups * groups].reshape(groups, -1, parts.shape[1]).mean(axis=1)
-        error, is_growing = spread_error(blocks), False
-        while len(blocks) >= 8:
-            pairs = blocks[: len(blocks) // 2 * 2].reshape(len(blocks) // 2, 2, -1).mean(axis=1)
-            longer = spread_error(pairs)
-            with np.errstate(invalid="ignore"):
-                growth = (longer / error) ** 2
-            is_growing = bool(np.isfinite(growth).any() and np.sqrt(np.nanmean(growth)) > GROWTH)
-            if not is_growing:
-                break
-            blocks, error = pairs, longer
-        self.blocks = len(blocks) if not self.blocks else min(self.blocks, len(blocks))
-        self.is_growing |= is_growing
-        self.is_short |= len(blocks) < 3
-        return error
+        rest = float(self.squares((waves - slope * entropy)[:, None], 0.0)[0])
+        return rest + slope**2 * self.heat.variance_of_mean(self.time)
 
     def notes(self) -> list[str]:
-        """By how many blocks errors are, and why they may be wrong."""
-        if not self.blocks:
+        """By how many waves errors are, and why they may be wrong."""
+        order = self.heat.order
+        if order.is_unknown:
+            return [
+                f"CAUTION: order remembers for some {order.memory:.2g} sigma/v, so {self.time:.4g} are too short, and errors are"
+                f" unknown: take {2 * order.least_time:.2g} or more, or several seeds"
+            ]
+        if not self.used:
             return ["errors are unknown: two blocks of time or more are wanted"]
         sound, heat = self.heat.times
-        found = [f"errors: by {self.blocks} blocks or more, and by the heat of the inside, which changes in {heat:.3g} sigma/v"]
-        if self.time < HEAT_TIMES * heat or self.is_short:
+        also = f"order, which remembers for {order.memory:.2g}" if order.is_dense else f"heat, which changes in {heat:.3g}"
+        found = [f"errors: by the {self.used} slowest waves of each series or more, and by the {also} sigma/v"]
+        if self.used < LEAST_FOR_FIT or not order.is_dense and self.time < HEAT_TIMES * heat:
             found.append(
                 f"CAUTION: {self.time:.4g} sigma/v are short, so errors are rough: take {10 * max(sound, heat):.2g} or more, or"
                 " several seeds"
             )
         if self.is_growing:
-            found.append("CAUTION: errors grow with the blocks to the end, so they are the least that they can be")
+            found.append("CAUTION: the slower the waves the greater they are, so errors are the least that they can be")
         return found

@@ -15,6 +15,7 @@ from functools import cached_property
 
 import numpy as np
 
+from .order import Order
 from .sampling import Sampling
 from .theory import reference
 
@@ -22,6 +23,11 @@ from .theory import reference
 WAVES = 24
 # The equation of state is that of a fluid. What is denser is taken to be like the densest.
 DENSEST = 0.69
+# By how much heat leaves faster than by Enskog's conductivity: 37 runs of 2,000 disks at φ = 0.5 for 200 σ/v say 1.3 over 8
+# to 96 σ/v.
+FASTER = 1.3
+# What share of the time that sound takes to cross the box is short beside the time of heat.
+SHORT = 0.25
 
 
 @dataclass(frozen=True)
@@ -83,7 +89,7 @@ def share_left(sampling: Sampling, fluid: Fluid, time: float) -> float:
         return 0.0
     squares = kx[:, None] ** 2 + ky**2
     # Heat goes by no way faster than disks fly.
-    steps = np.minimum(fluid.heat_diffusion * squares, np.sqrt(squares)) * time
+    steps = np.minimum(FASTER * fluid.heat_diffusion * squares, np.sqrt(squares)) * time
     steps[0, 0] = 1
     left = 2 * (steps - 1 + np.exp(-steps)) / steps**2
     return float((share * left).sum() / share.sum())
@@ -93,13 +99,14 @@ class Heat:
     """How many disks are inside and how fast they are, at all ticks that are shown. Only then it says what it found."""
 
     def __init__(self, sampling: Sampling):
-        self.sampling = sampling
+        self.sampling, self.order = sampling, Order(sampling)
         self.rows: list[tuple[int, int, float]] = []
 
     def add(self, tick: int, rows: np.ndarray) -> None:
         """All disks at a tick, as rows of x, y, vx and vy; those before the sampling begins don't count."""
         inside = rows[self.sampling.inside(rows[:, :2])]
         self.add_inside(tick, len(inside), float((inside[:, 2:].astype(float) ** 2).sum()))
+        self.order.add(tick, rows)
 
     def add_inside(self, tick: int, disks: int, squares: float) -> None:
         """How many disks are inside at a tick, and the sum of their squared speeds."""
@@ -133,15 +140,36 @@ class Heat:
         found = temperature / temperature.mean() - self.fluid.factor * disks / disks.mean()
         return found - found.mean()
 
+    def until(self, end: float, most: int) -> np.ndarray | None:
+        """Its means over blocks of time up to a tick, as many as there may be at most; none if one has no tick."""
+        start, count = self.sampling.start, int(min(most, (self.ticks <= end).sum() / 2))
+        block = ((self.ticks - start) / (end - start) * count).astype(int)
+        block[self.ticks == end] = count - 1
+        used = (block >= 0) & (block < count)
+        numbers = np.bincount(block[used], minlength=count)
+        if count < 1 or not numbers.all():
+            return None
+        return np.bincount(block[used], self.entropy[used], count) / numbers
+
     def variance_of_mean(self, time: float) -> float:
-        """That of the mean of the entropy over the time of the measure, in σ / v."""
-        left = share_left(self.sampling, self.fluid, time)
+        """That of the mean of the entropy over the time of the measure, in σ / v.
+
+        It is by the variance of means over blocks that are short, but long beside what collisions even out."""
+        scene, sampling = self.sampling.scene, self.sampling
+        whole = (scene.end - sampling.start) / scene.time
+        short = whole / max(int(whole / (self.times[0] * SHORT)), 1)
+        means = self.until(scene.end, round(whole / short))
+        left = share_left(sampling, self.fluid, time)
+        if means is not None and len(means) > 1:
+            left /= share_left(sampling, self.fluid, whole / len(means))
+        else:
+            means = self.entropy
         # The mean takes the same share off the variance about it.
-        return float(self.entropy.var() * left / (1 - left))
+        return float(means.var() * left / (1 - left)) if left < 1 else np.nan
 
     @cached_property
     def times(self) -> tuple[float, float]:
         """How long sound takes to cross the box, and heat to leave a wave that fits it, in σ / v."""
         scene, fluid = self.sampling.scene, self.fluid
         length = max(scene.width, scene.height) / scene.sigma
-        return length / fluid.sound_speed, (length / (2 * math.pi)) ** 2 / fluid.heat_diffusion
+        return length / fluid.sound_speed, (length / (2 * math.pi)) ** 2 / (FASTER * fluid.heat_diffusion)

@@ -1,11 +1,11 @@
 """How far bond order reaches: the correlation g6(r) of ψ6, by states."""
 import numpy as np
 
+from .bonds import bond_order
 from .measuring import Measure
 from .runs import Frame
 from .sampling import Sampling, Stated, Table, bin_edges
 from .scenes import Refused
-from .structure import bond_order
 from .waves import LINEAR, check_grid, spread
 
 # The step of the grid on which pairs are counted, in σ. It blurs distances by some 0.05 σ.

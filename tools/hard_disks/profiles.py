@@ -6,12 +6,13 @@ from dataclasses import dataclass
 
 import numpy as np
 
+from .bonds import bond_order
 from .errors import Errors
 from .measuring import Measure
 from .runs import Frame
 from .sampling import Sampling, Stated, Table, bin_edges
 from .scenes import Refused
-from .structure import bond_order, contact_value
+from .structure import contact_value
 
 # The gap between disks and walls is fitted up to this, in σ, in bins of this width.
 GAP, GAP_WIDTH = 0.25, 0.02

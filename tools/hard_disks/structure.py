@@ -1,7 +1,11 @@
 """How disks lie: the pair distribution g(r), the structure factor S(k) and the bond order ψ6, by frames."""
+from functools import partial
+from typing import NamedTuple
+
 import numpy as np
 from numpy.polynomial import Polynomial
 
+from .bonds import bond_order
 from .errors import Errors
 from .measuring import Measure
 from .runs import Frame
@@ -29,8 +33,8 @@ class PairDistribution(Measure):
         self.most, self.width = most, width
         # Just below the round numbers, so that disks that touch are in the bin from 1 on.
         self.edges = bin_edges(most, width) - 1e-9
-        self.pairs, self.looked_at = np.zeros((sampling.blocks, len(self.edges) - 1)), np.zeros(sampling.blocks)
-        self.inside, self.frames = 0, 0
+        self.pairs = np.zeros((sampling.blocks, len(self.edges) - 1))
+        self.looked_at, self.inside, self.frames = np.zeros((3, sampling.blocks, 1))
         self.partial = Partial(scene, self.pairs.shape)
 
     def add_state(self, frame: Frame) -> None:
@@ -40,8 +44,9 @@ class PairDistribution(Measure):
         block = sampling.block(frame.tick)
         is_chosen = sampling.inside(places, max(self.most * sigma - sampling.margin, 0))
         is_inside, chosen = sampling.inside(places), places[is_chosen]
-        self.inside, self.frames = self.inside + is_inside.sum(), self.frames + 1
         self.looked_at[block] += len(chosen)
+        self.inside[block] += is_inside.sum()
+        self.frames[block] += 1
         self.partial.look_at(block, is_chosen, is_inside)
         if len(chosen):
             near = cKDTree(chosen / sigma).sparse_distance_matrix(cKDTree(places / sigma), self.most, output_type="ndarray")
@@ -52,19 +57,32 @@ class PairDistribution(Measure):
 
     def table(self) -> Table:
         scene, sampling, edges = self.scene, self.sampling, self.edges
-        density = self.inside / self.frames / sampling.area() * scene.sigma**2
-        shells = np.pi * np.diff(edges.clip(0) ** 2)
-        ideal = self.looked_at[:, None] * density * shells
-        g, errors = self.errors.ratio(self.pairs, ideal)
-        names, columns = self.partial.columns(self.errors, self.frames * sampling.area() / scene.sigma**2, shells)
+        area, shells = sampling.area() / scene.sigma**2, np.pi * np.diff(edges.clip(0) ** 2)
+        frames, density = int(self.frames.sum()), self.inside.sum() / self.frames.sum() / area
+        # Of each block by its own density: that of all changes with the same disks.
+        ideal = Ideal(area, shells)
+        g, errors = self.errors.of(ideal.ratio, self.pairs, self.looked_at, self.inside, self.frames)
+        names, columns = self.partial.columns(self.errors, ideal, self.frames)
         rows = list(zip(edges[:-1] + self.width / 2, g, errors, *columns))
-        notes = [
-            f"{self.frames} frames; g of the disks inside and {self.most:.4g} sigma from the walls;"
-            f" density {density:.6g} per sigma^2"
-        ]
+        notes = [f"{frames} frames; g of the disks inside and {self.most:.4g} sigma from the walls; density {density:.6g} per sigma^2"]
         if scene.has_one_size and self.most > FIT:
-            notes += contact_notes(self.errors, self.pairs, ideal, edges, density)
+            sums = self.pairs, self.looked_at, self.inside, self.frames
+            notes += contact_notes(*self.errors.of(lambda *sums: at_contact(ideal, *sums, edges), *sums), np.pi / 4 * density)
         return Table(["r", "g", "g_error", *names], rows, [*notes, *self.partial.notes(), *self.notes()])
+
+
+class Ideal(NamedTuple):
+    """How many pairs there would be, if disks lay anywhere: by the area inside, and by the areas of shells around a disk."""
+
+    area: float
+    shells: np.ndarray
+
+    def pairs(self, looked_at: np.ndarray, inside: np.ndarray, frames: np.ndarray) -> np.ndarray:
+        return looked_at * inside / frames / self.area * self.shells
+
+    def ratio(self, pairs: np.ndarray, *disks: np.ndarray) -> np.ndarray:
+        """g(r), by how many disks were looked at and were inside in how many frames."""
+        return pairs / self.pairs(*disks)
 
 
 class Partial:
@@ -76,11 +94,11 @@ class Partial:
         count = len(self.sizes)
         self.both = [(a, b) for a in range(count) for b in range(a, count)] if 2 <= count <= 3 else []
         self.pairs = np.zeros((len(self.both), *shape))
-        self.looked_at, self.inside = np.zeros((shape[0], count)), np.zeros(count)
+        self.looked_at, self.inside = np.zeros((2, shape[0], count))
 
     def look_at(self, block: int, is_chosen: np.ndarray, is_inside: np.ndarray) -> None:
         self.looked_at[block] += np.bincount(self.size[is_chosen], minlength=len(self.sizes))
-        self.inside += np.bincount(self.size[is_inside], minlength=len(self.sizes))
+        self.inside[block] += np.bincount(self.size[is_inside], minlength=len(self.sizes))
 
     def add(self, block: int, first: np.ndarray, second: np.ndarray, distance: np.ndarray, edges: np.ndarray) -> None:
         """Pairs of a disk that is looked at and one near it."""
@@ -88,20 +106,24 @@ class Partial:
         for place, (a, b) in enumerate(self.both):
             self.pairs[place, block] += np.histogram(distance[(low == a) & (high == b)], edges)[0]
 
-    def columns(self, errors: Errors, area: float, shells: np.ndarray) -> tuple[list[str], list]:
-        """The columns and their names; `area` is that inside, over all frames."""
-        names, columns, density = [], [], self.inside / area
+    def columns(self, errors: Errors, ideal: Ideal, frames: np.ndarray) -> tuple[list[str], list]:
+        """The columns and their names."""
+        names, columns = [], []
         for pairs, (a, b) in zip(self.pairs, self.both):
-            # A pair of two sizes is looked at from either.
-            near = self.looked_at[:, a] * density[b] + (self.looked_at[:, b] * density[a] if a < b else 0)
             names += [f"g_{a}{b}", f"g_{a}{b}_error"]
-            columns += errors.ratio(pairs, near[:, None] * shells)
+            columns += errors.of(partial(between, ideal, a, b), pairs, self.looked_at, self.inside, frames)
         return names, columns
 
     def notes(self) -> list[str]:
         if not self.both:
             return []
         return ["sizes: " + ", ".join(f"{number} has {size:.6g} sigma" for number, size in enumerate(self.sizes))]
+
+
+def between(ideal: Ideal, a: int, b: int, pairs: np.ndarray, looked_at: np.ndarray, inside: np.ndarray, frames: np.ndarray):
+    """g(r) of two sizes. A pair of two sizes is looked at from either."""
+    near = looked_at[a] * inside[b] + (looked_at[b] * inside[a] if a < b else 0)
+    return pairs / ideal.pairs(near, 1.0, frames)
 
 
 def contact_value(pairs: np.ndarray, ideal: np.ndarray, edges: np.ndarray) -> float:
@@ -114,16 +136,21 @@ def contact_value(pairs: np.ndarray, ideal: np.ndarray, edges: np.ndarray) -> fl
     return float(np.exp(fit(1.0)))
 
 
-def contact_notes(
-    errors: Errors, pairs: np.ndarray, ideal: np.ndarray, edges: np.ndarray, density: float
-) -> list[str | Stated]:
+def at_contact(
+    ideal: Ideal, pairs: np.ndarray, looked_at: np.ndarray, inside: np.ndarray, frames: np.ndarray, edges: np.ndarray
+) -> np.ndarray:
+    """g at contact, and the Z that it gives at the density inside."""
+    g = contact_value(pairs, ideal.pairs(looked_at, inside, frames), edges)
+    return np.array([g, 1 + np.pi / 2 * float((inside / frames).item()) / ideal.area * g])
+
+
+def contact_notes(values: np.ndarray, errors: np.ndarray, phi: float) -> list[str | Stated]:
     """g at contact and the Z that it gives, with errors, and the reference's g if it is known at this density."""
-    phi = np.pi / 4 * density
-    g, error = map(float, errors.of(lambda *sums: contact_value(*sums, edges), pairs, ideal))
     wanted = contact(REFERENCE(phi), phi) if phi > 0 else np.nan
+    (g, factor), (g_error, factor_error) = values.tolist(), errors.tolist()
     return [
-        Stated("at contact g", g, error, f", reference {wanted:.5g}" if np.isfinite(wanted) else ""),
-        Stated(CONTACT_Z, 1 + 2 * phi * g, 2 * phi * error, f" at phi = {phi:.5g}"),
+        Stated("at contact g", g, g_error, f", reference {wanted:.5g}" if np.isfinite(wanted) else ""),
+        Stated(CONTACT_Z, factor, factor_error, f" at phi = {phi:.5g}"),
         *cautions(phi),
     ]
 
@@ -165,22 +192,6 @@ class StructureFactor(Measure):
         notes = [f"{self.frames} frames; S(k) by a window of Hann over {self.sides[0]:.4g} times {self.sides[1]:.4g} sigma"]
         rows = list(zip(middle[known], s[known], errors[known]))
         return Table(["k", "S", "S_error"], rows, [*notes, *self.notes()])
-
-
-def bond_order(places: np.ndarray) -> tuple[np.ndarray, np.ndarray]:
-    """Of each disk ψ6, the mean of exp(6 i θ) over its neighbours by Delaunay's triangles, and how many they are."""
-    from scipy.spatial import Delaunay, QhullError
-
-    try:
-        starts, neighbours = Delaunay(places).vertex_neighbor_vertices
-    except (QhullError, ValueError) as why:
-        raise Refused("psi6 needs three disks that don't lie on one line") from why
-    counts = np.diff(starts)
-    own = np.repeat(np.arange(len(places)), counts)
-    x, y = (places[neighbours] - places[own]).T.astype(float)
-    turned = np.exp(6j * np.arctan2(y, x))
-    sums = np.bincount(own, turned.real, len(places)) + 1j * np.bincount(own, turned.imag, len(places))
-    return sums / np.maximum(counts, 1), counts
 
 
 class HexaticOrder(Measure):

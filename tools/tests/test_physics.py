@@ -18,7 +18,7 @@ from physics_scenes import column, disks_at, end_of, fluid, main, noted, np, rea
 from hard_disks import theory
 from hard_disks.dynamics import Displacement, Speeds, VelocityCorrelation
 from hard_disks.errors import Errors, spread_error
-from hard_disks.heat import Fluid, share_left, waves
+from hard_disks.heat import FASTER, Fluid, share_left, waves
 from hard_disks.measuring import measured, watch
 from hard_disks.part_sums import margin_in_units
 from hard_disks.pressure import Pressure, Rate
@@ -182,25 +182,51 @@ class MadeUp(unittest.TestCase):
         self.assertTrue(np.isnan(spread_error([2, 2, 2])))
 
     def test_independent_values(self):
-        stated, spread = self.stated(np.random.default_rng(1).normal(size=(200, 480)))
+        stated, spread = self.stated(np.random.default_rng(1).normal(size=(400, 480)))
         self.assertAlmostEqual(stated * math.sqrt(480), 1, delta=0.1)
         self.assertAlmostEqual(stated / spread, 1, delta=0.15)
 
-    def test_values_that_remember(self):
-        # Each has nine tenths of the one before, so they remember ten.
-        series = np.random.default_rng(2).normal(size=(200, 480))
+    def remembering(self, time, seed, count=400):
+        """Series each of whose values has so much of the one before that it remembers for a time before and after."""
+        share = math.exp(-2 / time)
+        series = np.random.default_rng(seed).normal(size=(count, 480))
+        series[:, 1:] *= math.sqrt(1 - share**2)
         for block in range(1, 480):
-            series[:, block] += 0.9 * series[:, block - 1]
-        stated, spread = self.stated(series)
-        self.assertAlmostEqual(stated / spread, 0.95, delta=0.2)
+            series[:, block] += share * series[:, block - 1]
+        return series
+
+    def test_values_that_remember(self):
+        # Waves are slow beside the times of the first two, but not quite beside the third.
+        for time, wanted in [(4, 1), (12, 1), (40, 0.85)]:
+            stated, spread = self.stated(self.remembering(time, 2))
+            self.assertAlmostEqual(stated / spread, wanted, delta=0.12)
 
     def test_values_that_overlap(self):
         # Means over the next 30, as displacements in 30 σ / v are.
-        drawn = np.cumsum(np.random.default_rng(3).normal(size=(200, 510)), axis=1)
+        drawn = np.cumsum(np.random.default_rng(3).normal(size=(400, 510)), axis=1)
         stated, spread = self.stated(drawn[:, 30:] - drawn[:, :-30], 30.0)
-        self.assertAlmostEqual(stated / spread, 0.9, delta=0.25)
-        for lag in (0.0, 30.0, 100.0):
-            self.assertLessEqual(self.errors().independent(lag) * lag, 480 - lag)
+        self.assertAlmostEqual(stated / spread, 0.95, delta=0.15)
+        for lag in (30.0, 60.0):
+            self.assertLessEqual(self.errors().counted(lag) * lag, 480 - lag)
+
+    def test_what_order_remembers_is_found_or_errors_are_unknown(self):
+        # What follows order has good errors if they are known, and they are known if the time is long beside the memory.
+        for time, least, most in [(20, 0.95, 1), (40, 0.8, 1), (160, 0, 0.35)]:
+            values, stated, memories = [], [], []
+            for local, whole in zip(self.remembering(time, 4), self.remembering(time, 5)):
+                errors = self.errors()
+                errors.heat.order.is_dense = True
+                errors.heat.order.rows = [(141 * tick, *row) for tick, row in enumerate(zip(local, local + whole))]
+                value, error = errors.ratio(local, np.ones(480))
+                values, stated = [*values, float(value)], [*stated, float(error)]
+                memories.append(errors.heat.order.memory)
+                self.assertEqual(np.isnan(error), any("are unknown" in it for it in errors.notes()))
+            known = np.isfinite(stated)
+            self.assertTrue(least <= known.mean() <= most, (time, known.mean()))
+            if least:
+                self.assertAlmostEqual(np.mean(memories) / time, 1, delta=0.2)
+                ratio = math.sqrt(np.nanmean(np.square(stated))) / np.std(np.array(values)[known])
+                self.assertAlmostEqual(ratio, 1, delta=0.15)
 
     def test_what_follows_the_heat_has_its_error(self):
         heat = np.sin(np.arange(480) / 40)
@@ -238,7 +264,7 @@ class HeatInside(unittest.TestCase):
         part, fluid = sampling(scene, 0, 10), Fluid(0.5)
         self.assertAlmostEqual(share_left(part, fluid, 1e-3), 1, delta=0.01)
         # A long mean has 2 / (time · rate) of the slowest wave, and of others less.
-        slowest = 2 / (1e4 * fluid.heat_diffusion * (2 * math.pi / 56) ** 2)
+        slowest = 2 / (1e4 * FASTER * fluid.heat_diffusion * (2 * math.pi / 56) ** 2)
         self.assertTrue(0.6 * slowest < share_left(part, fluid, 1e4) < slowest)
         # The whole box keeps its heat.
         self.assertEqual(share_left(sampling(scene, 0, 0), fluid, 1.0), 0)

@@ -1,0 +1,20 @@
+"""The bond order ψ6 of disks."""
+import numpy as np
+
+from .scenes import Refused
+
+
+def bond_order(places: np.ndarray) -> tuple[np.ndarray, np.ndarray]:
+    """Of each disk ψ6, the mean of exp(6 i θ) over its neighbours by Delaunay's triangles, and how many they are."""
+    from scipy.spatial import Delaunay, QhullError
+
+    try:
+        starts, neighbours = Delaunay(places).vertex_neighbor_vertices
+    except (QhullError, ValueError) as why:
+        raise Refused("psi6 needs three disks that don't lie on one line") from why
+    counts = np.diff(starts)
+    own = np.repeat(np.arange(len(places)), counts)
+    x, y = (places[neighbours] - places[own]).T.astype(float)
+    turned = np.exp(6j * np.arctan2(y, x))
+    sums = np.bincount(own, turned.real, len(places)) + 1j * np.bincount(own, turned.imag, len(places))
+    return sums / np.maximum(counts, 1), counts
