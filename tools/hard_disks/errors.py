@@ -64,10 +64,10 @@ class Errors:
         """A value and its error, where `value` takes sums over time: arrays whose first axis is the sampling's blocks.
 
         If states are compared that are `lag` apart, in σ / v, the sums are by the earlier one. What is the same all over
-        the box doesn't follow the heat of the inside."""
+        the box follows sound instead of the heat of the inside, so its blocks are as long as sound takes."""
         with np.errstate(invalid="ignore", divide="ignore"):
             whole = np.asarray(value(*(it.sum(axis=0) for it in sums)), float)
-        waves = self.waves(value, sums, lag)
+        waves = self.waves(value, sums, lag, follows_heat)
         if waves is None:
             return whole, np.full(whole.shape, np.nan)
         entropy = self.entropy(lag, len(waves)) if follows_heat else None
@@ -104,23 +104,25 @@ class Errors:
         slow = max(lag, self.heat.times[0], SLOW * self.heat.order.memory)
         return int(np.clip((self.time - lag) / slow, LEAST, MOST))
 
-    def waves(self, value: Callable, sums: tuple[np.ndarray, ...], lag: float) -> np.ndarray | None:
-        """The slowest waves of values of blocks, by leaving out each in turn. None if there is too little for two blocks,
-        or if the measure is too short for what order remembers."""
+    def waves(
+        self, value: Callable, sums: tuple[np.ndarray, ...], lag: float, is_fine: bool = True
+    ) -> np.ndarray | None:
+        """The slowest waves of values of blocks, by leaving out each in turn; blocks that aren't fine are as long as a half of
+        the fastest wave's period. None if there is too little for two blocks, or too little for what order remembers."""
         if len(self.heat.rows) < 2 or self.time < 2 * lag or self.heat.order.is_unknown:
             return None
         used = (1 - lag / self.time) * len(sums[0])
-        count = max(int(min(BLOCKS, used, len(self.heat.rows) / 2)), 2)
+        count = max(int(min(BLOCKS if is_fine else self.counted(lag), used, len(self.heat.rows) / 2)), 2)
         edges = np.rint(np.arange(count + 1) / count * used).astype(int)
         if (np.diff(edges) < 1).any():
             return None
-        blocks = [np.add.reduceat(it[: edges[-1]], edges[:-1], axis=0) for it in sums]
-        totals = [it.sum(axis=0) for it in blocks]
+        parts = [np.add.reduceat(it[: edges[-1]], edges[:-1], axis=0) for it in sums]
+        totals = [it.sum(axis=0) for it in parts]
         with np.errstate(invalid="ignore", divide="ignore"):
             whole = np.asarray(value(*totals), float)
-            others = [value(*(total - it[place] for total, it in zip(totals, blocks))) for place in range(count)]
-            parts = (count * whole - (count - 1) * np.array(others, float)).reshape(count, -1)
-            return cosines(parts, min(max(self.counted(lag), FOR_SLOPE), max(count // 2, 1)))
+            others = [value(*(total - it[place] for total, it in zip(totals, parts))) for place in range(count)]
+            values = (count * whole - (count - 1) * np.array(others, float)).reshape(count, -1)
+            return cosines(values, min(max(self.counted(lag), FOR_SLOPE), count - 1))
 
     def squares(self, waves: np.ndarray, lag: float, left: np.ndarray | None = None) -> np.ndarray:
         """The squared errors of means by those waves that count; `left` is which share of each a regression has left."""

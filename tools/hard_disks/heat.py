@@ -23,9 +23,9 @@ from .theory import reference
 WAVES = 24
 # The equation of state is that of a fluid. What is denser is taken to be like the densest.
 DENSEST = 0.69
-# By how much heat leaves faster than by Enskog's conductivity: 37 runs of 2,000 disks at φ = 0.5 for 200 σ/v say 1.3 over 8
+# By how much heat leaves faster than by Enskog's conductivity: 49 runs of 2,000 disks at φ = 0.5 for 200 σ/v say 1.25 to 1.3 over 8
 # to 96 σ/v.
-FASTER = 1.3
+FASTER = 1.25
 # What share of the time that sound takes to cross the box is short beside the time of heat.
 SHORT = 0.25
 

@@ -111,7 +111,11 @@ def together(runs: list[Measure]) -> Table:
         if f"{name}_error" in first.columns:
             means[:, first.columns.index(f"{name}_error")] = errors[:, place]
         if name.endswith("_error_given_phi"):
-            means[:, place] = np.sqrt((numbers[:, :, place] ** 2).mean(axis=0) / len(tables))
+            # By the runs that know it.
+            known = np.isfinite(numbers[:, :, place])
+            squares = np.where(known, numbers[:, :, place], 0) ** 2
+            with np.errstate(invalid="ignore"):
+                means[:, place] = np.sqrt(squares.sum(axis=0) / known.sum(axis=0) / len(tables))
     notes = [f"{len(tables)} runs: means over them, and standard errors by the spread over them"]
     return Table(first.columns, means.tolist(), notes + notes_together([it.notes for it in tables]))
 

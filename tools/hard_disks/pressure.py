@@ -26,6 +26,8 @@ from .theory import EQUATIONS, cautions, collision_rate, mixture
 
 # At how many ticks the disks inside are counted, at least.
 SAMPLES = 1_000
+# By how much the mean area of disks inside may differ from that of all before a note says it.
+OTHER_SIZES = 0.01
 
 
 @dataclass
@@ -55,6 +57,8 @@ class Colliding(Measure):
         self.counted = Counts(*np.zeros((8, sampling.blocks)), np.full(sampling.blocks, sampling.block_time()))
         self.sums: list[PartSums] = []
         self.sizes = np.array([row[4] for row in sampling.scene.disks], float)
+        # How often each disk was inside.
+        self.presence = np.zeros(len(self.sizes))
 
     def sample_ticks(self) -> list[int]:
         samples = math.ceil(SAMPLES / self.sampling.blocks) * self.sampling.blocks
@@ -91,6 +95,7 @@ class Colliding(Measure):
         counts."""
         counts, inside = self.counted, self.sampling.inside(sample.rows[:, :2])
         block = self.sampling.block(sample.tick)
+        self.presence += inside
         counts.samples[block] += 1
         counts.disks[block] += inside.sum()
         counts.covered[block] += math.pi / 4 * (self.sizes[inside] ** 2).sum()
@@ -104,6 +109,16 @@ class Colliding(Measure):
         """The four values of the whole time, their errors, and what these were if the packing fraction were known."""
         # The pressure at the walls is that inside, so in the long run both Z have one slope.
         return self.errors.by_density(self.values_of, *vars(self.counts).values(), follow=[0, 1, 1, 3])
+
+    def composition_notes(self) -> list[str]:
+        """That other disks are inside than in the scene, if their mean area differs: walls and chance sort sizes."""
+        if self.scene.has_one_size or not self.presence.any():
+            return []
+        squares = self.sizes**2
+        more = (self.presence @ squares) / self.presence.sum() / squares.mean() - 1
+        if abs(more) < OTHER_SIZES:
+            return []
+        return [f"CAUTION: the mean area of disks inside is {abs(more):.1%} {'more' if more > 0 else 'less'} than that of all"]
 
     def values_of(self, *sums: np.ndarray) -> np.ndarray:
         return values(Counts(*sums), self.sampling)
@@ -168,7 +183,7 @@ class Pressure(Colliding):
         if scene.has_one_size:
             names, row = [*names, *(f"Z_{it.name}" for it in EQUATIONS)], [*row, *(it(phi) for it in EQUATIONS)]
         else:
-            names, row = [*names, "Z_mixture"], [*row, mixture(phi, [disk[4] for disk in scene.disks])]
+            names, row = [*names, "Z_mixture"], [*row, mixture(phi, self.sizes, self.presence)]
         notes = [
             "Z = P A / (N T): by the virial of collisions inside, and by the walls away from corners; phi is that inside",
             "Z_error is that of the mean Z; beside an equation of state at the phi of this row Z_error_given_phi counts",
@@ -178,7 +193,7 @@ class Pressure(Colliding):
         notes.append(
             f"collisions come early, as if disks were larger by {early:.2g} of their diameter, so Z is of disks that large"
         )
-        return Table(names, [row], [*notes, *cautions(phi), *self.notes()])
+        return Table(names, [row], [*notes, *cautions(phi), *self.composition_notes(), *self.notes()])
 
 
 class Rate(Colliding):
@@ -196,4 +211,4 @@ class Rate(Colliding):
         if self.scene.has_one_size:
             names, row = [*names, "rate_Enskog"], [*row, collision_rate(phi) if phi > 0 else math.nan]
         notes = ["collisions of a disk in the time sigma/v; free_path is the mean speed divided by that, in sigma"]
-        return Table(names, [row], [*notes, *cautions(phi), *self.notes()])
+        return Table(names, [row], [*notes, *cautions(phi), *self.composition_notes(), *self.notes()])

@@ -9,9 +9,9 @@ import numpy as np
 
 # How many of the slowest waves count at most.
 MOST = 24
-# With fewer waves than this there is no fit, but their mean square.
+# With fewer waves than this there is no fit, but a mean of their squares, in which the slower ones count more.
 LEAST_FOR_FIT = 6
-# The fit is no less than this share of the mean square.
+# The fit is no less than this share of the mean.
 FLOOR = 0.5
 
 
@@ -24,9 +24,9 @@ def cosines(values: np.ndarray, count: int) -> np.ndarray:
 def slowest(squares: np.ndarray, left: np.ndarray | None = None) -> np.ndarray:
     """What columns of squares of waves are in the limit of slow ones; `left` is which share of each a regression has left."""
     left = np.ones(len(squares)) if left is None else left
-    mean = squares.sum(axis=0) / left.sum()
-    if len(squares) < LEAST_FOR_FIT:
-        return mean
     number = np.arange(1, len(squares) + 1)
+    if len(squares) < LEAST_FOR_FIT:
+        weight = 1 - (number / (len(number) + 1)) ** 2
+        return weight @ squares / (weight @ left)
     parabola = left[:, None] * np.column_stack([np.ones(len(number)), number**2])
-    return np.maximum(np.linalg.pinv(parabola)[0] @ squares, FLOOR * mean)
+    return np.maximum(np.linalg.pinv(parabola)[0] @ squares, FLOOR * squares.sum(axis=0) / left.sum())

@@ -85,9 +85,14 @@ def cautions(phi: float) -> list[str]:
     return [f"CAUTION: near freezing equations of state fail; they are unknown above a phi of {bounds}"]
 
 
-def mixture(phi: float, sizes) -> float:
-    """Z where disks have these diameters, by that of one size: exact up to the second virial coefficient."""
-    share = sum(sizes) ** 2 / (len(sizes) * sum(size**2 for size in sizes))
+def mixture(phi: float, sizes, weights=None) -> float:
+    """Z where disks have these diameters, each with a weight, by that of one size: exact up to the second virial
+    coefficient."""
+    weights = [1] * len(sizes) if weights is None else weights
+    first, second = (sum(weight * size**power for size, weight in zip(sizes, weights)) for power in (1, 2))
+    if not second > 0:
+        return math.nan
+    share = first**2 / (sum(weights) * second)
     return (1 - share) / (1 - phi) + share * REFERENCE(phi)
 
 

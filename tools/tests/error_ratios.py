@@ -6,7 +6,7 @@ beside its spread over the runs.
 
 It is run by hand, as it takes a minute or so for each seed and 100 σ/v; docs/PHYSICS.md has what it found. The ratio of a
 good error is 1 in the mean; by 20 seeds it comes out between 0.7 and 1.4 nine times of ten. The stated error is the root
-mean square of those of all runs."""
+mean square of those of all runs that state one, beside the spread of these runs."""
 import argparse
 
 from physics_scenes import np
@@ -56,23 +56,26 @@ def of_run(measures: dict[str, Measure]) -> dict[str, tuple[float, float]]:
     return {key: it for name, measure in measures.items() for key, it in numbers(name, measure.table()).items()}
 
 
-def ratios(runs: list[dict[str, tuple[float, float]]]) -> list[tuple[str, float, float, float]]:
-    """Of each number its name, mean, spread over the runs, and stated error by that."""
+def ratios(runs: list[dict[str, tuple[float, float]]]) -> list[tuple[str, float, float, float, int]]:
+    """Of each number its name, mean, spread over the runs, stated error by that, and how many runs state one."""
     rows = []
     for key in runs[0]:
         values, errors = np.array([run[key] for run in runs]).T
+        is_known = np.isfinite(errors)
+        if is_known.sum() > 1:
+            values, errors = values[is_known], errors[is_known]
         spread = values.std(ddof=1)
-        rows.append((key, values.mean(), spread, np.sqrt((errors**2).mean()) / spread if spread else np.nan))
+        rows.append((key, values.mean(), spread, np.sqrt((errors**2).mean()) / spread if spread else np.nan, is_known.sum()))
     return rows
 
 
-def write(rows: list[tuple[str, float, float, float]]) -> None:
-    print("| Number | Mean | Spread | Stated by spread |\n|---|---|---|---|")
-    for key, mean, spread, ratio in rows:
-        print(f"| {key} | {mean:.5g} | {spread:.2g} | {ratio:.2f} |")
-    known = [it[3] for it in rows if not np.isnan(it[3])]
-    good = sum(LEAST <= it <= MOST for it in known)
-    print(f"\n{good} of {len(known)} are {LEAST} to {MOST}; the median is {np.median(known):.2f}")
+def write(rows: list[tuple[str, float, float, float, int]]) -> None:
+    print("| Number | Mean | Spread | Stated by spread | Runs that state one |\n|---|---|---|---|---|")
+    for key, mean, spread, ratio, known in rows:
+        print(f"| {key} | {mean:.5g} | {spread:.2g} | {ratio:.2f} | {known} |")
+    found = [it[3] for it in rows if not np.isnan(it[3])]
+    good = sum(LEAST <= it <= MOST for it in found)
+    print(f"\n{good} of {len(found)} are {LEAST} to {MOST}; the median is {np.median(found):.2f}")
 
 
 def main() -> None:
@@ -83,9 +86,10 @@ def main() -> None:
     words.add_argument("--time", type=float, default=40)
     words.add_argument("--every", type=float, default=0.5)
     words.add_argument("--from", dest="start", type=float, help="when the measure begins (a fifth of the run)")
+    words.add_argument("--seed", type=int, default=1, help="the first one")
     words.add_argument("--seeds", type=int, default=20)
     asked, program, runs = words.parse_args(), find_program(), []
-    for seed in range(1, asked.seeds + 1):
+    for seed in range(asked.seed, asked.seed + asked.seeds):
         scene = make(asked.disks, asked.phi, seed=seed, lattice=asked.lattice, time=asked.time, every=asked.every)
         runs.append(of_run(measured(scene, asked.start, program)))
         print(f"seed {seed}", flush=True)
