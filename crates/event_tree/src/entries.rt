@@ -107,13 +107,13 @@ impl Entries {
         }
     }
 
-    /// The bound of a disk, as a code; none if some key or bound has no code.
+    /// The bound of a disk, as a code; none if it has no code.
     #[inline(always)]
     pub fn bound_code(&self, disk: u32) -> Option<Code>
         ensures { IfSome result (λ code. code ≡ key_at self.now.bounds disk) }
     {
         match &self.wide {
-            Some(_) => None,
+            Some(_) => Code::of(self.bound(disk)),
             None => Some(self.narrow.bound(disk)),
         }
     }
@@ -122,7 +122,7 @@ impl Entries {
     ///
     /// # Errors
     /// Out of memory. Nothing is claimed of the entries then.
-    #[inline(always)]
+    #[inline(never)]
     pub fn set_codes(
         &mut self,
         alloc: Global,
