@@ -1,6 +1,6 @@
 -- Keys that aren't after the pairs of a disk.
-use Rattle.std.proofs.Common.{◌≡◌, ◌⊎◌, inl, inr, ℕ, ◌<◌, ◌≤◌, List, [], ◌∷◌, ◌++◌, arith, refl, sym, subst, ap, ◌∙◌}
-use Rattle.std.specs.Prelude.{Option, Some, None, MatchOption}
+use Rattle.std.proofs.Common.{◌≡◌, ◌⊎◌, inl, inr, ℕ, ◌<◌, ◌≤◌, List, [], ◌∷◌, ◌++◌, arith, refl, sym, subst, ◌∙◌}
+use Rattle.std.specs.Prelude.{Option, Some, None, IfSome, MatchOption}
 use Rattle.std.specs.List.{Contains}
 use Rattle.std.proofs.lemmas.Bool.{cases_lt}
 use Rattle.std.proofs.lemmas.List.Elements.{Contains-push_cases}
@@ -134,3 +134,18 @@ chance_low finder view disk other p q (Some t) here there chance = record { low 
 
     pair : (s : Stamp) → t ≡ s → (s.kind ≡ Pair) × Names s disk
     pair s same = subst (λ (v : Stamp). (v.kind ≡ Pair) × Names v disk) same (chance.kind, named (cases_lt disk other))
+
+-- ---- codes
+-- what holds of the key, if there is one
+pub told : (P Q : Key → Type 0) (found : Option Key) → IfSome found P → ((key : Key) → P key → Q key) → IfSome found Q
+told P Q None h f = tt
+told P Q (Some key) h f = f key h
+
+-- what holds of a key holds of its code
+pub coded : (Q : Key → Type 0) (found : Option Key) (key : Key) → IfSome found (λ code. code ≡ key) → Q key → IfSome found Q
+coded Q found key same q = told (λ code. code ≡ key) Q found same (λ code is. subst Q (sym is) q)
+
+-- a key that isn't after some pairs is that of a pair
+pub low_is_pair : (P : Stamp → Type 0) (disk : ℕ) (key : Key) → IsLowKey P disk key → IfSome key (λ s. s.kind ≡ Pair)
+low_is_pair P disk None low = tt
+low_is_pair P disk (Some s) low = (low.pair s refl).0

@@ -14,7 +14,7 @@ use Rattle.region_queue.specs.declared.finder.Finder.{Finder}
 use Rattle.region_queue.specs.declared.parts.Parts.{Parts}
 use Rattle.region_queue.specs.Outside.{IsInBlock, IsPart, AreParts, IsRest, IsListedOutside, IsListedInParts}
 use Rattle.region_queue.specs.Finding.{IsReady, IsNativeWith, IsPairedBeyond, IsLowKey, IsLowBeyond, IsBlockBeside, AreListed, cell_in}
-use Rattle.region_queue.proofs.Candidates.{IsAround, with_more, pair_of, no_pair, listed_beside}
+use Rattle.region_queue.proofs.Candidates.{IsAround, with_more, pair_of, listed_beside}
 
 -- ---- the parts of a block, cut at the sides of a second one
 -- the place of a side, moved to the block's own side if it is beyond that
@@ -358,10 +358,3 @@ low_beyond finder view disk old p block known o ready row around around_old list
           (far.0, listed other ∙ far.1, subst (λ (n : ℕ). IsWithinBlock finder.lists.grid block n) same at.3, λ within. far.2 (is.0 within)),
           pair_of finder view disk other s x.0 x.1 pair,
         )
-
--- none of a disk that isn't there
-pub none_beyond : (finder : Finder) (view : ViewData) (disk cell : ℕ) → rows_in view disk ≡ None → IsLowBeyond finder view disk cell None
-none_beyond finder view disk cell none = record {
-  low = λ s h. absurd (no_pair finder view disk h.2.0 s none h.0 h.1 h.2.2);
-  pair = λ s e. absurd (let no = e in cc);
-}

@@ -54,6 +54,12 @@ fresh_settled C keys bounds s covers least fresh kind (Some t) is = subst C (lea
     found (inl pair) = fresh pair
     found (inr alone) = let at = least.one s refl in (covers.each at.0).alone s at.1 alone
 
+-- a least key that is no pair's is that of a candidate
+pub settled_alone : (C : Stamp → Type 0) (keys bounds : List Key) (key : Key) → Covers C keys bounds → IsLeastKey keys key →
+    ¬ IfSome key (λ s. s.kind ≡ Pair) → IsSettled C keys
+settled_alone C keys bounds None covers least alone = absurd (alone tt)
+settled_alone C keys bounds (Some s) covers least alone = fresh_settled C keys bounds s covers least (λ pair. absurd (alone pair)) (inr alone)
+
 pub settled_least : (C : Stamp → Type 0) (keys bounds : List Key) (key : Key) → Covers C keys bounds → IsSettled C keys →
     IsLeastKey keys key → IsLeastOf C key
 settled_least C keys bounds None covers settled least = λ s c. covered_from C keys bounds None s covers least c

@@ -22,7 +22,7 @@ use Rattle.region_view.specs.declared.action.Placed.{Placed}
 use Rattle.region_view.specs.Events.{IsAlone, IsNear}
 use Rattle.region_view.specs.Placing.{IsNative, IsValidPlacing}
 use Rattle.region_view.specs.Views.{ViewData, rows_in}
-use Rattle.region_queue.specs.declared.finder.Best.{Best}
+use Rattle.region_queue.specs.declared.finder.Codes.{Codes}
 use Rattle.region_queue.specs.declared.finder.Finder.{Finder}
 use Rattle.region_view.specs.Naming.{Names, IsPairOf}
 
@@ -186,9 +186,9 @@ abbrev pub IsLowBeyond : Finder → ViewData → ℕ → ℕ → Key → Type 0
 IsLowBeyond finder view disk cell key = IsLowKey (IsPairedBeyond finder view disk cell) disk key
 
 -- the least candidate of the disk by itself, and, if the disks are listed as the view has them, such a key for its pairs
-abbrev pub IsLowOf : Finder → ViewData → ℕ → Best → Type 0
-IsLowOf finder view disk best = IsBestSingle finder view disk best.single
-    × (AreListed view finder.lists.cells → IsLowPair finder view disk best.pair)
+abbrev pub IsLowOf : Finder → ViewData → ℕ → Codes → Type 0
+IsLowOf finder view disk codes = IsBestSingle finder view disk codes.single
+    × (AreListed view finder.lists.cells → IsLowPair finder view disk codes.pair)
 
 -- ---- what is kept of the disks
 -- the least native candidate that names the disk, and the least pair

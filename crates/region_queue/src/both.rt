@@ -1,11 +1,12 @@
 //! The native candidates of two disks in adjacent cells, like two that have just hit each other.
 
-ghost use Rattle.std.specs.Prelude.{◌≡◌, ◌↔◌, None, IsTrue, IfSome, false, slice_index_or};
+ghost use Rattle.std.specs.Prelude.{◌≡◌, ◌↔◌, Some, None, IsTrue, IfSome, false, slice_index_or};
 ghost use Rattle.std.specs.FinMap as map;
 ghost use Rattle.std.specs.List.{Contains};
 ghost use Rattle.fixed_motion.specs.Rules.{IsChecked};
 ghost use Rattle.event_rules.specs.Small.{HaveSmallProducts, TellsByGreatest};
-ghost use Rattle.event_stamps.specs.Least.{IsLeastOf};
+ghost use Rattle.event_stamps.specs.declared.Kind.TheVariants.{Pair};
+ghost use Rattle.event_stamps.specs.Least.{IsLeastOf, HasNone};
 ghost use Rattle.event_stamps.specs.Order.{IsInRange};
 ghost use Rattle.region_view.specs.Views.{AreRowsOf};
 ghost use Rattle.cell_grid.specs.Grid.{GridData, IsCell, IsAdjacent, Owns};
@@ -14,19 +15,22 @@ ghost use Rattle.region_view.specs.declared.action.Placed.{Placed};
 ghost use Rattle.region_view.specs.Views.{rows_in};
 ghost use Rattle.region_queue.specs.Finding.{IsReady, IsNativePair, IsNativeWith, IsNearby, IsBestSingle, IsLowKey, IsLowOf, IsMissedByGreatest, AreKept, AreListed, HasNearby, IsWider};
 
-use crate::finder::{Best, Finder, have_rows, owns_lower, row_in};
+use crate::finder::{Codes, Finder, TICKS_OF_CODES, have_rows, owns_lower, row_in};
 use cell_lists::{Block, Gathered, block_around};
 use event_rules::{EachMay, chance_between, each_may_hit, greatest_square, has_small_products};
 use event_stamps::Stamp;
-use event_tree::Packed;
+use event_tree::Code;
 use fixed_motion::Disk;
 use region_view::{Compact, Placed, View};
 
+// Keys whose rounds are below this one have codes.
+const ROUNDS_OF_CODES: u32 = 8;
+
 impl Finder {
-    // What `best` finds for each of two disks, except that the pair may be one that doesn't happen, if none that does is
-    // before it. The disks near either are gathered once, and tested with both. None says nothing: the two aren't
-    // alike, or too many disks are near, or one of these has a later base tick.
-    pub fn best_both(&self, view: &View, first: u32, second: u32) -> Option<(Best, Best)>
+    // What `best` finds for each of two disks, as codes, except that the pair may be one that doesn't happen, if none
+    // that does is before it. The disks near either are gathered once, and tested with both. None says nothing: the two
+    // aren't alike, or too many disks are near, or one of these has a later base tick, or a key has no code.
+    pub fn codes_both(&self, view: &View, first: u32, second: u32) -> Option<(Codes, Codes)>
         requires { IsReady self.now view.now }
         ensures first { IfSome result (λ both. IsLowOf self.now view.now first both.0) }
         ensures second { IfSome result (λ both. IsLowOf self.now view.now second both.1) }
@@ -43,37 +47,29 @@ impl Finder {
         }
         let mut near_other = near.copy();
         let square = greatest_square(&self.rules);
-        if !keep_both(
-            rows,
-            one.disk,
-            other.disk,
-            square,
-            &mut near,
-            &mut near_other,
-        ) {
+        if !keep_both(rows, first, second, square, &mut near, &mut near_other) {
             return None;
         }
         let whole = self.owns_around(one.cell, other.cell);
-        Some((
-            self.best_near(view, first, &one, &near, whole),
-            self.best_near(view, second, &other, &near_other, whole),
-        ))
+        let first_codes = self.codes_near(view, first, &one, &near, whole)?;
+        let second_codes = self.codes_near(view, second, &other, &near_other, whole)?;
+        Some((first_codes, second_codes))
     }
 
-    // Whether two disks have the greatest diameter and one base tick and are in adjacent cells, and products are small.
+    // Whether two disks have the greatest diameter and are in adjacent cells, products are small, and
+    // the next ticks may have codes.
     // That mostly holds for two disks that have just hit each other.
     #[inline(always)]
     fn are_alike(&self, one: &Placed, other: &Placed) -> bool
         requires checked { IsChecked self.now.rules }
         requires one { IsCell self.now.grid one.now.cell }
         requires other { IsCell self.now.grid other.now.cell }
-        ensures base { IsTrue result → one.now.disk.base ≡ other.now.disk.base }
         ensures products { IsTrue result → HaveSmallProducts self.now.rules }
     {
         one.disk.size == self.rules.diameter
             && other.disk.size == self.rules.diameter
-            && one.disk.base == other.disk.base
             && has_small_products(&self.rules)
+            && one.disk.base < TICKS_OF_CODES
             && self.grid.adjacent(one.cell, other.cell)
     }
 
@@ -106,32 +102,31 @@ impl Finder {
     }
 
     // The least native candidate of a disk by itself, and a key that isn't after its native events with some others.
-    // `whole` says that the region owns the columns of them all.
+    // `whole` says that the region owns the columns of them all. None says nothing: a key has no code.
     #[inline(always)]
-    fn best_near(
+    fn codes_near(
         &self,
         view: &View,
         disk: u32,
         placed: &Placed,
         others: &Gathered,
         whole: bool,
-    ) -> Best
+    ) -> Option<Codes>
         requires ready { IsReady self.now view.now }
         requires products { HaveSmallProducts self.now.rules }
         requires placed { map.get view.now disk ≡ Some placed.now }
-        ensures single { IsBestSingle self.now view.now disk result.single }
-        ensures pair { IsLowKey (IsNativeWith self.now view.now disk (λ i. Contains others.now i)) disk result.pair }
+        ensures single { IfSome result (λ codes. IsBestSingle self.now view.now disk codes.single) }
+        ensures pair { IfSome result (λ codes. IsLowKey (IsNativeWith self.now view.now disk (λ i. Contains others.now i)) disk codes.pair) }
     {
         let own = self.owns(placed.cell);
-        Best {
-            single: self.best_alone(view, disk, placed, own),
-            pair: self.low_pair(view, disk, placed, own, others, whole),
-        }
+        let single = self.code_alone(view, disk, placed, own)?;
+        let pair = self.low_pair(view, disk, placed, own, others, whole)?;
+        Some(Codes { single, pair })
     }
 
     // A key that isn't after the native events of a disk with some others, by the only tick at which each two can hit
     // each other: whether they are in the box then, and in adjacent cells, isn't tested. The least key of all is tested
-    // before it is run, and few of these become the least.
+    // before it is run, and few of these become the least. None says nothing: one of them has no code.
     #[inline(always)]
     pub fn low_pair(
         &self,
@@ -141,24 +136,26 @@ impl Finder {
         own: bool,
         others: &Gathered,
         whole: bool,
-    ) -> Packed
+    ) -> Option<Code>
         requires ready { IsReady self.now view.now }
         requires products { HaveSmallProducts self.now.rules }
         requires placed { map.get view.now disk ≡ Some placed.now }
         requires own { IsTrue own ↔ Owns self.now.grid self.now.region placed.now.cell }
-        ensures { IsLowKey (IsNativeWith self.now view.now disk (λ i. Contains others.now i)) disk result }
+        ensures { IfSome result (IsLowKey (IsNativeWith self.now view.now disk (λ i. Contains others.now i)) disk) }
     {
         let others = others.as_slice();
-        let mut best = Packed::new(None);
+        let mut best = Code::none();
         for other in others {
-            best = best.earlier(self.low_key(view, disk, placed, own, *other, whole));
+            let key = self.low_owned(view, disk, placed, own, *other, whole)?;
+            best = best.earlier(key);
         }
-        best
+        Some(best)
     }
 
-    // A key that isn't after the native event of a disk with another. It is kept apart, as `key_beside` is.
-    #[inline(never)]
-    fn low_key(
+    // A key that isn't after the native event of a disk with another: none if the region doesn't own the cell of the
+    // lower one. Where `whole` says that it owns the columns of all others, it isn't asked.
+    #[inline(always)]
+    fn low_owned(
         &self,
         view: &View,
         disk: u32,
@@ -166,19 +163,48 @@ impl Finder {
         own: bool,
         other: u32,
         whole: bool,
-    ) -> Packed
+    ) -> Option<Code>
         requires ready { IsReady self.now view.now }
         requires products { HaveSmallProducts self.now.rules }
         requires placed { map.get view.now disk ≡ Some placed.now }
         requires own { IsTrue own ↔ Owns self.now.grid self.now.region placed.now.cell }
-        ensures { IsLowKey (IsNativePair self.now view.now disk other) disk result }
+        ensures { IfSome result (IsLowKey (IsNativePair self.now view.now disk other) disk) }
     {
-        match view.compact() {
-            Some(rows) => match self.low_stamp(view, rows, disk, placed, own, other, whole) {
-                Some(pair) => Packed::new(pair),
-                None => self.key_with(view, disk, placed, own, other),
-            },
-            None => self.key_with(view, disk, placed, own, other),
+        let _placed = placed;
+        if whole || self.owns_pair(view, disk, own, other) {
+            self.low_key(view, disk, other)
+        } else {
+            Some(Code::none())
+        }
+    }
+
+    // Whether the region owns the cell of the lower of two disks. `own` says that it owns that of the first one.
+    #[inline(never)]
+    fn owns_pair(&self, view: &View, disk: u32, own: bool, other: u32) -> bool
+        requires { IsReady self.now view.now }
+        ensures { result ≡ false → (p : Placed) → map.get view.now disk ≡ Some p →
+            (Owns self.now.grid self.now.region p.cell → IsTrue own) → HasNone (IsNativePair self.now view.now disk other) }
+    {
+        match view.get(other) {
+            Some(placed) => owns_lower(disk, own, other, self.owns(placed.cell)),
+            None => false,
+        }
+    }
+
+    // A key that isn't after the native event of a disk with another. It is kept apart, as `key_beside` is, and reads
+    // the rows of both where they lie.
+    #[inline(never)]
+    fn low_key(&self, view: &View, disk: u32, other: u32) -> Option<Code>
+        requires ready { IsReady self.now view.now }
+        requires products { HaveSmallProducts self.now.rules }
+        ensures { IfSome result (IsLowKey (IsNativePair self.now view.now disk other) disk) }
+    {
+        let Some(rows) = view.compact() else {
+            return self.key_with(view, disk, other);
+        };
+        match self.low_stamp(view, rows, disk, other) {
+            Some(pair) => code_of_pair(pair),
+            None => self.key_with(view, disk, other),
         }
     }
 
@@ -189,42 +215,32 @@ impl Finder {
         view: &View,
         rows: &[Compact],
         disk: u32,
-        placed: &Placed,
-        own: bool,
         other: u32,
-        whole: bool,
     ) -> Option<Option<Stamp>>
         requires ready { IsReady self.now view.now }
         requires products { HaveSmallProducts self.now.rules }
-        requires placed { map.get view.now disk ≡ Some placed.now }
-        requires own { IsTrue own ↔ Owns self.now.grid self.now.region placed.now.cell }
         requires rows { AreRowsOf view.now rows.now }
         ensures range { IfSome result (λ pair. IfSome pair IsInRange) }
         ensures low { IfSome result (IsLowKey (IsNativePair self.now view.now disk other) disk) }
     {
         let _view = view;
-        let Some(near) = row_in(rows, other) else {
-            return Some(None);
-        };
-        let home = whole || self.owns(near.cell);
-        if !owns_lower(disk, own, other, home) {
-            return Some(None);
-        }
+        let placed = row_in(rows, disk)?;
+        let near = row_in(rows, other)?;
         chance_between(&self.rules, disk, &placed.disk, other, &near.disk)
     }
 
     // The native event of a disk with another, wherever that is. It is seldom asked for, so it is kept apart.
     #[inline(never)]
-    fn key_with(&self, view: &View, disk: u32, placed: &Placed, own: bool, other: u32) -> Packed
+    fn key_with(&self, view: &View, disk: u32, other: u32) -> Option<Code>
         requires ready { IsReady self.now view.now }
-        requires placed { map.get view.now disk ≡ Some placed.now }
-        requires own { IsTrue own ↔ Owns self.now.grid self.now.region placed.now.cell }
-        ensures { IsLeastOf (IsNativePair self.now view.now disk other) result }
+        ensures { IfSome result (IsLeastOf (IsNativePair self.now view.now disk other)) }
     {
+        let placed = view.get(disk)?;
         if self.is_near(view, placed.cell, other) {
-            self.key_beside(view, disk, placed, own, other, false)
+            let own = self.owns(placed.cell);
+            Code::of(self.key_beside(view, disk, &placed, own, other, false))
         } else {
-            Packed::new(None)
+            Some(Code::none())
         }
     }
 
@@ -243,6 +259,22 @@ impl Finder {
     }
 }
 
+// The code of a pair's event, or of none. None says nothing: its tick or its round has none.
+#[inline(always)]
+fn code_of_pair(pair: Option<Stamp>) -> Option<Code>
+    requires range { IfSome pair IsInRange }
+    requires pair { IfSome pair (λ s. s.kind ≡ Pair) }
+    ensures { IfSome result (λ code. code ≡ pair) }
+{
+    let Some(pair) = pair else {
+        return Some(Code::none());
+    };
+    if pair.tick >= TICKS_OF_CODES || pair.round >= ROUNDS_OF_CODES {
+        return None;
+    }
+    Some(Code::pair(pair.tick, pair.round, pair.first, pair.second))
+}
+
 // A block that has the cells of both of two.
 #[inline(always)]
 fn joined(a: Block, b: Block) -> Block
@@ -259,9 +291,38 @@ fn joined(a: Block, b: Block) -> Block
 }
 
 // Keeps in one list those disks that the first of two disks may hit, and in another one those that the second may hit.
-// False says nothing: one of them has a later base tick than the two, which is rare.
+// The two are given by their numbers, and read where they lie. False says nothing: one of them isn't there, or one of
+// the others has a later base tick than the two, which is rare.
 #[inline(never)]
 fn keep_both(
+    rows: &[Compact],
+    first: u32,
+    second: u32,
+    square: i64,
+    near: &mut Gathered,
+    near_other: &mut Gathered,
+) -> bool
+    requires same { near_other.old ≡ near.old }
+    ensures one { IsTrue result → IfSome (slice_index_or rows.now first None) (λ row.
+        AreKept (λ i. IsMissedByGreatest square row.disk (slice_index_or rows.now i None)) near.old near.new) }
+    ensures other { IsTrue result → IfSome (slice_index_or rows.now second None) (λ row.
+        AreKept (λ i. IsMissedByGreatest square row.disk (slice_index_or rows.now i None)) near.old near_other.new) }
+{
+    let Some(one) = row_in(rows, first) else {
+        return false;
+    };
+    let Some(other) = row_in(rows, second) else {
+        return false;
+    };
+    if one.disk.base != other.disk.base {
+        return false;
+    }
+    keep_reached_by(rows, one.disk, other.disk, square, near, near_other)
+}
+
+// The same for two disks of one base tick.
+#[inline(always)]
+fn keep_reached_by(
     rows: &[Compact],
     one: Disk,
     other: Disk,

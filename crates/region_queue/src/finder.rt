@@ -10,6 +10,7 @@ ghost use Rattle.event_stamps.specs.Least.{IsLeastOf, HasNone, IsOnly};
 ghost use Rattle.event_stamps.specs.Order.{IsInRange};
 ghost use Rattle.cell_grid.specs.Grid.{IsCell, IsAdjacent, IsStripOf, Owns};
 ghost use Rattle.cell_grid.specs.Crossing.{IsCrossEvent};
+ghost use Rattle.cell_grid.specs.Later.{later_crossing};
 ghost use Rattle.cell_lists.specs.Listing.{IsListed};
 ghost use Rattle.cell_lists.specs.Nearby.{IsBlock, IsListedWithin, AreGathered, columns_to};
 ghost use Rattle.region_queue.specs.Outside.{IsListedOutside, IsListedInParts};
@@ -27,12 +28,15 @@ use event_rules::{
     may_hit_by_greatest, may_hit_by_small, quick_event_between,
 };
 use event_stamps::{Kind, Stamp};
-use event_tree::Packed;
+use event_tree::{Code, Packed};
 use fixed_motion::{Disk, Rules};
 use region_view::{Compact, Placed, View, first_alone};
 
 // This many rows, half a mebibyte, mostly fit the second cache, from which a read doesn't hold up the next ones.
 const FEW_ROWS: usize = 1 << 14;
+
+// Keys whose ticks are below this one have codes.
+pub(crate) const TICKS_OF_CODES: u64 = 1 << 27;
 
 // A region, and the disks of its view by cell.
 #[derive(Drop)]
@@ -52,6 +56,13 @@ pub(crate) struct Best {
     pub single: Packed,
     // The least one with another disk.
     pub pair: Packed,
+}
+
+// The same as codes, except that the pair may be one that doesn't happen, if none that does is before it.
+#[derive(Clone, Copy)]
+pub(crate) struct Codes {
+    pub single: Code,
+    pub pair: Code,
 }
 
 impl Best {
@@ -86,23 +97,24 @@ impl Finder {
     }
 
     // The least native candidate of a disk by itself, and a key that isn't after its native pairs with disks in cells
-    // that aren't adjacent to the cell `old`.
-    pub fn best_beyond(&self, view: &View, disk: u32, old: u32) -> Best
+    // that aren't adjacent to the cell `old`. None says nothing: one of them has no code.
+    pub fn codes_beyond(&self, view: &View, disk: u32, old: u32) -> Option<Codes>
         requires ready { IsReady self.now view.now }
         requires old { IsCell self.now.grid old }
-        ensures single { IsBestSingle self.now view.now disk result.single }
-        ensures pair { AreListed view.now self.now.lists.cells → IsLowBeyond self.now view.now disk old result.pair }
+        ensures single { IfSome result (λ codes. IsBestSingle self.now view.now disk codes.single) }
+        ensures pair { IfSome result (λ codes. AreListed view.now self.now.lists.cells →
+            IsLowBeyond self.now view.now disk old codes.pair) }
     {
-        let Some(placed) = view.get(disk) else {
-            return Best::none();
-        };
+        let placed = view.get(disk)?;
+        if placed.disk.base >= TICKS_OF_CODES {
+            return None;
+        }
         let own = self.owns(placed.cell);
         let block = block_around(&self.grid, placed.cell);
         let known = block_around(&self.grid, old);
-        Best {
-            single: self.best_alone(view, disk, &placed, own),
-            pair: self.low_outside(view, disk, &placed, own, block, known),
-        }
+        let single = self.code_alone(view, disk, &placed, own)?;
+        let pair = self.low_outside(view, disk, &placed, own, block, known)?;
+        Some(Codes { single, pair })
     }
 
     // Whether a stamp is that of a native candidate, if it is that of a pair.
@@ -195,6 +207,48 @@ impl Finder {
         }
     }
 
+    // The same as a code. None says nothing: it has none.
+    #[inline(always)]
+    pub fn code_alone(&self, view: &View, disk: u32, placed: &Placed, own: bool) -> Option<Code>
+        requires ready { IsReady self.now view.now }
+        requires placed { map.get view.now disk ≡ Some placed.now }
+        requires own { IsTrue own ↔ Owns self.now.grid self.now.region placed.now.cell }
+        ensures { IfSome result (IsLeastOf (IsAloneAt self.now disk placed.now)) }
+    {
+        if !own {
+            return Some(Code::none());
+        }
+        match self.grid.leaving(&self.rules, &placed.disk, placed.cell) {
+            Departure::At(tick) => code_of_crossing(tick, disk),
+            Departure::Never => self.code_of_side(view, disk),
+            Departure::Unknown => self.code_by_parts(view, disk),
+        }
+    }
+
+    // The code of what `first_side` finds, given the disk by its number, so that its row needn't lie in memory.
+    #[inline(never)]
+    fn code_of_side(&self, view: &View, disk: u32) -> Option<Code>
+        requires ready { IsReady self.now view.now }
+        requires stays { (p : Placed) → map.get view.now disk ≡ Some p →
+            HasNone (IsCrossEvent self.now.rules self.now.grid disk p.disk p.cell) }
+        ensures { IfSome result (λ key. (p : Placed) → map.get view.now disk ≡ Some p →
+            IsLeastOf (IsAlone self.now.rules self.now.grid disk p) key) }
+    {
+        let placed = view.get(disk)?;
+        Code::of(self.first_side(view, disk, &placed))
+    }
+
+    // The code of what `first_by_parts` finds, likewise.
+    #[inline(never)]
+    fn code_by_parts(&self, view: &View, disk: u32) -> Option<Code>
+        requires { IsReady self.now view.now }
+        ensures { IfSome result (λ key. (p : Placed) → map.get view.now disk ≡ Some p →
+            IsLeastOf (IsAlone self.now.rules self.now.grid disk p) key) }
+    {
+        let placed = view.get(disk)?;
+        Code::of(self.first_by_parts(view, disk, &placed))
+    }
+
     // The first event by itself of a disk that has no crossing: it hits a side of the box.
     #[inline(never)]
     fn first_side(&self, view: &View, disk: u32, placed: &Placed) -> Packed
@@ -243,8 +297,37 @@ impl Finder {
         }
     }
 
-    // A key that isn't after the native events with disks in the cells of the block that aren't in the block `known`.
+    // A key that isn't after the native events with disks in the cells of the block that aren't in the block `known`. None
+    // says nothing: a key has no code.
     fn low_outside(
+        &self,
+        view: &View,
+        disk: u32,
+        placed: &Placed,
+        own: bool,
+        block: Block,
+        known: Block,
+    ) -> Option<Code>
+        requires ready { IsReady self.now view.now }
+        requires placed { map.get view.now disk ≡ Some placed.now }
+        requires own { IsTrue own ↔ Owns self.now.grid self.now.region placed.now.cell }
+        requires block { IsBlock self.now.grid block }
+        requires beside { IsBlockBeside self.now.grid placed.now.cell block }
+        requires known { IsBlock self.now.grid known }
+        ensures { IfSome result (λ key. AreListed view.now self.now.lists.cells → IsLowKey (IsNativeWith self.now view.now disk
+            (IsListedOutside self.now.lists block known)) disk key) }
+    {
+        let mut near = Gathered::new();
+        if self.gather_outside(block, known, &mut near) && have_rows(view, &near) {
+            self.low_among(view, disk, placed, own, block, &mut near)
+        } else {
+            Code::of(self.best_in_parts(view, disk, placed, own, block, known))
+        }
+    }
+
+    // The least native event with a disk in one of these cells, cell by cell.
+    #[inline(never)]
+    fn best_in_parts(
         &self,
         view: &View,
         disk: u32,
@@ -259,19 +342,14 @@ impl Finder {
         requires block { IsBlock self.now.grid block }
         requires beside { IsBlockBeside self.now.grid placed.now.cell block }
         requires known { IsBlock self.now.grid known }
-        ensures { AreListed view.now self.now.lists.cells → IsLowKey (IsNativeWith self.now view.now disk
-            (IsListedOutside self.now.lists block known)) disk result }
+        ensures { AreListed view.now self.now.lists.cells → IsLeastOf (IsNativeWith self.now view.now disk
+            (IsListedOutside self.now.lists block known)) result }
     {
-        let mut near = Gathered::new();
-        if self.gather_outside(block, known, &mut near) && have_rows(view, &near) {
-            self.low_among(view, disk, placed, own, block, &mut near)
-        } else {
-            let parts = parts_outside(block, known);
-            self.best_by_rows(view, disk, placed, own, parts.left)
-                .earlier(self.best_by_rows(view, disk, placed, own, parts.right))
-                .earlier(self.best_by_rows(view, disk, placed, own, parts.low))
-                .earlier(self.best_by_rows(view, disk, placed, own, parts.high))
-        }
+        let parts = parts_outside(block, known);
+        self.best_by_rows(view, disk, placed, own, parts.left)
+            .earlier(self.best_by_rows(view, disk, placed, own, parts.right))
+            .earlier(self.best_by_rows(view, disk, placed, own, parts.low))
+            .earlier(self.best_by_rows(view, disk, placed, own, parts.high))
     }
 
     // Gathers the disks that are listed in a block outside a second one, beside those that were gathered before. After
@@ -316,7 +394,7 @@ impl Finder {
     }
 
     // A key that isn't after the native events of a disk with some others, which are listed in a block of cells beside
-    // its own. Keeps those of the others that the disk may hit.
+    // its own. Keeps those of the others that the disk may hit. None says nothing: a key has no code.
     #[inline(always)]
     fn low_among(
         &self,
@@ -326,20 +404,20 @@ impl Finder {
         own: bool,
         block: Block,
         near: &mut Gathered,
-    ) -> Packed
+    ) -> Option<Code>
         requires ready { IsReady self.now view.now }
         requires placed { map.get view.now disk ≡ Some placed.now }
         requires own { IsTrue own ↔ Owns self.now.grid self.now.region placed.now.cell }
         requires beside { IsBlockBeside self.now.grid placed.now.cell block }
-        ensures { AreListed view.now self.now.lists.cells → AreAllWithin self.now.lists block near.old →
-            IsLowKey (IsNativeWith self.now view.now disk (λ i. Contains near.old i)) disk result }
+        ensures { IfSome result (λ key. AreListed view.now self.now.lists.cells → AreAllWithin self.now.lists block near.old →
+            IsLowKey (IsNativeWith self.now view.now disk (λ i. Contains near.old i)) disk key) }
     {
         if has_small_products(&self.rules) {
             let whole = self.owns_columns(block.left, block.right);
             self.keep_candidates(view, disk, placed, near);
             self.low_pair(view, disk, placed, own, near, whole)
         } else {
-            self.best_among(view, disk, placed, own, block, near)
+            Code::of(self.best_among(view, disk, placed, own, block, near))
         }
     }
 
@@ -700,6 +778,19 @@ pub(crate) fn owns_lower(disk: u32, own: bool, other: u32, home: bool) -> bool
         own
     } else {
         other < disk && home
+    }
+}
+
+// The code of a disk's crossing in round 0. None says nothing: its tick has none.
+#[inline(always)]
+fn code_of_crossing(tick: u64, disk: u32) -> Option<Code>
+    requires { disk < 65536 }
+    ensures { IfSome result (λ code. code ≡ Some (later_crossing disk tick)) }
+{
+    if tick < TICKS_OF_CODES {
+        Some(Code::crossing(tick, disk))
+    } else {
+        None
     }
 }
 

@@ -1,8 +1,9 @@
 //! The keys of a region's disks, and when they are taken again.
 
-ghost use Rattle.std.specs.Prelude.{◌≡◌, ◌↔◌, [], ◌∷◌, Some, IsTrue, IfSome, OnOk};
+ghost use Rattle.std.specs.Prelude.{◌≡◌, ◌↔◌, ℕ, [], ◌∷◌, Some, IsTrue, IfSome, OnOk};
 ghost use Rattle.event_stamps.specs.declared.Kind.TheVariants.{Pair};
 ghost use Rattle.event_stamps.specs.Order.{IsInRange};
+ghost use Rattle.event_tree.specs.Keys.{key_at};
 ghost use Rattle.cell_grid.specs.Grid.{IsCell, Owns};
 ghost use Rattle.region_view.specs.declared.action.Placed.{Placed};
 ghost use Rattle.region_view.specs.Views.{ViewData, rows_in};
@@ -10,11 +11,11 @@ ghost use Rattle.region_view.specs.Naming.{IsMoved};
 ghost use Rattle.region_queue.specs.declared.finder.Finder.{Finder};
 ghost use Rattle.region_queue.specs.Covering.{Covers, IsSettled};
 ghost use Rattle.region_queue.specs.Finding.{IsReady, IsFound, IsBestSingle, IsBestPair, AreListed, AreRetaken, AreRetakenOf, AreGiven};
-ghost use Rattle.region_queue.specs.Finding.{IsTakenAt, IsLoweredAt, IsLowPair, IsExtended, HasKey, IsHolder, cell_in};
+ghost use Rattle.region_queue.specs.Finding.{IsTakenAt, IsLoweredAt, IsLowPair, IsLowBeyond, IsExtended, HasKey, IsHolder, cell_in};
 
-use crate::finder::{Best, Finder, has_stamp};
+use crate::finder::{Best, Codes, Finder, has_stamp};
 use event_stamps::{Kind, Stamp};
-use event_tree::{Entries, Packed};
+use event_tree::{Code, Entries, Packed};
 use region_view::View;
 use std::alloc::{AllocError, Global};
 
@@ -52,10 +53,10 @@ pub(crate) fn take_both(
     ensures { OnOk result (AreListed view.now finder.now.lists.cells →
         AreRetaken finder.now view.now (first ∷ second ∷ []) keys.old keys.new) }
 {
-    match finder.best_both(view, first, second) {
+    match finder.codes_both(view, first, second) {
         Some((one, other)) => {
-            set_best(alloc, keys, first, one)?;
-            set_best(alloc, keys, second, other)
+            set_codes(alloc, keys, first, one)?;
+            set_codes(alloc, keys, second, other)
         }
         None => {
             take_key(alloc, finder, keys, view, first)?;
@@ -82,13 +83,21 @@ fn take_key(
 
 // Makes `best` the key and the bound of a disk.
 fn set_best(alloc: Global, keys: &mut Entries, disk: u32, best: Best) -> Result<(), AllocError>
-    ensures best { OnOk result ((finder : Finder) (view : ViewData) → IsBestSingle finder view disk best.single →
+    ensures { OnOk result ((finder : Finder) (view : ViewData) → IsBestSingle finder view disk best.single →
         IsBestPair finder view disk best.pair → IsTakenAt finder view disk keys.old keys.new) }
-    ensures low { OnOk result ((finder : Finder) (view : ViewData) → IsBestSingle finder view disk best.single →
-        IsLowPair finder view disk best.pair → IsLoweredAt finder view disk keys.old keys.new) }
 {
     let key = best.single.earlier(best.pair);
     keys.set(alloc, disk, key, best.pair)
+}
+
+// Makes `codes` the key and the bound of a disk.
+#[inline(always)]
+fn set_codes(alloc: Global, keys: &mut Entries, disk: u32, codes: Codes) -> Result<(), AllocError>
+    ensures { OnOk result ((finder : Finder) (view : ViewData) → IsBestSingle finder view disk codes.single →
+        IsLowPair finder view disk codes.pair → IsLoweredAt finder view disk keys.old keys.new) }
+{
+    let key = codes.single.earlier(codes.pair);
+    keys.set_codes(alloc, disk, key, codes.pair)
 }
 
 // Takes the key again of a disk that was in this cell before, or nowhere, and keeps its course.
@@ -110,11 +119,15 @@ pub(crate) fn take_crossed(
     let Some(cell) = cell else {
         return take_key(alloc, finder, keys, view, disk);
     };
-    if is_owner_kept(finder, view, disk, cell) && is_pair_or_none(keys.bound(disk)) {
-        extend_key(alloc, finder, keys, view, disk, cell)
-    } else {
-        take_key(alloc, finder, keys, view, disk)
+    // Its pairs with disks beside both cells haven't changed, so only the others are looked for.
+    if is_owner_kept(finder, view, disk, cell)
+        && let Some(known) = keys.bound_code(disk)
+        && known.is_pair_or_none()
+        && let Some(beyond) = finder.codes_beyond(view, disk, cell)
+    {
+        return extend_key(alloc, keys, disk, known, beyond);
     }
+    take_key(alloc, finder, keys, view, disk)
 }
 
 // Whether the region owns both this cell and that of a disk, or neither.
@@ -130,36 +143,22 @@ fn is_owner_kept(finder: &Finder, view: &View, disk: u32, cell: u32) -> bool
     }
 }
 
-// Whether a key is none, or that of a pair.
-fn is_pair_or_none(key: Packed) -> bool
-    ensures { IsTrue result → IfSome key (λ s. s.kind ≡ Pair) }
-{
-    match key.key() {
-        Some(stamp) => is_of_pair(&stamp),
-        None => true,
-    }
-}
-
-// Extends the key of a disk that was in this cell before, and keeps its course. Its pairs with disks beside both cells
-// haven't changed, so only the others are looked for.
+// Extends the key of a disk, given what was known of its pairs, and what is found beyond a cell.
+#[inline(always)]
 fn extend_key(
     alloc: Global,
-    finder: &Finder,
     keys: &mut Entries,
-    view: &View,
     disk: u32,
-    cell: u32,
+    known: Code,
+    beyond: Codes,
 ) -> Result<(), AllocError>
-    requires ready { IsReady finder.now view.now }
-    requires cell { IsCell finder.now.grid cell }
-    ensures { OnOk result (AreListed view.now finder.now.lists.cells →
-        IsExtended finder.now view.now disk cell keys.old keys.new) }
+    requires { known ≡ key_at keys.old.bounds disk }
+    ensures { OnOk result ((finder : Finder) (view : ViewData) (cell : ℕ) → IsBestSingle finder view disk beyond.single →
+        IsLowBeyond finder view disk cell beyond.pair → IsExtended finder view disk cell keys.old keys.new) }
 {
-    let known = keys.bound(disk);
-    let best = finder.best_beyond(view, disk, cell);
-    let bound = known.earlier(best.pair);
-    let key = best.single.earlier(bound);
-    keys.set(alloc, disk, key, bound)
+    let bound = known.earlier(beyond.pair);
+    let key = beyond.single.earlier(bound);
+    keys.set_codes(alloc, disk, key, bound)
 }
 
 // Makes an event the key of its disks.
@@ -185,7 +184,33 @@ pub(crate) fn is_of_pair(event: &Stamp) -> bool
 // Takes keys again until the least one is that of a native candidate. A least key that isn't one is that of a pair of
 // which a disk has changed since, or that doesn't meet inside the box. No candidate is before it, so it is early enough
 // to look at it when it is the least; then it is taken exactly, so the least key rises.
+#[inline(always)]
 pub(crate) fn settle(
+    alloc: Global,
+    finder: &Finder,
+    keys: &mut Entries,
+    view: &View,
+) -> Result<(), AllocError>
+    requires { IsReady finder.now view.now }
+    ensures covers { OnOk result (AreListed view.now finder.now.lists.cells →
+        Covers (IsFound finder.now view.now) keys.old.keys keys.old.bounds →
+        Covers (IsFound finder.now view.now) keys.new.keys keys.new.bounds) }
+    ensures settled { OnOk result (AreListed view.now finder.now.lists.cells →
+        Covers (IsFound finder.now view.now) keys.old.keys keys.old.bounds →
+        IsSettled (IsFound finder.now view.now) keys.new.keys) }
+{
+    // A key that is no pair's is that of a candidate.
+    if let Some(top) = keys.top_code()
+        && !top.is_pair_or_none()
+    {
+        return Ok(());
+    }
+    settle_pairs(alloc, finder, keys, view)
+}
+
+// The same, if the least key may be that of a pair.
+#[inline(never)]
+fn settle_pairs(
     alloc: Global,
     finder: &Finder,
     keys: &mut Entries,

@@ -8,6 +8,9 @@
 //!
 //! Beside its key a disk has a bound for its pairs. It keeps the bound when it comes to another cell: its pairs with
 //! disks that are beside both cells haven't changed, so only the others are looked for.
+//!
+//! After a collision or a crossing keys are found as codes of 8 bytes, which keys have whose ticks are below 2^27 and
+//! whose rounds are below 8. What has no code is found as a packed key, by an exact look around the disk.
 #![tactic(auto)]
 
 mod both;

@@ -6,7 +6,7 @@ use crate::listing::{list_again, list_event, list_one};
 use cell_grid::Grid;
 use cell_lists::Lists;
 use event_stamps::Stamp;
-use event_tree::{Entries, Packed};
+use event_tree::{Code, Entries, Packed};
 use fixed_motion::Rules;
 use region_view::View;
 use std::alloc::{AllocError, Global};
@@ -35,7 +35,7 @@ impl Model for Queue {
     ghost invariant = { λ a. IsSoundQueue a.finder.rules a.finder.grid a.finder.region a.finder.strip a.finder.lists.grid };
 }
 
-ghost use Rattle.std.specs.Prelude.{◌≡◌, ℕ, ◌<◌, None, Some, IfOk, OnOk, [], ◌∷◌};
+ghost use Rattle.std.specs.Prelude.{◌≡◌, ℕ, ◌<◌, None, Some, IfSome, IfOk, OnOk, [], ◌∷◌};
 ghost use Rattle.std.specs.FinMap as map;
 ghost use Rattle.std.specs.List.{Contains};
 ghost use Rattle.fixed_motion.specs.Rules.{IsChecked};
@@ -97,6 +97,15 @@ impl Queue {
             IsLeastOf (IsNative self.now.rules self.now.grid self.now.region (rows_in view)) result }
     {
         self.keys.top()
+    }
+
+    /// The same as a code. None says nothing: it may have none.
+    #[inline(always)]
+    pub fn top_code(&self) -> Option<Code>
+        ensures { IfSome result (λ code. (view : ViewData) → StandsFor self.now view →
+            IsLeastOf (IsNative self.now.rules self.now.grid self.now.region (rows_in view)) code) }
+    {
+        self.keys.top_code()
     }
 
     /// Takes in the changes of these disks, to what stands at their numbers in a view. If the queue stood for a view

@@ -1,52 +1,10 @@
--- The least key rises, up to one that is a candidate.
-use Rattle.std.proofs.Common.{◌≡◌, sym, subst, ◌∙◌}
-use Rattle.std.specs.Prelude.{Some}
-use Rattle.event_tree.specs.Keys.{Key, IsLeastKey}
-use Rattle.region_view.proofs.Naming.{is_pair_or_not}
-use Rattle.region_queue.specs.Finding.{IsFound, IsHolder}
-use Rattle.region_queue.proofs.Covered.{covers_still}
-use Rattle.region_queue.proofs.Settled.{rises, none_left, fresh_settled, below_falls}
+-- A key that is no pair's is fresh.
+use Rattle.std.proofs.lemmas.Bool.{both_ways}
+use Rattle.region_queue.specs.Finding.{IsFound}
+use Rattle.region_queue.proofs.Settled.{settled_alone}
 use Rattle.region_queue.proofs.keys.settle.Goals as goal
 
-pub loop-stamp-smaller : goal.loop-stamp-smaller
-loop-stamp-smaller c =
-    let key : c.loop-stamp.least ≡ Some c.in-Some.stamp = sym c.in-Some.ensures.value in
-    rw key (below_falls c.in-Some.stamp c.if_after-least.result c.in-Some.ensures.room c.if_after-least.ensures.room
-    (c.if_after-least.ensures.after c.in-Some.stamp key))
-
-pub loop-stamp-preserved : goal.loop-stamp-preserved
-loop-stamp-preserved c = λ listed covers.
-    let C = IsFound c.args.finder.now c.args.view.now in
-    let old = c.loop-stamp.keys in
-    let new = c.take_held.new.keys in
-    let stamp = c.in-Some.stamp in
-    let key : c.loop-stamp.least ≡ Some stamp = sym c.in-Some.ensures.value in
-    let was = c.loop-stamp.invariant listed covers in
-    let least = subst (λ (k : Key). IsLeastKey old.keys k) key was.1 in
-    let again = c.in_ok-take_held.ensures listed in
-    let same = c.if_after-least.ensures.same stamp key
-    (rises C old new stamp c.top.result was.0 (c.is_fresh.ensures.stale c.if-is_fresh.false) least again c.top.ensures) in (
-      covers_still C (IsHolder old stamp) old new was.0 again,
-      subst (λ (k : Key). IsLeastKey new.keys k) (sym same) c.top.ensures,
-    )
-
-pub returns-then-is_fresh-clause-settled : goal.returns-then-is_fresh-clause-settled
-returns-then-is_fresh-clause-settled c = λ listed covers.
-    let C = IsFound c.args.finder.now c.args.view.now in
-    let stamp = c.in-Some.stamp in
-    let key : c.loop-stamp.least ≡ Some stamp = sym c.in-Some.ensures.value in
-    let was = c.loop-stamp.invariant listed covers in
-    fresh_settled C c.loop-stamp.keys.keys c.loop-stamp.keys.bounds stamp was.0 (subst (λ (k : Key). IsLeastKey c.loop-stamp.keys.keys k) key was.1)
-    (c.is_fresh.ensures.fresh c.if-is_fresh.true) (is_pair_or_not stamp.kind)
-
-pub returns-in_default-clause-settled : goal.returns-in_default-clause-settled
-returns-in_default-clause-settled c = λ listed covers.
-    none_left (IsFound c.args.finder.now c.args.view.now) c.loop-stamp.keys.keys
-    (subst (λ (key : Key). IsLeastKey c.loop-stamp.keys.keys key) (sym c.key.ensures.value ∙ c.in_default.is)
-    (c.loop-stamp.invariant listed covers).1)
-
-pub returns-in_default-clause-covers : goal.returns-in_default-clause-covers
-returns-in_default-clause-covers c = λ listed covers. (c.loop-stamp.invariant listed covers).0
-
-pub returns-then-is_fresh-clause-covers : goal.returns-then-is_fresh-clause-covers
-returns-then-is_fresh-clause-covers c = λ listed covers. (c.loop-stamp.invariant listed covers).0
+pub returns-clause-settled : goal.returns-clause-settled
+returns-clause-settled c = λ listed covers.
+    settled_alone (IsFound c.args.finder.now c.args.view.now) c.args.keys.now.keys c.args.keys.now.bounds c.in-Some.top covers
+    (c.in-Some.ensures {u = tt}) (λ pair. both_ways c.is_pair_or_none.result c.if-not-is_pair_or_none.true (c.is_pair_or_none.ensures.1 pair))

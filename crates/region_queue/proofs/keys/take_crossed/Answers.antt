@@ -6,7 +6,8 @@ use Rattle.event_tree.specs.Keys.{Key}
 use Rattle.cell_grid.specs.Grid.{IsCell}
 use Rattle.region_view.specs.Views.{ViewData}
 use Rattle.region_view.specs.Naming.{IsMoved}
-use Rattle.region_queue.specs.Finding.{AreListed, IsFound, IsTakenAt, IsExtended, cell_in}
+use Rattle.region_queue.specs.Finding.{AreListed, IsFound, IsBestSingle, IsLowBeyond, IsTakenAt, IsExtended, cell_in}
+use Rattle.region_queue.specs.declared.finder.Finder.{Finder}
 use Rattle.region_queue.specs.Covering.{Covers}
 use Rattle.region_queue.proofs.Again.{on_ok}
 use Rattle.region_queue.proofs.Moved.{moved_covers, taken_covers}
@@ -24,38 +25,40 @@ returns-in_default c =
     Covers (IsFound finder before) old.keys old.bounds → Covers (IsFound finder view) new.keys new.bounds)
     (λ taken listed before moved at covers. taken_covers finder before view disk old new moved (taken listed) covers) c.take_key.ensures
 
-pub returns-else-is_owner_kept : goal.returns-else-is_owner_kept
-returns-else-is_owner_kept c =
+pub returns-2 : goal.returns-2
+returns-2 c =
     let finder = c.args.finder.now in
     let view = c.args.view.now in
     let disk = c.args.disk in
     let old = c.args.keys.now in
-    let new = c.take_key-else-is_owner_kept.new.keys in
-    on_ok c.take_key-else-is_owner_kept.result (AreListed view finder.lists.cells → IsTakenAt finder view disk old new)
+    let new = c.take_key-2.new.keys in
+    on_ok c.take_key-2.result (AreListed view finder.lists.cells → IsTakenAt finder view disk old new)
     (AreListed view finder.lists.cells → (before : ViewData) → IsMoved disk before view → c.args.cell ≡ cell_in before disk →
     Covers (IsFound finder before) old.keys old.bounds → Covers (IsFound finder view) new.keys new.bounds)
     (λ taken listed before moved at covers. taken_covers finder before view disk old new moved (taken listed) covers)
-    c.take_key-else-is_owner_kept.ensures
+    c.take_key-2.ensures
 
-pub returns-then-is_pair_or_none : goal.returns-then-is_pair_or_none
-returns-then-is_pair_or_none c =
+pub returns : goal.returns
+returns c =
     let finder = c.args.finder.now in
     let view = c.args.view.now in
     let disk = c.args.disk in
     let cell = c.in-Some.cell in
     let old = c.args.keys.now in
     let new = c.extend_key.new.keys in
-    on_ok c.extend_key.result (AreListed view finder.lists.cells → IsExtended finder view disk cell old new)
+    let beyond = c.in-Some-codes_beyond.beyond in
+    on_ok c.extend_key.result ((f : Finder) (v : ViewData) (n : ℕ) → IsBestSingle f v disk beyond.single → IsLowBeyond f v disk n beyond.pair →
+    IsExtended f v disk n old new)
     (AreListed view finder.lists.cells → (before : ViewData) → IsMoved disk before view → c.args.cell ≡ cell_in before disk →
     Covers (IsFound finder before) old.keys old.bounds → Covers (IsFound finder view) new.keys new.bounds)
     (λ extended listed before moved at covers.
     moved_covers finder before view disk cell old new moved (sym c.in-Some.is ∙ at) (c.is_owner_kept.ensures c.if-is_owner_kept.true)
-    (subst (λ (key : Key). IfSome key (λ s. s.kind ≡ Pair)) c.bound.ensures (c.is_pair_or_none.ensures c.if-is_pair_or_none.true))
-    (extended listed) covers)
+    (subst (λ (key : Key). IfSome key (λ s. s.kind ≡ Pair)) c.in-Some-bound_code.ensures (c.is_pair_or_none.ensures.0 c.if-is_pair_or_none.true))
+    (extended finder view cell (c.in-Some-codes_beyond.ensures.single) (c.in-Some-codes_beyond.ensures.pair listed)) covers)
     c.extend_key.ensures
 
-pub extend_key-requires-clause-cell : goal.extend_key-requires-clause-cell
-extend_key-requires-clause-cell c = subst (λ (o : Option ℕ). IfSome o (IsCell c.args.finder.now.grid)) c.in-Some.is c.requires.cell
+pub codes_beyond-requires-clause-old : goal.codes_beyond-requires-clause-old
+codes_beyond-requires-clause-old c = subst (λ (o : Option ℕ). IfSome o (IsCell c.args.finder.now.grid)) c.in-Some.is c.requires.cell
 
 pub is_owner_kept-requires-clause-cell : goal.is_owner_kept-requires-clause-cell
 is_owner_kept-requires-clause-cell c = subst (λ (o : Option ℕ). IfSome o (IsCell c.args.finder.now.grid)) c.in-Some.is c.requires.cell

@@ -17,4 +17,4 @@ returns c =
     ((f : Finder) (v : ViewData) → IsBestSingle f v disk best.single → IsBestPair f v disk best.pair → IsTakenAt f v disk old new)
     (AreListed view finder.lists.cells → IsTakenAt finder view disk old new)
     (λ set listed. set finder view c.best-best.ensures.single (c.best-best.ensures.pair listed))
-    c.set_best.ensures.best
+    c.set_best.ensures

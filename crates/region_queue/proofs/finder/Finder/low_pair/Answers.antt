@@ -14,7 +14,7 @@ use Rattle.region_queue.proofs.finder.Finder.low_pair.Goals as goal
 pub loop-other-init : goal.loop-other-init
 loop-other-init c =
     let Among : ℕ → Type 0 = λ i. Contains [] i in
-    subst (λ (o : Option Stamp). IsLowKey (IsNativeWith c.args.self.now c.args.view.now c.args.disk Among) c.args.disk o) (sym c.new-best.ensures)
+    subst (λ (o : Option Stamp). IsLowKey (IsNativeWith c.args.self.now c.args.view.now c.args.disk Among) c.args.disk o) (sym c.none-best.ensures)
     (low_none c.args.self.now c.args.view.now c.args.disk Among none_among)
 
 pub loop-other-preserved : goal.loop-other-preserved
@@ -24,10 +24,10 @@ loop-other-preserved c =
     let lt : c.loop-other.other-index < length c.as_slice-others.result.now = omega arith in
     let Found = IsNativeWith c.args.self.now c.args.view.now c.args.disk in
     subst (λ (o : Option Stamp). IsLowKey (Found (λ i. Contains (take (n + 1) others) i)) c.args.disk o) (sym c.earlier-best.ensures)
-    (subst (λ (done : List ℕ). IsLowKey (Found (λ i. Contains done i)) c.args.disk (earlier_of c.loop-other.best c.low_key.result))
+    (subst (λ (done : List ℕ). IsLowKey (Found (λ i. Contains done i)) c.args.disk (earlier_of c.loop-other.best c.in_ok-key.key))
     (sym (take_more others n 0 lt))
-    (low_more c.args.self.now c.args.view.now c.args.disk (get_or others n 0) (take n others) c.loop-other.best c.low_key.result
-    c.loop-other.invariant c.low_key.ensures))
+    (low_more c.args.self.now c.args.view.now c.args.disk (get_or others n 0) (take n others) c.loop-other.best c.in_ok-key.key
+    c.loop-other.invariant c.in_ok-key.ensures))
 
 pub returns : goal.returns
 returns c =
@@ -37,5 +37,5 @@ returns c =
     subst Low c.as_slice-others.ensures
     (subst Low (take_whole others c.loop-other.other-index (omega arith)) c.loop-other.invariant)
 
-pub low_key-requires-clause-own : goal.low_key-requires-clause-own
-low_key-requires-clause-own c = c.requires.own
+pub low_owned-requires-clause-own : goal.low_owned-requires-clause-own
+low_owned-requires-clause-own c = c.requires.own

@@ -1,5 +1,5 @@
 -- Of two disks either may be the lower one.
-use Rattle.std.proofs.Common.{◌⊎◌, ◌↔◌, inl, inr, ◌<◌, Bool, sym, subst, arith, ◌∙◌}
+use Rattle.std.proofs.Common.{◌⊎◌, ◌↔◌, inl, inr, Bool, sym, subst, arith, ◌∙◌}
 use Rattle.std.specs.Prelude.{Option, Some, None, IsTrue, IfSome}
 use Rattle.std.proofs.lemmas.Bool.{both_ways}
 use Rattle.event_stamps.specs.declared.Stamp.{Stamp}

@@ -2,7 +2,7 @@
 use Rattle.std.specs.Prelude.{None, slice_index_or}
 use Rattle.region_queue.specs.Finding.{IsMissedByGreatest}
 use Rattle.region_queue.proofs.Keeping.{IsKeeping}
-use Rattle.region_queue.proofs.both.keep_both.Given as goal
+use Rattle.region_queue.proofs.both.keep_reached_by.Given as goal
 
 abbrev pub invariant-loop-place : goal.invariant-loop-place
 invariant-loop-place l =
