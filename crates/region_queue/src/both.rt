@@ -1,6 +1,6 @@
 //! The native candidates of two disks in adjacent cells, like two that have just hit each other.
 
-ghost use Rattle.std.specs.Prelude.{◌≡◌, ◌↔◌, Some, None, IsTrue, IfSome, false, slice_index_or};
+ghost use Rattle.std.specs.Prelude.{◌≡◌, ◌↔◌, ◌≤◌, ◌^◌, Some, None, IsTrue, IfSome, false, slice_index_or};
 ghost use Rattle.std.specs.FinMap as map;
 ghost use Rattle.std.specs.List.{Contains};
 ghost use Rattle.fixed_motion.specs.Rules.{IsChecked};
@@ -56,20 +56,22 @@ impl Finder {
         Some((first_codes, second_codes))
     }
 
-    // Whether two disks have the greatest diameter and are in adjacent cells, products are small, and
-    // the next ticks may have codes.
-    // That mostly holds for two disks that have just hit each other.
+    // Whether two disks have the greatest diameter and one base tick and are in adjacent cells, products are small, and
+    // ticks have codes. That mostly holds for two disks that have just hit each other.
     #[inline(always)]
     fn are_alike(&self, one: &Placed, other: &Placed) -> bool
         requires checked { IsChecked self.now.rules }
         requires one { IsCell self.now.grid one.now.cell }
         requires other { IsCell self.now.grid other.now.cell }
+        ensures base { IsTrue result → one.now.disk.base ≡ other.now.disk.base }
         ensures products { IsTrue result → HaveSmallProducts self.now.rules }
+        ensures codes { IsTrue result → self.now.rules.end ≤ 2 ^ 27 }
     {
         one.disk.size == self.rules.diameter
             && other.disk.size == self.rules.diameter
             && has_small_products(&self.rules)
-            && one.disk.base < TICKS_OF_CODES
+            && one.disk.base == other.disk.base
+            && self.has_codes()
             && self.grid.adjacent(one.cell, other.cell)
     }
 
@@ -114,6 +116,7 @@ impl Finder {
     ) -> Option<Codes>
         requires ready { IsReady self.now view.now }
         requires products { HaveSmallProducts self.now.rules }
+        requires codes { self.now.rules.end ≤ 2 ^ 27 }
         requires placed { map.get view.now disk ≡ Some placed.now }
         ensures single { IfSome result (λ codes. IsBestSingle self.now view.now disk codes.single) }
         ensures pair { IfSome result (λ codes. IsLowKey (IsNativeWith self.now view.now disk (λ i. Contains others.now i)) disk codes.pair) }
@@ -291,7 +294,7 @@ fn joined(a: Block, b: Block) -> Block
 }
 
 // Keeps in one list those disks that the first of two disks may hit, and in another one those that the second may hit.
-// The two are given by their numbers, and read where they lie. False says nothing: one of them isn't there, or one of
+// The two have one base tick, are given by their numbers, and read where they lie. False says nothing: one of them isn't there, or one of
 // the others has a later base tick than the two, which is rare.
 #[inline(never)]
 fn keep_both(
@@ -302,6 +305,8 @@ fn keep_both(
     near: &mut Gathered,
     near_other: &mut Gathered,
 ) -> bool
+    requires base { (p q : Placed) → slice_index_or rows.now first None ≡ Some p → slice_index_or rows.now second None ≡ Some q →
+        p.disk.base ≡ q.disk.base }
     requires same { near_other.old ≡ near.old }
     ensures one { IsTrue result → IfSome (slice_index_or rows.now first None) (λ row.
         AreKept (λ i. IsMissedByGreatest square row.disk (slice_index_or rows.now i None)) near.old near.new) }
@@ -314,13 +319,10 @@ fn keep_both(
     let Some(other) = row_in(rows, second) else {
         return false;
     };
-    if one.disk.base != other.disk.base {
-        return false;
-    }
     keep_reached_by(rows, one.disk, other.disk, square, near, near_other)
 }
 
-// The same for two disks of one base tick.
+// The same for these two.
 #[inline(always)]
 fn keep_reached_by(
     rows: &[Compact],

@@ -1,6 +1,6 @@
 //! The native candidates of a region that name a disk.
 
-ghost use Rattle.std.specs.Prelude.{◌≡◌, ◌↔◌, ◌⊎◌, ℕ, ◌<◌, ◌≤◌, Some, None, IsTrue, IfSome, MatchOption, slice_index_or, false};
+ghost use Rattle.std.specs.Prelude.{◌≡◌, ◌↔◌, ◌⊎◌, ℕ, ◌<◌, ◌≤◌, ◌^◌, Some, None, IsTrue, IfSome, MatchOption, slice_index_or, false};
 ghost use Rattle.std.specs.List.{Contains};
 ghost use Rattle.std.specs.FinMap as map;
 ghost use Rattle.fixed_motion.specs.Rules.{IsChecked};
@@ -10,7 +10,6 @@ ghost use Rattle.event_stamps.specs.Least.{IsLeastOf, HasNone, IsOnly};
 ghost use Rattle.event_stamps.specs.Order.{IsInRange};
 ghost use Rattle.cell_grid.specs.Grid.{IsCell, IsAdjacent, IsStripOf, Owns};
 ghost use Rattle.cell_grid.specs.Crossing.{IsCrossEvent};
-ghost use Rattle.cell_grid.specs.Later.{later_crossing};
 ghost use Rattle.cell_lists.specs.Listing.{IsListed};
 ghost use Rattle.cell_lists.specs.Nearby.{IsBlock, IsListedWithin, AreGathered, columns_to};
 ghost use Rattle.region_queue.specs.Outside.{IsListedOutside, IsListedInParts};
@@ -105,16 +104,24 @@ impl Finder {
         ensures pair { IfSome result (λ codes. AreListed view.now self.now.lists.cells →
             IsLowBeyond self.now view.now disk old codes.pair) }
     {
-        let placed = view.get(disk)?;
-        if placed.disk.base >= TICKS_OF_CODES {
+        if !self.has_codes() {
             return None;
         }
+        let placed = view.get(disk)?;
         let own = self.owns(placed.cell);
         let block = block_around(&self.grid, placed.cell);
         let known = block_around(&self.grid, old);
         let single = self.code_alone(view, disk, &placed, own)?;
         let pair = self.low_outside(view, disk, &placed, own, block, known)?;
         Some(Codes { single, pair })
+    }
+
+    // Whether the ticks of all events have codes.
+    #[inline(always)]
+    pub fn has_codes(&self) -> bool
+        ensures { IsTrue result → self.now.rules.end ≤ 2 ^ 27 }
+    {
+        self.rules.end <= TICKS_OF_CODES
     }
 
     // Whether a stamp is that of a native candidate, if it is that of a pair.
@@ -211,6 +218,7 @@ impl Finder {
     #[inline(always)]
     pub fn code_alone(&self, view: &View, disk: u32, placed: &Placed, own: bool) -> Option<Code>
         requires ready { IsReady self.now view.now }
+        requires codes { self.now.rules.end ≤ 2 ^ 27 }
         requires placed { map.get view.now disk ≡ Some placed.now }
         requires own { IsTrue own ↔ Owns self.now.grid self.now.region placed.now.cell }
         ensures { IfSome result (IsLeastOf (IsAloneAt self.now disk placed.now)) }
@@ -219,7 +227,7 @@ impl Finder {
             return Some(Code::none());
         }
         match self.grid.leaving(&self.rules, &placed.disk, placed.cell) {
-            Departure::At(tick) => code_of_crossing(tick, disk),
+            Departure::At(tick) => Some(Code::crossing(tick, disk)),
             Departure::Never => self.code_of_side(view, disk),
             Departure::Unknown => self.code_by_parts(view, disk),
         }
@@ -326,7 +334,6 @@ impl Finder {
     }
 
     // The least native event with a disk in one of these cells, cell by cell.
-    #[inline(never)]
     fn best_in_parts(
         &self,
         view: &View,
@@ -778,19 +785,6 @@ pub(crate) fn owns_lower(disk: u32, own: bool, other: u32, home: bool) -> bool
         own
     } else {
         other < disk && home
-    }
-}
-
-// The code of a disk's crossing in round 0. None says nothing: its tick has none.
-#[inline(always)]
-fn code_of_crossing(tick: u64, disk: u32) -> Option<Code>
-    requires { disk < 65536 }
-    ensures { IfSome result (λ code. code ≡ Some (later_crossing disk tick)) }
-{
-    if tick < TICKS_OF_CODES {
-        Some(Code::crossing(tick, disk))
-    } else {
-        None
     }
 }
 

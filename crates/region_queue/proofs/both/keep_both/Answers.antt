@@ -1,5 +1,5 @@
 -- The two rows are those at these numbers.
-use Rattle.std.proofs.Common.{◌≡◌, ℕ, List, subst, w64, to_z, of_z}
+use Rattle.std.proofs.Common.{◌≡◌, ℕ, List, sym, subst, w64, to_z, of_z}
 use Rattle.std.proofs.lemmas.Int.{to_z-of_z}
 use Rattle.std.specs.Prelude.{ℤ, Option, None, IfSome, slice_index_or}
 use Rattle.region_view.specs.declared.action.Placed.{Placed}
@@ -20,3 +20,7 @@ returns-clause-other c = λ yes.
     let same : to_z w64 (of_z w64 c.args.square) ≡ c.args.square = to_z-of_z w64 c.args.square c.ranges.square in
     subst (kept c.args.rows.now c.args.square c.args.near.now c.keep_reached_by.new.near_other) c.in-Some-row_in.ensures
     (rw same at (c.keep_reached_by.ensures.other yes))
+
+pub keep_reached_by-requires-clause-base : goal.keep_reached_by-requires-clause-base
+keep_reached_by-requires-clause-base c =
+    c.requires.base c.in-Some.one c.in-Some-row_in.other (sym c.in-Some.ensures) (sym c.in-Some-row_in.ensures)

@@ -1,5 +1,5 @@
 -- The region owns the cell of the disk.
-use Rattle.std.proofs.Common.{◌≡◌, sym, subst, ◌∙◌}
+use Rattle.std.proofs.Common.{◌≡◌, arith, sym, subst, ◌∙◌}
 use Rattle.std.specs.Prelude.{Option, Some}
 use Rattle.std.proofs.lemmas.Bool.{both_ways}
 use Rattle.event_stamps.specs.declared.Stamp.{Stamp}
@@ -12,7 +12,7 @@ use Rattle.region_view.specs.Views.{rows_in}
 use Rattle.region_view.proofs.First.{crossing_is_first}
 use Rattle.region_queue.specs.Finding.{IsAloneAt}
 use Rattle.region_queue.proofs.Candidates.{alone_owned}
-use Rattle.region_queue.proofs.Low.{told, coded}
+use Rattle.region_queue.proofs.Low.{told}
 use Rattle.region_queue.proofs.finder.Finder.code_alone.Goals as goal
 
 pub leaving-requires-clause-checked : goal.leaving-requires-clause-checked
@@ -27,8 +27,13 @@ leaving-requires-clause-valid c = c.requires.ready.valid.disk c.args.disk c.args
 pub leaving-requires-clause-cell : goal.leaving-requires-clause-cell
 leaving-requires-clause-cell c = c.requires.ready.valid.cell c.args.disk c.args.placed.now c.requires.placed
 
-pub code_of_crossing-requires : goal.code_of_crossing-requires
-code_of_crossing-requires c = c.requires.ready.valid.number c.args.disk c.args.placed.now c.requires.placed
+pub crossing-requires-clause-tick : goal.crossing-requires-clause-tick
+crossing-requires-clause-tick c =
+    let before = (c.in-At.ensures c.args.disk).0.1 in
+    omega (arith, before, c.requires.codes)
+
+pub crossing-requires-clause-disk : goal.crossing-requires-clause-disk
+crossing-requires-clause-disk c = c.requires.ready.valid.number c.args.disk c.args.placed.now c.requires.placed
 
 pub code_of_side-requires-clause-stays : goal.code_of_side-requires-clause-stays
 code_of_side-requires-clause-stays c = λ p at.
@@ -39,8 +44,7 @@ code_of_side-requires-clause-stays c = λ p at.
 pub returns-in-At : goal.returns-in-At
 returns-in-At c =
     let valid = c.requires.ready.valid.disk c.args.disk c.args.placed.now c.requires.placed in
-    coded (IsLeastOf (IsAloneAt c.args.self.now c.args.disk c.args.placed.now)) c.code_of_crossing.result
-    (Some (later_crossing c.args.disk c.in-At.tick)) c.code_of_crossing.ensures
+    subst (λ (o : Option Stamp). IsLeastOf (IsAloneAt c.args.self.now c.args.disk c.args.placed.now) o) (sym c.crossing.ensures)
     (alone_owned c.args.self.now c.args.disk c.args.placed.now (Some (later_crossing c.args.disk c.in-At.tick)) (c.requires.own.0 c.if-not-own.false)
     (crossing_is_first c.args.self.now.rules c.args.self.now.grid c.args.disk c.args.placed.now _ valid (c.in-At.ensures c.args.disk)))
 

@@ -29,3 +29,6 @@ low_outside-requires-clause-own c = c.owns-own.ensures
 
 pub code_alone-requires-clause-own : goal.code_alone-requires-clause-own
 code_alone-requires-clause-own c = c.owns-own.ensures
+
+pub code_alone-requires-clause-codes : goal.code_alone-requires-clause-codes
+code_alone-requires-clause-codes c = c.has_codes.ensures c.if-not-has_codes.false

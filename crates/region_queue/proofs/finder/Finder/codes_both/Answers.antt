@@ -1,7 +1,7 @@
 -- Each disk has its own list of the disks kept of all that are near either.
-use Rattle.std.proofs.Common.{◌≡◌, ◌∙◌, sym, subst, arith, w64, FitsSigned, to_z, of_z}
+use Rattle.std.proofs.Common.{◌≡◌, ◌∙◌, ap, sym, subst, arith, w64, FitsSigned, to_z, of_z}
 use Rattle.std.proofs.lemmas.Int.{ints, to_z-of_z}
-use Rattle.std.specs.Prelude.{Option, None, IfSome, slice_index_or}
+use Rattle.std.specs.Prelude.{Option, Some, None, IfSome, slice_index_or}
 use Rattle.event_stamps.specs.Least.{HasNone}
 use Rattle.region_view.specs.declared.action.Placed.{Placed}
 use Rattle.region_queue.specs.Finding.{IsNativePair, IsMissedByGreatest, AreKept}
@@ -78,3 +78,17 @@ owns_around-whole-requires-clause-one c = c.requires.valid.cell c.args.first c.i
 
 pub owns_around-whole-requires-clause-other : goal.owns_around-whole-requires-clause-other
 owns_around-whole-requires-clause-other c = c.requires.valid.cell c.args.second c.in_ok-other.other (sym c.in_ok-other.ensures)
+
+pub codes_near-requires-clause-codes : goal.codes_near-requires-clause-codes
+codes_near-requires-clause-codes c = c.are_alike.ensures.codes c.if-not-are_alike.false
+
+pub codes_near-requires-2-clause-codes : goal.codes_near-requires-2-clause-codes
+codes_near-requires-2-clause-codes c = c.are_alike.ensures.codes c.if-not-are_alike.false
+
+pub keep_both-requires-clause-base : goal.keep_both-requires-clause-base
+keep_both-requires-clause-base c = λ p q first second.
+    let p_row : Some c.in_ok-one.one ≡ Some p = c.in_ok-one.ensures ∙ c.in_ok-rows.ensures c.args.first ∙ first in
+    let q_row : Some c.in_ok-other.other ≡ Some q = c.in_ok-other.ensures ∙ c.in_ok-rows.ensures c.args.second ∙ second in
+    let is_p : c.in_ok-one.one ≡ p = (let e = p_row in cc) in
+    let is_q : c.in_ok-other.other ≡ q = (let e = q_row in cc) in
+    sym (ap (λ (x : Placed). x.disk.base) is_p) ∙ c.are_alike.ensures.base c.if-not-are_alike.false ∙ ap (λ (x : Placed). x.disk.base) is_q

@@ -17,3 +17,6 @@ low_pair-requires-clause-own c = c.owns-own.ensures
 pub returns-clause-single : goal.returns-clause-single
 returns-clause-single c =
     best_single c.args.self.now c.args.view.now c.args.disk c.args.placed.now c.in_ok-single.single c.requires.placed c.in_ok-single.ensures
+
+pub code_alone-requires-clause-codes : goal.code_alone-requires-clause-codes
+code_alone-requires-clause-codes c = c.requires.codes
