@@ -1,0 +1,7 @@
+-- The lemmas of the crate.
+mod Steps
+mod OfTicks
+mod Inside
+mod Small
+mod Sides
+mod Pushes
