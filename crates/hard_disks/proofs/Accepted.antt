@@ -5,7 +5,6 @@ use Rattle.event_rules.specs.declared.change.Limit.TheVariants.{Rounds, Speed}
 use Rattle.event_rules.specs.declared.outcome.Outcome.{Outcome}
 use Rattle.event_rules.specs.declared.outcome.Outcome.TheVariants.{Done as DoneOutcome, Limit as Passes}
 use Rattle.event_rules.proofs.OneRun.{one_run}
-use Rattle.collision_report.specs.declared.format.Format.{Format}
 use Rattle.collision_report.specs.declared.format.Format.TheVariants.{Lines}
 use Rattle.collision_report.specs.Report.{report}
 use Rattle.scene_reader.specs.Says.{says}
@@ -21,7 +20,7 @@ use Rattle.report_audit.specs.declared.verdict.Verdict.TheVariants.{Same, Line}
 use Rattle.report_audit.proofs.Joined.{joins_part}
 use Rattle.hard_disks.specs.declared.status.Status.{Status}
 use Rattle.hard_disks.specs.declared.status.Status.TheVariants.{Done, SceneRefused, Wrong}
-use Rattle.hard_disks.specs.Output.{Input, OfMode, OfReading, format_of}
+use Rattle.hard_disks.specs.Output.{Input, OfMode, OfReading, IsShownRun}
 use Rattle.hard_disks.specs.Answers.{IsInputIn}
 use Rattle.hard_disks.specs.Reports.{Reading, IsReport, status_of}
 use Rattle.hard_disks.specs.Verdicts.{OfAudit, verdict_text, verdict_status}
@@ -45,16 +44,16 @@ in_lines : (mode : Mode) (format : OutputFormat) (settings : Settings) (bytes te
 in_lines mode format settings bytes text status input modes lines reads writes accepted = elim modes [
   | inl run ↦
       let said : input.said ≡ says bytes = subst (λ (m : Mode). IsInputIn m (Some bytes) input) run reads in
-      let shown : OfReading (IsReport (format_of settings.format)) input.said text status =
+      let shown : OfReading (IsShownRun settings.format settings.margin) input.said text status =
       subst (λ (m : Mode). OfMode m settings input text status) run writes in
       of_reading input.said bytes text status said
-      (subst (λ (f : OutputFormat). OfReading (IsReport (format_of f)) input.said text status) lines shown) accepted
+      (subst (λ (f : OutputFormat). OfReading (IsShownRun f settings.margin) input.said text status) lines shown) accepted
   | inr plain ↦
       let said : input.said ≡ says bytes = subst (λ (m : Mode). IsInputIn m (Some bytes) input) plain reads in
-      let shown : OfReading (IsReport (format_of settings.format)) input.said text status =
+      let shown : OfReading (IsShownRun settings.format settings.margin) input.said text status =
       subst (λ (m : Mode). OfMode m settings input text status) plain writes in
       of_reading input.said bytes text status said
-      (subst (λ (f : OutputFormat). OfReading (IsReport (format_of f)) input.said text status) lines shown) accepted
+      (subst (λ (f : OutputFormat). OfReading (IsShownRun f settings.margin) input.said text status) lines shown) accepted
 ]
 
 reports_of : (run : Settings) (bytes text : List ℕ) (status : Status) → IsReportFor run bytes text status → Reports bytes text status
@@ -109,17 +108,23 @@ done_not_refused (DoneOutcome spots) e = cc
 done_not_refused (Passes (Speed s)) e = cc
 done_not_refused (Passes (Rounds s)) e = cc
 
+run_not_refused : (format : OutputFormat) (margin : ℕ) (scene : SceneData) (text : List ℕ) → ¬ IsShownRun format margin scene text SceneRefused
+run_not_refused asked.Lines margin scene text h = done_not_refused h.1 h.4
+run_not_refused asked.Summary margin scene text h = done_not_refused h.1 h.4
+run_not_refused asked.States margin scene text h = done_not_refused h.1 h.4
+run_not_refused asked.Sums margin scene text h = done_not_refused h.1 h.4
+
 -- the audit of what is refused
-refused_audit : (said : Reading) (format : Format) (text claimed : List ℕ) → OfReading (IsReport format) said text SceneRefused →
+refused_audit : (said : Reading) (format : OutputFormat) (margin : ℕ) (text claimed : List ℕ) → OfReading (IsShownRun format margin) said text SceneRefused →
     OfAudit said claimed text SceneRefused
-refused_audit (Ok scene) format text claimed h = absurd (done_not_refused h.1 h.4)
-refused_audit (Err fault) format text claimed h = h
+refused_audit (Ok scene) format margin text claimed h = absurd (run_not_refused format margin scene text h)
+refused_audit (Err fault) format margin text claimed h = h
 
 -- what is read of the lines, and that it is refused
 record IsRefused (run : Settings) (bytes text : List ℕ) : Type 0 where
   said : Reading
   reads : said ≡ says bytes
-  refused : OfReading (IsReport (format_of run.format)) said text SceneRefused
+  refused : OfReading (IsShownRun run.format run.margin) said text SceneRefused
 
 is_refused : (run : Settings) (bytes text : List ℕ) → (run.mode ≡ Run) ⊎ (run.mode ≡ Plain) → IsOutputFor run bytes text SceneRefused →
     IsRefused run bytes text
@@ -147,5 +152,5 @@ audits_keep_refusals run audit bytes text claimed modes ends no_mark output mode
       subst (λ (m : Mode). IsInputIn m (Some (joined bytes claimed)) input) (sym mode)
           (is.reads ∙ ap says (sym parts.0), sym parts.1),
       subst (λ (m : Mode). OfMode m audit input text SceneRefused) (sym mode)
-          (refused_audit is.said (format_of run.format) text claimed is.refused),
+          (refused_audit is.said run.format run.margin text claimed is.refused),
     )

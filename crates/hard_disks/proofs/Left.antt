@@ -33,7 +33,8 @@ use Rattle.hard_disks.specs.Answers.{Wrote, WrotePrefix, MayWrite}
 use Rattle.hard_disks.specs.Cut.{CutTold}
 use Rattle.hard_disks.specs.Shows.{WritesText}
 use Rattle.hard_disks.proofs.OneOutput.{one_left}
-use Rattle.hard_disks.proofs.Reported.{told_on, begun_lent, serves_scene, wrote_end, may_end}
+use Rattle.hard_disks.proofs.Reported.{reporting, makes_report}
+use Rattle.hard_disks.proofs.Writers.{told_on, begun_lent, serves_scene, wrote_end, may_end}
 use Rattle.hard_disks.proofs.Wrote.{kept, wrote_nothing, as_wrote}
 
 -- ---- bytes that stay
@@ -122,7 +123,7 @@ all_quiet : {Loan : Type 0} (scene : SceneData) (taken : Option (List ℕ)) (cha
     m.1 ≡ nothing_yet Summary scene taken → n ≡ told told_on_loan m changes → IsQuiet taken m n
 all_quiet scene taken changes m n first h =
     let start = nothing_yet Summary scene taken in
-    let same = told_on m.0 m.1 start changes n first h in record {
+    let same = told_on reporting m.0 m.1 start changes n first h in record {
       sink = ap (λ v. v.0) same;
       keeps = subst (λ v. Keeps taken v.1.taken) (sym same) (quiet start changes refl).0;
     }
@@ -131,7 +132,7 @@ prefix_quiet : {Loan : Type 0} (scene : SceneData) (taken : Option (List ℕ)) (
     m.1 ≡ nothing_yet Summary scene taken → PrefixTold told_on_loan IsTornOnLoan (Some m) changes (Some n) → IsQuiet taken m n
 prefix_quiet scene taken changes m n first h =
     let start = nothing_yet Summary scene taken in
-    let here = begun_lent m.0 start changes n
+    let here = begun_lent reporting m.0 start changes n
     (subst (λ (v : ReportSoFar). PrefixTold told_on_loan IsTornOnLoan (Some (m.0, v)) changes (Some n)) first h) in record {
       sink = here.0;
       keeps = quiet_prefix start n.1 changes refl here.1;
@@ -219,13 +220,14 @@ pub cut_limit : {Loan : Type 0} (format : Format) (at : ℕ) (scene : SceneData)
 cut_limit format at scene limit taken m n cut e h le valid first =
     let told = subst (λ (c : Cut). CutTold told_on_loan scene at c (Some m) (Some n)) e h in
     let changes = told.0 in let run = told.1 in
-    let left = limit_left format at scene changes limit le valid run told.2 in record {
-      sink = ap (λ v. v.0) (told_on m.0 m.1 (nothing_yet Summary scene taken) changes n first told.3);
+    let left = limit_left format at scene changes limit le valid run told.2 in
+    let start = nothing_yet Summary scene taken in let makes = makes_report Summary scene taken valid in record {
+      sink = ap (λ v. v.0) (told_on reporting m.0 m.1 start changes n first told.3);
       outcome = outcomes_fit scene changes (Passes limit) valid run;
-      table = serves_scene m.0 Summary scene taken changes m.1 n first told.3;
+      table = serves_scene reporting (report Summary) scene start makes m.0 changes m.1 n first told.3;
       ended = (λ after status text.
           as_wrote (IsReport Summary scene) (IsCutText format at scene) left taken after status
-          (wrote_end m.0 Summary scene taken after changes (Passes limit) m.1 n status valid run first told.3 text));
+          (wrote_end reporting (report Summary) scene start makes m.0 after changes (Passes limit) m.1 n status run first told.3 text));
     }
 
 -- ---- what may be written of it
@@ -250,7 +252,7 @@ rest_may allows format at scene rest taken m n cut e h le first may text own of 
     let told = subst (λ (c : Cut). CutTold told_on_loan scene at c (Some m) (Some n)) e h in
     let parts = told.4.0 in
     let start = nothing_yet Summary scene taken in
-    subst (λ v. MayTake (allows v.0) v.1.taken text) (sym (told_on m.0 m.1 start parts.first n first told.4.2))
+    subst (λ v. MayTake (allows v.0) v.1.taken text) (sym (told_on reporting m.0 m.1 start parts.first n first told.4.2))
     (subst (λ (t : Option (List ℕ)). MayTake (allows m.0) t text) (sym (quiet_taken start parts.first refl))
     (may text own (inr (
       le,
@@ -272,6 +274,6 @@ limit_may allows format at scene limit taken m n cut e h le valid first may =
     let told = subst (λ (c : Cut). CutTold told_on_loan scene at c (Some m) (Some n)) e h in
     let changes = told.0 in let run = told.1 in
     let text = report Summary scene changes (Passes limit) in
-    may_end allows m.0 Summary scene taken changes (Passes limit) m.1 n valid run first told.3
+    may_end reporting (report Summary) scene (nothing_yet Summary scene taken) (makes_report Summary scene taken valid) allows m.0 changes (Passes limit) m.1 n run first told.3
     (may text (status_of (Passes limit)) (limit_left format at scene changes limit le valid run told.2 text (status_of (Passes limit))
     (changes, Passes limit, run, refl, refl)))

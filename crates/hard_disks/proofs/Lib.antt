@@ -5,7 +5,9 @@ mod Reread
 mod Recut
 mod Wrote
 mod Answered
+mod Writers
 mod Reported
+mod Sampled
 mod Shown
 mod Published
 mod Watched

@@ -16,6 +16,7 @@ mod over_burst;
 mod process;
 mod refusals;
 mod rest;
+mod samples;
 mod show;
 mod status;
 mod verdicts;

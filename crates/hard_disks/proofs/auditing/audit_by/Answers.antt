@@ -2,7 +2,7 @@ use Rattle.std.proofs.Common.{◌≤◌, ◌∙◌, [], arith, ap, sym, subst}
 use Rattle.report_ports.specs.Ports.{Rose}
 use Rattle.hard_disks.specs.Audits.{Empties, CountsAudit}
 use Rattle.hard_disks.proofs.Audited.{claimed_left, answered, answer_empties, counted_since, unread_empties}
-use Rattle.hard_disks.proofs.Reported.{failed_since}
+use Rattle.hard_disks.proofs.Writers.{failed_since}
 use Rattle.hard_disks.specs.declared.auditing.AuditFault.TheVariants.{ReadFault}
 use Rattle.hard_disks.proofs.auditing.audit_by.Goals as goal
 

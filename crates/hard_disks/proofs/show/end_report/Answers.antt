@@ -2,7 +2,7 @@ use Rattle.std.proofs.Common.{inl, sym, subst}
 use Rattle.hard_disks.specs.declared.status.Status.{Status}
 use Rattle.hard_disks.specs.Answers.{CountsWrites}
 use Rattle.hard_disks.proofs.Wrote.{own_counts}
-use Rattle.hard_disks.proofs.Reported.{own}
+use Rattle.hard_disks.proofs.Writers.{own}
 use Rattle.hard_disks.proofs.show.end_report.Goals as goal
 
 pub returns-in-Ok-clause-text : goal.returns-in-Ok-clause-text

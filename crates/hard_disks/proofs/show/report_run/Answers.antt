@@ -1,7 +1,7 @@
 use Rattle.std.proofs.Common.{◌∙◌, ℕ, ap, sym, subst, refl}
 use Rattle.event_rules.specs.declared.outcome.Outcome.{Outcome}
 use Rattle.event_rules.proofs.Fits.{outcomes_fit}
-use Rattle.collision_report.specs.Meaning.{told_on_loan, IsAwaitedOnLoan}
+use Rattle.collision_report.specs.Meaning.{nothing_yet, told_on_loan, IsAwaitedOnLoan}
 use Rattle.collision_report.specs.Report.{report}
 use Rattle.collision_report.proofs.Awaited.{run_awaits}
 use Rattle.live_progress.specs.Lists.{Known}
@@ -13,6 +13,7 @@ use Rattle.hard_disks.specs.Answers.{Wrote, CountsWrites}
 use Rattle.hard_disks.specs.Publishes.{PublishesPairs}
 use Rattle.hard_disks.proofs.Wrote.{broken_wrote}
 use Rattle.hard_disks.proofs.Published.{ended_published, broken_published}
+use Rattle.hard_disks.proofs.Reported.{reporting, makes_report}
 use Rattle.hard_disks.proofs.Watched.{told_all, told_part, told_may, broken_counts}
 use Rattle.hard_disks.proofs.show.report_run.Goals as goal
 
@@ -27,8 +28,9 @@ run-requires-clause-awaited g c κs within =
 pub end_watched-requires-clause-allowed : goal.end_watched-requires-clause-allowed
 end_watched-requires-clause-allowed g c =
     let K = g.K.Sink in let inner = c.args.watched.now.inner in let scene = c.args.scene.now in let outcome = c.in-Ok.outcome in
-    told_may (λ loan. K.allows loan.1) inner.format scene outcome (K.taken inner.sink.now) _ _ _ _ c.in-Ok.ensures.run refl refl
-    c.requires.valid c.requires.unwritten c.requires.first
+    let start = nothing_yet inner.format scene (K.taken inner.sink.now) in
+    told_may reporting (report inner.format) scene start (makes_report inner.format scene (K.taken inner.sink.now) c.requires.valid)
+    (λ loan. K.allows loan.1) outcome _ _ _ _ c.in-Ok.ensures.run refl refl c.requires.valid c.requires.unwritten c.requires.first
     (λ changes run. c.requires.allowed (report inner.format scene changes outcome) (status_of outcome) (changes, outcome, run, refl, refl))
 
 pub end_watched-requires-clause-outcome : goal.end_watched-requires-clause-outcome
@@ -38,16 +40,18 @@ end_watched-requires-clause-outcome g c =
 
 pub end_watched-requires-clause-scene : goal.end_watched-requires-clause-scene
 end_watched-requires-clause-scene g c =
-    let inner = c.args.watched.now.inner in
-    let told = told_all inner.format c.args.scene.now c.in-Ok.outcome (g.K.Sink.taken inner.sink.now) _ _ _ _ c.in-Ok.ensures.run refl refl
-    c.requires.valid c.requires.unwritten c.requires.first in
+    let K = g.K.Sink in let inner = c.args.watched.now.inner in let scene = c.args.scene.now in
+    let start = nothing_yet inner.format scene (K.taken inner.sink.now) in
+    let told = told_all reporting (report inner.format) scene start (makes_report inner.format scene (K.taken inner.sink.now) c.requires.valid)
+    c.in-Ok.outcome _ _ _ _ c.in-Ok.ensures.run refl refl c.requires.valid c.requires.unwritten c.requires.first in
     told.table
 
 pub returns-in-Ok : goal.returns-in-Ok
 returns-in-Ok g c =
-    let K = g.K.Sink in let inner = c.args.watched.now.inner in let end = c.end_watched.ensures in
-    let told = told_all inner.format c.args.scene.now c.in-Ok.outcome (K.taken inner.sink.now) _ _ _ _ c.in-Ok.ensures.run refl refl
-    c.requires.valid c.requires.unwritten c.requires.first in
+    let K = g.K.Sink in let inner = c.args.watched.now.inner in let scene = c.args.scene.now in let end = c.end_watched.ensures in
+    let start = nothing_yet inner.format scene (K.taken inner.sink.now) in
+    let told = told_all reporting (report inner.format) scene start (makes_report inner.format scene (K.taken inner.sink.now) c.requires.valid)
+    c.in-Ok.outcome _ _ _ _ c.in-Ok.ensures.run refl refl c.requires.valid c.requires.unwritten c.requires.first in
     let all = ended_published c.in-Ok.outcome _ _ _ c.end_watched.result (pairs_of told.changes) c.end_watched.new.watched.pen.now.list
     end.text (ap (λ (k : Known). k.list) end.pen ∙ told.list) in record {
       pen_loan = end.pen_loan ∙ told.pen;
@@ -62,14 +66,15 @@ returns-in-Ok g c =
 
 pub returns-in-Err : goal.returns-in-Err
 returns-in-Err g c =
-    let K = g.K.Sink in let inner = c.args.watched.now.inner in let status = sym c.status_of_fault.ensures.status in
+    let K = g.K.Sink in let inner = c.args.watched.now.inner in let scene = c.args.scene.now in let status = sym c.status_of_fault.ensures.status in
     let after = c.run.new.listener in
-    let told = told_part inner.format c.args.scene.now (K.taken inner.sink.now) _ _ _ _ _ c.in-Err.ensures.cut_short refl refl
-    c.requires.valid c.requires.unwritten c.requires.first in record {
+    let start = nothing_yet inner.format scene (K.taken inner.sink.now) in
+    let told = told_part reporting (report inner.format) scene start (makes_report inner.format scene (K.taken inner.sink.now) c.requires.valid)
+    _ _ _ _ _ c.in-Err.ensures.cut_short refl refl c.requires.valid c.requires.unwritten c.requires.first in record {
       pen_loan = told.pen;
       loan = ap (λ l. l.0) told.sink;
       lasts = ap (λ l. l.1) told.sink;
-      wrote = subst (λ (s : Status). Wrote (IsReport inner.format c.args.scene.now) (K.taken inner.sink.now) (K.taken after.inner.sink.now) s)
+      wrote = subst (λ (s : Status). Wrote (IsReport inner.format scene) (K.taken inner.sink.now) (K.taken after.inner.sink.now) s)
           status (broken_wrote _ _ _ c.in-Err.fault told.prefix);
       of_scene = c.status_of_fault.ensures.of_scene;
       counts = subst (λ (s : Status). CountsWrites (K.faults inner.sink.now) (K.faults after.inner.sink.now) s)

@@ -1,17 +1,18 @@
 use Rattle.std.proofs.Common.{◌∙◌, ℕ, ap, sym, subst}
 use Rattle.collision_report.specs.declared.format.Format.{Format}
+use Rattle.collision_report.specs.Report.{report}
 use Rattle.collision_report.specs.Meaning.{TableData, ReportSoFar, so_far, nothing_yet}
 use Rattle.live_progress.specs.Lists.{Known}
 use Rattle.hard_disks.specs.declared.status.Status.TheVariants.{NoMemory}
 use Rattle.hard_disks.specs.Reports.{IsReport}
 use Rattle.hard_disks.specs.Answers.{Wrote, MayWrite, CountsWrites}
 use Rattle.hard_disks.specs.Publishes.{PublishesRun}
-use Rattle.hard_disks.proofs.Reported.{unreported}
+use Rattle.hard_disks.proofs.Writers.{unwritten}
 use Rattle.hard_disks.proofs.Published.{run_unpublished}
 use Rattle.hard_disks.proofs.show.write_report.Goals as goal
 
 pub returns-in_default-clause-wrote : goal.returns-in_default-clause-wrote
-returns-in_default-clause-wrote g c = unreported c.args.format c.args.scene.now (g.K.Sink.taken c.args.sink.now) c.count-count.ensures.valid
+returns-in_default-clause-wrote g c = unwritten (report c.args.format) c.args.scene.now (g.K.Sink.taken c.args.sink.now) c.count-count.ensures.valid
 
 pub returns-in_default-clause-published : goal.returns-in_default-clause-published
 returns-in_default-clause-published g c = run_unpublished c.args.scene.now NoMemory c.args.pen.now.list c.count-count.ensures.valid tt c.requires.unwritten
