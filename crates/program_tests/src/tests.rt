@@ -9,6 +9,7 @@ mod live;
 mod made_scenes;
 mod process;
 mod progress;
+mod samples;
 mod time_sharing;
 mod words;
 mod workers;

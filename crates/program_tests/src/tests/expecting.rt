@@ -5,7 +5,9 @@ ghost use Rattle.command_words.specs.Words.{settings_of};
 ghost use Rattle.hard_disks.specs.Answers.{Answers};
 ghost use Rattle.hard_disks.specs.Laws.{Begins};
 
-use super::helpers::{AMPLE_ROOM, MEETING, MEETING_REPORT, PLAIN, RUN};
+use super::helpers::{
+    AMPLE_ROOM, MEETING, MEETING_REPORT, MEETING_STATES, MEETING_SUMS, PLAIN, RUN,
+};
 use gathered_sink::GatheringSink;
 use hard_disks::{Status, prefixes_may_be_asked, top};
 use region_core::OpenGate;
@@ -69,6 +71,8 @@ type Row = (&'static [&'static str], &'static str);
 const ROWS: &[Row] = &[
     (PLAIN, MEETING_REPORT),
     (RUN, MEETING_REPORT),
+    (&["--format", "states"], MEETING_STATES),
+    (&["--format", "sums"], MEETING_SUMS),
     (&["--mode", "check"], MEETING),
 ];
 

@@ -43,6 +43,24 @@ pub const MEETING_REPORT: &str = "3 0 pair 0 1 -1 0 1 0\n\
     disk 0 11 10 -1 0\n\
     disk 1 19 10 1 0\n";
 
+/// Its states: the end alone, since it asks for none before.
+pub const MEETING_STATES: &str = "done 5\n\
+    walls 0\n\
+    pairs 1\n\
+    momentum 0 0\n\
+    energy 2 2\n\
+    disk 0 11 10 -1 0\n\
+    disk 1 19 10 1 0\n";
+
+/// The sums over its collision: r·J of (−4, 0) and (−2, 0).
+pub const MEETING_SUMS: &str = "done 5\n\
+    walls 0\n\
+    pairs 1\n\
+    momentum 0 0\n\
+    energy 2 2\n\
+    inside 5 2 2 1 8\n\
+    sides 5 0 0 0 0 0\n";
+
 /// What four disks in a row do up to tick 40.
 pub const FOUR_IN_A_ROW_REPORT: &str = "4 0 pair 0 1 0 0 8 0\n\
     18 0 pair 1 2 0 0 8 0\n\
