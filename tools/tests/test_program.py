@@ -157,7 +157,7 @@ class Outputs(unittest.TestCase):
 
     def test_a_full_disk_leaves_a_prefix(self):
         scene = OUTPUTS["refusals"]["scene"]
-        for words in ("--mode plain", "--mode run", "--mode check", "--mode cut --at 4"):
+        for words in ("--mode plain", "--mode run", "--format sums", "--format states", "--mode check", "--mode cut --at 4"):
             want = output(words, scene)[0]
             for room in range(0, len(want), 7):
                 with self.subTest(words, room=room):
@@ -166,7 +166,7 @@ class Outputs(unittest.TestCase):
 
     def test_an_output_that_takes_nothing_is_a_write_fault(self):
         scene = OUTPUTS["refusals"]["scene"]
-        for words in ("--mode plain", "--mode check", "--mode cut --at 4", "--mode load --disks 100", "no words"):
+        for words in ("--mode plain", "--format sums", "--mode check", "--mode cut --at 4", "--mode load --disks 100", "no words"):
             with self.subTest(words), open("/dev/full", "wb") as full:
                 self.assertEqual(status_into(words, scene, stdout=full), WRITE_FAULT)
             with self.subTest(words, output="closed"):
@@ -188,6 +188,21 @@ class Outputs(unittest.TestCase):
             for words in WAYS:
                 with self.subTest(scene.name, words=words):
                     self.assertEqual(output(words, scene.read_text(encoding="utf-8"))[0], want)
+
+    def test_the_sums_of_scenes_are_those_that_were_worked_out_by_hand(self):
+        for sums in sorted(SCENES.glob("*.sums")):
+            scene, want = (sums.with_suffix(kind).read_text(encoding="utf-8") for kind in (".toml", ".sums"))
+            for words in WAYS:
+                with self.subTest(sums.name, words=words):
+                    self.assertEqual(output(f"{words} --format sums", scene)[0], want)
+
+    def test_states_are_the_report_without_collisions(self):
+        for scene in sorted(SCENES.glob("*.toml")):
+            report = scene.with_suffix(".report").read_text(encoding="ascii")
+            want = "".join(line for line in report.splitlines(keepends=True) if not line[0].isdigit())
+            for words in WAYS:
+                with self.subTest(scene.name, words=words):
+                    self.assertEqual(output(f"{words} --format states", scene.read_text(encoding="utf-8"))[0], want)
 
     def test_any_numbers_of_regions_and_workers_write_the_report(self):
         scene, want = ((SCENES / f"row.{kind}").read_text(encoding="utf-8") for kind in ("toml", "report"))
