@@ -164,6 +164,8 @@ class Errors:
     def notes(self) -> list[str]:
         """By how many waves errors are, and why they may be wrong."""
         order = self.heat.order
+        if np.isinf(order.memory):
+            return ["CAUTION: so few states don't say for how long order remembers, so errors are unknown"]
         if order.is_unknown:
             return [
                 f"CAUTION: order remembers for some {order.memory:.2g} sigma/v, so {self.time:.4g} are too short, and errors are"

@@ -2,13 +2,13 @@
 
 Sound evens out pressure within some widths of the box over the speed of sound. What is left is a fluid that is here warmer
 and thinner, there cooler and denser, at one pressure; that goes by conduction alone, which takes L² / (4 π² D_T) for a
-wave that fits the box of the width L: 22 σ/v for 2,000 disks at φ = 0.5. (L. D. Landau and G. Placzek; see J. P. Hansen and
+wave that fits the box of the width L: 18 σ/v for 2,000 disks at φ = 0.5. (L. D. Landau and G. Placzek; see J. P. Hansen and
 I. R. McDonald, Theory of Simple Liquids, the chapter on hydrodynamics.) So a mean over a time that isn't much longer than
 that depends on how warm the inside happened to be, and no blocks of that time can say by how much. Hydrodynamics can: it
 says which share of the variance at one time is left in the mean.
 
 D_T is by Enskog's conductivity of hard disks (D. M. Gass, Journal of Chemical Physics 54, 1898, 1971; its numbers are given
-here from memory, and tests compare what follows with the spread over seeds)."""
+here from memory), times a factor that was measured here."""
 import math
 from dataclasses import dataclass
 from functools import cached_property
@@ -23,8 +23,8 @@ from .theory import reference
 WAVES = 24
 # The equation of state is that of a fluid. What is denser is taken to be like the densest.
 DENSEST = 0.69
-# By how much heat leaves faster than by Enskog's conductivity: 49 runs of 2,000 disks at φ = 0.5 for 200 σ/v say 1.25 to 1.3 over 8
-# to 96 σ/v.
+# By how much heat leaves faster than by Enskog's conductivity: what is left of it in means over 8 to 96 σ/v says 1.25 to 1.3,
+# in 49 runs of 2,000 disks at φ = 0.5.
 FASTER = 1.25
 # What share of the time that sound takes to cross the box is short beside the time of heat.
 SHORT = 0.25

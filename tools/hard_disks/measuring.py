@@ -9,6 +9,7 @@ import numpy as np
 from .errors import Errors, spread_error
 from .heat import Heat
 from .motion import Followed
+from .order import Order
 from .reports import PartSums
 from .runs import Frame, Run, Sample
 from .sampling import Sampling, Stated, Table
@@ -55,6 +56,7 @@ def watch(run: Run, measures: list[Measure]) -> None:
     colliding = [it for it in measures if it.needs_collisions]
     samples = sorted({tick for it in measures for tick in it.sample_ticks()})
     by_samples, by_states = (shared_heat([it for it in measures if it.needs_collisions is kind]) for kind in (True, False))
+    share_order([*by_samples, *by_states])
     has_states = False
     for item in run.followed(samples) if colliding else run.frames():
         if isinstance(item, Followed):
@@ -87,6 +89,13 @@ def shared_heat(measures: list[Measure]) -> list[Heat]:
     for it in measures:
         it.errors.heat = found.setdefault(id(it.sampling), it.errors.heat)
     return list(found.values())
+
+
+def share_order(heats: list[Heat]) -> None:
+    """Has them say the same of what order remembers."""
+    found: dict[int, Order] = {}
+    for it in heats:
+        it.order = found.setdefault(id(it.sampling), it.order)
 
 
 def measured(run: Run, measure: Measure) -> Table:

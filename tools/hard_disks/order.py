@@ -1,12 +1,15 @@
 """How long the order of a dense fluid remembers: near freezing ψ6, and with it all else, changes more slowly than sound.
 
 Errors have to know that time, and one run can say it only if it is much longer."""
+import math
+from contextlib import suppress
 from functools import cached_property
 
 import numpy as np
 
 from .bonds import bond_order
 from .sampling import DENSE, Sampling
+from .scenes import Refused
 from .spectra import LEAST_FOR_FIT, MOST, cosines, slowest
 
 # At how many ticks at most order is looked at.
@@ -28,21 +31,24 @@ class Order:
         sampling = self.sampling
         if not self.is_dense or tick < sampling.start or len(rows) < 3:
             return
-        if self.rows and tick < self.rows[-1][0] + (sampling.scene.end - sampling.start) // LOOKS:
+        if self.rows and tick < self.rows[-1][0] + max((sampling.scene.end - sampling.start) // LOOKS, 1):
             return
         inside = sampling.inside(rows[:, :2])
-        if inside.any():
-            order = bond_order(rows[:, :2])[0][inside]
-            self.rows.append((tick, float(np.abs(order).mean()), float(abs(order.mean()))))
+        # Disks on one line have no order.
+        with suppress(Refused):
+            if inside.any():
+                order = bond_order(rows[:, :2])[0][inside]
+                self.rows.append((tick, float(np.abs(order).mean()), float(abs(order.mean()))))
 
     @cached_property
     def memory(self) -> float:
-        """The integrated autocorrelation time of both, before and after, in σ / v; 0 where it needn't be known."""
-        if not self.is_dense or len(self.rows) < 2 * LEAST_FOR_FIT:
+        """The integrated autocorrelation time of both, before and after, in σ / v; 0 where it needn't be known, and infinite
+        where too few ticks say nothing of it."""
+        values = np.array(self.rows, float).reshape(-1, 3)[:, 1:]
+        if not self.is_dense or not len(values) or not (values.std(axis=0) > 0).all():
             return 0.0
-        values = np.array(self.rows)[:, 1:]
-        if not (values.std(axis=0) > 0).all():
-            return 0.0
+        if len(values) < 2 * LEAST_FOR_FIT:
+            return math.inf
         time = (self.sampling.scene.end - self.sampling.start) / self.sampling.scene.time
         squares = cosines(values, min(MOST, len(values) // 2)) ** 2
         # The fewer waves, the slower they are; as many count as are slow beside the memory that they show.

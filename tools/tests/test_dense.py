@@ -14,11 +14,11 @@ import tempfile
 import time
 import unittest
 
-from physics_scenes import column, end_of, fluid, main, noted, np, read_text, scene_of, value
+from physics_scenes import column, end_of, fluid, main, noted, np, read_text, report_of, scene_of, value
 
 from places import TOOLS
 
-from hard_disks import theory
+from hard_disks import errors, theory
 from hard_disks.commands import main as command
 from hard_disks.hexatic import STEP, BondCorrelation, Pairs
 from hard_disks.making import hexagonal, make
@@ -28,7 +28,7 @@ from hard_disks.profiles import Profile, Strips, level_notes
 from hard_disks.program import find_program
 from hard_disks.sampling import sampling
 from hard_disks.scenes import Refused
-from hard_disks.structure import bond_order
+from hard_disks.structure import HexaticOrder, bond_order
 from hard_disks.waves import Waves, check_grid
 
 MIXTURE = ((1.0, 0.5), (1.4, 0.5))
@@ -139,6 +139,25 @@ class Profiles(unittest.TestCase):
         table = measured(read_text(report, scene), Pressure(part))
         by_collisions = value(table, "Z_wall") * value(table, "phi") * 4 / math.pi
         self.assertLess(abs(density / by_collisions - 1), 4 * error / density + 0.01)
+
+
+class Order(unittest.TestCase):
+    def test_near_freezing_errors_are_known_only_if_the_memory_of_order_is(self):
+        # In a box so small order remembers for a few σ / v: enough states in a long time, too few, and a short time.
+        for most, every, said in [(160.0, 1.0, "order, which remembers for"), (60.0, 6.0, "so few states"), (4.0, 0.2, "are too short")]:
+            scene = make(200, 0.7, lattice="soft", time=most, every=every)
+            table = measured(read_text(report_of(scene), scene), HexaticOrder(sampling(scene)))
+            self.assertTrue(any(said in note for note in table.notes), (most, table.notes))
+            self.assertEqual(np.isnan(value(table, "local_error")), "remembers for" not in said)
+
+    def test_thinner_fluids_and_disks_on_a_line_have_none(self):
+        for rows, width in [([(500, 500, 1, 0), (610, 500, 0, 0), (500, 650, 0, 0)], 1_000),
+                            ([(60 + 110 * it, 60, 1, 0) for it in range(9)], 1_050)]:
+            scene = scene_of(rows, width, 1_000 if len(rows) == 3 else 120)
+            found = errors.Errors(sampling(scene, 0, 0.1, 2)).heat
+            for tick in range(4):
+                found.add(tick, np.array([row[:4] for row in scene.disks]))
+            self.assertEqual((found.order.rows, found.order.memory, len(found.rows)), ([], 0, 4))
 
 
 class Margins(unittest.TestCase):

@@ -201,7 +201,7 @@ class MadeUp(unittest.TestCase):
     def test_values_that_remember(self):
         # Waves are slow beside the times of the first two, but not quite beside the third.
         for time, wanted in [(4, 1), (12, 1), (40, 0.85)]:
-            stated, spread = self.stated(self.remembering(time, 2))
+            stated, spread = self.stated(self.remembering(time, 2, 300))
             self.assertAlmostEqual(stated / spread, wanted, delta=0.12)
 
     def test_values_that_overlap(self):
@@ -216,7 +216,7 @@ class MadeUp(unittest.TestCase):
         # What follows order has good errors if they are known, and they are known if the time is long beside the memory.
         for time, least, most in [(20, 0.95, 1), (40, 0.8, 1), (160, 0, 0.35)]:
             values, stated, memories = [], [], []
-            for local, whole in zip(self.remembering(time, 4), self.remembering(time, 5)):
+            for local, whole in zip(self.remembering(time, 4, 200), self.remembering(time, 5, 200)):
                 errors = self.errors()
                 errors.heat.order.is_dense = True
                 errors.heat.order.rows = [(141 * tick, *row) for tick, row in enumerate(zip(local, local + whole))]
@@ -318,7 +318,8 @@ class Fluids(unittest.TestCase):
         # seeds. One number of each way in
         # which errors are made: phi, by hydrodynamics; Z, which follows phi; P, by blocks as long as sound; six neighbours,
         # a mean over states, by waves and heat; D, by states that are compared; a fit.
-        ways = [("pressure", "phi"), ("pressure", "Z"), ("pressure", "P"), ("psi6", "six_neighbours"), ("vacf", "D"), ("gr", "at contact g")]
+        ways = [("pressure", "phi"), ("pressure", "Z"), ("pressure", "P"), ("psi6", "six_neighbours"), ("vacf", "D"),
+                ("gr", "at contact g")]
         runs = []
         for seed in range(1, 17):
             scene, report = fluid(300, 0.4, 50.0, 1.0, seed=seed)
