@@ -21,8 +21,8 @@ from .spectra import LEAST_FOR_FIT, MOST, cosines, slowest
 BLOCKS = 120
 # How many waves count at least, even if they aren't slow; and how many have a part in a slope at least.
 LEAST, FOR_SLOPE = 3, 12
-# If the slowest waves are by so much greater than the mean one, the series grows.
-GROWTH = 1.9
+# If the slowest of so many waves are by that much greater than the mean one, all numbers together, there are slower ones.
+FOR_GROWTH, GROWTH = 12, 1.9
 # A measure that is shorter than so many times that of heat has errors that are rough.
 HEAT_TIMES = 5
 
@@ -56,7 +56,7 @@ class Errors:
         self.sampling, self.heat = sampling, Heat(sampling)
         self.time = (sampling.scene.end - sampling.start) / sampling.scene.time
         self.used = 0
-        self.is_growing = False
+        self.growth: list[float] = []
 
     def of(
         self, value: Callable, *sums: np.ndarray, lag: float = 0.0, follows_heat: bool = True
@@ -130,10 +130,10 @@ class Errors:
         squares = waves[:count] ** 2
         found = slowest(squares, None if left is None else left[:count])
         self.used = min(self.used, count) if self.used else count
-        with np.errstate(invalid="ignore", divide="ignore"):
-            growth = found / squares.mean(axis=0)
-        if count >= LEAST_FOR_FIT and np.isfinite(growth).any():
-            self.is_growing |= bool(growth[np.isfinite(growth)].mean() > GROWTH)
+        if count >= FOR_GROWTH:
+            with np.errstate(invalid="ignore", divide="ignore"):
+                growth = found / squares.mean(axis=0)
+            self.growth += growth[np.isfinite(growth)].tolist()
         return found
 
     def entropy(self, lag: float, count: int) -> np.ndarray | None:
@@ -181,6 +181,6 @@ class Errors:
                 f"CAUTION: {self.time:.4g} sigma/v are short, so errors are rough: take {10 * max(sound, heat):.2g} or more, or"
                 " several seeds"
             )
-        if self.is_growing:
+        if self.growth and np.mean(self.growth) > GROWTH:
             found.append("CAUTION: the slower the waves the greater they are, so errors are the least that they can be")
         return found
