@@ -1,12 +1,13 @@
 -- Events of a region's own columns that run one after the other.
-use Rattle.std.proofs.Common.{◌≡◌, inl, inr, ℕ, zero, suc, ◌+◌, ◌<◌, [], ◌∷◌, ◌++◌, length, length-append, sym, ap, ◌∙◌, subst, refl, arith, Bool, true, false, Option, Some, Result, Ok, Err, None}
-use Rattle.std.specs.Prelude.{IfSome, OnErr}
+use Rattle.std.proofs.Common.{◌≡◌, inl, inr, ℕ, zero, suc, ◌+◌, ◌<◌, ◌≤◌, [], ◌∷◌, ◌++◌, length, length-append, sym, ap, ◌∙◌, subst, refl, arith, Bool, true, false, Option, Some, Result, Ok, Err, None}
+use Rattle.std.specs.Prelude.{◌↔◌, IfOk, IfSome, OnErr}
 use Rattle.event_stamps.specs.declared.Stamp.{Stamp}
 use Rattle.event_stamps.specs.Order.{Before}
 use Rattle.event_stamps.specs.Least.{IsLeast, IsLeastOf}
 use Rattle.event_stamps.proofs.Least.{one_least}
 use Rattle.event_stamps.proofs.Rising.{last_joined}
 use Rattle.event_tree.specs.Keys.{IsKeyBefore}
+use Rattle.event_tree.specs.Codes.{IsCoded}
 use Rattle.event_stamps.proofs.StampOrder.{before_trans}
 use Rattle.event_stamps.proofs.IsBefore.{before_not_before}
 use Rattle.local_run.specs.declared.home.Home.{Home}
@@ -25,8 +26,8 @@ use Rattle.local_run.proofs.Running.{IsUnderWayBefore, one_more_made_before}
 use Rattle.region_core.specs.declared.live.Live.{Live}
 use Rattle.region_parts.specs.declared.place.Place.{Place}
 use Rattle.region_core.specs.Choices.{IsAtTurn}
-use Rattle.region_core.specs.Live.{run_in, region_in}
-use Rattle.region_core.specs.RunsOn.{IsClear, IsOwnInTurn, RunsOneBefore, RunsOrFails, RunsOn, Follow, answer_after}
+use Rattle.region_core.specs.Live.{run_in, now_in, region_in, IsLive}
+use Rattle.region_core.specs.RunsOn.{IsClear, IsOwnInTurn, MayRunOn, RunsOneBefore, RunsOrFails, RunsOn, Follow, answer_after}
 use Rattle.region_core.specs.declared.running_on.RunSoFar.{RunSoFar}
 use Rattle.event_log.specs.Logged.{entries_in}
 use Rattle.region_parts.proofs.Lists.{as_many}
@@ -91,14 +92,23 @@ next_in_turn h limit s r new None next none later = λ t least. absurd (none t l
 next_in_turn h limit s r new (Some t) next least later =
     found_in_turn h new (Some t) least (later_in_turn h limit s t r new next later)
 
--- the key of an event that ran is before that of the limit
-pub ran_next : (place : Place) (limit s : Stamp) (live new : Live) (top before : Option Stamp) (ran : Bool) →
-    top ≡ Some s → before ≡ Some limit → IsKeyBefore top before → ran ≡ true → RunsOrFails place s live new ran →
-    RunsOneBefore place.home limit s (run_in place.floor live) (run_in place.floor new)
-ran_next place limit s live new top before ran is at near did steps = (
-  subst (λ (k : Option Stamp). IsKeyBefore (Some s) k) at (subst (λ (k : Option Stamp). IsKeyBefore k before) is near),
-  subst (RunsOrFails place s live new) did steps,
-)
+-- an event before the limit ran
+pub ran_next : (place : Place) (limit s : Stamp) (live new : Live) (ran : Bool) → Before s limit → ran ≡ true →
+    RunsOrFails place s live new ran → RunsOneBefore place.home limit s (run_in place.floor live) (run_in place.floor new)
+ran_next place limit s live new ran near did steps = (near, subst (RunsOrFails place s live new) did steps)
+
+-- its key is before that of the limit
+pub near_key : (limit s : Stamp) (top bound found : Option Stamp) → found ≡ top → found ≡ Some s → bound ≡ Some limit →
+    IsKeyBefore top bound → Before s limit
+near_key limit s top bound found same is at near =
+    subst (λ (k : Option Stamp). IsKeyBefore (Some s) k) at (subst (λ (k : Option Stamp). IsKeyBefore k bound) (sym same ∙ is) near)
+
+-- its code is before the bound for codes
+pub near_code : (limit s : Stamp) (top bound found : Option Stamp) → found ≡ top → found ≡ Some s → IfSome found IsCoded →
+    ((t : Stamp) → IsCoded t → (IsKeyBefore (Some t) bound ↔ Before t limit)) → IsKeyBefore top bound → Before s limit
+near_code limit s top bound found same is coded bounds near =
+    (bounds s (subst (λ (k : Option Stamp). IfSome k IsCoded) is coded)).0
+    (subst (λ (k : Option Stamp). IsKeyBefore k bound) (sym same ∙ is) near)
 
 -- a step that runs an event appends one entry
 pub one_longer : (h : Home) (floor limit s : Stamp) (live new : Live) →
@@ -108,35 +118,109 @@ one_longer h floor limit s live new (near, (due, turn, (x, same, move, run))) =
     ∙ length-append (entries_in live.log) (Native x ∷ []) ∙ ap (λ (n : ℕ). n + 1) (as_many live.log)
 
 -- ---- what follows
-pub next_follows : (place : Place) (bound limit s : Stamp) (live new : Live) → ¬ Before bound limit →
-    RunsOneBefore place.home limit s (run_in place.floor live) (run_in place.floor new) →
-    IsDueBefore bound (region_in place live) × RegionSteps (region_in place live) (Ran s) (region_in place new)
-next_follows place bound limit s live new near next = (
-  (s, inl next.1.0.1, before_not_before s bound limit next.0 near),
-  record { home = refl; floor = refl; run = (run_in place.floor new, next.1, refl) },
-)
-
 -- one more step after those that follow
-pub one_follows : (place : Place) (bound limit s : Stamp) (made : ℕ) (given before : Step) (old : RegionData)
-    (live new : Live) → ¬ Before bound limit → Follow bound made given old before (region_in place live) →
+one_follows : (place : Place) (limit s : Stamp) (made : ℕ) (given before : Step) (old : RegionData)
+    (live new : Live) → Follow limit made given old before (region_in place live) →
     RunsOneBefore place.home limit s (run_in place.floor live) (run_in place.floor new) →
-    Follow bound (made + 1) given old (Ran s) (region_in place new)
-one_follows place bound limit s made given before old live new near follow next =
-    let step = next_follows place bound limit s live new near next in
+    Follow limit (made + 1) given old (Ran s) (region_in place new)
+one_follows place limit s made given before old live new follow next =
+    let step : RegionSteps (region_in place live) (Ran s) (region_in place new) =
+    record { home = refl; floor = refl; run = (run_in place.floor new, next.1, refl) } in
     let more : suc made ≡ made + 1 = omega arith in
-    subst (λ (n : ℕ). Follow bound n given old (Ran s) (region_in place new)) more
-    (before, region_in place live, follow, step.0, step.1, tt)
+    subst (λ (n : ℕ). Follow limit n given old (Ran s) (region_in place new)) more
+    (before, region_in place live, follow, (s, inl next.1.0.1, next.0), step, tt)
 
 -- the same for equal things
-pub still_follows : (place : Place) (bound : Stamp) (given : Step) (old : RegionData) (made n : ℕ)
+pub still_follows : (place : Place) (limit : Stamp) (given : Step) (old : RegionData) (made n : ℕ)
     (last event : Option Stamp) (live new : Live) → n ≡ made → event ≡ last → new ≡ live →
-    Follow bound made given old (answer_after given last) (region_in place live) →
-    Follow bound n given old (answer_after given event) (region_in place new)
-still_follows place bound given old made n last event live new many which same follow =
-    subst (λ (k : ℕ). Follow bound k given old (answer_after given event) (region_in place new)) (sym many)
-    (subst (λ (e : Option Stamp). Follow bound made given old (answer_after given e) (region_in place new)) (sym which)
-    (subst (λ (l : Live). Follow bound made given old (answer_after given last) (region_in place l)) (sym same)
+    Follow limit made given old (answer_after given last) (region_in place live) →
+    Follow limit n given old (answer_after given event) (region_in place new)
+still_follows place limit given old made n last event live new many which same follow =
+    subst (λ (k : ℕ). Follow limit k given old (answer_after given event) (region_in place new)) (sym many)
+    (subst (λ (e : Option Stamp). Follow limit made given old (answer_after given e) (region_in place new)) (sym which)
+    (subst (λ (l : Live). Follow limit made given old (answer_after given last) (region_in place l)) (sym same)
     follow))
+
+-- the last of them ran an event
+pub stops_after : (place : Place) (limit s : Stamp) (given : Step) (old : RegionData) (made n : ℕ) (last event : Option Stamp)
+    (live new end : Live) → n ≡ made + 1 → event ≡ Some s → end ≡ new →
+    Follow limit made given old (answer_after given last) (region_in place live) →
+    RunsOneBefore place.home limit s (run_in place.floor live) (run_in place.floor new) →
+    Follow limit n given old (answer_after given event) (region_in place end)
+stops_after place limit s given old made n last event live new end many which same follow one =
+    still_follows place limit given old (made + 1) n (Some s) event new end many which same
+    (one_follows place limit s made given (answer_after given last) old live new follow one)
+
+-- what is before a limit is before what isn't before the limit
+follow_further : (bound limit : Stamp) (made : ℕ) (before answer : Step) (old new : RegionData) → ¬ Before bound limit →
+    Follow limit made before old answer new → Follow bound made before old answer new
+follow_further bound limit zero before answer old new near follow = follow
+follow_further bound limit (suc made) before answer old new near (last, mid, follow, (s, due, lt), step, goes) = (
+  last,
+  mid,
+  follow_further bound limit made before last old mid near follow,
+  (s, due, before_not_before s bound limit lt near),
+  step,
+  goes,
+)
+
+pub runs_further : {E : Type 0} (done : Result RunSoFar E) (bound limit : Stamp) (given : RunSoFar) (old new : RegionData) →
+    ¬ Before bound limit → IfOk done (RunsOn limit given old new) → IfOk done (RunsOn bound given old new)
+runs_further (Ok so_far) bound limit given old new near (made, left, follow) =
+    (made, left, follow_further bound limit made given.answer so_far.answer old new near follow)
+runs_further (Err e) bound limit given old new near ran = tt
+
+-- ---- while events run
+-- the events that ran so far are steps for which the log has room, and what comes next is known and in turn
+pub record HasRun (place : Place) (limit : Stamp) (most : ℕ) (given : Step) (old : RegionData) (made : ℕ) (last next : Option Stamp)
+    (live : Live) : Type 0 where
+  pub ready : MayRunOn place limit live
+  pub top : IsLeastOf (IsOwn place.home (now_in live).view) next
+  pub room : length live.log + most ≤ MAX_ENTRIES + made
+  pub within : made ≤ most
+  pub ran : Follow limit made given old (answer_after given last) (region_in place live)
+
+pub has_run_none : (place : Place) (limit : Stamp) (most room : ℕ) (given : Step) (last top : Option Stamp) (live : Live) →
+    MayRunOn place limit live → IsLeastOf (IsOwn place.home (now_in live).view) top → length live.log + room ≡ MAX_ENTRIES →
+    most ≤ room → last ≡ None → HasRun place limit most given (region_in place live) 0 last top live
+has_run_none place limit most room given last top live ready least len few none = record {
+  ready = ready;
+  top = least;
+  room = omega (arith, len, few);
+  within = omega arith;
+  ran = still_follows place limit given (region_in place live) 0 0 None last live live refl none refl (refl, refl);
+}
+
+-- what comes next, before the limit
+pub next_at_turn : (place : Place) (limit s : Stamp) (most : ℕ) (given : Step) (old : RegionData) (ran : ℕ) (last top : Option Stamp)
+    (live : Live) → HasRun place limit most given old ran last top live → ran < most → top ≡ Some s → Before s limit →
+    IsAtTurn place.home (run_in place.floor live) s
+next_at_turn place limit s most given old ran last top live has few is near =
+    let least = subst (IsLeastOf (IsOwn place.home (now_in live).view)) is has.top in
+    let many = as_many live.log in
+    clear_turn place.home (run_in place.floor live) s limit (omega (arith, many, has.room, few)) least near has.ready.clear
+    (has.ready.turn s least)
+
+pub has_run_more : (place : Place) (limit s : Stamp) (most : ℕ) (given : Step) (old : RegionData) (ran : ℕ)
+    (last top event next : Option Stamp) (live new : Live) → HasRun place limit most given old ran last top live → ran < most →
+    RunsOneBefore place.home limit s (run_in place.floor live) (run_in place.floor new) → IsLive place new → event ≡ Some s →
+    IsLeastOf (IsOwn place.home (now_in new).view) next → IsKeyBefore event next →
+    HasRun place limit most given old (ran + 1) event next new
+has_run_more place limit s most given old ran last top event next live new has few one right is least later =
+    let longer = one_longer place.home place.floor limit s live new one in
+    record {
+      ready = record {
+        live = right;
+        in_range = has.ready.in_range;
+        clear = still_clear place.home limit s (run_in place.floor live) (run_in place.floor new) one has.ready.clear;
+        turn = next_in_turn place.home limit s (run_in place.floor live) (run_in place.floor new) next one least
+            (subst (λ (k : Option Stamp). IsKeyBefore k next) is later);
+      };
+      top = least;
+      room = omega (arith, longer, has.room);
+      within = omega (arith, few);
+      ran = stops_after place limit s given old ran (ran + 1) last event live new new refl is refl has.ran one;
+    }
 
 -- an event that fails changes nothing
 pub failed_same : (place : Place) (s : Stamp) (live new : Live) (ran : Bool) → ran ≡ false →
@@ -144,11 +228,11 @@ pub failed_same : (place : Place) (s : Stamp) (live new : Live) (ran : Bool) →
 failed_same place s live new ran is steps = (subst (RunsOrFails place s live new) is steps).0
 
 -- a number of steps, with their results
-pub runs_on : (bound : Stamp) (given so_far : RunSoFar) (made : ℕ) (old new : RegionData) (last : Option Stamp) →
+pub runs_on : (limit : Stamp) (given so_far : RunSoFar) (made : ℕ) (old new : RegionData) (last : Option Stamp) →
     so_far.answer ≡ answer_after given.answer last → so_far.left + made ≡ given.left →
-    Follow bound made given.answer old (answer_after given.answer last) new → RunsOn bound given old new so_far
-runs_on bound given so_far made old new last answer left follow =
-    (made, left, subst (λ (a : Step). Follow bound made given.answer old a new) (sym answer) follow)
+    Follow limit made given.answer old (answer_after given.answer last) new → RunsOn limit given old new so_far
+runs_on limit given so_far made old new last answer left follow =
+    (made, left, subst (λ (a : Step). Follow limit made given.answer old a new) (sym answer) follow)
 
 pub went_on : (bound : Stamp) (made n : ℕ) (first : RegionData) (before answer : Step) (old new : RegionData) →
     IsUnderWayBefore bound made first before old → GoesOn before → Follow bound n before old answer new →

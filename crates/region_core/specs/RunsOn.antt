@@ -1,7 +1,7 @@
 -- Events of a region's own columns that run one after the other.
 use Rattle.std.specs.Prelude.{◌≡◌, ℕ, zero, suc, ◌+◌, Bool, true, false, Option, Some, None, Err}
 use Rattle.event_stamps.specs.declared.Stamp.{Stamp}
-use Rattle.event_stamps.specs.Order.{Before}
+use Rattle.event_stamps.specs.Order.{Before, IsInRange}
 use Rattle.event_stamps.specs.Least.{IsLeast}
 use Rattle.event_rules.specs.declared.change.Limit.{Limit}
 use Rattle.local_run.specs.declared.home.Home.{Home}
@@ -16,7 +16,7 @@ use Rattle.local_run.specs.Steps.{RegionSteps}
 use Rattle.region_parts.specs.declared.place.Place.{Place}
 use Rattle.region_core.specs.declared.running_on.RunSoFar.{RunSoFar}
 use Rattle.region_core.specs.declared.live.Live.{Live}
-use Rattle.region_core.specs.Live.{run_in, now_in}
+use Rattle.region_core.specs.Live.{run_in, now_in, IsLive}
 
 -- in the view the event fails at a limit
 abbrev pub FailsLimit : Home → ViewData → Stamp → Type 0
@@ -34,6 +34,13 @@ IsOwnInTurn h r = (s : Stamp) → IsLeast (IsOwn h (now_of r).view) s → IsInTu
 -- no message before this stamp waits, nor at it
 abbrev pub IsClear : Stamp → Trails → Type 0
 IsClear limit waiting = (s : Stamp) → IsWaiting waiting s → ¬ Before s limit
+
+-- before this stamp what is due is an event of its own columns, and in turn
+pub record MayRunOn (place : Place) (limit : Stamp) (body : Live) : Type 0 where
+  pub live : IsLive place body
+  pub in_range : IsInRange limit
+  pub clear : IsClear limit (now_in body).waiting
+  pub turn : IsOwnInTurn place.home (run_in place.floor body)
 
 -- the step runs this event, which is before a stamp
 abbrev pub RunsOneBefore : Home → Stamp → Stamp → Local → Local → Type 0

@@ -1,18 +1,18 @@
 //! Going on with events of a region's own columns, between which no message comes.
 
-ghost use Rattle.std.specs.Prelude.{◌≡◌, ◌↔◌, ◌+◌, ◌≤◌, length, IfOk, OnOk, IsTrue};
+ghost use Rattle.std.specs.Prelude.{◌≡◌, ◌↔◌, ◌+◌, ◌≤◌, length, IfOk, IfSome, OnOk, IsTrue};
 ghost use Rattle.event_stamps.specs.Order.{Before, IsInRange};
 ghost use Rattle.event_stamps.specs.Least.{IsLeastOf};
 ghost use Rattle.local_run.specs.LocalRun.{IsOwn};
 ghost use Rattle.region_parts.specs.declared.place.Place.{Place};
 ghost use Rattle.region_core.specs.Live.{run_in, now_in, region_in, IsLive};
-ghost use Rattle.region_core.specs.RunsOn.{IsClear, IsOwnInTurn, RunsOn, answer_after};
+ghost use Rattle.region_core.specs.RunsOn.{IsClear, IsOwnInTurn, MayRunOn, RunsOn, answer_after};
 
 use crate::live::Live;
 use crate::moves::is_in_turn;
 use crate::{MAX_ENTRIES, Step};
 use event_stamps::{Stamp, is_before};
-use event_tree::Packed;
+use event_tree::{Code, Packed};
 use region_parts::Place;
 use std::alloc::{AllocError, Global};
 
@@ -48,7 +48,65 @@ impl Live {
         if !is_in_range(&limit) || !self.is_own_in_turn(place) {
             return Ok(so_far);
         }
-        let limit_key = Packed::new(Some(limit));
+        match self.top_own_code() {
+            Some(top) => self.run_on_codes(alloc, place, &limit, top, so_far),
+            None => self.run_on_packed(alloc, place, &limit, so_far),
+        }
+    }
+
+    // The same up to a limit, while the queue has codes.
+    #[inline(always)]
+    fn run_on_codes(
+        &mut self,
+        alloc: Global,
+        place: &Place,
+        limit: &Stamp,
+        mut top: Code,
+        so_far: RunSoFar,
+    ) -> Result<RunSoFar, AllocError>
+        requires ready { MayRunOn place.now limit.now self.old }
+        requires top { IsLeastOf (IsOwn place.now.home (now_in self.old).view) top }
+        ensures live { OnOk result (IsLive place.now self.new) }
+        ensures ran { IfOk result (RunsOn limit.now so_far (region_in place.now self.old)
+            (region_in place.now self.new)) }
+    {
+        let limit_code = Code::limit(limit);
+        let most = self.room().min(so_far.left);
+        let mut ran = 0;
+        let mut last = Code::none();
+        while ran < most && top.is_before(limit_code) {
+            let Some(due) = top.stamp() else {
+                break;
+            };
+            if !self.run_event(alloc, place, &due)? {
+                break;
+            }
+            ran += 1;
+            last = top;
+            // If the next event isn't after the last one, it isn't in turn.
+            match self.top_own_code() {
+                Some(next) if last.is_before(next) => top = next,
+                _ => break,
+            }
+        }
+        Ok(so_far.after(ran, last.stamp()))
+    }
+
+    // The same with stamps of any size.
+    #[inline(never)]
+    fn run_on_packed(
+        &mut self,
+        alloc: Global,
+        place: &Place,
+        limit: &Stamp,
+        so_far: RunSoFar,
+    ) -> Result<RunSoFar, AllocError>
+        requires { MayRunOn place.now limit.now self.old }
+        ensures live { OnOk result (IsLive place.now self.new) }
+        ensures ran { IfOk result (RunsOn limit.now so_far (region_in place.now self.old)
+            (region_in place.now self.new)) }
+    {
+        let limit_key = Packed::new(Some(*limit));
         let most = self.room().min(so_far.left);
         let mut ran = 0;
         let mut last = Packed::new(None);
@@ -68,7 +126,7 @@ impl Live {
                 break;
             }
         }
-        Ok(so_far.after(ran, last))
+        Ok(so_far.after(ran, last.key()))
     }
 
     // The earlier of a bound and the stamp of the first message that waits.
@@ -97,6 +155,15 @@ impl Live {
         self.queue.top()
     }
 
+    // The same as a code; none if the queue has no codes.
+    #[inline(always)]
+    fn top_own_code(&self) -> Option<Code>
+        ensures { IfSome result (λ code. (place : Place) → IsLive place self.now →
+            IsLeastOf (IsOwn place.home (now_in self.now).view) code) }
+    {
+        self.queue.top_code()
+    }
+
     // Whether the least of its native candidates, if there is one, is in turn.
     fn is_own_in_turn(&self, place: &Place) -> bool
         requires { IsLive place.now self.now }
@@ -120,12 +187,12 @@ impl Live {
 impl RunSoFar {
     // The same after `steps` more steps. If an event is given, the last of them ran it.
     #[inline(always)]
-    fn after(self, steps: u32, event: Packed) -> RunSoFar
+    fn after(self, steps: u32, event: Option<Stamp>) -> RunSoFar
         requires { steps ≤ self.left }
         ensures answer { result.answer ≡ answer_after self.answer event }
         ensures left { result.left + steps ≡ self.left }
     {
-        let answer = match event.key() {
+        let answer = match event {
             Some(event) => Step::Ran(event),
             None => self.answer,
         };
