@@ -2,6 +2,7 @@
 
 mod cell_steps;
 mod cells;
+mod codes;
 mod helpers;
 mod queues;
 mod views;
