@@ -3,19 +3,12 @@ use Rattle.std.proofs.Common.{◌≡◌, ℕ, true, length, Option, Some, None}
 use Rattle.fixed_motion.specs.declared.rules.Rules.{Rules}
 use Rattle.fixed_motion.specs.declared.disk.Disk.{Disk}
 use Rattle.fixed_motion.specs.Rules.{IsChecked}
-use Rattle.fixed_motion.specs.Motion.{IsValidDisk, centre_of, velocity_of}
-use Rattle.fixed_motion.proofs.Sizes.{inside_in_box, slow_size}
 use Rattle.event_rules.specs.declared.change.Change.{Change}
 use Rattle.event_rules.specs.Outcomes.{IsRecordOf}
 use Rattle.collision_report.specs.Meaning.{TableData, IsTable, takes_part}
 use Rattle.collision_report.proofs.Tables.{first_record, second_record}
-use Rattle.collision_sums.specs.Bounds.{IsNear, IsNearIfSome, IsSummable}
-
-near : (rules : Rules) (a : Disk) → IsChecked rules → IsValidDisk rules a → IsNear a
-near rules a checked valid = record {
-  centre = inside_in_box rules a (centre_of a) checked valid.size valid.centre;
-  velocity = slow_size rules (velocity_of a) checked valid.velocity;
-}
+use Rattle.collision_sums.specs.Bounds.{IsNearIfSome, IsSummable}
+use Rattle.collision_sums.proofs.Near.{near}
 
 near_second : (rules : Rules) (count tick i : ℕ) (o : Option Disk) → IsChecked rules → IsRecordOf rules count tick i o → IsNearIfSome o
 near_second rules count tick i None checked h = tt
