@@ -8,3 +8,4 @@ mod ports;
 mod predictions;
 mod rows;
 mod stamps;
+mod sums;
