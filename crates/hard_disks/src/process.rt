@@ -190,7 +190,7 @@ fn run_shown<
     ensures untouched { ¬ ReadsScene (settings_of (map (λ w. w.now) words.now)) →
         result.1 ≡ source }
 {
-    let glass = board.glass(rt, &mut pen);
+    let glass = board.glass(&mut pen);
     let line = ProgressLine::new();
     let (_, ended) = thread::join(
         rt,

@@ -80,7 +80,7 @@ impl ProgressLine {
         for _ in rt.forever() {
             self.sleeper.park_timeout(rt, Duration::from_millis(pause));
             let now = micros(rt);
-            let shown = board.look(rt, &mut glass);
+            let shown = board.look(&mut glass);
             let sight = ShownProgress {
                 shown,
                 end: board.end(),

@@ -36,8 +36,7 @@ const PAIRS: [Progress; 4] = [
 
 // A sink that looks at a board before each piece that it takes, and keeps the first four pairs.
 #[derive(Drop)]
-struct Looking<'b, R: Wait> {
-    rt: &'b R,
+struct Looking<'b> {
     board: &'b Board,
     glass: Glass,
     pieces: usize,
@@ -45,7 +44,7 @@ struct Looking<'b, R: Wait> {
     ghost of_board: { glass.board ≡ board.now },
 }
 
-impl<R: Wait> Sink for Looking<'_, R> {
+impl Sink for Looking<'_> {
     ghost Lasting = { Unit {0} };
 
     ghost lasting = { λ _. tt };
@@ -61,7 +60,7 @@ impl<R: Wait> Sink for Looking<'_, R> {
     }
 
     fn give(&mut self, _piece: &[u8]) -> Given {
-        let shown = self.board.look(self.rt, &mut self.glass);
+        let shown = self.board.look(&mut self.glass);
         if let Some(place) = self.seen.get_mut(self.pieces) {
             *place = shown;
         }
@@ -115,16 +114,15 @@ fn seen_on<R: Threads + Wait + Sync>(
     requires unwritten { pen.old.list ≡ [] }
 {
     let mut sink = Looking {
-        rt,
         board,
-        glass: board.glass(rt, pen),
+        glass: board.glass(pen),
         pieces: 0,
         seen: [NOTHING; 4],
     };
     let gate = &OpenGate;
     let status = top_watched(rt, alloc, words, &mut source, &mut sink, gate, board, pen);
-    let mut after = board.glass(rt, pen);
-    (status, sink.seen, board.look(rt, &mut after))
+    let mut after = board.glass(pen);
+    (status, sink.seen, board.look(&mut after))
 }
 
 const LOAD: &[&str] = &[
@@ -164,7 +162,7 @@ fn watched_on<R: Threads + Wait + Sync>(
     requires board { pen.board ≡ board.now }
     requires unwritten { pen.list ≡ [] }
 {
-    let glass = board.glass(rt, &mut pen);
+    let glass = board.glass(&mut pen);
     let over = AtomicBool::new(false);
     thread::join(
         rt,
@@ -222,7 +220,7 @@ fn rising<R: Wait>(rt: &R, board: &Board, mut glass: Glass, over: &AtomicBool) -
     let mut last = NOTHING;
     for _ in rt.forever() {
         let is_over = over.load(Ordering::SeqCst);
-        let shown = board.look(rt, &mut glass);
+        let shown = board.look(&mut glass);
         if shown.events < last.events || shown.tick < last.tick {
             return None;
         }

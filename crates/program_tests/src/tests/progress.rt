@@ -2,7 +2,6 @@
 
 use live_progress::{Board, Progress};
 use std::alloc::{AllocError, Global};
-use std::sync::Wait;
 
 const NONE: Progress = Progress { events: 0, tick: 0 };
 
@@ -12,24 +11,21 @@ const SECOND: Progress = Progress { events: 2, tick: 3 };
 
 #[test]
 fn a_glass_sees_what_was_published_last(rt: HostRuntime) {
-    let seen = seen(&rt, rt.alloc()).ok();
+    let seen = seen(rt.alloc()).ok();
     assert!(rt;
         seen == Some((NONE, FIRST, SECOND, SECOND)),
         "{seen:?}, before any publishing, after the first pair and the second, and of the pen that took the glass back"
     );
 }
 
-fn seen<R: Wait>(
-    rt: &R,
-    alloc: Global,
-) -> Result<(Progress, Progress, Progress, Progress), AllocError> {
+fn seen(alloc: Global) -> Result<(Progress, Progress, Progress, Progress), AllocError> {
     let (board, mut pen) = Board::open(alloc)?;
-    let mut glass = board.glass(rt, &mut pen);
-    let none = board.look(rt, &mut glass);
-    board.publish(rt, &mut pen, FIRST);
-    let one = board.look(rt, &mut glass);
-    board.publish(rt, &mut pen, SECOND);
-    let two = board.look(rt, &mut glass);
-    board.retire(rt, &mut pen, glass);
+    let mut glass = board.glass(&mut pen);
+    let none = board.look(&mut glass);
+    board.publish(&mut pen, FIRST);
+    let one = board.look(&mut glass);
+    board.publish(&mut pen, SECOND);
+    let two = board.look(&mut glass);
+    board.retire(&mut pen, glass);
     Ok((none, one, two, pen.last()))
 }
