@@ -3,6 +3,9 @@
 //! The cursor waits on the row below it, so that another program that writes there next, as a shell after an interrupt,
 //! begins a row of its own. The terminal cuts the line at its width. Nothing is shown while the process is in the
 //! background.
+//!
+//! Neither the thread that shows the line nor the one that ends it ever waits without end: both look again and again
+//! after short sleeps, and each look is counted.
 
 ghost use Rattle.std.specs.Prelude.{◌≡◌};
 
@@ -13,14 +16,23 @@ use live_progress::{Board, Glass, Progress};
 use report_ports::{Given, Sink};
 use std::fmt;
 use std::fmt::{Display, Formatter, Write};
-use std::sync::{Mutex, Wait};
-use std::thread::Parker;
+use std::sync::Mutex;
+use std::sync::atomic::{AtomicBool, Ordering};
 use std::time::{Clock, Duration};
 
 // How many milliseconds a run goes on before the line is shown, and how many pass before it is rewritten.
 const PATIENCE: u64 = 1_000;
 
 const PAUSE: u64 = 250;
+
+// How many milliseconds the thread that shows the line sleeps between two looks whether it is ended.
+const MOMENT: u64 = 5;
+
+// How many pauses there are at most: thousands of years.
+const PAUSES: u64 = 1 << 40;
+
+// For how many milliseconds the end of a line waits for the terminal to take a form of it that is being written.
+const HELD_UP: u64 = 5_000;
 
 // If no new form was shown for this many microseconds, the process was stopped, and another program may have written.
 const LOST: u64 = 5_000_000;
@@ -43,7 +55,7 @@ const WRAP: &str = "\x1b[?7h";
 #[derive(Drop)]
 pub struct ProgressLine {
     stage: Mutex<LineState>,
-    sleeper: Parker,
+    is_over: AtomicBool,
 }
 
 // Whether the line is on the row above the cursor.
@@ -59,13 +71,13 @@ impl ProgressLine {
     pub fn new() -> ProgressLine {
         ProgressLine {
             stage: Mutex::new(LineState::Hidden),
-            sleeper: Parker::new(),
+            is_over: AtomicBool::new(false),
         }
     }
 
     /// Shows what the board shows, some times a second, until the line is ended. The line stays hidden in the first
     /// second, and as long as no scene was read.
-    pub fn show<R: AllocGlobal + Eprint + Wait + Clock, T: Terminal>(
+    pub fn show<R: AllocGlobal + Eprint + Clock, T: Terminal>(
         &self,
         rt: &R,
         terminal: &T,
@@ -77,8 +89,10 @@ impl ProgressLine {
         let mut pause = PATIENCE;
         let mut last = micros(rt);
         let mut forecast = Forecast::new(last);
-        for _ in rt.forever() {
-            self.sleeper.park_timeout(rt, Duration::from_millis(pause));
+        for _ in 0..PAUSES {
+            if !self.pause(rt, pause) {
+                break;
+            }
             let now = micros(rt);
             let shown = board.look(&mut glass);
             let sight = ShownProgress {
@@ -87,35 +101,42 @@ impl ProgressLine {
                 seconds_left: forecast.seconds_left(now, shown.tick, board.end()),
             };
             let is_ours = terminal.is_ours();
-            if !is_ours || now.saturating_sub(last) > LOST {
-                self.lose(rt);
-            }
-            if !self.rewrite(rt, &sight, is_ours) {
-                break;
-            }
+            let is_lost = !is_ours || now.saturating_sub(last) > LOST;
+            self.rewrite(rt, &sight, is_ours, is_lost);
             last = now;
             pause = PAUSE;
         }
     }
 
-    // Notes that the row above the cursor isn't the line any more.
-    fn lose<R: Wait>(&self, rt: &R) {
-        let mut stage = self.stage.lock(rt);
-        if *stage == LineState::Shown {
-            *stage = LineState::Hidden;
+    // Sleeps for so many milliseconds. False if the line is ended meanwhile.
+    fn pause<R: Clock>(&self, rt: &R, millis: u64) -> bool {
+        for _ in 0..millis / MOMENT {
+            if self.is_over.load(Ordering::SeqCst) {
+                return false;
+            }
+            rt.sleep(Duration::from_millis(MOMENT));
         }
+        !self.is_over.load(Ordering::SeqCst)
     }
 
-    // Shows this, if there is anything to show and the terminal is ours. False if the line is ended.
-    fn rewrite<R: AllocGlobal + Eprint + Wait>(
+    // Shows this, if there is anything to show, the terminal is ours and the line isn't ended. `is_lost` says that the
+    // row above the cursor isn't the line any more.
+    fn rewrite<R: AllocGlobal + Eprint>(
         &self,
         rt: &R,
         sight: &ShownProgress,
         is_ours: bool,
-    ) -> bool {
-        let mut stage = self.stage.lock(rt);
+        is_lost: bool,
+    ) {
+        // Only the thread that ends the line may have the lock.
+        let Some(mut stage) = self.stage.try_lock() else {
+            return;
+        };
         if *stage == LineState::Ended {
-            return false;
+            return;
+        }
+        if is_lost {
+            *stage = LineState::Hidden;
         }
         if is_ours && sight.is_any() {
             let back = if *stage == LineState::Shown { BACK } else { "" };
@@ -125,18 +146,30 @@ impl ProgressLine {
                 *stage = LineState::Shown;
             }
         }
-        true
     }
 
-    /// Clears the line, which isn't shown from now on.
-    pub fn end<R: Eprint + Wait>(&self, rt: &R) {
-        let mut stage = self.stage.lock(rt);
+    /// Clears the line, which isn't shown from now on. If the terminal doesn't take a form of it for five seconds, the
+    /// line is left there.
+    pub fn end<R: Eprint + Clock>(&self, rt: &R) {
+        self.is_over.store(true, Ordering::SeqCst);
+        for _ in 0..HELD_UP {
+            if self.clear(rt) {
+                break;
+            }
+            rt.sleep(Duration::from_millis(1));
+        }
+    }
+
+    // Clears the line, if it isn't just being written. False if it is.
+    fn clear<R: Eprint>(&self, rt: &R) -> bool {
+        let Some(mut stage) = self.stage.try_lock() else {
+            return false;
+        };
         if *stage == LineState::Shown {
             let _ = eprint!(rt; "{BACK}{CLEAR}");
         }
         *stage = LineState::Ended;
-        drop(stage);
-        self.sleeper.unpark();
+        true
     }
 }
 
@@ -188,7 +221,7 @@ fn in_units(seconds: u64) -> (u64, &'static str) {
 
 /// A sink that may write to the terminal of the line: there it ends the line before its first piece.
 #[derive(Drop)]
-pub struct BesideLine<'l, R: Eprint + Wait, K: Sink> {
+pub struct BesideLine<'l, R: Eprint + Clock, K: Sink> {
     /// The runtime.
     pub rt: &'l R,
     /// The line.
@@ -199,7 +232,7 @@ pub struct BesideLine<'l, R: Eprint + Wait, K: Sink> {
     pub sink: K,
 }
 
-impl<R: Eprint + Wait, K: Sink> Sink for BesideLine<'_, R, K> {
+impl<R: Eprint + Clock, K: Sink> Sink for BesideLine<'_, R, K> {
     ghost Lasting = { K.Lasting };
 
     ghost lasting = { λ b. K.lasting b.sink };

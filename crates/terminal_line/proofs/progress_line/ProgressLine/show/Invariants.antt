@@ -3,5 +3,4 @@ use Rattle.std.proofs.Common.{◌≡◌}
 use Rattle.terminal_line.proofs.progress_line.ProgressLine.show.Given as goal
 
 abbrev pub invariant-loop : goal.invariant-loop
-invariant-loop g l =
-    ((goal.iterator-loop g).can_next l.iterator' × (goal.iterator-loop g).is_finite l.iterator') × (l.glass.board ≡ l.board)
+invariant-loop g l = l.glass.board ≡ l.board
