@@ -53,7 +53,6 @@ pub fn write_samples<R: Threads + Wait + Sync, G: Gate, B: Burst<Idle, ()>, K: S
     board.announce(scene.rules.end);
     let sampler = Sampler::new(&mut table, sink, sample);
     let mut watched = Watched {
-        rt,
         board,
         pen,
         inner: sampler,
@@ -68,7 +67,7 @@ fn sample_run<R: Threads + Wait + Sync, G: Gate, B: Burst<Idle, ()>, K: Sink>(
     alloc: Global,
     engine: &mut Engine<'_, G, B>,
     scene: &Scene,
-    watched: &mut Watched<'_, R, Sampler<'_, K>>,
+    watched: &mut Watched<'_, Sampler<'_, K>>,
 ) -> Status
     requires valid { IsValidScene scene.now }
     requires unwritten { watched.old.pen.now.list ≡ [] }
@@ -93,8 +92,8 @@ fn sample_run<R: Threads + Wait + Sync, G: Gate, B: Burst<Idle, ()>, K: Sink>(
 }
 
 // Writes the end of the samples, and says how the program ends; what was published stays.
-fn end_samples<R: Wait, K: Sink>(
-    watched: &mut Watched<'_, R, Sampler<'_, K>>,
+fn end_samples<K: Sink>(
+    watched: &mut Watched<'_, Sampler<'_, K>>,
     scene: &Scene,
     outcome: &Outcome,
 ) -> Status
