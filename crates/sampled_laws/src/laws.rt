@@ -18,7 +18,7 @@ pub fn squares_are_energy()
 {}
 
 /// Over the whole box, the momentum at the end is that at the start, plus what the left side and the bottom took, less
-/// what the right side and the top took.
+/// what the right side and the top took: this follows from the law `runs_conserve` of `event_rules`.
 pub fn sides_take_momentum()
     ensures { RunsConserve → SidesTakeMomentum }
 {}
@@ -29,7 +29,8 @@ pub fn virials_are_pushes()
     ensures { VirialsArePushes }
 {}
 
-/// No sum of a run comes near the greatest number of its type, at which it would stop.
+/// No sum of a run comes near the greatest number of its type, at which it would stop: this follows from the law
+/// `few_events_of_a_scene` of `event_rules`.
 pub fn sums_never_stop()
     ensures { FewEventsOfAScene → SumsNeverStop }
 {}
