@@ -136,6 +136,6 @@ def notes_together(notes: list[list[str | Stated]]) -> list[str | Stated]:
         if isinstance(note, Stated):
             alike = [it.value for own in notes for it in own if isinstance(it, Stated) and it.name == note.name]
             found.append(Stated(note.name, float(np.mean(alike)), float(spread_error(alike))))
-        elif all(note in own for own in notes):
+        elif all(note in own for own in notes) and "errors are" not in note and not note.startswith("errors"):
             found.append(note)
     return found

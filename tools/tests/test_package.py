@@ -324,6 +324,8 @@ class Commands(unittest.TestCase):
         scenes = [folder / f"{seed}.toml" for seed in (1, 2, 3)]
         status, out, error = self.command("measure", "pressure,gr", *scenes, "--most", "3")
         self.assertEqual((status, error), (0, ""))
+        # What one run says of its errors isn't said of several.
+        self.assertNotIn("errors are", out)
         found = self.row(out)
         self.assertAlmostEqual(found["Z"], np.mean(values), delta=1e-5)
         self.assertAlmostEqual(found["Z_error"], np.std(values, ddof=1) / np.sqrt(3), delta=1e-5)
