@@ -1,8 +1,6 @@
 -- Posts of the regions of a run.
-use Rattle.std.proofs.Common.{◌≡◌, ◌≢◌, ℕ, List, None, sym, ap, ◌∙◌, subst}
-use Rattle.fixed_motion.specs.declared.rules.Rules.{Rules}
+use Rattle.std.proofs.Common.{◌≡◌, ◌≢◌, ℕ, List, None, sym, ◌∙◌, subst}
 use Rattle.event_stamps.specs.declared.Stamp.{Stamp}
-use Rattle.cell_grid.specs.Grid.{GridData}
 use Rattle.region_view.specs.declared.rows.Message.{Message}
 use Rattle.cell_sequence.specs.State.{CellStateData}
 use Rattle.local_run.specs.declared.home.Home.{Home}

@@ -1,5 +1,6 @@
-use Rattle.std.proofs.Common.{[], ◌∷◌, length, ap, ◌∙◌, sym, subst}
+use Rattle.std.proofs.Common.{List, [], ◌∷◌, length, ap, ◌∙◌, sym, subst}
 use Rattle.std.proofs.lemmas.List.{length-append}
+use Rattle.local_run.specs.Opening.{RegionData}
 use Rattle.region_locks.specs.Holding.{AllTaken}
 use Rattle.region_locks.proofs.Holds.{held_there, one_more_taken}
 use Rattle.region_locks.proofs.locks.put_back.Goals as goal
@@ -9,7 +10,7 @@ returns-clause-kept g c =
     let regions = c.args.regions.now.items in
     let region = c.in-Some.region in
     let fits = c.if-not-is_at.false in
-    subst (AllTaken g.O.Origin.opening c.args.floor) (sym c.in_ok-push.ensures.items)
+    subst (AllTaken g.O.Origin.opening c.args.floor) (sym {A = List RegionData} c.in_ok-push.ensures.items)
     (one_more_taken g.O.Origin.opening c.args.floor regions region c.requires.kept (record {
       alive = c.is_at.ensures.alive fits;
       number_is = c.is_at.ensures.number fits ∙ c.len.ensures ∙ c.args.regions.now.ok.0;
