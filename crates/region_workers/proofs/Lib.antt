@@ -1,2 +1,4 @@
 -- The lemmas of the crate.
 pub mod Grids
+pub mod Opened
+mod Taken

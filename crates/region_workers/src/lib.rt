@@ -6,9 +6,11 @@
 //! own.
 #![tactic(auto)]
 
+mod bell;
 mod by_call;
 mod call;
 mod job;
+mod letters;
 pub mod marks;
 pub mod pace;
 pub mod rendezvous;
@@ -19,6 +21,7 @@ mod turns;
 pub mod virtual_time;
 mod workers;
 
+pub use bell::Bell;
 pub use by_call::ByCall;
 pub use call::Call;
 pub use workers::{MAX_WORKERS, Workers};

@@ -5,30 +5,24 @@
 //! for that are at work on a region.
 //!
 //! A worker that waits looks for a while, since if each has a processor of its own the others mostly come soon, and
-//! to be woken would take longer than a slice: a worker that sleeps comes late, so that others sleep, and so on. Then it
-//! sleeps until it is woken. It never gives way to other threads: if other programs want the processors too, it would get
-//! none back for some milliseconds.
+//! a rest would take longer than a slice: a worker that rests comes late, so that others rest, and so on. Only then it
+//! rests at the gate, again and again.
 
 use crate::roll::{Roll, Share};
 use crossbeam_utils::CachePadded;
 use region_locks::Pause;
 use std::alloc::{AllocError, Global};
-use std::sync::Wait;
 use std::sync::atomic::{AtomicU64, Ordering};
-use std::time::Duration;
 
-// How often a worker sleeps in one wait.
-const SLEEPS: u32 = 100;
-
-// How long it sleeps each time at most; mostly it is woken before.
-const SLEEP_MILLIS: u64 = 1;
+// How often a worker tries to note its share. Each time another one noted its own in between, or ended the burst: in a
+// phase no worker does more than that.
+const TRIES: u32 = 1_000;
 
 /// Where the workers of a burst meet in each phase.
 #[derive(Drop)]
 pub struct Rendezvous {
     // The word of the roll.
     roll: AtomicU64,
-    sleepers: AtomicU64,
     // The phase in which each region is to be taken next. They are padded, since mostly one worker takes a region.
     untaken: Vec<CachePadded<AtomicU64>>,
 }
@@ -42,7 +36,6 @@ impl Rendezvous {
         }
         Ok(Rendezvous {
             roll: AtomicU64::new(0),
-            sleepers: AtomicU64::new(0),
             untaken,
         })
     }
@@ -71,16 +64,7 @@ impl Rendezvous {
         if share.regions == 0 {
             return None;
         }
-        let noted = self
-            .roll
-            .fetch_update(Ordering::SeqCst, Ordering::SeqCst, |word: u64| {
-                Some(Roll::of(word).with(share).word())
-            });
-        let before = match noted {
-            Ok(word) => Roll::of(word),
-            Err(word) => Roll::of(word),
-        };
-        let roll = before.with(share);
+        let roll = self.add(share)?;
         if roll.done as usize >= self.untaken.len() {
             Some(roll)
         } else {
@@ -88,30 +72,35 @@ impl Rendezvous {
         }
     }
 
+    // Adds a share to the roll, which is answered.
+    fn add(&self, share: &Share) -> Option<Roll> {
+        for _ in 0..TRIES {
+            let word = self.roll.load(Ordering::SeqCst);
+            let roll = Roll::of(word).with(share);
+            if self
+                .roll
+                .compare_exchange(word, roll.word(), Ordering::SeqCst, Ordering::SeqCst)
+                .is_ok()
+            {
+                return Some(roll);
+            }
+        }
+        None
+    }
+
     /// Begins the phase after one that is done, unless a worker has left meanwhile.
     pub fn begin(&self, done: Roll, next: Roll) {
-        let begun = self.roll.compare_exchange(
+        let _begun = self.roll.compare_exchange(
             done.word(),
             next.word(),
             Ordering::SeqCst,
             Ordering::SeqCst,
         );
-        if begun.is_ok() {
-            self.wake();
-        }
     }
 
     /// Ends the burst for all.
     pub(crate) fn end(&self) {
         self.roll.store(Roll::over().word(), Ordering::SeqCst);
-        self.wake();
-    }
-
-    // Wakes the workers that sleep.
-    fn wake(&self) {
-        if self.sleepers.load(Ordering::SeqCst) > 0 {
-            self.roll.wake_all();
-        }
     }
 
     /// Whether a phase is past.
@@ -131,25 +120,5 @@ impl Rendezvous {
             }
         }
         false
-    }
-
-    /// Sleeps until a phase is past, or for a while.
-    pub(crate) fn sleep_through<R: Wait>(&self, rt: &R, phase: u32) {
-        for _ in 0..SLEEPS {
-            self.sleep(rt, phase);
-            if self.is_past(phase) {
-                return;
-            }
-        }
-    }
-
-    // Sleeps for a while at most, unless the phase is past already.
-    fn sleep<R: Wait>(&self, rt: &R, phase: u32) {
-        self.sleepers.fetch_add(1, Ordering::SeqCst);
-        if !self.is_past(phase) {
-            let most = Duration::from_millis(SLEEP_MILLIS);
-            self.roll.park_timeout(rt, phase, most);
-        }
-        self.sleepers.fetch_sub(1, Ordering::SeqCst);
     }
 }

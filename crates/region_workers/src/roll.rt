@@ -2,7 +2,7 @@
 
 ghost use Rattle.std.specs.Prelude.{◌<◌};
 
-// The phase has the low 32 bits, since the system compares these before it puts a thread to sleep.
+// The phase has the low 32 bits.
 const PHASES: u64 = 1 << 32;
 
 // The count of regions has seven bits, enough for the most that a grid has.

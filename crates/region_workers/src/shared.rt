@@ -1,24 +1,24 @@
 //! What the workers of a burst share.
 
 ghost use Rattle.std.specs.Prelude.{◌≡◌, ◌<◌, length, IfOk};
-ghost use Rattle.local_run.specs.RunOn.{AreRunOn};
+ghost use Rattle.region_locks.specs.Holding.{AllTaken};
 
 use crate::job::Job;
 use crate::pace::Pace;
 use crate::rendezvous::Rendezvous;
 use crate::schedule::Schedule;
 use crate::turns::Turns;
-use region_core::{Beside, Gate, Region};
+use event_stamps::Stamp;
+use region_core::{Beside, Gate, Idle, Region};
 use region_locks::{Locks, Origin};
 use std::alloc::{AllocError, Global};
-use std::sync::Wait;
 
 /// What the workers of a burst share. A worker that comes once the burst is over finds nothing to do.
 #[derive(Drop)]
-pub(crate) struct Shared<'g, G: Gate, O: Origin> {
+pub(crate) struct Shared<O: Origin> {
     pub alloc: Global,
     pub locks: Locks<O>,
-    pub turns: Turns<'g, G>,
+    pub turns: Turns,
     pub pace: Pace,
     pub schedule: Schedule,
     pub rendezvous: Rendezvous,
@@ -29,36 +29,43 @@ pub(crate) struct Shared<'g, G: Gate, O: Origin> {
     ghost some_workers: { 0 < workers },
 }
 
-impl<'g, G: Gate, O: Origin> Shared<'g, G, O> {
+impl<O: Origin> Shared<O> {
     /// Makes the turns of the first worker, which goes on with what is beside when it would wait, and those that nobody
-    /// has begun by then, and takes the regions back.
+    /// has begun by then, and takes the regions back, run on from this floor.
     ///
     /// # Errors
-    /// Out of memory: a region is spent.
-    pub(crate) fn work_to_the_end<R: Wait, S: Beside<W>, W>(
+    /// Out of memory: a region is spent; or a worker doesn't let one go.
+    pub(crate) fn work_to_the_end<G: Gate, S: Beside<W>, W>(
         &self,
-        rt: &R,
+        gate: &G,
+        floor: Stamp,
         beside: &mut S,
         lent: &mut W,
     ) -> Result<Vec<Region>, AllocError>
         requires { S.fits beside.old lent.old }
         ensures count { IfOk result (λ worked. length worked.items ≡ self.now.locks) }
-        ensures kept { IfOk result (λ worked. AreRunOn O.given worked.items) }
+        ensures kept { IfOk result (λ worked. AllTaken O.opening floor worked.items) }
         ensures beside { S.goes beside.old lent.old beside.new lent.new }
     {
-        let made = self.work(rt, 0, beside, lent);
-        self.turns.begin_rest(rt);
+        let made = self.work(gate, 0, beside, lent);
+        self.turns.begin_rest(gate);
         made?;
-        self.locks.take_back(rt, self.alloc)
+        self.locks.take_back(self.alloc, floor)
+    }
+
+    /// Makes the turns of a helper, which has nothing beside. If it runs out of memory, a region is spent, which is seen
+    /// when it is taken back.
+    pub(crate) fn work_apart<G: Gate>(&self, gate: &G, worker: u32) {
+        let _made = self.work(gate, worker, &mut Idle, &mut ());
     }
 
     /// Makes the turns of a worker, which goes on with what is beside when it would wait.
     ///
     /// # Errors
     /// Out of memory: a region is spent.
-    pub(crate) fn work<R: Wait, S: Beside<W>, W>(
+    fn work<G: Gate, S: Beside<W>, W>(
         &self,
-        rt: &R,
+        gate: &G,
         worker: u32,
         beside: &mut S,
         lent: &mut W,
@@ -68,6 +75,7 @@ impl<'g, G: Gate, O: Origin> Shared<'g, G, O> {
     {
         let job = Job {
             alloc: self.alloc,
+            gate,
             locks: &self.locks,
             turns: &self.turns,
             pace: &self.pace,
@@ -78,6 +86,6 @@ impl<'g, G: Gate, O: Origin> Shared<'g, G, O> {
             steps: self.steps,
             aside: beside.left() as u64,
         };
-        job.run(rt, beside, lent)
+        job.run(beside, lent)
     }
 }
