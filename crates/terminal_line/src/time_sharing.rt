@@ -30,6 +30,9 @@ const AWAY: u64 = 1;
 // How many microseconds a worker sleeps that has nothing to do.
 const REST: u64 = 20;
 
+// For each so many workers before it, it sleeps as long again: there are seldom processors for many.
+const FEW: u32 = 4;
+
 /// A gate at which a worker gives its processor away for a moment, if others seem to want it and the worker has had it
 /// for some milliseconds.
 #[derive(Drop)]
@@ -84,8 +87,9 @@ impl<'r, R: Clock + Sync> Gate for TimeSharing<'r, R> {
         }
     }
 
-    fn rest(&self, _worker: u32) {
-        self.rt.sleep(Duration::from_micros(REST));
+    fn rest(&self, worker: u32) {
+        let long = REST + REST * u64::from(worker / FEW);
+        self.rt.sleep(Duration::from_micros(long));
     }
 }
 
