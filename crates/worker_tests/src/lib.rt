@@ -1,5 +1,4 @@
-//! Tests of what keeps workers apart and together: the locks of regions, the table of regions, the pace of a burst, and
-//! scopes that lend.
+//! Tests of what keeps workers apart and together: the locks of regions, the table of regions, and the pace of a burst.
 //!
 //! There is nothing here but tests. They are in a crate of their own, so that the crates that they call are proved
 //! once, and without them.

@@ -6,6 +6,5 @@ mod locks;
 mod pace;
 mod pauses;
 mod regions;
-mod scopes;
 mod seats;
 mod table_workers;

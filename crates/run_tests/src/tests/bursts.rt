@@ -1,10 +1,8 @@
 //! Runs over regions, with various bursts between two commits.
 
-ghost use Rattle.std.specs.Prelude.{◌≡◌, length, None, IfOk};
+ghost use Rattle.std.specs.Prelude.{◌≡◌, Some};
 ghost use Rattle.cell_grid.specs.Grid.{IsAsked};
-ghost use Rattle.local_run.specs.Bursts.{AreTogether};
-ghost use Rattle.local_run.specs.RunOn.{AreRunOn};
-ghost use Rattle.commit_horizon.specs.TellingOn.{TellsOn};
+ghost use Rattle.cell_sequence.specs.State.{opening_state};
 
 use super::cases::{Case, expect};
 use super::scenes::valid_scene;
@@ -13,9 +11,11 @@ use cell_grid::MAX_REGIONS;
 use cell_sequence::CellState;
 use fixed_motion::Scene;
 use region_core::{Beside, Burst, OpenGate, Region};
-use region_workers::{ByCall, Call, Workers};
-use run_core::{CoreStep, Scripted, Telling, play, simulate};
+use region_locks::Origin;
+use region_workers::{Bell, Workers};
+use run_core::{CoreStep, RunBurst, Scripted, Telling, play, simulate, simulate_by};
 use std::alloc::{AllocError, Global};
+use std::marker::Brand;
 use std::mem;
 use std::process::Abort;
 use std::sync::Wait;
@@ -162,9 +162,6 @@ fn told_over<B: Burst<Telling, Summing>>(
     told_of(&listener, &outcome)
 }
 
-// The regions that a burst gives back.
-type Worked = Result<Vec<Region>, AllocError>;
-
 // The sizes, the end and the disks of a scene.
 type Sketch = (&'static str, u32, &'static str);
 
@@ -296,89 +293,92 @@ const RUN_AND_SWAPPED: &[Deed] = &[
     Deed::Swap(0, 1),
 ];
 
-// Whether the workers say that they keep the four regions, in a run that tells what the plain one does.
-fn workers_keep<R: Threads + Wait + Sync + Abort>(
+// Workers on the regions of one run, under locks.
+#[derive(Drop)]
+struct UnderLocks<'c, O: Origin> {
+    workers: &'c Workers<'c, OpenGate>,
+    bell: &'c Bell<O>,
+}
+
+impl<'c, S: Beside<W>, W, O: Origin> RunBurst<S, W> for UnderLocks<'c, O> {
+    ghost of = { λ _. Some O.opening };
+
+    ghost keeping = { λ _. Unit {0} };
+
+    fn keeps(&self) -> bool {
+        true
+    }
+
+    fn burst<R: Threads + Sync>(
+        &mut self,
+        _rt: &R,
+        alloc: Global,
+        regions: Vec<Region>,
+        beside: &mut S,
+        lent: &mut W,
+    ) -> Result<Vec<Region>, AllocError> {
+        self.workers.burst(self.bell, alloc, regions, beside, lent)
+    }
+}
+
+// Has workers that keep the four regions run a scene. Stops a test if the run tells something else than the plain one.
+fn run_by_workers<R: Threads + Wait + Sync + Abort>(
     rt: &R,
     alloc: Global,
     number: usize,
     (sizes, end, disks): Sketch,
-) -> Result<bool, AllocError> {
+) -> Result<(), AllocError> {
     let scene = valid_scene(rt, alloc, sizes, 8, end, disks)?;
+    // Here the proof picks the state with which the run begins.
+    run_under_locks::<Brand, R>(rt, alloc, (number, disks), &scene)
+}
+
+fn run_under_locks<O: Origin, R: Threads + Wait + Sync + Abort>(
+    rt: &R,
+    alloc: Global,
+    case: Case<'_>,
+    scene: &Scene,
+) -> Result<(), AllocError>
+    requires of { O.opening ≡ opening_state scene.now 4 }
+{
     let workers = Workers {
         workers: 2,
         turns: 1,
         steps: STEPS,
         gate: &OpenGate,
     };
-    call_keeps(
-        rt,
-        alloc,
-        (number, disks),
-        &scene,
-        |regions: Vec<Region>, telling: &mut Telling, summing: &mut Summing| -> Worked
-            requires { AreTogether regions.items }
-            ensures given { IfOk result (λ worked. (length worked.items ≡ length regions.items)
-                × AreRunOn regions.items worked.items) }
-            ensures beside { TellsOn (λ (m : Unit {0}) _. m) (λ _ _ _. Unit {0})
-                telling.old.untold telling.old.fault None 0 telling.new.untold telling.new.fault None 0 }
-        { work_alone(rt, alloc, &workers, regions, telling, summing) },
-    )
+    let bell: Bell<O> = Bell::new(alloc, 2)?;
+    let found = told_by_workers(rt, alloc, scene, &workers, &bell)?;
+    expect_plain(rt, alloc, case, scene, found)
 }
 
-// Lets workers work on the regions of a grid, and does nothing beside.
-fn work_alone<R: Threads + Wait + Sync, S: Beside<W>, W>(
+fn told_by_workers<O: Origin, R: Threads + Sync>(
     rt: &R,
     alloc: Global,
-    workers: &Workers<'_, OpenGate>,
-    regions: Vec<Region>,
-    _beside: &mut S,
-    _lent: &mut W,
-) -> Worked
-    requires { AreTogether regions.items }
-    ensures given { IfOk result (λ worked. (length worked.items ≡ length regions.items)
-        × AreRunOn regions.items worked.items) }
-    ensures beside { S.goes _beside.old _lent.old _beside.new _lent.new }
-{
-    workers.burst(rt, alloc, regions)
-}
-
-fn call_keeps<C: Call<Telling, Summing> + Drop>(
-    rt: &(impl Threads + Wait + Sync + Abort),
-    alloc: Global,
-    case: Case<'_>,
     scene: &Scene,
-    call: C,
-) -> Result<bool, AllocError>
-    requires { C.keeping call }
+    workers: &Workers<'_, OpenGate>,
+    bell: &Bell<O>,
+) -> Result<Told, AllocError>
+    requires of { O.opening ≡ opening_state scene.now 4 }
 {
-    let mut burst = ByCall::new(call);
-    run_beside(rt, alloc, case, scene, 4, &mut burst)?;
-    Ok(burst.keeps())
+    let mut burst = UnderLocks { workers, bell };
+    let mut listener = Summing::new();
+    let outcome = simulate_by(rt, alloc, scene, 4, &mut burst, &mut listener);
+    told_of(&listener, &outcome)
 }
 
 const KEPT_OR_SWAPPED: &[Sketch] = &[FOUR, (LONG, 20, ROLLED_BACK)];
 
-// The regions of workers that keep them are taken over as they come; those of workers that swap two only if they stand.
+// The regions of workers that keep them are taken over as they come; those of a burst that swaps two only if they stand.
 // A listener sees no difference.
 #[test]
 fn bursts_that_keep_and_that_swap_are_told_apart_by_nothing(rt: HostRuntime) -> Result<(), Fail> {
     for (number, &row) in KEPT_OR_SWAPPED.iter().enumerate() {
-        let found = keep_and_swap(&rt, rt.alloc(), number, row)?;
-        expect(&rt, number, found, (true, false));
+        run_by_workers(&rt, rt.alloc(), number, row)?;
+        let (_, keeps) = count_under(&rt, rt.alloc(), number, row, 4, RUN_AND_SWAPPED)?;
+        expect(&rt, number, keeps, false);
     }
     Ok(())
-}
-
-// Whether the workers say that they keep the regions, and whether those that swap two do.
-fn keep_and_swap<R: Threads + Wait + Sync + Abort>(
-    rt: &R,
-    alloc: Global,
-    number: usize,
-    sketch: Sketch,
-) -> Result<(bool, bool), AllocError> {
-    let workers = workers_keep(rt, alloc, number, sketch)?;
-    let (_, swapping) = count_under(rt, alloc, number, sketch, 4, RUN_AND_SWAPPED)?;
-    Ok((workers, swapping))
 }
 
 // It hits a side at every other tick.

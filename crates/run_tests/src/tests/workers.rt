@@ -1,17 +1,21 @@
 //! What workers do to regions.
 
-ghost use Rattle.std.specs.Prelude.{◌<◌, IfOk};
+ghost use Rattle.std.specs.Prelude.{◌<◌, IfOk, IfSome};
+ghost use Rattle.cell_sequence.specs.State.{opening_state};
 ghost use Rattle.local_run.specs.Bursts.{AreTogether};
+ghost use Rattle.run_floors.specs.Regions.{StandOfRun};
 
 use super::cases::expect;
 use super::scenes::valid_scene;
 use commit_horizon::Committed;
 use event_stamps::{Kind, Stamp};
-use region_core::{Gate, OpenGate, Region};
-use region_workers::Workers;
+use fixed_motion::Scene;
+use region_core::{Gate, Idle, OpenGate, Region};
+use region_locks::Origin;
+use region_workers::{Bell, Workers};
 use std::alloc::{AllocError, Global};
+use std::marker::Brand;
 use std::process::Abort;
-use std::sync::Wait;
 use std::sync::atomic::{AtomicBool, AtomicU32, Ordering};
 use std::test::Fail;
 use std::thread;
@@ -27,24 +31,38 @@ const CROSSING: Stamp = Stamp {
     second: 0,
 };
 
-// The regions at the start of the scene of some disks.
-fn opened(rt: &impl Abort, alloc: Global, end: u32, disks: &str) -> Result<Vec<Region>, AllocError>
-    ensures { IfOk result (λ regions. AreTogether regions.items) }
+// The regions with which the run of a scene begins.
+fn opened(alloc: Global, scene: &Scene) -> Result<Vec<Region>, AllocError>
+    ensures together { IfOk result (λ regions. AreTogether regions.items) }
+    ensures stand { IfOk result (λ regions. StandOfRun (opening_state scene.now 4) regions.items) }
 {
-    let scene = valid_scene(rt, alloc, LONG, 8, end, disks)?;
-    let committed = Committed::open(alloc, &scene, 4)?;
+    let committed = Committed::open(alloc, scene, 4)?;
     committed.open_all(alloc)
 }
 
-// Regions after a burst by one worker, of `turns` turns with `steps` steps.
-fn after_turns<R: Threads + Wait + Sync>(
-    rt: &R,
+// The regions of some disks' scene after a burst by one worker, of `turns` turns with `steps` steps.
+fn after_turns(
     alloc: Global,
+    scene: &Scene,
+    turns: u32,
+    steps: u32,
+) -> Result<Vec<Region>, AllocError>
+    requires some_turns { 0 < turns }
+    requires some_steps { 0 < steps }
+{
+    // Here the proof picks the state with which the run begins.
+    after_turns_of::<Brand>(alloc, scene, opened(alloc, scene)?, turns, steps)
+}
+
+fn after_turns_of<O: Origin>(
+    alloc: Global,
+    _scene: &Scene,
     regions: Vec<Region>,
     turns: u32,
     steps: u32,
 ) -> Result<Vec<Region>, AllocError>
     requires together { AreTogether regions.items }
+    requires stand { StandOfRun O.opening regions.items }
     requires some_turns { 0 < turns }
     requires some_steps { 0 < steps }
 {
@@ -54,7 +72,8 @@ fn after_turns<R: Threads + Wait + Sync>(
         steps,
         gate: &OpenGate,
     };
-    workers.burst(rt, alloc, regions)
+    let bell: Bell<O> = Bell::new(alloc, 1)?;
+    workers.burst(&bell, alloc, regions, &mut Idle, &mut ())
 }
 
 // The number of entries of a region and its clock, and how many messages it heard from region 0.
@@ -87,13 +106,13 @@ fn a_worker_steps_and_hears(rt: HostRuntime) -> Result<(), Fail> {
 }
 
 // How many regions there are after the burst, and one of them; none if there is no such region.
-fn seen_after_one_step<R: Threads + Wait + Sync + Abort>(
-    rt: &R,
+fn seen_after_one_step(
+    rt: &impl Abort,
     alloc: Global,
     number: usize,
 ) -> Result<Option<(usize, Seen)>, AllocError> {
-    let opened = opened(rt, alloc, 40, FOUR_IN_A_ROW)?;
-    let regions = after_turns(rt, alloc, opened, 1, 1)?;
+    let scene = valid_scene(rt, alloc, LONG, 8, 40, FOUR_IN_A_ROW)?;
+    let regions = after_turns(alloc, &scene, 1, 1)?;
     Ok(seen_among(&regions, number))
 }
 
@@ -122,12 +141,9 @@ fn each_region_goes_on_to_the_end_of_a_burst(rt: HostRuntime) -> Result<(), Fail
 }
 
 // The least number of entries that a region has after four turns with 64 steps; none if there is no region.
-fn least_after_turns<R: Threads + Wait + Sync + Abort>(
-    rt: &R,
-    alloc: Global,
-) -> Result<Option<usize>, AllocError> {
-    let opened = opened(rt, alloc, 4000, BOUNCING_APART)?;
-    let regions = after_turns(rt, alloc, opened, 4, 64)?;
+fn least_after_turns(rt: &impl Abort, alloc: Global) -> Result<Option<usize>, AllocError> {
+    let scene = valid_scene(rt, alloc, LONG, 8, 4000, BOUNCING_APART)?;
+    let regions = after_turns(alloc, &scene, 4, 64)?;
     Ok(least_entries(&regions))
 }
 
@@ -182,14 +198,15 @@ fn two_workers_meet(rt: HostRuntime) -> Result<(), Fail> {
     Ok(())
 }
 
-fn met<R: Threads + Wait + Sync + Abort>(rt: &R, alloc: Global) -> Result<Met, AllocError> {
+fn met<R: Threads + Sync + Abort>(rt: &R, alloc: Global) -> Result<Met, AllocError> {
     let gate = Meeting {
         came: AtomicBool::new(false),
         met: AtomicBool::new(false),
         turns: AtomicU32::new(0),
         paused: AtomicBool::new(false),
     };
-    let count = count_after(rt, alloc, &gate)?;
+    let scene = valid_scene(rt, alloc, LONG, 8, 20, "")?;
+    let count = count_after(rt, alloc, &scene, &gate)?;
     Ok((
         count,
         gate.met.load(Ordering::SeqCst),
@@ -200,17 +217,60 @@ fn met<R: Threads + Wait + Sync + Abort>(rt: &R, alloc: Global) -> Result<Met, A
 
 // How many regions two workers give back that pass a gate. Without disks there is nothing to do, so these turns would
 // take minutes only if they did more than pass the gate.
-fn count_after<R: Threads + Wait + Sync + Abort>(
+fn count_after<R: Threads + Sync>(
     rt: &R,
     alloc: Global,
+    scene: &Scene,
     gate: &Meeting,
 ) -> Result<usize, AllocError> {
+    // Here the proof picks the state with which the run begins.
+    count_of::<Brand, R>(rt, alloc, scene, opened(alloc, scene)?, gate)
+}
+
+fn count_of<O: Origin + Send + Sync, R: Threads + Sync>(
+    rt: &R,
+    alloc: Global,
+    _scene: &Scene,
+    regions: Vec<Region>,
+    gate: &Meeting,
+) -> Result<usize, AllocError>
+    requires together { AreTogether regions.items }
+    requires stand { StandOfRun O.opening regions.items }
+{
     let workers = Workers {
         workers: 2,
         turns: 65_536,
         steps: 4096,
         gate,
     };
-    let regions = workers.burst(rt, alloc, opened(rt, alloc, 20, "")?)?;
-    Ok(regions.len())
+    let bell: Bell<O> = Bell::new(alloc, 2)?;
+    count_with_helper(rt, alloc, regions, &workers, &bell)
+}
+
+// The same with a bell that calls a helper, which lives a little longer than the burst.
+fn count_with_helper<O: Origin + Send + Sync, R: Threads + Sync>(
+    rt: &R,
+    alloc: Global,
+    regions: Vec<Region>,
+    workers: &Workers<'_, Meeting>,
+    bell: &Bell<O>,
+) -> Result<usize, AllocError>
+    requires together { AreTogether regions.items }
+    requires stand { StandOfRun O.opening regions.items }
+{
+    let mut given = Some(regions);
+    workers.around(
+        rt,
+        bell,
+        1,
+        &mut || -> Result<usize, AllocError>
+            requires { IfSome given (λ regions. AreTogether regions.items × StandOfRun O.opening regions.items) }
+        {
+            let Some(regions) = given.take() else {
+                return Ok(0);
+            };
+            let worked = workers.burst(bell, alloc, regions, &mut Idle, &mut ())?;
+            Ok(worked.len())
+        },
+    )
 }

@@ -1,18 +1,17 @@
 //! Workers go on with the work beside a burst.
 
-ghost use Rattle.std.specs.Prelude.{IfSome};
 ghost use Rattle.local_run.specs.Bursts.{AreTogether};
+ghost use Rattle.run_floors.specs.Regions.{StandOfRun};
 
 use super::cases::expect;
 use super::regions::opened;
-use lent_scope::scope_mut;
+use fixed_motion::Scene;
 use region_core::{Beside, OpenGate, Region};
-use region_workers::Workers;
+use region_locks::Origin;
+use region_workers::{Bell, Workers};
 use std::alloc::{AllocError, Global};
-use std::sync::Wait;
+use std::marker::Brand;
 use std::test::Fail;
-use std::thread;
-use std::thread::Threads;
 use test_scenes::{LONG, scene, scene_of};
 
 // One disk in each region that bounces up and down, every other tick or so.
@@ -46,14 +45,15 @@ impl Beside<()> for Pieces {
     }
 }
 
-// Has two workers make a burst with this many pieces of work beside it.
-fn burst_beside<R: Threads + Wait + Sync>(
-    rt: &R,
+// Has the first of two workers make a burst with this many pieces of work beside it. Nobody comes as the other one.
+fn burst_beside<O: Origin>(
     alloc: Global,
+    _scene: &Scene,
     regions: Vec<Region>,
     pieces: &mut Pieces,
 ) -> Result<(), AllocError>
-    requires { AreTogether regions.items }
+    requires together { AreTogether regions.items }
+    requires stand { StandOfRun O.opening regions.items }
 {
     let workers = Workers {
         workers: 2,
@@ -61,41 +61,31 @@ fn burst_beside<R: Threads + Wait + Sync>(
         steps: 64,
         gate: &OpenGate,
     };
-    let mut given = Some(regions);
-    let _worked = scope_mut(
-        thread::scope_env(),
-        rt,
-        &mut |scope| -> Result<Vec<Region>, AllocError>
-            requires { IfSome given (λ regions. AreTogether regions.items) }
-        {
-            match given.take() {
-                Some(regions) => workers.burst_in(rt, alloc, regions, scope, pieces, &mut ()),
-                None => Ok(Vec::new(alloc)),
-            }
-        },
-    )?;
+    let bell: Bell<O> = Bell::new(alloc, 2)?;
+    let _worked = workers.burst(&bell, alloc, regions, pieces, &mut ())?;
     Ok(())
 }
 
 // How many of `all` pieces are done after a burst; none if there is no scene.
-fn done_beside<R: Threads + Wait + Sync>(
-    rt: &R,
-    alloc: Global,
-    all: u32,
-) -> Result<Option<u32>, AllocError> {
+fn done_beside(alloc: Global, all: u32) -> Result<Option<u32>, AllocError> {
     let text = scene(alloc, LONG, 8, 1000, BOUNCING_APART)?;
     let Some(scene) = scene_of(alloc, text.as_str())? else {
         return Ok(None);
     };
+    Ok(Some(done_in(alloc, &scene, all)?))
+}
+
+// Here the proof picks the state with which the run begins.
+fn done_in(alloc: Global, scene: &Scene, all: u32) -> Result<u32, AllocError> {
     let mut pieces = Pieces { done: 0, all };
-    burst_beside(rt, alloc, opened(alloc, &scene)?, &mut pieces)?;
-    Ok(Some(pieces.done))
+    burst_beside::<Brand>(alloc, scene, opened(alloc, scene)?, &mut pieces)?;
+    Ok(pieces.done)
 }
 
 // In the second half of a burst the pieces come before the first worker's own regions, so it does all of them.
 #[test]
 fn workers_go_on_with_what_is_beside(rt: HostRuntime) -> Result<(), Fail> {
-    let found = done_beside(&rt, rt.alloc(), 8)?;
+    let found = done_beside(rt.alloc(), 8)?;
     expect(&rt, "pieces", found, Some(8));
     Ok(())
 }

@@ -128,7 +128,7 @@ fn parts_are_in_the_order_of_stamps(rt: HostRuntime) {
 // them that of `due`.
 fn progress(steps: u32, began: u64, due: u64) -> RegionProgress {
     RegionProgress {
-        heard_news: false,
+        has_news: false,
         began: Stamp::end_of(began),
         steps,
         due: Stamp::end_of(due),

@@ -1,7 +1,9 @@
 //! Regions of scenes, and a scene without disks.
 
 ghost use Rattle.std.specs.Prelude.{◌<◌, ◌^◌, length, IfOk};
+ghost use Rattle.cell_sequence.specs.State.{opening_state};
 ghost use Rattle.local_run.specs.Bursts.{AreTogether};
+ghost use Rattle.run_floors.specs.Regions.{StandOfRun};
 
 use commit_horizon::Committed;
 use fixed_motion::{Rules, Scene};
@@ -33,6 +35,7 @@ pub const REGIONS: u32 = 4;
 pub fn opened(alloc: Global, scene: &Scene) -> Result<Vec<Region>, AllocError>
     ensures few { IfOk result (λ regions. length regions.items < 2 ^ 32) }
     ensures together { IfOk result (λ regions. AreTogether regions.items) }
+    ensures stand { IfOk result (λ regions. StandOfRun (opening_state scene.now 4) regions.items) }
 {
     let committed = Committed::open(alloc, scene, REGIONS)?;
     committed.open_all(alloc)

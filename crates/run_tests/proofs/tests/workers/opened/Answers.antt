@@ -1,7 +1,19 @@
--- Regions that stand on one state are together.
+-- Regions that stand on one state are together, and those with which a run begins stand in it.
+use Rattle.std.proofs.Common.{subst, arith}
 use Rattle.std.proofs.lemmas.Result.{IfOk-weaker}
+use Rattle.fixed_motion.specs.Scene.{IsValidScene}
+use Rattle.cell_sequence.specs.State.{CellStateData}
+use Rattle.run_floors.specs.Regions.{AllStand}
+use Rattle.region_workers.proofs.Opened.{opened_of_run}
 use Rattle.run_core.proofs.SoFar.{stand_together}
 use Rattle.run_tests.proofs.tests.workers.opened.Goals as goal
 
-pub returns : goal.returns
-returns g c = IfOk-weaker c.open_all.result _ _ (λ regions. stand_together c.in_ok-committed.committed regions.items) c.open_all.ensures
+pub returns-clause-together : goal.returns-clause-together
+returns-clause-together c = IfOk-weaker c.open_all.result _ _
+    (λ regions. stand_together c.in_ok-committed.committed regions.items) c.open_all.ensures
+
+pub returns-clause-stand : goal.returns-clause-stand
+returns-clause-stand c = IfOk-weaker c.open_all.result _ _
+    (λ regions stand. opened_of_run c.args.scene.now 4 regions.items
+    (subst IsValidScene c.scene.view_is c.scene.invariant) (omega arith, omega arith)
+    (subst (λ (s : CellStateData). AllStand s regions.items) c.in_ok-committed.ensures stand)) c.open_all.ensures

@@ -1,7 +1,10 @@
-use Rattle.std.proofs.Common.{◌≡◌, length, min, ap, ◌∙◌, arith}
+use Rattle.std.proofs.Common.{◌≡◌, length, min, sym, ap, ◌∙◌, subst, arith}
 use Rattle.std.proofs.lemmas.Result.{IfOk-weaker}
+use Rattle.fixed_motion.specs.Scene.{IsValidScene}
 use Rattle.cell_grid.specs.Grid.{columns_of}
 use Rattle.cell_sequence.specs.State.{CellStateData}
+use Rattle.run_floors.specs.Regions.{AllStand}
+use Rattle.region_workers.proofs.Opened.{opened_of_run}
 use Rattle.run_core.proofs.SoFar.{stand_together}
 use Rattle.worker_tests.proofs.tests.regions.opened.Goals as goal
 
@@ -14,3 +17,9 @@ returns-clause-few c = IfOk-weaker c.open_all.result _ _
 pub returns-clause-together : goal.returns-clause-together
 returns-clause-together c = IfOk-weaker c.open_all.result _ _
     (λ regions. stand_together c.in_ok-committed.committed regions.items) c.open_all.ensures
+
+pub returns-clause-stand : goal.returns-clause-stand
+returns-clause-stand c = IfOk-weaker c.open_all.result _ _
+    (λ regions stand. opened_of_run c.args.scene.now 4 regions.items
+    (subst IsValidScene c.scene.view_is c.scene.invariant) (omega arith, omega arith)
+    (subst (λ (s : CellStateData). AllStand s regions.items) c.in_ok-committed.ensures stand)) c.open_all.ensures
