@@ -10,14 +10,13 @@ use region_core::{Beside, Gate, Region};
 use region_table::burst_in_table;
 use region_workers::Workers;
 use std::alloc::{AllocError, Global};
-use std::sync::Wait;
-use std::thread::{Scope, Threads};
+use std::thread::Threads;
 
 /// Workers, and where the regions are while they work.
 #[derive(Drop)]
 pub struct Crew<'g, G: Gate> {
-    workers: Workers<'g, G>,
-    burst: BurstKind,
+    pub(crate) workers: Workers<'g, G>,
+    pub(crate) burst: BurstKind,
 }
 
 impl<'g, G: Gate> Crew<'g, G> {
@@ -37,34 +36,24 @@ impl<'g, G: Gate> Crew<'g, G> {
         }
     }
 
-    /// Works on the regions of a grid, as a burst that keeps them: gives back each at its place, run on. Under locks
-    /// the workers are threads of the scope, which may end after this call, and the first of them goes on with the work
-    /// beside when it would wait. In a table they are threads of their own, which have ended then.
+    /// Works on the regions of a grid in a table, as a burst that keeps them: gives back each at its place, run on. The
+    /// workers are threads of their own, which have ended then. Nothing is done beside.
     ///
     /// # Errors
     /// Out of memory.
-    pub fn burst_in<'s, R: Threads + Wait + Sync, E, S: Beside<W>, W>(
+    pub(crate) fn burst_in_table<R: Threads + Sync, S: Beside<W>, W>(
         &self,
-        rt: &'s R,
+        rt: &R,
         alloc: Global,
         regions: Vec<Region>,
-        scope: &Scope<'s, E>,
-        beside: &mut S,
-        lent: &mut W,
+        _beside: &mut S,
+        _lent: &mut W,
     ) -> Result<Vec<Region>, AllocError>
-    where
-        'g: 's,
         requires together { AreTogether regions.items }
-        requires fits { S.fits beside.old lent.old }
         ensures count { IfOk result (λ worked. length worked.items ≡ length regions.items) }
         ensures kept { IfOk result (λ worked. AreRunOn regions.items worked.items) }
-        ensures beside { S.goes beside.old lent.old beside.new lent.new }
+        ensures beside { S.goes _beside.old _lent.old _beside.new _lent.new }
     {
-        match self.burst {
-            BurstKind::Locks => self
-                .workers
-                .burst_in(rt, alloc, regions, scope, beside, lent),
-            BurstKind::Table => burst_in_table(&self.workers, rt, alloc, regions),
-        }
+        burst_in_table(&self.workers, rt, alloc, regions)
     }
 }

@@ -12,7 +12,6 @@ use fixed_motion::Scene;
 use region_core::{Burst, Gate, Idle};
 use resume::{before, rest};
 use std::alloc::Global;
-use std::sync::Wait;
 use std::thread::Threads;
 
 /// How a run up to a tick ends.
@@ -30,7 +29,7 @@ pub enum Cut {
 ///
 /// # Errors
 /// The listener refused a change, and its count of refusals rose; or out of memory.
-pub fn cut_at<R: Threads + Wait + Sync, B: Burst<Idle, ()>, L: Listener>(
+pub fn cut_at<R: Threads + Sync, B: Burst<Idle, ()>, L: Listener>(
     rt: &R,
     alloc: Global,
     scene: &Scene,
@@ -54,7 +53,7 @@ pub fn cut_at<R: Threads + Wait + Sync, B: Burst<Idle, ()>, L: Listener>(
 }
 
 /// The same by an engine.
-pub fn cut_by<R: Threads + Wait + Sync, G: Gate, B: Burst<Idle, ()>, L: Listener>(
+pub fn cut_by<R: Threads + Sync, G: Gate, B: Burst<Idle, ()>, L: Listener>(
     rt: &R,
     alloc: Global,
     scene: &Scene,
@@ -80,7 +79,7 @@ pub fn cut_by<R: Threads + Wait + Sync, G: Gate, B: Burst<Idle, ()>, L: Listener
 }
 
 // Runs the part of a scene before the tick.
-fn run_before<R: Threads + Wait + Sync, G: Gate, B: Burst<Idle, ()>, L: Listener>(
+fn run_before<R: Threads + Sync, G: Gate, B: Burst<Idle, ()>, L: Listener>(
     rt: &R,
     alloc: Global,
     scene: &Scene,

@@ -6,6 +6,7 @@
 #![tactic(auto)]
 
 mod auditing;
+mod by_run_call;
 mod calls;
 mod crew;
 mod cut;
@@ -16,6 +17,7 @@ mod over_burst;
 mod process;
 mod refusals;
 mod rest;
+mod run_call;
 mod samples;
 mod show;
 mod status;

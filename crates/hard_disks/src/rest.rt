@@ -18,11 +18,10 @@ use fixed_motion::Scene;
 use region_core::{Burst, Gate, Idle};
 use report_ports::Sink;
 use std::alloc::Global;
-use std::sync::Wait;
 use std::thread::Threads;
 
 /// Runs the scene by an engine up to a tick, and writes the rest. A tick after the scene's last one is refused.
-pub fn write_cut<R: Threads + Wait + Sync, G: Gate, B: Burst<Idle, ()>, K: Sink>(
+pub fn write_cut<R: Threads + Sync, G: Gate, B: Burst<Idle, ()>, K: Sink>(
     rt: &R,
     alloc: Global,
     engine: &mut Engine<'_, G, B>,
@@ -44,7 +43,7 @@ pub fn write_cut<R: Threads + Wait + Sync, G: Gate, B: Burst<Idle, ()>, K: Sink>
 }
 
 // The same, for a tick that isn't after the last one.
-fn write_rest<R: Threads + Wait + Sync, G: Gate, B: Burst<Idle, ()>, K: Sink>(
+fn write_rest<R: Threads + Sync, G: Gate, B: Burst<Idle, ()>, K: Sink>(
     rt: &R,
     alloc: Global,
     engine: &mut Engine<'_, G, B>,
@@ -69,7 +68,7 @@ fn write_rest<R: Threads + Wait + Sync, G: Gate, B: Burst<Idle, ()>, K: Sink>(
 
 // The same with the table of a run that begins. If the run passes a limit before the tick, its report is written, in
 // the short form, which has only the end.
-fn write_left<R: Threads + Wait + Sync, G: Gate, B: Burst<Idle, ()>, K: Sink>(
+fn write_left<R: Threads + Sync, G: Gate, B: Burst<Idle, ()>, K: Sink>(
     rt: &R,
     alloc: Global,
     engine: &mut Engine<'_, G, B>,
