@@ -18,7 +18,6 @@ use report_audit::{Comparing, NoVerdict, Parted, Unread, Verdict};
 use report_ports::{Sink, Source};
 use scene_reader::{SceneFault, read_scene};
 use std::alloc::Global;
-use std::sync::Wait;
 use std::thread::Threads;
 
 /// Why there is no verdict.
@@ -39,7 +38,7 @@ pub enum AuditFault {
 ///
 /// # Errors
 /// The scene was refused, the source failed, or out of memory.
-pub fn audit<R: Threads + Wait + Sync, S: Source, B: Burst<Idle, ()>>(
+pub fn audit<R: Threads + Sync, S: Source, B: Burst<Idle, ()>>(
     rt: &R,
     alloc: Global,
     source: &mut S,
@@ -59,7 +58,7 @@ pub fn audit<R: Threads + Wait + Sync, S: Source, B: Burst<Idle, ()>>(
 }
 
 /// The same by an engine.
-pub fn audit_by<R: Threads + Wait + Sync, S: Source, G: Gate, B: Burst<Idle, ()>>(
+pub fn audit_by<R: Threads + Sync, S: Source, G: Gate, B: Burst<Idle, ()>>(
     rt: &R,
     alloc: Global,
     source: &mut S,
@@ -110,7 +109,7 @@ fn audit_fault(fault: SceneFault) -> AuditFault
 
 // Compares the report of the scene's run with what the source has left, and gives the source back. The answer comes by
 // a reference: if the source were given back within a pair, a caller wouldn't know which loan it holds.
-fn compare_run<R: Threads + Wait + Sync, C: Source, G: Gate, B: Burst<Idle, ()>>(
+fn compare_run<R: Threads + Sync, C: Source, G: Gate, B: Burst<Idle, ()>>(
     rt: &R,
     alloc: Global,
     engine: &mut Engine<'_, G, B>,
@@ -154,7 +153,7 @@ fn is_whole(status: Status) -> bool
 }
 
 // Writes the report of the scene's run without publishing it: nobody looks at its board.
-fn write_unwatched<R: Threads + Wait + Sync, G: Gate, B: Burst<Idle, ()>, K: Sink>(
+fn write_unwatched<R: Threads + Sync, G: Gate, B: Burst<Idle, ()>, K: Sink>(
     rt: &R,
     alloc: Global,
     engine: &mut Engine<'_, G, B>,

@@ -15,7 +15,6 @@ use live_progress::Board;
 use region_core::Gate;
 use report_ports::{Given, Sink, Source};
 use std::alloc::Global;
-use std::sync::Wait;
 use std::thread::Threads;
 use std::time::Clock;
 use terminal_line::Timely;
@@ -26,7 +25,7 @@ use terminal_line::Timely;
 ///
 /// If the rest can't be given, the status is [`Status::WriteFault`], whatever it was before. The gathering takes memory
 /// only for the room; if there is none, each piece is given at once.
-pub fn top_gathered<R: Threads + Wait + Sync, S: Source, K: Sink, G: Gate, C: Clock>(
+pub fn top_gathered<R: Threads + Sync, S: Source, K: Sink, G: Gate, C: Clock>(
     rt: &R,
     alloc: Global,
     words: &[&str],

@@ -17,7 +17,6 @@ use gathered_sink::GatheringSink;
 use live_progress::{Board, Pen};
 use report_ports::{Sink, Source, StdSink, StdSource};
 use std::io::{Read, Write};
-use std::sync::Wait;
 use std::thread::Threads;
 use std::time::Clock;
 use std::{io, thread};
@@ -42,7 +41,7 @@ pub struct Terminals {
 ///
 /// What is read and written is what [`top`] says.
 pub fn run_process<
-    R: AllocGlobal + Input + Print + Eprint + Threads + Wait + Clock + Sync,
+    R: AllocGlobal + Input + Print + Eprint + Threads + Clock + Sync,
     T: Terminal + Sync,
 >(rt: &R, words: &[String], terminals: Terminals, terminal: &T) -> Status
     ensures { Answers (settings_of (map string_bytes words.now)) None None None result }
@@ -63,7 +62,7 @@ pub fn run_process<
 /// Does over any reader and writer whose bytes are known what [`run_process`] does over standard input and output. The
 /// writer holds none yet, and is given back.
 pub fn run_process_over<
-    R: AllocGlobal + Eprint + Threads + Wait + Clock + Sync,
+    R: AllocGlobal + Eprint + Threads + Clock + Sync,
     I: Read + Drop,
     O: Write + Drop,
     T: Terminal + Sync,
@@ -80,7 +79,7 @@ pub fn run_process_over<
 }
 
 /// Does what [`run_process_over`] does if standard error is no terminal. `is_terminal` says whether the writer is one.
-pub fn run_streams<R: AllocGlobal + Threads + Wait + Clock + Sync, I: Read + Drop, O: Write + Drop>(
+pub fn run_streams<R: AllocGlobal + Threads + Clock + Sync, I: Read + Drop, O: Write + Drop>(
     rt: &R,
     words: &[&str],
     input: I,
@@ -99,7 +98,7 @@ pub fn run_streams<R: AllocGlobal + Threads + Wait + Clock + Sync, I: Read + Dro
 }
 
 // The top call as the process makes it: the output is gathered, and workers pass the gate `TimeSharing`.
-fn run_between<R: AllocGlobal + Threads + Wait + Clock + Sync, S: Source, K: Sink>(
+fn run_between<R: AllocGlobal + Threads + Clock + Sync, S: Source, K: Sink>(
     rt: &R,
     words: &[&str],
     source: &mut S,
@@ -130,7 +129,7 @@ fn room_of(is_terminal: bool) -> usize {
 /// sink tells its bytes, it has taken none, and no call of it has failed. Of each byte that it is given, at any time, it
 /// may ask that it extends what was taken to a prefix of an output.
 pub fn run_over<
-    R: AllocGlobal + Eprint + Threads + Wait + Clock + Sync,
+    R: AllocGlobal + Eprint + Threads + Clock + Sync,
     S: Source + Drop,
     K: Sink + Drop,
     T: Terminal + Sync,
@@ -164,7 +163,7 @@ pub fn run_over<
 
 // Another thread shows the line while the run goes on.
 fn run_shown<
-    R: AllocGlobal + Eprint + Threads + Wait + Clock + Sync,
+    R: AllocGlobal + Eprint + Threads + Clock + Sync,
     S: Source + Drop,
     K: Sink + Drop,
     T: Terminal + Sync,
@@ -211,7 +210,7 @@ fn run_shown<
 }
 
 // Runs, and then ends the line.
-fn run_beside<R: AllocGlobal + Eprint + Threads + Wait + Clock + Sync, S: Source + Drop, K: Sink>(
+fn run_beside<R: AllocGlobal + Eprint + Threads + Clock + Sync, S: Source + Drop, K: Sink>(
     rt: &R,
     words: &[&str],
     mut source: S,

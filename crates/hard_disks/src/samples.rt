@@ -22,11 +22,10 @@ use region_core::{Burst, Gate, Idle};
 use report_ports::Sink;
 use run_samples::{Sample, Sampler};
 use std::alloc::Global;
-use std::sync::Wait;
 use std::thread::Threads;
 
 /// Runs the scene by an engine, publishes each change on the board, and writes samples of the run.
-pub fn write_samples<R: Threads + Wait + Sync, G: Gate, B: Burst<Idle, ()>, K: Sink>(
+pub fn write_samples<R: Threads + Sync, G: Gate, B: Burst<Idle, ()>, K: Sink>(
     rt: &R,
     alloc: Global,
     engine: &mut Engine<'_, G, B>,
@@ -62,7 +61,7 @@ pub fn write_samples<R: Threads + Wait + Sync, G: Gate, B: Burst<Idle, ()>, K: S
 
 // Runs the scene by an engine, which tells each change to a sampler that was told nothing before, and writes the end of
 // the samples.
-fn sample_run<R: Threads + Wait + Sync, G: Gate, B: Burst<Idle, ()>, K: Sink>(
+fn sample_run<R: Threads + Sync, G: Gate, B: Burst<Idle, ()>, K: Sink>(
     rt: &R,
     alloc: Global,
     engine: &mut Engine<'_, G, B>,

@@ -17,12 +17,11 @@ use region_core::{Burst, Gate, Idle};
 use report_audit::Verdict;
 use report_ports::{Sink, Source};
 use std::alloc::Global;
-use std::sync::Wait;
 use std::thread::Threads;
 use text_lines::TextLine;
 
 /// Audits the claimed report of a source, and writes the verdict, or the line of a refused scene.
-pub fn show_audit<R: Threads + Wait + Sync, G: Gate, B: Burst<Idle, ()>, S: Source, K: Sink>(
+pub fn show_audit<R: Threads + Sync, G: Gate, B: Burst<Idle, ()>, S: Source, K: Sink>(
     rt: &R,
     alloc: Global,
     engine: &mut Engine<'_, G, B>,
