@@ -14,7 +14,6 @@ use scene_maker::scene_text;
 use std::alloc::{AllocError, Global};
 use std::mem;
 use std::process::Abort;
-use std::sync::Wait;
 use std::test::Fail;
 use std::thread::Threads;
 use test_scenes::{FOUR_IN_A_ROW, LONG, MISLED, scene, scene_of};
@@ -131,7 +130,7 @@ fn valid(rt: &impl Abort, alloc: Global, rows: &str) -> Result<Scene, AllocError
 
 // Stops a test if the four disks, with their report or with another one, have another verdict over this burst.
 fn expect_verdicts<B: Burst<Idle, ()>>(
-    rt: &(impl Threads + Wait + Sync + Abort),
+    rt: &(impl Threads + Sync + Abort),
     alloc: Global,
     burst: &mut B,
 ) -> Result<(), AllocError> {
@@ -145,7 +144,7 @@ fn expect_verdicts<B: Burst<Idle, ()>>(
 // The number of lines, if the claim is the report of the four disks, or that of the first wrong one; 0 if there is no
 // verdict.
 fn verdict_on<B: Burst<Idle, ()>>(
-    rt: &(impl Threads + Wait + Sync),
+    rt: &(impl Threads + Sync),
     alloc: Global,
     claim: &str,
     burst: &mut B,
@@ -163,7 +162,7 @@ fn verdict_on<B: Burst<Idle, ()>>(
 
 // Stops a test if the four disks, cut at tick 20, tell something else than two changes, or leave another scene.
 fn expect_rest<B: Burst<Idle, ()>>(
-    rt: &(impl Threads + Wait + Sync + Abort),
+    rt: &(impl Threads + Sync + Abort),
     alloc: Global,
     row: &Scene,
     burst: &mut B,

@@ -15,7 +15,6 @@ use report_ports::{Given, MemorySink, MemorySource, Sink};
 use std::alloc::{AllocError, Global};
 use std::io;
 use std::process::Abort;
-use std::sync::Wait;
 use std::sync::atomic::{AtomicU64, Ordering};
 use std::test::Fail;
 use std::thread::Threads;
@@ -85,7 +84,7 @@ fn a_sink_may_ask_for_the_output(rt: HostRuntime) -> Result<(), Fail> {
 }
 
 fn expect_taken(
-    rt: &(impl Threads + Wait + Sync + Abort),
+    rt: &(impl Threads + Sync + Abort),
     alloc: Global,
     words: &[&str],
     scene: &[u8],
@@ -108,7 +107,7 @@ fn expect_taken(
 
 // The output, if the call ends well.
 fn output_of(
-    rt: &(impl Threads + Wait + Sync),
+    rt: &(impl Threads + Sync),
     alloc: Global,
     words: &[&str],
     scene: &[u8],
@@ -126,7 +125,7 @@ fn output_of(
 
 // How a call ends whose sink asks for the output, and how many bytes that sink has taken then.
 fn taken_bare(
-    rt: &(impl Threads + Wait + Sync),
+    rt: &(impl Threads + Sync),
     alloc: Global,
     words: &[&str],
     scene: &[u8],
@@ -147,7 +146,7 @@ const ROOM: usize = 30;
 
 // The same under a sink that gathers.
 fn taken_gathered(
-    rt: &(impl Threads + Wait + Sync),
+    rt: &(impl Threads + Sync),
     alloc: Global,
     words: &[&str],
     scene: &[u8],
@@ -165,7 +164,7 @@ fn taken_gathered(
 
 // The same under one that holds nothing for long.
 fn taken_timely(
-    rt: &(impl Threads + Wait + Sync),
+    rt: &(impl Threads + Sync),
     alloc: Global,
     words: &[&str],
     scene: &[u8],

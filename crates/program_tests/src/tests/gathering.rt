@@ -9,7 +9,6 @@ use region_core::OpenGate;
 use report_ports::{Given, MemorySink, MemorySource, Sink};
 use std::alloc::{AllocError, Global};
 use std::process::Abort;
-use std::sync::Wait;
 use std::sync::atomic::Ordering;
 use std::test::Fail;
 use std::thread::Threads;
@@ -59,7 +58,7 @@ fn writes_the_pieces_before_the_give_that_fails(rt: HostRuntime) -> Result<(), F
 }
 
 fn expect_rows(
-    rt: &(impl Threads + Wait + Sync + Abort),
+    rt: &(impl Threads + Sync + Abort),
     alloc: Global,
     words: &[&str],
 ) -> Result<(), AllocError> {
@@ -75,7 +74,7 @@ fn expect_rows(
 // What is written of the meeting through this room, if these calls of the source and this one of the sink fail, and the
 // status. No time passes.
 fn gathered_output(
-    rt: &(impl Threads + Wait + Sync),
+    rt: &(impl Threads + Sync),
     alloc: Global,
     words: &[&str],
     takes: &[u64],
@@ -127,7 +126,7 @@ fn a_fault_at_the_end_is_told(rt: HostRuntime) -> Result<(), Fail> {
 }
 
 fn expect_end(
-    rt: &(impl Threads + Wait + Sync + Abort),
+    rt: &(impl Threads + Sync + Abort),
     alloc: Global,
     &(words, takes, failed, status, want): &EndRow,
 ) -> Result<(), AllocError> {

@@ -7,7 +7,6 @@ use std::alloc::{AllocError, Global};
 use std::fmt::Debug;
 use std::io;
 use std::process::Abort;
-use std::sync::Wait;
 use std::sync::atomic::{AtomicU64, Ordering};
 use std::thread::Threads;
 use std::time::{Clock, Duration};
@@ -136,7 +135,7 @@ pub fn row_source(alloc: Global) -> Result<MemorySource, AllocError> {
 
 /// What the top call writes to a sink, and its status.
 pub fn output_between(
-    rt: &(impl Threads + Wait + Sync),
+    rt: &(impl Threads + Sync),
     alloc: Global,
     words: &[&str],
     source: MemorySource,
@@ -147,7 +146,7 @@ pub fn output_between(
 
 /// The same through a gate.
 pub fn output_through<G: Gate>(
-    rt: &(impl Threads + Wait + Sync),
+    rt: &(impl Threads + Sync),
     alloc: Global,
     words: &[&str],
     mut source: MemorySource,

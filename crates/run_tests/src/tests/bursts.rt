@@ -18,7 +18,6 @@ use std::alloc::{AllocError, Global};
 use std::marker::Brand;
 use std::mem;
 use std::process::Abort;
-use std::sync::Wait;
 use std::test::Fail;
 use std::thread::Threads;
 use test_scenes::{
@@ -134,7 +133,7 @@ fn replace(
 // What the run over `regions` regions tells, on which a burst works. Stops a test if the engine that looks at all pairs
 // tells something else.
 fn run_beside<B: Burst<Telling, Summing>>(
-    rt: &(impl Threads + Wait + Sync + Abort),
+    rt: &(impl Threads + Sync + Abort),
     alloc: Global,
     case: Case<'_>,
     scene: &Scene,
@@ -149,7 +148,7 @@ fn run_beside<B: Burst<Telling, Summing>>(
 }
 
 fn told_over<B: Burst<Telling, Summing>>(
-    rt: &(impl Threads + Wait + Sync),
+    rt: &(impl Threads + Sync),
     alloc: Global,
     scene: &Scene,
     regions: u32,
@@ -169,7 +168,7 @@ type Sketch = (&'static str, u32, &'static str);
 // burst, and whether the burst says that it keeps them. Stops a test if the run tells something else than the plain
 // one.
 fn run_under(
-    rt: &(impl Threads + Wait + Sync + Abort),
+    rt: &(impl Threads + Sync + Abort),
     alloc: Global,
     case: Case<'_>,
     scene: &Scene,
@@ -191,7 +190,7 @@ fn keeps<B: Burst<Telling, Summing>>(burst: &B) -> bool {
 
 // The same for a scene that is opened; the other state is the start of the same disks with a later end.
 fn count_under(
-    rt: &(impl Threads + Wait + Sync + Abort),
+    rt: &(impl Threads + Sync + Abort),
     alloc: Global,
     number: usize,
     sketch: Sketch,
@@ -225,7 +224,7 @@ const FOUR: Sketch = (LONG, 40, FOUR_IN_A_ROW);
 type DeedRow = (u32, &'static [Deed]);
 
 fn expect_rows(
-    rt: &(impl Threads + Wait + Sync + Abort),
+    rt: &(impl Threads + Sync + Abort),
     alloc: Global,
     rows: &[DeedRow],
 ) -> Result<(), AllocError> {
@@ -322,7 +321,7 @@ impl<'c, S: Beside<W>, W, O: Origin> RunBurst<S, W> for UnderLocks<'c, O> {
 }
 
 // Has workers that keep the four regions run a scene. Stops a test if the run tells something else than the plain one.
-fn run_by_workers<R: Threads + Wait + Sync + Abort>(
+fn run_by_workers<R: Threads + Sync + Abort>(
     rt: &R,
     alloc: Global,
     number: usize,
@@ -333,7 +332,7 @@ fn run_by_workers<R: Threads + Wait + Sync + Abort>(
     run_under_locks::<Brand, R>(rt, alloc, (number, disks), &scene)
 }
 
-fn run_under_locks<O: Origin, R: Threads + Wait + Sync + Abort>(
+fn run_under_locks<O: Origin, R: Threads + Sync + Abort>(
     rt: &R,
     alloc: Global,
     case: Case<'_>,
@@ -438,7 +437,7 @@ fn scripts_tell_the_plain_run(rt: HostRuntime) -> Result<(), Fail> {
 }
 
 fn count_of_script(
-    rt: &(impl Threads + Wait + Sync + Abort),
+    rt: &(impl Threads + Sync + Abort),
     alloc: Global,
     number: usize,
     &(disks, end, calls, _): &ScriptRow,
@@ -448,7 +447,7 @@ fn count_of_script(
 }
 
 fn told_by_script(
-    rt: &(impl Threads + Wait + Sync + Abort),
+    rt: &(impl Threads + Sync + Abort),
     alloc: Global,
     case: Case<'_>,
     scene: &Scene,
@@ -494,7 +493,7 @@ fn hostile_bursts_tell_the_plain_run(rt: HostRuntime) -> Result<(), Fail> {
 
 // Runs the next generated scene under hostile bursts. False if it is refused.
 fn is_run(
-    rt: &(impl Threads + Wait + Sync + Abort),
+    rt: &(impl Threads + Sync + Abort),
     alloc: Global,
     numbers: &mut DrawnNumbers,
     found: u64,
@@ -507,7 +506,7 @@ fn is_run(
 }
 
 fn run_hostile(
-    rt: &(impl Threads + Wait + Sync + Abort),
+    rt: &(impl Threads + Sync + Abort),
     alloc: Global,
     text: &str,
     scene: &Scene,

@@ -8,7 +8,6 @@ use region_core::{Beside, Burst, Region};
 use run_core::simulate;
 use std::alloc::{AllocError, Global};
 use std::process::Abort;
-use std::sync::Wait;
 use std::sync::atomic::{AtomicU64, Ordering};
 use std::test::Fail;
 use std::thread::Threads;
@@ -94,7 +93,7 @@ type Listened = (bool, u32, u64, u64);
 
 // Runs a scene over four regions, with an ear that refuses this telling.
 fn listen(
-    rt: &(impl Threads + Wait + Sync),
+    rt: &(impl Threads + Sync),
     alloc: Global,
     scene: &Scene,
     refuses: Option<u64>,
@@ -114,7 +113,7 @@ fn listen(
 
 // The run with an ear that refuses nothing, and the run with one that refuses the second telling.
 fn whole_and_part(
-    rt: &(impl Threads + Wait + Sync + Abort),
+    rt: &(impl Threads + Sync + Abort),
     alloc: Global,
 ) -> Result<(Listened, Listened), AllocError> {
     let scene = valid_scene(rt, alloc, LONG, 8, 20, ROLLED_BACK)?;
@@ -165,7 +164,7 @@ impl<S: Beside<W>, W> Burst<S, W> for CallCounter {
 // Whether the four disks' run over one region came to its end, how often the burst was called, and how often the
 // ear was told.
 fn counted(
-    rt: &(impl Threads + Wait + Sync + Abort),
+    rt: &(impl Threads + Sync + Abort),
     alloc: Global,
 ) -> Result<(bool, u32, u64), AllocError> {
     let scene = valid_scene(rt, alloc, LONG, 8, 40, FOUR_IN_A_ROW)?;

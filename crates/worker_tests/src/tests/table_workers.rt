@@ -15,7 +15,6 @@ use region_table::burst_in_table;
 use region_workers::{ByCall, Call, Workers};
 use run_core::{Telling, simulate};
 use std::alloc::{AllocError, Global};
-use std::sync::Wait;
 use std::sync::atomic::{AtomicBool, Ordering};
 use std::test::Fail;
 use std::thread;
@@ -62,7 +61,7 @@ fn seen_at(regions: &[Region], place: usize) -> Option<Seen> {
 }
 
 // The regions of the scene after a burst by one worker, of one turn with one step; none if the scene is refused.
-fn after_one_step<R: Threads + Wait + Sync>(
+fn after_one_step<R: Threads + Sync>(
     rt: &R,
     alloc: Global,
 ) -> Result<Option<[Option<Seen>; 5]>, AllocError> {
@@ -72,7 +71,7 @@ fn after_one_step<R: Threads + Wait + Sync>(
     }
 }
 
-fn one_step_on<R: Threads + Wait + Sync>(
+fn one_step_on<R: Threads + Sync>(
     rt: &R,
     alloc: Global,
     regions: Vec<Region>,
@@ -161,7 +160,7 @@ impl Listener for Counter {
 }
 
 // How many changes a run tells over which workers work; none if it is cut short.
-fn changes_by<R: Threads + Wait + Sync, G: Gate>(
+fn changes_by<R: Threads + Sync, G: Gate>(
     rt: &R,
     alloc: Global,
     scene: &Scene,
@@ -185,7 +184,7 @@ fn changes_by<R: Threads + Wait + Sync, G: Gate>(
 type Worked = Result<Vec<Region>, AllocError>;
 
 // Lets workers work on the regions of a grid, and does nothing beside.
-fn work_alone<R: Threads + Wait + Sync, G: Gate, S: Beside<W>, W>(
+fn work_alone<R: Threads + Sync, G: Gate, S: Beside<W>, W>(
     rt: &R,
     alloc: Global,
     workers: &Workers<'_, G>,
@@ -201,7 +200,7 @@ fn work_alone<R: Threads + Wait + Sync, G: Gate, S: Beside<W>, W>(
     burst_in_table(workers, rt, alloc, regions)
 }
 
-fn changes_by_call<R: Threads + Wait + Sync, C: Call<Telling, Counter> + Drop>(
+fn changes_by_call<R: Threads + Sync, C: Call<Telling, Counter> + Drop>(
     rt: &R,
     alloc: Global,
     scene: &Scene,
@@ -218,7 +217,7 @@ fn changes_by_call<R: Threads + Wait + Sync, C: Call<Telling, Counter> + Drop>(
 }
 
 // How many changes a run tells over which two workers work, and whether these met; none if the scene is refused.
-fn met<R: Threads + Wait + Sync>(
+fn met<R: Threads + Sync>(
     rt: &R,
     alloc: Global,
 ) -> Result<Option<(Option<u32>, bool)>, AllocError> {
@@ -228,7 +227,7 @@ fn met<R: Threads + Wait + Sync>(
     }
 }
 
-fn met_in<R: Threads + Wait + Sync>(rt: &R, alloc: Global, scene: &Scene) -> (Option<u32>, bool) {
+fn met_in<R: Threads + Sync>(rt: &R, alloc: Global, scene: &Scene) -> (Option<u32>, bool) {
     let gate = Meeting {
         came: AtomicBool::new(false),
         met: AtomicBool::new(false),
