@@ -37,6 +37,8 @@ pub fn opened(alloc: Global, scene: &Scene) -> Result<Vec<Region>, AllocError>
     ensures together { IfOk result (λ regions. AreTogether regions.items) }
     ensures stand { IfOk result (λ regions. StandOfRun (opening_state scene.now 4) regions.items) }
 {
+    // The clause of this call says that the scene is valid, so it has a run.
+    let _count = scene.count();
     let committed = Committed::open(alloc, scene, REGIONS)?;
     committed.open_all(alloc)
 }

@@ -1,7 +1,6 @@
 -- Regions that stand on one state are together, and those with which a run begins stand in it.
 use Rattle.std.proofs.Common.{subst, arith}
 use Rattle.std.proofs.lemmas.Result.{IfOk-weaker}
-use Rattle.fixed_motion.specs.Scene.{IsValidScene}
 use Rattle.cell_sequence.specs.State.{CellStateData}
 use Rattle.run_floors.specs.Regions.{AllStand}
 use Rattle.region_workers.proofs.Opened.{opened_of_run}
@@ -15,5 +14,5 @@ returns-clause-together c = IfOk-weaker c.open_all.result _ _
 pub returns-clause-stand : goal.returns-clause-stand
 returns-clause-stand c = IfOk-weaker c.open_all.result _ _
     (λ regions stand. opened_of_run c.args.scene.now 4 regions.items
-    (subst IsValidScene c.scene.view_is c.scene.invariant) (omega arith, omega arith)
+    c.count-count.ensures.valid (omega arith, omega arith)
     (subst (λ (s : CellStateData). AllStand s regions.items) c.in_ok-committed.ensures stand)) c.open_all.ensures

@@ -1,6 +1,5 @@
 use Rattle.std.proofs.Common.{◌≡◌, length, min, sym, ap, ◌∙◌, subst, arith}
 use Rattle.std.proofs.lemmas.Result.{IfOk-weaker}
-use Rattle.fixed_motion.specs.Scene.{IsValidScene}
 use Rattle.cell_grid.specs.Grid.{columns_of}
 use Rattle.cell_sequence.specs.State.{CellStateData}
 use Rattle.run_floors.specs.Regions.{AllStand}
@@ -21,5 +20,5 @@ returns-clause-together c = IfOk-weaker c.open_all.result _ _
 pub returns-clause-stand : goal.returns-clause-stand
 returns-clause-stand c = IfOk-weaker c.open_all.result _ _
     (λ regions stand. opened_of_run c.args.scene.now 4 regions.items
-    (subst IsValidScene c.scene.view_is c.scene.invariant) (omega arith, omega arith)
+    c.count-count.ensures.valid (omega arith, omega arith)
     (subst (λ (s : CellStateData). AllStand s regions.items) c.in_ok-committed.ensures stand)) c.open_all.ensures
