@@ -18,7 +18,7 @@ from .theory import cautions
 # How far g(r) is counted to find it at contact, in σ.
 NEAR = 1.5
 # In how many times of a run the program sums up, if no states are asked for.
-SUMS = 300
+SUMS = 1_250
 
 
 @contextmanager
