@@ -1,6 +1,6 @@
 pub mod Apart
 pub mod Between
-mod Conserved
+pub mod Conserved
 mod Courses
 pub mod Decided
 mod Effects
@@ -9,7 +9,7 @@ pub mod Fits
 mod Greatest
 mod Joins
 mod Leads
-mod Levels
+pub mod Levels
 mod MayHit
 pub mod OneRun
 pub mod OneTick

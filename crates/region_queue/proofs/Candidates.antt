@@ -205,7 +205,7 @@ turned s i j (inr e) = inl e
 pub no_single : (finder : Finder) (view : ViewData) (disk : ℕ) → rows_in view disk ≡ None → IsBestSingle finder view disk None
 no_single finder view disk none s h = none_without_first finder view s (ap (rows_in view) h.1 ∙ none) h.0
 
-pub no_pair : (finder : Finder) (view : ViewData) (disk other : ℕ) (s : Stamp) → rows_in view disk ≡ None → IsFound finder view s →
+no_pair : (finder : Finder) (view : ViewData) (disk other : ℕ) (s : Stamp) → rows_in view disk ≡ None → IsFound finder view s →
     s.kind ≡ Pair → ¬ IsPairOf s disk other
 no_pair finder view disk other s none found kind is =
     pair_without finder view other disk none s (pair_of finder view other disk s found kind (turned s disk other is))

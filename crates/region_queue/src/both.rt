@@ -294,8 +294,8 @@ fn joined(a: Block, b: Block) -> Block
 }
 
 // Keeps in one list those disks that the first of two disks may hit, and in another one those that the second may hit.
-// The two have one base tick, are given by their numbers, and read where they lie. False says nothing: one of them isn't there, or one of
-// the others has a later base tick than the two, which is rare.
+// The two have one base tick, are given by their numbers, and read where they lie. False says nothing: one of them isn't
+// there, or one of the others has a later base tick than the two, which is rare.
 #[inline(never)]
 fn keep_both(
     rows: &[Compact],

@@ -1,7 +1,7 @@
 //! How far the regions of a table run before they hear each other.
 //!
-//! What a region runs on old news is done again or put right later, and a worker waits for nobody. So in a slice all
-//! regions run to the same bound. For each region take what is due there and add its lead, the virtual time that its
+//! What a region runs on old news is done again or put right later, and no worker waits for another within a slice. So all
+//! regions run to the same bound in it. For each region take what is due there and add its lead, the virtual time that its
 //! recent slices covered; the bound is the least of these sums. A region without events bounds nobody, since what is due
 //! there is far.
 //!

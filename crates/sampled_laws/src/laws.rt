@@ -1,7 +1,5 @@
 //! Laws of samples, for those who read the definitions alone.
 
-ghost use Rattle.event_rules.specs.Conservation.{RunsConserve};
-ghost use Rattle.event_rules.specs.Counts.{FewEventsOfAScene};
 ghost use Rattle.sampled_laws.specs.Laws.{SamplesAreOfTicks, SquaresAreEnergy, LastSquaresAreEnergy, SidesTakeMomentum, VirialsArePushes, SumsNeverStop};
 
 /// The samples of a run are those at each multiple of `every` below the end, up to the last tick, and the end: each of the
@@ -18,9 +16,9 @@ pub fn squares_are_energy()
 {}
 
 /// Over the whole box, the momentum at the end is that at the start, plus what the left side and the bottom took, less
-/// what the right side and the top took: this follows from the law `runs_conserve` of `event_rules`.
+/// what the right side and the top took.
 pub fn sides_take_momentum()
-    ensures { RunsConserve → SidesTakeMomentum }
+    ensures { SidesTakeMomentum }
 {}
 
 /// Each event of two disks adds r · J to the virial, if its middle is in the part, and that is above 0: r is the place of
@@ -29,8 +27,7 @@ pub fn virials_are_pushes()
     ensures { VirialsArePushes }
 {}
 
-/// No sum of a run comes near the greatest number of its type, at which it would stop: this follows from the law
-/// `few_events_of_a_scene` of `event_rules`.
+/// No sum of a run comes near the greatest number of its type, at which it would stop.
 pub fn sums_never_stop()
-    ensures { FewEventsOfAScene → SumsNeverStop }
+    ensures { SumsNeverStop }
 {}

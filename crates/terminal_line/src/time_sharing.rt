@@ -66,8 +66,8 @@ impl<'r, R: Clock> TimeSharing<'r, R> {
 }
 
 impl<'r, R: Clock + Sync> Gate for TimeSharing<'r, R> {
-    // Before the first turn of a burst a worker may have waited for the burst. All workers but the first are threads
-    // that have just been given a processor.
+    // Before the first turn of a burst a worker may have waited for the burst: all but the first, who began it, have
+    // just woken, so their time with a processor begins anew.
     fn turn(&self, worker: u32, turn: u32) {
         if turn > 0 {
             return;
