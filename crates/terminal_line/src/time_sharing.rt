@@ -30,8 +30,10 @@ const AWAY: u64 = 1;
 // How many microseconds a worker sleeps that has nothing to do.
 const REST: u64 = 20;
 
-// For each so many workers before it, it sleeps as long again: there are seldom processors for many.
+// For each so many workers before it, it sleeps twice as long, but no more often than this many times: there are seldom
+// processors for many, and each waking takes one from those who work.
 const FEW: u32 = 4;
+const MOST_DOUBLINGS: u32 = 6;
 
 /// A gate at which a worker gives its processor away for a moment, if others seem to want it and the worker has had it
 /// for some milliseconds.
@@ -88,7 +90,7 @@ impl<'r, R: Clock + Sync> Gate for TimeSharing<'r, R> {
     }
 
     fn rest(&self, worker: u32) {
-        let long = REST + REST * u64::from(worker / FEW);
+        let long = REST << (worker / FEW).min(MOST_DOUBLINGS);
         self.rt.sleep(Duration::from_micros(long));
     }
 }
