@@ -9,7 +9,10 @@ ghost use Rattle.commit_horizon.specs.Commits.{IsAdopted, AllAdopted};
 use crate::Committed;
 use region_core::Region;
 use std::alloc::{AllocError, Global};
-use std::thread::{Threads, map_indices};
+use std::thread::{Threads, for_each_mut};
+
+// What opening a region answers.
+type Opened = Result<Region, AllocError>;
 
 impl Committed {
     /// The regions of the committed state, by number, with nothing done and nothing heard.
@@ -26,7 +29,8 @@ impl Committed {
         Ok(regions)
     }
 
-    /// The same, each opened in a thread of its own if one can be started. One alone is opened in the caller's.
+    /// The same, opened in at most this many threads, the caller's among them; 0 counts as 1. Each opens regions that
+    /// follow one another.
     ///
     /// # Errors
     /// Out of memory.
@@ -34,15 +38,17 @@ impl Committed {
         &self,
         rt: &R,
         alloc: Global,
+        threads: u32,
     ) -> Result<Vec<Region>, AllocError>
         ensures { IfOk result (λ regions. AllStand self.now regions.items) }
     {
         let state = &self.state;
-        let open = move |number: usize| -> Result<Region, AllocError>
+        let open = move |number: usize, place: &mut Opened|
             requires { IsRegion state.now.grid number × (number < 2 ^ 32) }
-            ensures { IfOk result (λ region. IsOpened state.entry.now number region) }
-        { Region::open(alloc, state, number as u32) };
-        let opened = map_indices(rt, alloc, state.grid().regions() as usize, &open)?;
+            ensures { IfOk place.new (IsOpened state.entry.now number) }
+        { fill(place, Region::open(alloc, state, number as u32)) };
+        let mut opened = none_opened(alloc, state.grid().regions())?;
+        for_each_mut(rt, &mut opened, threads.max(1) as usize, &open);
         all_or_none(alloc, opened)
     }
 
@@ -88,11 +94,26 @@ impl Committed {
     }
 }
 
+// A place for each of this many regions, of which none is opened.
+fn none_opened(alloc: Global, count: u32) -> Result<Vec<Opened>, AllocError>
+    ensures { IfOk result (λ places. length places.items ≡ count) }
+{
+    let mut places = Vec::new(alloc);
+    for _ in 0..count {
+        places.push(Err(AllocError))?;
+    }
+    Ok(places)
+}
+
+// These are calls, since an assignment that drops what was there takes long to prove.
+fn fill(place: &mut Opened, opened: Opened)
+    ensures { place.new ≡ opened }
+{
+    drop(std::mem::replace(place, opened));
+}
+
 // All regions that were opened, or the first failure.
-fn all_or_none(
-    alloc: Global,
-    opened: Vec<Result<Region, AllocError>>,
-) -> Result<Vec<Region>, AllocError>
+fn all_or_none(alloc: Global, opened: Vec<Opened>) -> Result<Vec<Region>, AllocError>
     ensures { IfOk result (λ regions. map Ok regions.items ≡ opened.items) }
 {
     let mut regions = Vec::new(alloc);
