@@ -3,4 +3,5 @@
 mod commits;
 mod horizons;
 mod opened;
+mod side_by_side;
 mod strangers;
