@@ -15,6 +15,8 @@ use std::thread::Threads;
 #[derive(Drop)]
 pub struct ByRunCall<O: Origin, S: Beside<W>, W, C: RunCall<O, S, W>> {
     call: C,
+    // How many threads work on the regions, the caller's counted.
+    threads: u32,
     // The run, the work beside, and what is lent to it.
     run: PhantomData<O>,
     of: PhantomData<S>,
@@ -31,12 +33,13 @@ impl<O: Origin, S: Beside<W>, W, C: RunCall<O, S, W>> Model for ByRunCall<O, S, 
 }
 
 impl<O: Origin, S: Beside<W>, W, C: RunCall<O, S, W>> ByRunCall<O, S, W, C> {
-    /// A burst by this call.
-    pub fn new(call: C) -> ByRunCall<O, S, W, C>
+    /// A burst by this call, which has this many threads, the caller's counted.
+    pub fn new(call: C, threads: u32) -> ByRunCall<O, S, W, C>
         requires { C.keeping call }
     {
         ByRunCall {
             call,
+            threads,
             run: PhantomData,
             of: PhantomData,
             lent: PhantomData,
@@ -53,6 +56,10 @@ impl<O: Origin, S: Beside<W>, W, C: RunCall<O, S, W>> RunBurst<S, W> for ByRunCa
 
     fn keeps(&self) -> bool {
         true
+    }
+
+    fn threads(&self) -> u32 {
+        self.threads
     }
 
     fn burst<R: Threads + Sync>(

@@ -22,7 +22,7 @@ pub use laws::{
 };
 pub use playing::{Answer, CoreStep, Played, play};
 pub use progress::advance;
-pub use run_burst::RunBurst;
+pub use run_burst::{AnyRun, RunBurst};
 pub use scripted::Scripted;
 pub use simulation::{simulate, simulate_by};
 pub use telling::Telling;

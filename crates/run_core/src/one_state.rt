@@ -52,7 +52,7 @@ use std::thread::Threads;
 
 impl Standing {
     /// The regions of the state with which the cell run of a scene begins, as many as are asked for, 1 to
-    /// [`MAX_REGIONS`](cell_grid::MAX_REGIONS). They are opened side by side.
+    /// [`MAX_REGIONS`](cell_grid::MAX_REGIONS). They are opened in at most this many threads, the caller's among them.
     ///
     /// # Errors
     /// Out of memory.
@@ -61,12 +61,13 @@ impl Standing {
         alloc: Global,
         scene: &Scene,
         regions: u32,
+        threads: u32,
     ) -> Result<Standing, AllocError>
         requires { IsAsked regions }
         ensures { IfOk result (λ standing. standing ≡ opening_state scene.now regions) }
     {
         let committed = Committed::open(alloc, scene, regions)?;
-        let regions = committed.open_side_by_side(rt, alloc)?;
+        let regions = committed.open_side_by_side(rt, alloc, threads)?;
         Ok(Standing::on(committed, regions))
     }
 

@@ -24,6 +24,9 @@ pub trait RunBurst<S: Beside<W>, W> {
     fn keeps(&self) -> bool
         ensures { IsTrue result → keeping self.now };
 
+    /// How many threads it has, the caller's counted. The regions of a run are opened in as many.
+    fn threads(&self) -> u32;
+
     /// Works on the regions of a grid, as a [`Burst`] does.
     ///
     /// # Errors
@@ -47,9 +50,11 @@ pub trait RunBurst<S: Beside<W>, W> {
 
 /// Any burst, which takes the regions of any run.
 #[derive(Drop)]
-pub(crate) struct AnyRun<'b, B> {
+pub struct AnyRun<'b, B> {
     /// The burst.
-    pub(crate) burst: &'b mut B,
+    pub burst: &'b mut B,
+    /// How many threads it has, the caller's counted.
+    pub threads: u32,
 }
 
 impl<S: Beside<W>, W, B: Burst<S, W>> RunBurst<S, W> for AnyRun<'_, B> {
@@ -59,6 +64,10 @@ impl<S: Beside<W>, W, B: Burst<S, W>> RunBurst<S, W> for AnyRun<'_, B> {
 
     fn keeps(&self) -> bool {
         self.burst.keeps()
+    }
+
+    fn threads(&self) -> u32 {
+        self.threads
     }
 
     fn burst<R: Threads + Sync>(

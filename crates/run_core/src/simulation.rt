@@ -24,7 +24,7 @@ use std::thread::Threads;
 
 /// Runs a scene over this many regions, 1 to [`MAX_REGIONS`](cell_grid::MAX_REGIONS), and tells each change in
 /// the order of the stamps: what a burst made final is told beside the next one, and what is left of it after that.
-/// The burst may do with the regions what it will: the run is the same.
+/// The burst may do with the regions what it will: the run is the same. The caller's thread alone opens them.
 ///
 /// # Errors
 /// The listener refused a change, and its count of refusals rose; or out of memory.
@@ -45,11 +45,11 @@ pub fn simulate<B: Burst<Telling, L>, R: Threads + Sync, L: Listener>(
         (L.meaning listener.old) (L.meaning listener.new)) }
     ensures counts { CountsRun (L.faults listener.old) (L.faults listener.new) result }
 {
-    let mut any = AnyRun { burst };
+    let mut any = AnyRun { burst, threads: 1 };
     simulate_by(rt, alloc, scene, regions, &mut any, listener)
 }
 
-/// The same with a burst that may be of this run alone.
+/// The same with a burst that may be of this run alone. The regions are opened in as many threads as it has.
 ///
 /// # Errors
 /// The listener refused a change, and its count of refusals rose; or out of memory.
@@ -72,7 +72,7 @@ pub fn simulate_by<B: RunBurst<Telling, L>, R: Threads + Sync, L: Listener>(
     ensures counts { CountsRun (L.faults listener.old) (L.faults listener.new) result }
 {
     prove!(scene.disks.len() <= MAX_DISKS);
-    let mut standing = Standing::open(rt, alloc, scene, regions)?;
+    let mut standing = Standing::open(rt, alloc, scene, regions, burst.threads())?;
     let mut telling = Telling::new(alloc);
     'bursts: loop {
         let (kind, left) = work(rt, alloc, standing, burst, &mut telling, listener)?;

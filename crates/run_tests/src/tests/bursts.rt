@@ -308,6 +308,10 @@ impl<'c, S: Beside<W>, W, O: Origin> RunBurst<S, W> for UnderLocks<'c, O> {
         true
     }
 
+    fn threads(&self) -> u32 {
+        self.workers.workers
+    }
+
     fn burst<R: Threads + Sync>(
         &mut self,
         _rt: &R,
