@@ -1,0 +1,4 @@
+-- The rows, and what the laws say of them.
+pub mod Rows
+pub mod Pair
+pub mod Bounce
