@@ -9,7 +9,7 @@ use Rattle.event_stamps.specs.declared.Stamp.{Stamp}
 use Rattle.event_stamps.specs.Order.{Before}
 use Rattle.event_rules.specs.declared.outcome.Outcome.TheVariants.{Done}
 use Rattle.event_rules.specs.Events.{IsPast, IsContactTick, IsPairEvent, IsWallEvent, pair_stamp}
-use Rattle.event_rules.specs.Run.{IsRun, IsCandidate, IsWallCandidate, IsNext, ComesTo, effect}
+use Rattle.event_rules.specs.Run.{IsRun, Steps, IsCandidate, IsWallCandidate, IsNext, ComesTo, effect}
 use Rattle.worked_laws.specs.Rows.{disk_at}
 use Rattle.worked_laws.proofs.Sides.{inside, of_two}
 use Rattle.worked_laws.specs.Pair.{pair_rules, pair_disks, pair_scene, hit_stamp, the_hit, pair_end}
@@ -125,3 +125,6 @@ none_after s (inr pair) = let event = of_two first_after second_after s pair in 
 -- ---- the run
 pub pair_run : IsRun pair_scene (the_hit ∷ []) (Done pair_end)
 pair_run = (next, comes, (none_after, refl))
+
+pub pair_steps : Steps pair_rules pair_disks (the_hit ∷ []) (effect pair_disks the_hit)
+pair_steps = (next, comes, refl)

@@ -20,7 +20,15 @@ inside x v n side base mark least most (inr (inl h)) = let k : (pos 40 -ℤ pos 
 inside x v n side base mark least most (inr (inr (inl h))) = let k : (pos 10 +ℤ (pos 0 *ℤ pos n)) <ℤ pos 2 = h.1 in omega (arith, ints)
 inside x v n side base mark least most (inr (inr (inr h))) = let k : (pos 20 -ℤ pos 2) <ℤ (pos 10 +ℤ (pos 0 *ℤ pos n)) = h.1 in omega (arith, ints)
 
--- of two disks, the lower first, an event is of 0 and 1
+-- two disks of a state of two, the lower number first
+pub both : (a b x y : Disk) (i j : ℕ) → i < j → slice_get (a ∷ b ∷ []) i ≡ Some x → slice_get (a ∷ b ∷ []) j ≡ Some y → (x ≡ a) × (y ≡ b)
+both a b x y zero (suc zero) less at other = (sym (same_Some _ _ at), sym (same_Some _ _ other))
+both a b x y i zero less at other = absurd (omega arith)
+both a b x y zero (suc (suc j)) less at other = absurd (none-some y other)
+both a b x y (suc i) (suc zero) less at other = absurd (omega arith)
+both a b x y (suc i) (suc (suc j)) less at other = absurd (none-some y other)
+
+-- an event of them is of the numbers 0 and 1
 pub of_two : (a b : Disk) (s : Stamp) → IsPairCandidate (box_until 5) (a ∷ b ∷ []) s → IsPairEvent (box_until 5) 0 a 1 b s
 of_two a b s h = by_numbers s.first s.second h.0 h.1.1 h.1.2.1 h.1.2.2
   where

@@ -10,6 +10,7 @@ use Rattle.fixed_motion.specs.Scene.{IsValidScene, IsAtStart}
 use Rattle.worked_laws.specs.Rows.{box_until, disk_at, meeting, scene_until}
 use Rattle.worked_laws.specs.Pair.{pair_scene}
 use Rattle.worked_laws.specs.Bounce.{bounce_disks}
+use Rattle.worked_laws.specs.Texts.{states_scene}
 
 checked : (end : ℕ) → end ≤ 5 → IsChecked (box_until end)
 checked end few = record {
@@ -93,3 +94,13 @@ pair_valid = valid_meeting 5 (pos 1) (omega arith) (omega arith)
 
 pub bounce_valid : IsValidScene (scene_until 5 bounce_disks)
 bounce_valid = valid_alone (pos 37) (pos 2) (omega (arith, ints)) (omega (arith, ints)) (omega arith)
+
+-- with the states of each second tick
+pub states_valid : IsValidScene states_scene
+states_valid = record {
+  rules = pair_valid.rules;
+  count = pair_valid.count;
+  disks = pair_valid.disks;
+  apart = pair_valid.apart;
+  every = (omega arith, omega arith);
+}

@@ -2,3 +2,5 @@
 pub mod Rows
 pub mod Pair
 pub mod Bounce
+pub mod Others
+pub mod Texts

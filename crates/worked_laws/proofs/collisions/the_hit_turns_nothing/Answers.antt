@@ -1,0 +1,102 @@
+-- The impulse from the bound at tick 3, where the two touch, and from the turning about the middle between them.
+use Rattle.std.proofs.Common.{◌≡◌, inl, inr, ◌⊎◌, ℕ, ◌+◌, ◌*◌, ◌<◌, ◌≤◌, [], sym, subst, ap, ◌∙◌, arith}
+use Rattle.std.specs.Prelude.{ℤ, pos, neg_ℤ, ◌+ℤ◌, ◌-ℤ◌, nat_abs, ◌*ℤ◌, ◌≤ℤ◌}
+use Rattle.std.proofs.lemmas.Int.{ints}
+use Rattle.plane_vectors.specs.declared.Vector.{Vector}
+use Rattle.plane_vectors.specs.Vectors.{vector, sum, difference}
+use Rattle.fixed_motion.specs.declared.disk.Disk.{Disk}
+use Rattle.fixed_motion.specs.Motion.{half_of, place_of, velocity_of, contact_distance}
+use Rattle.event_stamps.specs.declared.Stamp.{Stamp}
+use Rattle.event_rules.specs.declared.change.Change.{Change}
+use Rattle.event_rules.specs.Moments.{Moment, OverlapAt}
+use Rattle.real_collisions.specs.Laws.{IsElasticBounce, IsElasticCollision}
+use Rattle.real_collisions.specs.AtTheTouch.{IsWithinOneAt, IsElasticTouch, cross, separation_at, relative_of}
+use Rattle.worked_laws.specs.Pair.{pair_rules, pair_disks, hit_stamp}
+use Rattle.worked_laws.proofs.PairRun.{first, second}
+use Rattle.worked_laws.proofs.Hit.{no_bounce, is_first, is_second, carried}
+use Rattle.worked_laws.proofs.collisions.the_hit_turns_nothing.Goals as goal
+
+abbrev touching : Moment
+touching = record { tick = 3; part = 0; whole = 1 }
+
+-- at tick 3 the two touch
+touch_without_overlap : ¬ OverlapAt touching first second
+unfolding half_of
+touch_without_overlap h = omega (arith, ints)
+
+-- the impulse to the right is from -4 to 0
+bounded : (j : Vector) → IsWithinOneAt (separation_at touching first second) (relative_of first second) j (contact_distance first second) →
+    (neg_ℤ (pos 4) ≤ℤ j.x) × (j.x ≤ℤ pos 0)
+unfolding half_of
+bounded j h = let k : 4 * nat_abs ((pos 16 *ℤ j.x) +ℤ pos 32) ≤ 128 = h.0 in (omega (arith, ints), omega (arith, ints))
+
+-- the angular momentum about the middle of a disk at the place with the velocity
+abbrev turns_at : Vector → Vector → ℤ
+turns_at place velocity = cross (difference place (vector (pos 15) (pos 10))) velocity
+
+-- two disks that were as these are now at these places, with these velocities, turn as the law allows
+abbrev TurnsLittle : Vector → Vector → Vector → Vector → Disk → Disk → ℕ → Type 0
+TurnsLittle p v q w a b tick =
+    nat_abs ((turns_at p v +ℤ turns_at q w) -ℤ (turns_at (place_of a tick) (velocity_of a) +ℤ turns_at (place_of b tick) (velocity_of b)))
+    < nat_abs (difference (place_of a tick) (place_of b tick)).x + nat_abs (difference (place_of a tick) (place_of b tick)).y
+
+-- so the impulse isn't upwards
+not_upwards : (j : Vector) →
+    TurnsLittle (place_of first 3) (sum (velocity_of first) j) (place_of second 3) (difference (velocity_of second) j) first second 3 → j.y ≡ pos 0
+not_upwards j h = omega (arith, ints)
+
+abbrev GoesOn : Change → Type 0
+GoesOn c = (neg_ℤ (pos 3) ≤ℤ c.first.vx) × (c.first.vx ≤ℤ pos 1) × (c.first.vy ≡ pos 0)
+
+goes_on : (c : Change) → c.stamp ≡ hit_stamp → IsElasticBounce pair_disks c ⊎ IsElasticTouch pair_disks c → GoesOn c
+goes_on c same (inl bounce) = absurd (no_bounce c same bounce)
+goes_on c same (inr touch) = goes
+  where
+    hit : IsElasticCollision pair_disks c
+    hit = touch.collision
+
+    tick : c.stamp.tick ≡ 3
+    tick = ap (λ (s : Stamp). s.tick) same
+
+    one : hit.first ≡ first
+    one = is_first c hit same
+
+    other : hit.second ≡ second
+    other = is_second c hit same
+
+    apart : ¬ OverlapAt touching hit.first hit.second
+    apart = carried (λ (a : Disk) (b : Disk) (n : ℕ). ¬ OverlapAt touching a b) first second hit.first hit.second 3 3 (sym one) (sym other) (λ i. 3)
+        touch_without_overlap
+
+    near : (neg_ℤ (pos 4) ≤ℤ hit.impulse.x) × (hit.impulse.x ≤ℤ pos 0)
+    near = bounded hit.impulse
+        (carried (λ (a : Disk) (b : Disk) (n : ℕ). IsWithinOneAt (separation_at touching a b) (relative_of a b) hit.impulse (contact_distance a b))
+        hit.first hit.second first second 3 3 one other (λ i. 3)
+        (touch.impulse touching (record { some = omega arith; most = omega arith }) (sym tick) apart))
+
+    little : TurnsLittle (place_of hit.first c.stamp.tick) (sum (velocity_of hit.first) hit.impulse)
+        (place_of hit.second c.stamp.tick) (difference (velocity_of hit.second) hit.impulse) hit.first hit.second c.stamp.tick
+    little = subst (λ (p : Vector). TurnsLittle p (sum (velocity_of hit.first) hit.impulse) (place_of hit.second c.stamp.tick) (difference (velocity_of hit.second) hit.impulse) hit.first hit.second c.stamp.tick) hit.first_goes_on.place
+        (subst (λ (v : Vector). TurnsLittle (place_of c.first c.stamp.tick) v (place_of hit.second c.stamp.tick) (difference (velocity_of hit.second) hit.impulse) hit.first hit.second c.stamp.tick) hit.first_goes_on.velocity_after
+        (subst (λ (q : Vector). TurnsLittle (place_of c.first c.stamp.tick) (velocity_of c.first) q (difference (velocity_of hit.second) hit.impulse) hit.first hit.second c.stamp.tick) hit.second_goes_on.place
+        (subst (λ (w : Vector). TurnsLittle (place_of c.first c.stamp.tick) (velocity_of c.first) (place_of hit.later c.stamp.tick) w hit.first hit.second c.stamp.tick) hit.second_goes_on.velocity_after
+        (touch.turns (vector (pos 15) (pos 10))))))
+
+    level : hit.impulse.y ≡ pos 0
+    level = not_upwards hit.impulse
+        (carried (λ (a : Disk) (b : Disk) (n : ℕ). TurnsLittle (place_of a n) (sum (velocity_of a) hit.impulse) (place_of b n) (difference (velocity_of b) hit.impulse) a b n)
+        hit.first hit.second first second c.stamp.tick 3 one other tick little)
+
+    velocity : velocity_of c.first ≡ vector (pos 1 +ℤ hit.impulse.x) (pos 0 +ℤ hit.impulse.y)
+    velocity = hit.first_goes_on.velocity_after ∙ ap (λ (a : Disk). sum (velocity_of a) hit.impulse) one
+
+    goes : GoesOn c
+    goes =
+        let x : c.first.vx ≡ pos 1 +ℤ hit.impulse.x = ap (λ (v : Vector). v.x) velocity in
+        let y : c.first.vy ≡ pos 0 +ℤ hit.impulse.y = ap (λ (v : Vector). v.y) velocity in
+        let least = near.0 in let most = near.1 in let up = level in
+        (omega (arith, ints), omega (arith, ints), omega (arith, ints))
+
+pub returns : goal.returns
+returns c change after outcome run same =
+    goes_on change same (c.events_are_elastic_at_the_touch.ensures pair_rules pair_disks [] after change outcome run)

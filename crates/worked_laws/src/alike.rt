@@ -1,0 +1,48 @@
+//! Runs that are alike, at two disks that meet head on.
+
+ghost use Rattle.std.specs.Prelude.{◌≡◌, pos, neg_ℤ, List, [], ◌∷◌, length, slice_get, Some};
+ghost use Rattle.event_rules.specs.declared.change.Change.{Change};
+ghost use Rattle.event_rules.specs.declared.outcome.Spot.{Spot};
+ghost use Rattle.event_rules.specs.declared.outcome.Outcome.{Outcome};
+ghost use Rattle.event_rules.specs.declared.outcome.Outcome.TheVariants.{Done};
+ghost use Rattle.event_rules.specs.Run.{Runs, Steps, effect, state_at};
+ghost use Rattle.alike_runs.specs.Limits.{with_limits};
+ghost use Rattle.alike_runs.specs.Groups.{HitsNoOther, group_changes};
+ghost use Rattle.worked_laws.specs.Rows.{disk_at, spot_at};
+ghost use Rattle.worked_laws.specs.Pair.{pair_rules, pair_disks, the_hit, pair_end};
+ghost use Rattle.worked_laws.specs.Others.{exchanged_disks, three_disks, is_of_pair, one_less};
+
+use alike_runs::{groups_run_alone, limits_only_end, renumbered_runs_go_alike};
+
+/// By `limits_only_end` the run is the same with a speed limit of 100 in place of 8, and the same round limit. A law that
+/// asks for two greater limits, or that is of beginnings alone, doesn't say it.
+pub fn greater_limits_change_nothing()
+    ensures run { Runs (with_limits pair_rules (pos 100) 8) pair_disks (the_hit ∷ []) (Done pair_end) }
+    ensures beginning { Steps (with_limits pair_rules (pos 100) 8) pair_disks (the_hit ∷ []) (effect pair_disks the_hit) }
+{
+    limits_only_end();
+}
+
+/// By `groups_run_alone` the two do the same beside a disk that stands and that they don't hit: of its events and theirs,
+/// theirs are the hit, and they end where they end alone. A law of the events alone, or of the spots alone, doesn't say it.
+pub fn the_pair_runs_alone()
+    ensures { (changes : List Change) (spots : List Spot) → Runs pair_rules three_disks changes (Done spots) →
+        HitsNoOther is_of_pair changes →
+        (group_changes is_of_pair one_less changes ≡ the_hit ∷ [])
+        × (slice_get spots 1 ≡ Some (spot_at (pos 11) (neg_ℤ (pos 1)))) × (slice_get spots 2 ≡ Some (spot_at (pos 19) (pos 1))) }
+{
+    groups_run_alone();
+}
+
+/// By `renumbered_runs_go_alike` the two do the same with their numbers exchanged: one event, after which the disk at the
+/// right, now number 0, is at x = 17 with the velocity 1, and in the end at x = 19. A law of the ends alone, or of the
+/// states alone, doesn't say it.
+pub fn the_exchanged_pair_runs_alike()
+    ensures { (others : List Change) (outcome : Outcome) → Runs pair_rules exchanged_disks others outcome →
+        (length others ≡ 1)
+        × (slice_get (state_at exchanged_disks others 4) 0 ≡ Some (disk_at (pos 17) (pos 1) 3 1))
+        × ((spots : List Spot) × (outcome ≡ Done spots)
+        × (slice_get spots 0 ≡ Some (spot_at (pos 19) (pos 1))) × (slice_get spots 1 ≡ Some (spot_at (pos 11) (neg_ℤ (pos 1))))) }
+{
+    renumbered_runs_go_alike();
+}
