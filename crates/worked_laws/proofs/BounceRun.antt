@@ -32,12 +32,12 @@ candidate = inl (
 )
 
 -- it is inside at tick 0 only
-only_tick : (side tick : ℕ) → IsWallTick (box_until 5) bouncer side tick → tick ≡ 0
+pub only_tick : (side tick : ℕ) → IsWallTick (box_until 5) bouncer side tick → tick ≡ 0
 unfolding half_of
 only_tick side tick h = let most : (pos 37 +ℤ (pos 2 *ℤ pos (tick - 0))) ≤ℤ (pos 40 -ℤ pos 2) = h.inside.right in omega (arith, ints)
 
 -- and then past the right side
-only_side : (side : ℕ) → IsPast (box_until 5) bouncer side (place_of bouncer 1) → side ≡ 1
+pub only_side : (side : ℕ) → IsPast (box_until 5) bouncer side (place_of bouncer 1) → side ≡ 1
 unfolding half_of
 only_side side (inl h) = let k : pos 39 <ℤ pos 2 = h.1 in absurd (omega (arith, ints))
 only_side side (inr (inl h)) = h.0

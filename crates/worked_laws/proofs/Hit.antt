@@ -7,6 +7,7 @@ use Rattle.event_stamps.specs.declared.Kind.{Kind}
 use Rattle.event_stamps.specs.declared.Kind.TheVariants.{Wall, Pair}
 use Rattle.event_rules.specs.declared.change.Change.{Change}
 use Rattle.real_collisions.specs.Laws.{IsElasticBounce, IsElasticCollision}
+use Rattle.worked_laws.specs.Bounce.{bounce_disks, bounce_stamp}
 use Rattle.worked_laws.specs.Pair.{pair_disks, hit_stamp}
 use Rattle.worked_laws.proofs.PairRun.{first, second}
 
@@ -16,6 +17,10 @@ two_kinds e = cc
 -- it is not at a side
 pub no_bounce : (c : Change) → c.stamp ≡ hit_stamp → IsElasticBounce pair_disks c → ⊥
 no_bounce c same bounce = two_kinds (subst (λ (s : Stamp). Wall ≡ s.kind) same (sym bounce.kind))
+
+-- and one at a side is not of two disks
+pub no_collision : (c : Change) → c.stamp ≡ bounce_stamp → IsElasticCollision bounce_disks c → ⊥
+no_collision c same hit = two_kinds (subst (λ (s : Stamp). s.kind ≡ Pair) same hit.kind)
 
 -- its disks are the two
 pub is_first : (c : Change) (hit : IsElasticCollision pair_disks c) → c.stamp ≡ hit_stamp → hit.first ≡ first

@@ -12,7 +12,7 @@ mod texts;
 pub use alike::{
     greater_limits_change_nothing, the_exchanged_pair_runs_alike, the_pair_runs_alone,
 };
-pub use collisions::{the_hit_is_at_tick_three, the_hit_swaps_velocities, the_hit_turns_nothing};
+pub use collisions::{events_come_when_due, events_turn_velocities, the_touch_is_at_tick_three};
 pub use conserved::{energy_in_the_rows, momentum_in_the_rows};
 pub use overlaps::{the_pair_never_overlaps, the_pair_never_overlaps_between};
 pub use runs::{the_pair_has_one_run, the_pair_runs};

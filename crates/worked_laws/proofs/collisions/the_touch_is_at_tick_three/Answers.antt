@@ -1,7 +1,8 @@
 -- The impulse from the bound at tick 3, where the two touch, and from the turning about the middle between them.
-use Rattle.std.proofs.Common.{◌≡◌, inl, inr, ◌⊎◌, ℕ, ◌+◌, ◌*◌, ◌<◌, ◌≤◌, [], sym, subst, ap, ◌∙◌, arith}
-use Rattle.std.specs.Prelude.{ℤ, pos, neg_ℤ, ◌+ℤ◌, ◌-ℤ◌, nat_abs, ◌*ℤ◌, ◌≤ℤ◌}
+use Rattle.std.proofs.Common.{zero, suc, ◌-◌, ◌≡◌, inl, inr, ◌⊎◌, ℕ, ◌+◌, ◌*◌, ◌<◌, ◌≤◌, [], sym, subst, ap, ◌∙◌, arith}
+use Rattle.std.specs.Prelude.{ℤ, pos, negsuc, neg_ℤ, ◌+ℤ◌, ◌-ℤ◌, nat_abs, ◌*ℤ◌, ◌≤ℤ◌, ◌<ℤ◌}
 use Rattle.std.proofs.lemmas.Int.{ints}
+use Rattle.std.proofs.Math.Nat.{mul-le-mul}
 use Rattle.plane_vectors.specs.declared.Vector.{Vector}
 use Rattle.plane_vectors.specs.Vectors.{vector, sum, difference}
 use Rattle.fixed_motion.specs.declared.disk.Disk.{Disk}
@@ -10,11 +11,11 @@ use Rattle.event_stamps.specs.declared.Stamp.{Stamp}
 use Rattle.event_rules.specs.declared.change.Change.{Change}
 use Rattle.event_rules.specs.Moments.{Moment, OverlapAt}
 use Rattle.real_collisions.specs.Laws.{IsElasticBounce, IsElasticCollision}
-use Rattle.real_collisions.specs.AtTheTouch.{IsWithinOneAt, IsElasticTouch, cross, separation_at, relative_of}
+use Rattle.real_collisions.specs.AtTheTouch.{IsWithinOneAt, IsElasticTouch, TouchesSoonAfter, cross, separation_at, relative_of}
 use Rattle.worked_laws.specs.Pair.{pair_rules, pair_disks, hit_stamp}
 use Rattle.worked_laws.proofs.PairRun.{first, second}
 use Rattle.worked_laws.proofs.Hit.{no_bounce, is_first, is_second, carried}
-use Rattle.worked_laws.proofs.collisions.the_hit_turns_nothing.Goals as goal
+use Rattle.worked_laws.proofs.collisions.the_touch_is_at_tick_three.Goals as goal
 
 abbrev touching : Moment
 touching = record { tick = 3; part = 0; whole = 1 }
@@ -97,6 +98,42 @@ goes_on c same (inr touch) = goes
         let least = near.0 in let most = near.1 in let up = level in
         (omega (arith, ints), omega (arith, ints), omega (arith, ints))
 
-pub returns : goal.returns
-returns c change after outcome run same =
+pub returns-clause-impulse : goal.returns-clause-impulse
+returns-clause-impulse c change after outcome run same =
     goes_on change same (c.events_are_elastic_at_the_touch.ensures pair_rules pair_disks [] after change outcome run)
+
+-- ---- the touch
+abbrev at_part : ℕ → ℕ → Moment
+at_part part whole = record { tick = 3; part = part; whole = whole }
+
+-- places nearer than k on one axis, and the same on the other
+close : (x y : ℤ) (n k : ℕ) → x ≡ negsuc n → y ≡ pos 0 → suc n < k → ((x *ℤ x) +ℤ (y *ℤ y)) <ℤ pos (k * k)
+close x y n k across level less = rw (across, level) (let square : (suc n + 1) * (suc n + 1) ≤ k * k = mul-le-mul (omega arith) (omega arith) in omega (arith, ints))
+
+-- one part later the two are 4 units less two parts apart, on the other axis not at all
+overlap_one_part_later : (whole : ℕ) → 1 < whole → OverlapAt (at_part 1 whole) first second
+unfolding half_of
+overlap_one_part_later whole some =
+    close (((pos 13 *ℤ pos whole) +ℤ (pos 1 *ℤ pos 1)) -ℤ ((pos 17 *ℤ pos whole) +ℤ (neg_ℤ (pos 1) *ℤ pos 1)))
+    (((pos 10 *ℤ pos whole) +ℤ (pos 0 *ℤ pos 1)) -ℤ ((pos 10 *ℤ pos whole) +ℤ (pos 0 *ℤ pos 1)))
+    (4 * whole - 3) (4 * whole) (omega (arith, ints)) (omega (arith, ints)) (omega arith)
+
+-- so the touch is at the beginning of the tick
+at_once : (most : ℕ) → TouchesSoonAfter first second 3 most → (whole : ℕ) × (most < whole) × OverlapAt (at_part 1 whole) first second
+at_once most touch = by_part touch.part touch.apart touch.within touch.overlap
+  where
+    by_part : (part : ℕ) → ((n : ℕ) → n ≤ part → ¬ OverlapAt (at_part n touch.whole) first second) → part < touch.whole →
+        OverlapAt (at_part (part + 1) touch.whole) first second → (whole : ℕ) × (most < whole) × OverlapAt (at_part 1 whole) first second
+    by_part zero apart within overlap = (touch.whole, touch.fine, overlap)
+    by_part (suc n) apart within overlap = absurd (apart 1 (omega arith) (overlap_one_part_later touch.whole (omega arith)))
+
+touches : (c : Change) → c.stamp ≡ hit_stamp → IsElasticBounce pair_disks c ⊎ IsElasticTouch pair_disks c → (most : ℕ) →
+    (whole : ℕ) × (most < whole) × OverlapAt (at_part 1 whole) first second
+touches c same (inl bounce) most = absurd (no_bounce c same bounce)
+touches c same (inr touch) most =
+    at_once most (carried (λ (a : Disk) (b : Disk) (n : ℕ). TouchesSoonAfter a b n most) touch.collision.first touch.collision.second first second
+    c.stamp.tick 3 (is_first c touch.collision same) (is_second c touch.collision same) (ap (λ (s : Stamp). s.tick) same) (touch.touch most))
+
+pub returns-clause-touch : goal.returns-clause-touch
+returns-clause-touch c change after outcome run same most =
+    touches change same (c.events_are_elastic_at_the_touch.ensures pair_rules pair_disks [] after change outcome run) most
