@@ -1,8 +1,9 @@
 -- The rows worked out by hand.
 mod Sides
-mod PairRun
+pub mod PairRun
 mod Both
 mod Hit
+mod ThreeRun
 mod Only
 mod BounceRun
 mod ValidRows

@@ -1,8 +1,10 @@
 -- The pair with its numbers exchanged, and beside a disk that stands.
 use Rattle.std.specs.Prelude.{ℕ, zero, suc, ◌-◌, nat_lt, Bool, pos, neg_ℤ, List, [], ◌∷◌}
 use Rattle.fixed_motion.specs.declared.disk.Disk.{Disk}
+use Rattle.event_rules.specs.declared.change.Change.{Change}
+use Rattle.event_rules.specs.declared.outcome.Spot.{Spot}
 use Rattle.worked_laws.specs.Rows.{disk_at}
-use Rattle.worked_laws.specs.Pair.{pair_disks}
+use Rattle.worked_laws.specs.Pair.{pair_disks, hit_stamp, the_hit, pair_end}
 
 -- the disk at the right is number 0
 abbrev pub exchanged_disks : List Disk
@@ -21,6 +23,14 @@ standing = record { x = pos 10; y = pos 16; vx = pos 0; vy = pos 0; size = pos 4
 -- it is number 0, and the two that meet are 1 and 2
 abbrev pub three_disks : List Disk
 three_disks = standing ∷ pair_disks
+
+-- their hit, by their numbers among the three
+abbrev pub hit_beside : Change
+hit_beside = record the_hit { stamp = record hit_stamp { first = 1; second = 2 } }
+
+-- the three at the end
+abbrev pub three_end : List Spot
+three_end = record { x = pos 10; y = pos 16; vx = pos 0; vy = pos 0 } ∷ pair_end
 
 -- the numbers of the two
 abbrev pub is_of_pair : ℕ → Bool

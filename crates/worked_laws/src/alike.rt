@@ -10,7 +10,7 @@ ghost use Rattle.alike_runs.specs.Limits.{with_limits};
 ghost use Rattle.alike_runs.specs.Groups.{HitsNoOther, group_changes};
 ghost use Rattle.worked_laws.specs.Rows.{disk_at, spot_at};
 ghost use Rattle.worked_laws.specs.Pair.{pair_rules, pair_disks, the_hit, pair_end};
-ghost use Rattle.worked_laws.specs.Others.{exchanged_disks, three_disks, is_of_pair, one_less};
+ghost use Rattle.worked_laws.specs.Others.{exchanged_disks, three_disks, hit_beside, three_end, is_of_pair, one_less};
 
 use alike_runs::{groups_run_alone, limits_only_end, renumbered_runs_go_alike};
 
@@ -24,9 +24,11 @@ pub fn greater_limits_change_nothing()
 }
 
 /// By `groups_run_alone` the two do the same beside a disk that stands and that they don't hit: of its events and theirs,
-/// theirs are the hit, and they end where they end alone. A law of the events alone, or of the spots alone, doesn't say it.
+/// theirs are the hit, and they end where they end alone. The three have such a run. A law of the events alone, or of the
+/// spots alone, doesn't say it.
 pub fn the_pair_runs_alone()
-    ensures { (changes : List Change) (spots : List Spot) → Runs pair_rules three_disks changes (Done spots) →
+    ensures beside { Runs pair_rules three_disks (hit_beside ∷ []) (Done three_end) × HitsNoOther is_of_pair (hit_beside ∷ []) }
+    ensures alone { (changes : List Change) (spots : List Spot) → Runs pair_rules three_disks changes (Done spots) →
         HitsNoOther is_of_pair changes →
         (group_changes is_of_pair one_less changes ≡ the_hit ∷ [])
         × (slice_get spots 1 ≡ Some (spot_at (pos 11) (neg_ℤ (pos 1)))) × (slice_get spots 2 ≡ Some (spot_at (pos 19) (pos 1))) }

@@ -15,9 +15,9 @@ ghost use Rattle.worked_laws.specs.Pair.{pair_rules, pair_disks, hit_stamp};
 
 use real_collisions::{events_are_elastic, events_are_elastic_at_the_touch, events_are_real};
 
-/// By `events_are_real` the first collision of the two is at tick 3: within a tick before it they come no nearer than
-/// 4 units, and at a later tick they overlap. The disk that meets the right side does at tick 0, as at tick 1 it would be
-/// past it. A law that allows the tick before, or one after, or another side, doesn't say it.
+/// By `events_are_real` the first collision of the two is at tick 3: in each tick before it they come no nearer than
+/// 4 units, and at a later one they overlap. The disk that meets the right side does so at tick 0, as at tick 1 it would
+/// be past it. A law that allows the tick before or after, or another side, doesn't say it.
 pub fn events_come_when_due()
     ensures pair { (c : Change) (after : List Change) (outcome : Outcome) → Runs pair_rules pair_disks (c ∷ after) outcome →
         c.stamp.kind ≡ Pair → c.stamp.tick ≡ 3 }
@@ -44,7 +44,8 @@ pub fn events_turn_velocities()
 /// By `events_are_elastic_at_the_touch` the impulse on the first disk is at most 1 + 4 / 4 = 2 from (-2, 0), as u² is 4
 /// and D is 4, so the disk goes on at -3 to 1; and about the middle between the two the impulse turns less than 4, so it
 /// has no component upwards. They touch at tick 3 itself: however fine the tick is parted, they overlap one part later. A
-/// law with a wider bound, one that lets an impulse turn 4, or one of touches some time in the tick, doesn't say it.
+/// law with a wider bound, one that lets an impulse turn 4, or one that leaves open when in the tick they touch, doesn't
+/// say it.
 pub fn the_touch_is_at_tick_three()
     ensures impulse { (c : Change) (after : List Change) (outcome : Outcome) → Runs pair_rules pair_disks (c ∷ after) outcome →
         c.stamp ≡ hit_stamp → (neg_ℤ (pos 3) ≤ℤ c.first.vx) × (c.first.vx ≤ℤ pos 1) × (c.first.vy ≡ pos 0) }

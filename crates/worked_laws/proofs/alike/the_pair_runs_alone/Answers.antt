@@ -8,6 +8,7 @@ use Rattle.alike_runs.specs.Groups.{IsGroup, group_changes}
 use Rattle.worked_laws.specs.Pair.{pair_rules, pair_disks, the_hit, pair_end}
 use Rattle.worked_laws.specs.Others.{three_disks, is_of_pair, one_more, one_less}
 use Rattle.worked_laws.proofs.PairRun.{pair_run}
+use Rattle.worked_laws.proofs.ThreeRun.{three_run}
 use Rattle.worked_laws.proofs.alike.the_pair_runs_alone.Goals as goal
 
 group : IsGroup is_of_pair one_more one_less three_disks pair_disks
@@ -19,8 +20,11 @@ group = record {
   same = λ i. refl;
 }
 
-pub returns : goal.returns
-returns c changes spots run hits =
+pub returns-clause-beside : goal.returns-clause-beside
+returns-clause-beside c = (three_run, (λ pair. refl, tt))
+
+pub returns-clause-alone : goal.returns-clause-alone
+returns-clause-alone c changes spots run hits =
     let alone = (c.groups_run_alone.ensures is_of_pair one_more one_less pair_rules three_disks pair_disks changes group hits).0 spots run in
     let one = one_run pair_rules pair_disks (group_changes is_of_pair one_less changes) (the_hit ∷ []) (Done alone.spots_there) (Done pair_end) alone.run pair_run in
     let ends : ◌≡◌ {A = Outcome} (Done alone.spots_there) (Done pair_end) = one.1 in
