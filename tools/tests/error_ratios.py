@@ -6,7 +6,8 @@ beside its spread over the runs.
 
 It is run by hand, as it takes a minute or so for each seed and 100 σ/v; docs/PHYSICS.md has what it found. The ratio of a
 good error is 1 in the mean; by 20 seeds it comes out between 0.7 and 1.4 nine times of ten. The stated error is the root
-mean square of those of all runs that state one, beside the spread of these runs."""
+mean square of those of all runs that state one, beside the spread of all runs: near freezing those whose order wanders
+farthest state none, and without them the spread would be too small."""
 import argparse
 
 from physics_scenes import np
@@ -61,11 +62,9 @@ def ratios(runs: list[dict[str, tuple[float, float]]]) -> list[tuple[str, float,
     rows = []
     for key in runs[0]:
         values, errors = np.array([run[key] for run in runs]).T
-        is_known = np.isfinite(errors)
-        if is_known.sum() > 1:
-            values, errors = values[is_known], errors[is_known]
-        spread = values.std(ddof=1)
-        rows.append((key, values.mean(), spread, np.sqrt((errors**2).mean()) / spread if spread else np.nan, is_known.sum()))
+        known, spread = errors[np.isfinite(errors)], values.std(ddof=1)
+        ratio = np.sqrt((known**2).mean()) / spread if len(known) and spread else np.nan
+        rows.append((key, values.mean(), spread, ratio, len(known)))
     return rows
 
 
