@@ -5,7 +5,7 @@ import numpy as np
 
 from .measuring import Measure
 from .runs import Frame
-from .sampling import Sampling, Stated, Table, bin_edges
+from .sampling import Sampling, Stated, Table, bin_edges, rough
 from .scenes import Refused
 from .theory import diffusion as enskog_diffusion
 
@@ -88,7 +88,7 @@ def cautions(sampling: Sampling, times: np.ndarray, squares: np.ndarray) -> list
         known = f"{wanted:.4g} sigma v" if wanted == wanted else "unknown"
         notes.append(f"Enskog D = {known} at phi = {sampling.scene.phi:.4g}, that of the whole box")
         if times[-1] < LEAST_TIMES * wanted:
-            notes.append(f"CAUTION: D is too small, as the times are too short: take --most {LEAST_TIMES * wanted:.2g} or more")
+            notes.append(f"CAUTION: D is too small, as the times are too short: take --most {rough(LEAST_TIMES * wanted)} or more")
     is_held = 2 * squares * sampling.scene.sigma**2 > sampling.margin**2
     if is_held.any():
         notes.append(

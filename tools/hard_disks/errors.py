@@ -14,7 +14,7 @@ import numpy as np
 
 from .heat import Heat
 from .order import SLOW
-from .sampling import Sampling
+from .sampling import Sampling, rough
 from .spectra import LEAST_FOR_FIT, MOST, cosines, slowest
 
 # Into how many blocks the time is cut.
@@ -168,17 +168,17 @@ class Errors:
             return ["CAUTION: so few states don't say for how long order remembers, so errors are unknown"]
         if order.is_unknown:
             return [
-                f"CAUTION: order remembers for some {order.memory:.2g} sigma/v, so {self.time:.4g} are too short, and errors are"
-                f" unknown: take {2 * order.least_time:.2g} or more, or several seeds"
+                f"CAUTION: order remembers for some {rough(order.memory)} sigma/v, so {self.time:.4g} are too short, and errors are"
+                f" unknown: take {rough(2 * order.least_time)} or more, or several seeds"
             ]
         if not self.used:
             return ["errors are unknown: two blocks of time or more are wanted"]
         sound, heat = self.heat.times
-        also = f"order, which remembers for {order.memory:.2g}" if order.is_dense else f"heat, which changes in {heat:.3g}"
+        also = f"order, which remembers for {rough(order.memory)}" if order.is_dense else f"heat, which changes in {heat:.3g}"
         found = [f"errors: by the {self.used} slowest waves of each series or more, and by the {also} sigma/v"]
         if self.used < LEAST_FOR_FIT or not order.is_dense and self.time < HEAT_TIMES * heat:
             found.append(
-                f"CAUTION: {self.time:.4g} sigma/v are short, so errors are rough: take {10 * max(sound, heat):.2g} or more, or"
+                f"CAUTION: {self.time:.4g} sigma/v are short, so errors are rough: take {rough(10 * max(sound, heat))} or more, or"
                 " several seeds"
             )
         if self.growth and np.mean(self.growth) > GROWTH:

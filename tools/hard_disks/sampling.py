@@ -136,3 +136,8 @@ def as_text(value: float, digits: int = 6) -> str:
     if isinstance(value, (int, np.integer)):
         return str(value)
     return f"{value:.{digits}g}" if np.isfinite(value) else "unknown"
+
+
+def rough(value: float) -> str:
+    """A number to two digits, without a power of ten."""
+    return f"{float(f'{value:.2g}'):g}"

@@ -223,7 +223,9 @@ class MadeUp(unittest.TestCase):
                 value, error = errors.ratio(local, np.ones(480))
                 values, stated = [*values, float(value)], [*stated, float(error)]
                 memories.append(errors.heat.order.memory)
-                self.assertEqual(np.isnan(error), any("are unknown" in it for it in errors.notes()))
+                notes = errors.notes()
+                self.assertEqual(np.isnan(error), any("are unknown" in it for it in notes))
+                self.assertFalse(any("e+" in it for it in notes), notes)
             known = np.isfinite(stated)
             self.assertTrue(least <= known.mean() <= most, (time, known.mean()))
             if least:
