@@ -5,8 +5,8 @@ ghost use Rattle.std.specs.Prelude.{◌<◌};
 use crate::pace::{Pace, Slice};
 use std::sync::atomic::{AtomicU64, Ordering};
 
-/// The greatest number of slices in which the regions settle.
-pub(crate) const SETTLING_SLICES: u32 = 12;
+// The greatest number of slices in which the regions settle.
+const SETTLING_SLICES: u32 = 12;
 
 // By one in this many parts of it the work beside may be behind the steps.
 const MOST_BEHIND: u64 = 8;
@@ -54,6 +54,11 @@ impl Schedule {
         };
         schedule.go_on(pace);
         schedule
+    }
+
+    /// How many slices begin in a turn at most: one for each of its steps, and those in which the regions settle.
+    pub(crate) fn most_slices(&self) -> u32 {
+        self.steps.saturating_add(SETTLING_SLICES)
     }
 
     /// The turn that they are at.

@@ -24,8 +24,6 @@ pub(crate) struct Shared<O: Origin> {
     pub rendezvous: Rendezvous,
     /// The number of workers, 1 at least.
     pub workers: u32,
-    /// The number of steps of each region in a turn.
-    pub steps: u32,
     ghost some_workers: { 0 < workers },
 }
 
@@ -74,16 +72,9 @@ impl<O: Origin> Shared<O> {
         ensures { S.goes beside.old lent.old beside.new lent.new }
     {
         let job = Job {
-            alloc: self.alloc,
+            shared: self,
             gate,
-            locks: &self.locks,
-            turns: &self.turns,
-            pace: &self.pace,
-            schedule: &self.schedule,
-            rendezvous: &self.rendezvous,
             worker,
-            workers: self.workers,
-            steps: self.steps,
             aside: beside.left() as u64,
         };
         job.run(beside, lent)

@@ -3,4 +3,4 @@ use Rattle.std.proofs.Common.{arith}
 use Rattle.region_workers.proofs.job.Job.region_at.Goals as goal
 
 pub nonzero_div-first : goal.nonzero_div-first
-nonzero_div-first g c = omega (arith, c.args.self.now.some_workers)
+nonzero_div-first g c = omega (arith, c.args.self.now.shared.now.some_workers)
