@@ -1,7 +1,7 @@
 -- The rows worked out by hand.
 mod Sides
 pub mod PairRun
-mod Both
+mod Near
 mod Hit
 mod ThreeRun
 mod Only

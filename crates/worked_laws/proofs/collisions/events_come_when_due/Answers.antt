@@ -15,7 +15,7 @@ use Rattle.worked_laws.proofs.BounceRun.{bouncer, only_tick, only_side}
 use Rattle.worked_laws.specs.Pair.{pair_rules, pair_disks}
 use Rattle.worked_laws.proofs.PairRun.{first, second}
 use Rattle.worked_laws.proofs.Sides.{both}
-use Rattle.worked_laws.proofs.Both.{only_touch}
+use Rattle.worked_laws.proofs.Near.{only_touch}
 use Rattle.worked_laws.proofs.collisions.events_come_when_due.Goals as goal
 
 two_kinds : ◌≡◌ {A = Kind} Wall Pair → ⊥

@@ -41,6 +41,12 @@ TurnsLittle p v q w a b tick =
     nat_abs ((turns_at p v +ℤ turns_at q w) -ℤ (turns_at (place_of a tick) (velocity_of a) +ℤ turns_at (place_of b tick) (velocity_of b)))
     < nat_abs (difference (place_of a tick) (place_of b tick)).x + nat_abs (difference (place_of a tick) (place_of b tick)).y
 
+-- places and velocities may be told otherwise
+same_turn : (p x v y q z w u : Vector) (a b : Disk) (n : ℕ) → p ≡ x → v ≡ y → q ≡ z → w ≡ u → TurnsLittle p v q w a b n → TurnsLittle x y z u a b n
+same_turn p x v y q z w u a b n place velocity other faster h =
+    subst (λ (k : Vector). TurnsLittle k y z u a b n) place (subst (λ (k : Vector). TurnsLittle p k z u a b n) velocity
+    (subst (λ (k : Vector). TurnsLittle p v k u a b n) other (subst (λ (k : Vector). TurnsLittle p v q k a b n) faster h)))
+
 -- so the impulse isn't upwards
 not_upwards : (j : Vector) →
     TurnsLittle (place_of first 3) (sum (velocity_of first) j) (place_of second 3) (difference (velocity_of second) j) first second 3 → j.y ≡ pos 0
@@ -77,11 +83,8 @@ goes_on c same (inr touch) = goes
 
     little : TurnsLittle (place_of hit.first c.stamp.tick) (sum (velocity_of hit.first) hit.impulse)
         (place_of hit.second c.stamp.tick) (difference (velocity_of hit.second) hit.impulse) hit.first hit.second c.stamp.tick
-    little = subst (λ (p : Vector). TurnsLittle p (sum (velocity_of hit.first) hit.impulse) (place_of hit.second c.stamp.tick) (difference (velocity_of hit.second) hit.impulse) hit.first hit.second c.stamp.tick) hit.first_goes_on.place
-        (subst (λ (v : Vector). TurnsLittle (place_of c.first c.stamp.tick) v (place_of hit.second c.stamp.tick) (difference (velocity_of hit.second) hit.impulse) hit.first hit.second c.stamp.tick) hit.first_goes_on.velocity_after
-        (subst (λ (q : Vector). TurnsLittle (place_of c.first c.stamp.tick) (velocity_of c.first) q (difference (velocity_of hit.second) hit.impulse) hit.first hit.second c.stamp.tick) hit.second_goes_on.place
-        (subst (λ (w : Vector). TurnsLittle (place_of c.first c.stamp.tick) (velocity_of c.first) (place_of hit.later c.stamp.tick) w hit.first hit.second c.stamp.tick) hit.second_goes_on.velocity_after
-        (touch.turns (vector (pos 15) (pos 10))))))
+    little = same_turn _ _ _ _ _ _ _ _ hit.first hit.second c.stamp.tick hit.first_goes_on.place hit.first_goes_on.velocity_after
+        hit.second_goes_on.place hit.second_goes_on.velocity_after (touch.turns (vector (pos 15) (pos 10)))
 
     level : hit.impulse.y ≡ pos 0
     level = not_upwards hit.impulse

@@ -1,4 +1,4 @@
--- Two disks of a state of two, and how near they come.
+-- How near the two come, at ticks and between them.
 use Rattle.std.proofs.Common.{◌≡◌, ℕ, zero, suc, ◌*◌, ◌<◌, ◌≤◌, refl, subst, arith}
 use Rattle.std.specs.Prelude.{ℤ, pos, negsuc, neg_ℤ, nat_abs, ◌+ℤ◌, ◌-ℤ◌, ◌*ℤ◌, ◌<ℤ◌}
 use Rattle.std.proofs.lemmas.Int.{ints, by_lt_z}
@@ -41,15 +41,19 @@ apart_before (suc zero) p w few most h = far (between (pos 11) (pos 19) p w) (le
 apart_before (suc (suc zero)) p w few most h = far (between (pos 12) (pos 18) p w) (level p w) (pos 4 *ℤ pos w) (4 * w) (omega (arith, ints)) (omega (arith, ints)) h
 apart_before (suc (suc (suc n))) p w few most h = absurd (omega arith)
 
--- they touch from tick 3 on only
+-- so they don't touch from one of these on
+no_touch_before : (tick : ℕ) → tick < 3 → TouchFrom first second tick → ⊥
+no_touch_before tick few touch =
+    let m = touch.moment in
+    apart_before tick m.part m.whole few touch.within.most
+    (subst (λ (n : ℕ). OverlapAt (record { tick = n; part = m.part; whole = m.whole }) first second) touch.from touch.overlap)
+
+-- they do from tick 3 on only
 pub only_touch : (tick : ℕ) → TouchFrom first second tick → tick ≡ 3
 unfolding half_of
-only_touch zero touch = absurd (apart_before 0 touch.moment.part touch.moment.whole (omega arith) touch.within.most
-    (subst (λ (n : ℕ). OverlapAt (record { tick = n; part = touch.moment.part; whole = touch.moment.whole }) first second) touch.from touch.overlap))
-only_touch (suc zero) touch = absurd (apart_before 1 touch.moment.part touch.moment.whole (omega arith) touch.within.most
-    (subst (λ (n : ℕ). OverlapAt (record { tick = n; part = touch.moment.part; whole = touch.moment.whole }) first second) touch.from touch.overlap))
-only_touch (suc (suc zero)) touch = absurd (apart_before 2 touch.moment.part touch.moment.whole (omega arith) touch.within.most
-    (subst (λ (n : ℕ). OverlapAt (record { tick = n; part = touch.moment.part; whole = touch.moment.whole }) first second) touch.from touch.overlap))
+only_touch zero touch = absurd (no_touch_before 0 (omega arith) touch)
+only_touch (suc zero) touch = absurd (no_touch_before 1 (omega arith) touch)
+only_touch (suc (suc zero)) touch = absurd (no_touch_before 2 (omega arith) touch)
 only_touch (suc (suc (suc zero))) touch = refl
 only_touch (suc (suc (suc (suc zero)))) touch = absurd (touch.apart (omega (arith, ints)))
 only_touch (suc (suc (suc (suc (suc n))))) touch =
