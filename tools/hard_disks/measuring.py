@@ -46,6 +46,10 @@ class Measure:
         """What every table says of the part of the run, and of its errors, which have to be made before."""
         return [*self.errors.notes(), *self.sampling.notes()]
 
+    def conclusions(self, table: Table) -> list[str]:
+        """Notes that follow from a table's numbers and their errors, of one run or of several together."""
+        return []
+
     def table(self) -> Table:
         """What was found."""
         raise NotImplementedError
@@ -125,8 +129,11 @@ def together(runs: list[Measure]) -> Table:
             squares = np.where(known, numbers[:, :, place], 0) ** 2
             with np.errstate(invalid="ignore"):
                 means[:, place] = np.sqrt(squares.sum(axis=0) / known.sum(axis=0) / len(tables))
+    found = Table(first.columns, means.tolist())
+    own = [[note for note in it.notes if note not in run.conclusions(it)] for run, it in zip(runs, tables)]
     notes = [f"{len(tables)} runs: means over them, and standard errors by the spread over them"]
-    return Table(first.columns, means.tolist(), notes + notes_together([it.notes for it in tables]))
+    found.notes = [*notes, *runs[0].conclusions(found), *notes_together(own)]
+    return found
 
 
 def notes_together(notes: list[list[str | Stated]]) -> list[str | Stated]:

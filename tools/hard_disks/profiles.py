@@ -87,16 +87,18 @@ class Profile(Measure):
         areas, errors = self.frames * self.strips.areas(self.edges), self.errors
         columns = [errors.ratio(covered, areas), errors.ratio(heat, disks), errors.ratio(order, disks)]
         known = disks.sum(axis=0) > 0
-        depths = self.edges[:-1][known]
-        (phi, phi_errors), _, (psi6, psi6_errors) = columns = [(values[known], errors[known]) for values, errors in columns]
+        names = ["distance", "phi", "phi_error", "T", "T_error", "psi6", "psi6_error"]
+        distances = self.edges[:-1] + self.width / 2
+        rows = np.column_stack([distances, *(it for column in columns for it in column)])[known].tolist()
         notes = [
             f"{int(self.frames.sum())} frames; by the distance of disks' centres from the nearest wall, away from the corners",
             contact_note(errors, self.touching, self.frames * self.strips.length() * np.diff(self.gaps), self.gaps),
-            *level_notes(depths, (phi, phi_errors, NEAR_PHI), (psi6, psi6_errors, NEAR_PSI6)),
         ]
-        names = ["distance", "phi", "phi_error", "T", "T_error", "psi6", "psi6_error"]
-        rows = np.column_stack([depths + self.width / 2, *(it for column in columns for it in column)]).tolist()
-        return Table(names, rows, [*notes, *self.notes()])
+        return Table(names, rows, [*notes, *self.conclusions(Table(names, rows)), *self.notes()])
+
+    def conclusions(self, table: Table) -> list[str]:
+        distance, phi, phi_errors, _, _, psi6, psi6_errors = np.array(table.rows, float).T
+        return level_notes(distance - self.width / 2, (phi, phi_errors, NEAR_PHI), (psi6, psi6_errors, NEAR_PSI6))
 
 
 def contact_note(errors: Errors, touching: np.ndarray, ideal: np.ndarray, gaps: np.ndarray) -> Stated:

@@ -22,7 +22,7 @@ from hard_disks import errors, theory
 from hard_disks.commands import main as command
 from hard_disks.hexatic import STEP, BondCorrelation, Pairs
 from hard_disks.making import hexagonal, make
-from hard_disks.measuring import measured
+from hard_disks.measuring import measured, together, watch
 from hard_disks.pressure import Pressure
 from hard_disks.profiles import Profile, Strips, level_notes
 from hard_disks.program import find_program
@@ -131,6 +131,18 @@ class Profiles(unittest.TestCase):
             self.assertIn(said, level_notes(depths, (values, errors, 0.01))[0], reach)
         for errors, said in [(math.nan, "unknown"), (0.02, "too great"), (1e-3, "from 0 sigma")]:
             self.assertIn(said, level_notes(depths, (np.full(30, 0.7), np.full(30, errors), 0.01))[0])
+
+    def test_several_runs_say_it_by_their_spread(self):
+        # One state of a run says nothing of errors, and so nothing of where it is level.
+        runs = []
+        for seed in (1, 2, 3):
+            scene, report = fluid(300, 0.4, 4.0, 2.0, seed=seed)
+            runs.append(Profile(sampling(scene, 3.0)))
+            watch(read_text(report, scene), runs[-1:])
+            self.assertTrue(any("so is from where on" in note for note in runs[-1].table().notes))
+        notes = together(runs).notes
+        self.assertFalse(any("so is from where on" in note for note in notes), notes)
+        self.assertEqual(sum("level" in note for note in notes), 1, notes)
 
     def test_the_density_at_walls_is_the_pressure_on_them(self):
         scene, report = fluid(900, 0.45, 24.0, 0.5)
