@@ -1,5 +1,6 @@
 //! How a run calls its helpers: threads that live as long as it does, and work on one burst after another.
 
+use crate::crowd::doublings;
 use crate::letters::Letters;
 use crate::shared::Shared;
 use region_core::Gate;
@@ -11,7 +12,7 @@ use std::sync::atomic::{AtomicU64, Ordering};
 // Stands for the number of bursts of a run that is over. No run has so many.
 const OVER: u64 = u64::MAX;
 
-// How often a helper looks for the next burst before it rests: for some 200 microseconds.
+// How often one of the first helpers looks for the next burst before it rests: for some 200 microseconds.
 const LOOKS: u32 = 3_000;
 
 // How often a helper rests or works until it leaves: for months. Then the others do its work.
@@ -65,7 +66,8 @@ impl<O: Origin> Bell<O> {
     /// Works as a helper on what is posted, until the run is over.
     pub(crate) fn serve<G: Gate>(&self, gate: &G, worker: u32) {
         let mut seen = 0;
-        let mut looks = LOOKS;
+        let most = LOOKS >> doublings(worker);
+        let mut looks = most;
         for _ in 0..ROUNDS {
             let rung = self.look(seen, looks);
             if rung == OVER {
@@ -77,7 +79,7 @@ impl<O: Origin> Bell<O> {
             } else {
                 self.answer(gate, worker);
                 seen = rung;
-                looks = LOOKS;
+                looks = most;
             }
         }
     }

@@ -9,6 +9,7 @@
 mod bell;
 mod by_call;
 mod call;
+mod crowd;
 mod job;
 mod letters;
 pub mod marks;
@@ -24,4 +25,5 @@ mod workers;
 pub use bell::Bell;
 pub use by_call::ByCall;
 pub use call::Call;
+pub use crowd::doublings;
 pub use workers::{MAX_WORKERS, Workers};

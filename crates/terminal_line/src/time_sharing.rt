@@ -9,7 +9,7 @@
 
 use crate::moments::micros;
 use region_core::Gate;
-use region_workers::MAX_WORKERS;
+use region_workers::{MAX_WORKERS, doublings};
 use std::alloc::Global;
 use std::sync::atomic::{AtomicU64, Ordering};
 use std::time::{Clock, Duration};
@@ -27,13 +27,8 @@ const STINT: u64 = 3_000;
 // How many microseconds a worker sleeps to give its processor away.
 const AWAY: u64 = 1;
 
-// How many microseconds a worker sleeps that has nothing to do.
+// How many microseconds one of the first workers sleeps if it has nothing to do.
 const REST: u64 = 20;
-
-// For each so many workers before it, it sleeps twice as long, but no more often than this many times: there are seldom
-// processors for many, and each waking takes one from those who work.
-const FEW: u32 = 4;
-const MOST_DOUBLINGS: u32 = 6;
 
 /// A gate at which a worker gives its processor away for a moment, if others seem to want it and the worker has had it
 /// for some milliseconds.
@@ -90,7 +85,7 @@ impl<'r, R: Clock + Sync> Gate for TimeSharing<'r, R> {
     }
 
     fn rest(&self, worker: u32) {
-        let long = REST << (worker / FEW).min(MOST_DOUBLINGS);
+        let long = REST << doublings(worker);
         self.rt.sleep(Duration::from_micros(long));
     }
 }
