@@ -1,0 +1,2 @@
+-- The scenes that are left of the pair.
+pub mod Rests
