@@ -10,6 +10,8 @@ ghost use Rattle.worked_laws.specs.Rows.{box_until};
 ghost use Rattle.worked_laws.specs.Pair.{pair_rules, pair_disks};
 ghost use Rattle.worked_laws.specs.Bounce.{bounce_disks, the_bounce};
 
+use event_rules::{energy_nearly_stays, momentum_turns_at_sides};
+
 /// By `momentum_turns_at_sides` the velocities of the two that meet have the sum (0, 0) after any beginning of their
 /// run, and the side turns (2, 0) to (-2, 0). A law that lets a side take twice the velocity or nothing, or that lets
 /// two disks change the sum, doesn't say it.
@@ -19,7 +21,9 @@ pub fn momentum_in_the_rows()
     ensures side { (later : List Disk) → Steps (box_until 5) bounce_disks (the_bounce ∷ []) later →
         momentum later ≡ vector (neg_ℤ (pos 2)) (pos 0) }
     ensures bounces { Steps (box_until 5) bounce_disks (the_bounce ∷ []) (effect bounce_disks the_bounce) }
-{}
+{
+    momentum_turns_at_sides();
+}
 
 /// By `energy_nearly_stays` one collision of the two changes the sum of their squared speeds, 2, by at most
 /// 12 · 8 + 4 = 100, and sides keep that of the other disk, 4. A law with a wider bound, or one that lets sides change
@@ -29,4 +33,6 @@ pub fn energy_in_the_rows()
         (energy later ≤ 102) × (2 ≤ energy later + 100) }
     ensures side { (changes : List Change) (later : List Disk) → Steps (box_until 5) bounce_disks changes later → pairs changes ≡ 0 →
         energy later ≡ 4 }
-{}
+{
+    energy_nearly_stays();
+}

@@ -6,7 +6,6 @@ use Rattle.event_rules.specs.declared.change.Change.{Change}
 use Rattle.event_rules.specs.declared.outcome.Outcome.TheVariants.{Done}
 use Rattle.event_rules.specs.Conservation.{momentum, turned_by_sides}
 use Rattle.event_rules.proofs.OneRun.{steps_begin}
-use Rattle.event_rules.proofs.Conserved.{momentum_turns_at_sides}
 use Rattle.worked_laws.specs.Rows.{box_until}
 use Rattle.worked_laws.specs.Pair.{pair_rules, pair_disks, the_hit, pair_end}
 use Rattle.worked_laws.specs.Bounce.{bounce_disks, the_bounce}
@@ -23,11 +22,11 @@ none_turned (c ∷ d ∷ cs) rest e = absurd cc
 pub returns-clause-pair : goal.returns-clause-pair
 returns-clause-pair c changes later steps =
     let begin = steps_begin pair_rules pair_disks later changes _ (Done pair_end) steps pair_run in
-    momentum_turns_at_sides pair_rules pair_disks later changes steps
+    c.momentum_turns_at_sides.ensures pair_rules pair_disks later changes steps
     ∙ ap (sum (momentum pair_disks)) (none_turned changes begin.0 begin.1)
 
 pub returns-clause-side : goal.returns-clause-side
-returns-clause-side c later steps = momentum_turns_at_sides (box_until 5) bounce_disks later (the_bounce ∷ []) steps
+returns-clause-side c later steps = c.momentum_turns_at_sides.ensures (box_until 5) bounce_disks later (the_bounce ∷ []) steps
 
 pub returns-clause-bounces : goal.returns-clause-bounces
 returns-clause-bounces c = bounces
