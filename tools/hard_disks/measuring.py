@@ -141,8 +141,10 @@ def notes_together(notes: list[list[str | Stated]]) -> list[str | Stated]:
     found = []
     for note in notes[0]:
         if isinstance(note, Stated):
-            alike = [it.value for own in notes for it in own if isinstance(it, Stated) and it.name == note.name]
-            found.append(Stated(note.name, float(np.mean(alike)), float(spread_error(alike))))
+            alike = [it for own in notes for it in own if isinstance(it, Stated) and it.name == note.name]
+            values = [it.value for it in alike]
+            after = note.after if all(it.after == note.after for it in alike) else ""
+            found.append(Stated(note.name, float(np.mean(values)), float(spread_error(values)), after))
         elif all(note in own for own in notes) and "errors are" not in note and not note.startswith("errors"):
             found.append(note)
     return found

@@ -143,6 +143,7 @@ class Profiles(unittest.TestCase):
         notes = together(runs).notes
         self.assertFalse(any("so is from where on" in note for note in notes), notes)
         self.assertEqual(sum("level" in note for note in notes), 1, notes)
+        self.assertTrue(any("rho" in note and "which is P / T" in note for note in notes), notes)
 
     def test_the_density_at_walls_is_the_pressure_on_them(self):
         scene, report = fluid(900, 0.45, 24.0, 0.5)
