@@ -1,8 +1,8 @@
 //! One module for each part.
 
 mod beside_bursts;
-mod cases;
 mod locks;
+mod many_bursts;
 mod pace;
 mod pauses;
 mod regions;
