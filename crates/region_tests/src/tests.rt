@@ -1,6 +1,5 @@
 //! The scripts, and the code that plays them.
 
-mod cases;
 mod logs;
 mod news;
 mod regions;
