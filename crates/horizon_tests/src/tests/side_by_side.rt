@@ -1,6 +1,6 @@
 //! Regions that are opened in some threads.
 
-use super::opened::committed_of;
+use super::opened::{committed_of, expect};
 use cell_grid::MAX_REGIONS;
 use cell_sequence::CellState;
 use commit_horizon::Committed;
@@ -8,7 +8,7 @@ use region_core::Region;
 use std::alloc::{AllocError, Global};
 use std::test::Fail;
 use std::thread::Threads;
-use test_scenes::{FOUR_IN_A_ROW, expect};
+use test_scenes::FOUR_IN_A_ROW;
 
 // How many regions there are, and in how many threads they are opened.
 const OPENED: &[(u32, u32)] = &[
