@@ -1,5 +1,6 @@
 //! The scripts, and the code that plays them.
 
+mod cases;
 mod logs;
 mod news;
 mod regions;

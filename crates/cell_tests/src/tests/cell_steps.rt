@@ -1,10 +1,10 @@
 //! The first steps of cell runs.
 
-use super::helpers::{Step, opened, run_next};
+use super::helpers::{Step, expect, opened, run_next};
 use cell_sequence::CellState;
 use event_stamps::Kind;
 use std::alloc::Global;
-use test_scenes::{SLOW_CROSSING, expect};
+use test_scenes::SLOW_CROSSING;
 
 // A box of 4 columns; the cells of the disks are adjacent only from the tick of their contact on.
 const COMING_NEAR: &str = "width = 32\n\

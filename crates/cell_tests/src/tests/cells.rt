@@ -1,12 +1,13 @@
 //! Grids, lists of the disks in cells, and when disks leave their cells: tables worked out by hand, and a body that
 //! tries each tick.
 
+use super::helpers::expect;
 use cell_grid::{Departure, Grid};
 use cell_lists::{Gathered, Lists, block_around};
 use event_stamps::Stamp;
 use fixed_motion::{Disk, Rules};
 use std::alloc::{AllocError, Global};
-use test_scenes::{DrawnNumbers, expect};
+use test_scenes::DrawnNumbers;
 
 // A box of 20 columns of 20 units, and of one row.
 const LONG: Rules = Rules {

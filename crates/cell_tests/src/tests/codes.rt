@@ -1,8 +1,8 @@
 //! Keys as codes, at the edges of what has one.
 
+use super::helpers::expect;
 use event_stamps::{Kind, Stamp};
 use event_tree::{Code, Packed};
-use test_scenes::expect;
 
 // A tick, a round, a kind and two numbers.
 type Parts = (u64, u32, Kind, u32, u32);

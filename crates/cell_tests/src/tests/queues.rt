@@ -5,13 +5,13 @@ ghost use Rattle.std.specs.Prelude.{◌≡◌, IfOk};
 ghost use Rattle.cell_grid.specs.Grid.{IsRegion};
 ghost use Rattle.region_queue.specs.Queue.{IsOf};
 
-use super::helpers::{opened, run_next, view_of};
+use super::helpers::{expect, opened, run_next, view_of};
 use cell_sequence::CellState;
 use event_stamps::{Kind, Stamp};
 use region_queue::Queue;
 use std::alloc::{AllocError, Global};
 use std::test::Fail;
-use test_scenes::{SLOW_CROSSING, expect};
+use test_scenes::SLOW_CROSSING;
 
 // A disk that goes from column 4 to the right, of a box of 20 columns.
 const ONE: &str = "width = 400\n\

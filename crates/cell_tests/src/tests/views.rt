@@ -5,7 +5,7 @@ ghost use Rattle.cell_grid.specs.Grid.{IsRegion};
 ghost use Rattle.region_view.specs.Setting.{IsInOrder};
 ghost use Rattle.region_view.specs.Messages.{RecordsCell};
 
-use super::helpers::{opened, view_of};
+use super::helpers::{expect, opened, view_of};
 use cell_grid::Grid;
 use cell_sequence::CellState;
 use event_rules::Change;
@@ -13,7 +13,7 @@ use event_stamps::{Kind, Stamp};
 use fixed_motion::Disk;
 use region_view::{Action, Message, Placed, View, message_for};
 use std::alloc::Global;
-use test_scenes::{SLOW_CROSSING, expect};
+use test_scenes::SLOW_CROSSING;
 
 const REGIONS: u32 = 4;
 

@@ -3,7 +3,7 @@
 ghost use Rattle.std.specs.Prelude.{◌<◌};
 ghost use Rattle.cell_grid.specs.Grid.{IsAsked};
 
-use super::opened::{Call, regions_after};
+use super::opened::{Call, expect, regions_after};
 use cell_grid::MAX_REGIONS;
 use cell_sequence::CellState;
 use commit_horizon::{Batch, Committed};
@@ -11,7 +11,7 @@ use fixed_motion::Scene;
 use region_view::Action;
 use std::alloc::{AllocError, Global};
 use std::test::Fail;
-use test_scenes::{DrawnNumbers, expect, scene_of, wide};
+use test_scenes::{DrawnNumbers, scene_of, wide};
 
 // The number from which on a scene and its calls are drawn, and how many regions are asked for. The last rows ask for
 // more regions than a scene has columns.

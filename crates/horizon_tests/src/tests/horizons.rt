@@ -2,14 +2,14 @@
 
 ghost use Rattle.commit_horizon.specs.Horizon.{AllStand};
 
-use super::opened::{Call, committed_of, regions_after};
+use super::opened::{Call, committed_of, expect, regions_after};
 use commit_horizon::Committed;
 use event_stamps::{Kind, Stamp};
 use region_core::Region;
 use region_view::Action;
 use std::alloc::{AllocError, Global};
 use std::test::Fail;
-use test_scenes::{ROLLED_BACK, expect};
+use test_scenes::ROLLED_BACK;
 
 // A tick, a round, a kind and two numbers.
 type Key = (u64, u32, Kind, u32, u32);

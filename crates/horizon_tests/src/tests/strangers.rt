@@ -2,7 +2,7 @@
 
 ghost use Rattle.cell_grid.specs.Grid.{IsRegion};
 
-use super::opened::committed_of;
+use super::opened::{committed_of, expect};
 use cell_grid::MAX_REGIONS;
 use cell_sequence::CellState;
 use commit_horizon::{Adopted, Committed};
@@ -10,7 +10,7 @@ use event_stamps::{Kind, Stamp};
 use region_core::{Differs, Region};
 use std::alloc::{AllocError, Global};
 use std::test::Fail;
-use test_scenes::{FOUR_IN_A_ROW, expect};
+use test_scenes::FOUR_IN_A_ROW;
 
 // A disk that goes up and down in region 1 of four, near the border.
 const LEFT: &str = "[190, 10, 0, 8]";

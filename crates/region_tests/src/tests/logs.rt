@@ -3,6 +3,7 @@
 ghost use Rattle.std.specs.Prelude.{IsTrue};
 ghost use Rattle.region_view.specs.Setting.{IsInOrder};
 
+use super::cases::expect;
 use cell_grid::Grid;
 use event_log::EventLog;
 use event_rules::Change;
@@ -12,7 +13,6 @@ use local_run::{Entry, MAX_ENTRIES};
 use region_view::{Action, Message, Placed, Rows, View, opening};
 use std::alloc::{AllocError, Global};
 use std::test::Fail;
-use test_scenes::expect;
 
 // A box of five columns of 20 units.
 const RULES: Rules = Rules {

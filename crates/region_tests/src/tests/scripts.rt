@@ -2,6 +2,7 @@
 
 ghost use Rattle.cell_grid.specs.Grid.{IsRegion};
 
+use super::cases::expect;
 use cell_sequence::CellState;
 use event_rules::Limit;
 use event_stamps::{Kind, Stamp};
@@ -9,7 +10,7 @@ use region_core::{Hearing, Region, Step};
 use std::alloc::{AllocError, Global};
 use std::process::Abort;
 use std::test::Fail;
-use test_scenes::{LONG, expect, scene, scene_of};
+use test_scenes::{LONG, scene, scene_of};
 
 /// A tick, a round, a kind and two numbers: a stamp, short enough for a row.
 pub type Key = (u64, u32, Kind, u32, u32);

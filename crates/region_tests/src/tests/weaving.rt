@@ -1,5 +1,6 @@
 //! Messages that come late, and a comparison with regions that heard the same before they ran.
 
+use super::cases::expect;
 use super::scripts::region_in;
 use cell_sequence::CellState;
 use event_stamps::Stamp;
@@ -8,7 +9,7 @@ use region_messages::Trail;
 use region_view::Message;
 use std::alloc::{AllocError, Global};
 use std::test::Fail;
-use test_scenes::{DrawnNumbers, crowd, expect, scene_of};
+use test_scenes::{DrawnNumbers, crowd, scene_of};
 
 const SCENES: u64 = 10;
 

@@ -4,8 +4,9 @@ ghost use Rattle.std.specs.Prelude.{◌≡◌, Some};
 ghost use Rattle.cell_grid.specs.Grid.{IsAsked};
 ghost use Rattle.cell_sequence.specs.State.{opening_state};
 
+use super::cases::{Case, expect};
 use super::scenes::valid_scene;
-use super::told::{Case, Summing, Told, expect_plain, told_of};
+use super::told::{Summing, Told, expect_plain, told_of};
 use cell_grid::MAX_REGIONS;
 use cell_sequence::CellState;
 use fixed_motion::Scene;
@@ -20,8 +21,7 @@ use std::process::Abort;
 use std::test::Fail;
 use std::thread::Threads;
 use test_scenes::{
-    BOUNCING, DrawnNumbers, FOUR_IN_A_ROW, LONG, MISLED, ROLLED_BACK, USUAL, expect, generated,
-    scene_of,
+    BOUNCING, DrawnNumbers, FOUR_IN_A_ROW, LONG, MISLED, ROLLED_BACK, USUAL, generated, scene_of,
 };
 
 // What is done to the regions in a burst. If a deed names a place where there is no region, it does nothing.

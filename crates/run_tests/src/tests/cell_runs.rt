@@ -2,8 +2,9 @@
 
 ghost use Rattle.cell_grid.specs.Grid.{IsAsked};
 
+use super::cases::{Case, expect};
 use super::scenes::valid_scene;
-use super::told::{Case, Summing, Told, expect_plain, with_spot};
+use super::told::{Summing, Told, expect_plain, with_spot};
 use cell_sequence::CellState;
 use event_rules::{Limit, Spot};
 use fixed_motion::{Disk, Scene};
@@ -11,7 +12,7 @@ use region_view::{Action, Placed};
 use std::alloc::{AllocError, Global};
 use std::process::Abort;
 use std::test::Fail;
-use test_scenes::{FOUR_IN_A_ROW, LONG, ROLLED_BACK, USUAL, expect};
+use test_scenes::{FOUR_IN_A_ROW, LONG, ROLLED_BACK, USUAL};
 
 // More actions than the cell run of a test has.
 const MOST_ACTIONS: u32 = 10_000;

@@ -1,5 +1,6 @@
 //! When runs over regions tell a listener what is final.
 
+use super::cases::expect;
 use super::scenes::valid_scene;
 use event_rules::{Change, Deaf, Listener, RunFault};
 use fixed_motion::Scene;
@@ -10,7 +11,7 @@ use std::process::Abort;
 use std::sync::atomic::{AtomicU64, Ordering};
 use std::test::Fail;
 use std::thread::Threads;
-use test_scenes::{FOUR_IN_A_ROW, LONG, ROLLED_BACK, expect};
+use test_scenes::{FOUR_IN_A_ROW, LONG, ROLLED_BACK};
 
 // A listener that counts, in a word that others read, how often it was told, and refuses one of the tellings.
 #[derive(Drop)]

@@ -4,15 +4,12 @@
 //! changes and end, they have the same report. Changes and disks are summed up as they come, in order, so that none has
 //! to be kept.
 
+use super::cases::{Case, expect};
 use all_pairs::simulate_plain;
 use event_rules::{Change, Deaf, Limit, Listener, Outcome, RunFault, Spot};
 use fixed_motion::{Disk, Scene};
 use std::alloc::{AllocError, Global};
 use std::process::Abort;
-use test_scenes::expect;
-
-/// The number of a row, and the disks or the text of its scene.
-pub type Case<'a> = (usize, &'a str);
 
 /// How many changes a run told, the last of them, and the sum of all.
 pub type Changes = (usize, Option<Change>, i64);

@@ -5,6 +5,7 @@ ghost use Rattle.cell_sequence.specs.State.{opening_state};
 ghost use Rattle.local_run.specs.Bursts.{AreTogether};
 ghost use Rattle.run_floors.specs.Regions.{StandOfRun};
 
+use super::cases::expect;
 use super::scenes::valid_scene;
 use commit_horizon::Committed;
 use event_stamps::{Kind, Stamp};
@@ -19,7 +20,7 @@ use std::sync::atomic::{AtomicBool, AtomicU32, Ordering};
 use std::test::Fail;
 use std::thread;
 use std::thread::Threads;
-use test_scenes::{FOUR_IN_A_ROW, LONG, expect};
+use test_scenes::{FOUR_IN_A_ROW, LONG};
 
 // Disk 0 reaches the cell beside its own.
 const CROSSING: Stamp = Stamp {
