@@ -6,6 +6,6 @@ mod impulses;
 mod motion;
 mod ports;
 mod predictions;
+mod rows;
 mod stamps;
 mod sums;
-mod validity;

@@ -1,15 +1,12 @@
-//! What the tests of several crates share: scenes, numbers for scenes, and the comparison of what is found with what is
-//! wanted.
+//! Scenes, and numbers for scenes, that the tests of several crates share.
 //!
 //! A text of a scene is what the program reads; nothing here is used by the program.
 #![tactic(auto)]
 
-mod cases;
 mod drawn;
 mod numbers;
 mod texts;
 
-pub use cases::expect;
 pub use drawn::{crowd, generated, wide};
 pub use numbers::DrawnNumbers;
 pub use texts::{

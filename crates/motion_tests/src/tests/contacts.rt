@@ -3,9 +3,9 @@
 ghost use Rattle.std.specs.Prelude.{IsTrue};
 ghost use Rattle.plane_vectors.specs.Vectors.{IsWithin};
 
+use super::rows::expect;
 use contact_predictor::{contact, stay};
 use plane_vectors::Vector;
-use test_scenes::expect;
 
 // The greatest sizes: 2^30 units apart, 2^21 units per tick, and 2^31 units for a coordinate that stays.
 const FAR: u64 = 1073741824;

@@ -1,11 +1,11 @@
 //! Pieces that are gathered over a sink of which one call fails: the answers, and what is written.
 
+use super::rows::expect;
 use gathered_sink::GatheringSink;
 use report_ports::{Given, MemorySink, Sink};
 use std::alloc::{AllocError, Global};
 use std::process::Abort;
 use std::test::Fail;
-use test_scenes::expect;
 
 const PIECES: &[&[u8]] = &[b"one\n", b"two\n", b"three\n", b"four\n"];
 

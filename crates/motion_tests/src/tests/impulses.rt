@@ -1,7 +1,7 @@
 //! Impulses, worked out by hand.
 
+use super::rows::expect;
 use impulse_rounding::impulse;
-use test_scenes::expect;
 
 #[test]
 fn rounds_the_exact_impulse(rt: HostRuntime) {

@@ -1,8 +1,7 @@
 //! Where disks are, and which places overlap.
 
-use super::validity::is_valid;
+use super::rows::{expect, is_valid};
 use fixed_motion::{Disk, Rules, overlap};
-use test_scenes::expect;
 
 const RULES: Rules = Rules {
     width: 40,

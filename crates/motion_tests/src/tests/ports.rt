@@ -1,10 +1,10 @@
 //! Ports over a reader and a writer that fail, call by call: no clause says that a call is tried again, nor that a
 //! writer is flushed.
 
+use super::rows::expect;
 use report_ports::{Given, Sink, Source, StdSink, StdSource, Taken};
 use std::io;
 use std::io::{ErrorKind, Read, Write};
-use test_scenes::expect;
 
 // A reader whose first `failing` reads fail with this kind of error, and which then gives `left` bytes and ends.
 #[derive(Drop)]

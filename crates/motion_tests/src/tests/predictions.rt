@@ -4,14 +4,13 @@ ghost use Rattle.std.specs.Prelude.{IsTrue};
 ghost use Rattle.fixed_motion.specs.Rules.{IsChecked};
 ghost use Rattle.fixed_motion.specs.Motion.{IsValidDisk};
 
-use super::validity::is_valid;
+use super::rows::{expect, is_valid};
 use event_rules::{
     Change, Limit, apply, each_may_hit, has_small_products, may_hit_by_small, pair_event,
     wall_event,
 };
 use event_stamps::{Kind, Stamp};
 use fixed_motion::{Disk, Rules};
-use test_scenes::expect;
 
 const RULES: Rules = Rules {
     width: 40,

@@ -1,9 +1,9 @@
 //! The order of stamps.
 
+use super::rows::expect;
 use event_stamps::{Kind, Stamp, compare, earlier};
 use std::cmp::Ordering;
 use std::cmp::Ordering::{Equal, Greater, Less};
-use test_scenes::expect;
 
 // A tick, a round, a kind and two numbers.
 type Parts = (u64, u32, Kind, u32, u32);

@@ -3,12 +3,11 @@
 ghost use Rattle.fixed_motion.specs.Rules.{IsChecked};
 ghost use Rattle.fixed_motion.specs.Motion.{IsValidDisk};
 
-use super::validity::is_valid;
+use super::rows::{expect, is_valid};
 use collision_sums::{Sums, inside_line, is_spot_in_part, sides_line};
 use event_rules::{Change, Spot};
 use event_stamps::{Kind, Stamp};
 use fixed_motion::{Disk, Rules};
-use test_scenes::expect;
 
 const RULES: Rules = Rules {
     width: 40,
