@@ -1,6 +1,7 @@
 //! One module for each part.
 
 mod beside_bursts;
+mod cases;
 mod locks;
 mod many_bursts;
 mod pace;

@@ -3,6 +3,7 @@
 ghost use Rattle.local_run.specs.Bursts.{AreTogether};
 ghost use Rattle.run_floors.specs.Regions.{StandOfRun};
 
+use super::cases::expect;
 use super::regions::opened;
 use fixed_motion::Scene;
 use region_core::{Beside, OpenGate, Region};
@@ -11,7 +12,7 @@ use region_workers::{Bell, Workers};
 use std::alloc::{AllocError, Global};
 use std::marker::Brand;
 use std::test::Fail;
-use test_scenes::{LONG, expect, scene, scene_of};
+use test_scenes::{LONG, scene, scene_of};
 
 // One disk in each region that bounces up and down, every other tick or so.
 const BOUNCING_APART: &str = "[50, 10, 0, 8], [150, 10, 0, 8], [250, 10, 0, 8], [350, 10, 0, 8]";

@@ -3,6 +3,7 @@
 ghost use Rattle.std.specs.Prelude.{◌≡◌};
 ghost use Rattle.cell_sequence.specs.State.{opening_state};
 
+use super::cases::expect;
 use super::regions::{empty_scene, opened};
 use fixed_motion::Scene;
 use region_core::{Gate, Idle};
@@ -14,7 +15,6 @@ use std::sync::atomic::{AtomicU32, Ordering};
 use std::test::Fail;
 use std::thread;
 use std::thread::Threads;
-use test_scenes::expect;
 
 const BURSTS: u32 = 3;
 

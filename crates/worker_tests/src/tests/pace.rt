@@ -1,5 +1,6 @@
 //! How far regions run, and how far a burst is.
 
+use super::cases::expect;
 use super::regions::{RULES, empty_scene, opened};
 use event_stamps::{Kind, Stamp};
 use region_locks::RegionProgress;
@@ -8,7 +9,6 @@ use region_workers::rendezvous::Rendezvous;
 use region_workers::roll::{Roll, Share};
 use region_workers::virtual_time::{from_parts, to_parts};
 use std::alloc::{AllocError, Global};
-use test_scenes::expect;
 
 // A number of regions whose work is done, and whether any of them moved.
 type ShareRow = (u32, bool);

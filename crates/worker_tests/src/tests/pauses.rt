@@ -1,9 +1,9 @@
 //! How long a pause takes.
 
+use super::cases::expect;
 use region_locks::Pause;
 use std::io;
 use std::time::Clock;
-use test_scenes::expect;
 
 // These take some 140 milliseconds, and two if the divisions of a pause are left out.
 const PAUSES: u32 = 2_000_000;

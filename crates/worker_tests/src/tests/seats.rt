@@ -7,13 +7,14 @@ ghost use Rattle.region_table.specs.Bases.{MayLieIn};
 ghost use Rattle.region_table.specs.Rule.{slots_of};
 ghost use Rattle.region_table.specs.Tables.{IsSeatOf};
 
+use super::cases::expect;
 use super::regions::opened;
 use event_stamps::{Kind, Stamp};
 use region_core::{Region, Step};
 use region_table::{RegionTable, TableSeat, TakeOut};
 use std::alloc::{AllocError, Global};
 use std::test::Fail;
-use test_scenes::{SLOW_CROSSING, expect, scene_of};
+use test_scenes::{SLOW_CROSSING, scene_of};
 
 // The region that goes out and comes back, and one that is at home meanwhile.
 const OUT: u32 = 1;

@@ -5,6 +5,7 @@ ghost use Rattle.local_run.specs.Bursts.{AreTogether};
 ghost use Rattle.local_run.specs.RunOn.{AreRunOn};
 ghost use Rattle.commit_horizon.specs.TellingOn.{TellsOn};
 
+use super::cases::expect;
 use super::regions::{REGIONS, opened};
 use event_rules::{Change, Deaf, Listener};
 use event_stamps::{Kind, Stamp};
@@ -18,7 +19,7 @@ use std::sync::atomic::{AtomicBool, Ordering};
 use std::test::Fail;
 use std::thread;
 use std::thread::Threads;
-use test_scenes::{FOUR_IN_A_ROW, LONG, expect, scene, scene_of};
+use test_scenes::{FOUR_IN_A_ROW, LONG, scene, scene_of};
 
 // Disk 0 reaches the cell beside its own.
 const CROSSING: Stamp = Stamp {
