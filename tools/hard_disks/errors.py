@@ -100,9 +100,10 @@ class Errors:
         return whole, known_errors(squares, whole), known_errors(np.where(is_own, known, others), whole)
 
     def counted(self, lag: float) -> int:
-        """How many waves count."""
-        slow = max(lag, self.heat.times[0], SLOW * self.heat.order.memory)
-        return int(np.clip((self.time - lag) / slow, LEAST, MOST))
+        """How many waves count: those that are slow beside sound, the lag and memory, but for memory no less than a fit wants."""
+        time, memory = self.time - lag, self.heat.order.memory
+        by_order = max(int(time / (SLOW * memory)), LEAST_FOR_FIT) if memory else MOST
+        return int(np.clip(min(time / max(lag, self.heat.times[0]), by_order), LEAST, MOST))
 
     def waves(
         self, value: Callable, sums: tuple[np.ndarray, ...], lag: float, is_fine: bool = True

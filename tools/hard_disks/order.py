@@ -16,6 +16,9 @@ from .spectra import LEAST_FOR_FIT, MOST, cosines, slowest
 LOOKS = 240
 # A wave counts if half of its period is so many times that of memory: the fit then makes errors 5 % too small.
 SLOW = 1.25
+# A measure that is shorter than so many times that of memory says no errors. If it is as long, six waves make them 12 % too
+# small. A greater bound would leave out just those runs whose order wanders farthest, and the others would seem surer.
+LEAST_TIMES = 5
 
 
 class Order:
@@ -68,4 +71,4 @@ class Order:
     @property
     def least_time(self) -> float:
         """How long a measure has to be, so that its errors are known."""
-        return LEAST_FOR_FIT * SLOW * self.memory
+        return LEAST_TIMES * self.memory
