@@ -1,6 +1,7 @@
 -- The map of the listed disks, and the map after a disk is listed or taken off.
-use Rattle.std.proofs.Common.{◌≡◌, ◌≢◌, ◌⊎◌, ℕ, zero, suc, ◌+◌, ◌<◌, true, false, cond, List, [], ◌∷◌, length, get_or, set, arith, refl, sym, subst, ap, ◌∙◌, inl, inr}
+use Rattle.std.proofs.Common.{◌≡◌, ◌≢◌, ◌⊎◌, ◌↔◌, ℕ, zero, suc, ◌+◌, ◌<◌, true, false, cond, List, [], ◌∷◌, length, get_or, set, arith, refl, sym, subst, ap, ◌∙◌, inl, inr}
 use Rattle.std.specs.Prelude.{Option, Some, None, Result, Ok, Err, OnErr}
+use Rattle.std.specs.List.{Contains}
 use Rattle.std.specs.Ordering.{nat_cmp, eq_by_cmp}
 use Rattle.std.specs.Cmp.{nat_cmp_total}
 use Rattle.std.specs.FinMap as map
@@ -8,10 +9,8 @@ use Rattle.std.specs.FinMap.{find, nat_cmp-IsAntisymmetric}
 use Rattle.std.proofs.lemmas.Bool.{cases_eq, cases_lt}
 use Rattle.std.proofs.lemmas.List.{get_or-set_same, get_or-set_other, get_or_past}
 use Rattle.cell_grid.specs.Grid.{GridData, IsCell}
-use Rattle.cell_lists.specs.declared.near.Block.{Block}
 use Rattle.cell_lists.specs.Firsts.{IsFirstOf}
 use Rattle.cell_lists.specs.Listing.{ListsData, lists_of, IsListed, IsFirstIn, with_disk, without_disk}
-use Rattle.cell_lists.specs.Nearby.{AreGathered}
 use Rattle.cell_lists.specs.Gathering.{AreGatheredIn}
 use Rattle.cell_lists.proofs.Firsts.{first_kept}
 use Rattle.cell_lists.specs.Chain.{at, IsCellOf, numbered_cells, cells_in, AreCells}
@@ -136,9 +135,12 @@ pub cells_seen : (grid : GridData) (xs : List (Option ℕ)) (lists : ListsData) 
 cells_seen grid xs lists seen are i cell here =
     subst (λ (l : ListsData). IsCell l.grid cell) seen (are i cell (cell_seen grid xs lists i (Some cell) seen here))
 
-pub gathered_seen : (grid : GridData) (xs : List (Option ℕ)) (lists : ListsData) (block : Block) (old new : List ℕ) → lists_of grid (cells_in xs) ≡ lists →
-    AreGatheredIn xs grid block old new → AreGathered lists block old new
-gathered_seen grid xs lists block old new seen h = subst (λ (l : ListsData). AreGathered l block old new) seen (λ disk. (
-  λ is. elim ((h disk).0 is) [ inl was ↦ inl was | inr here ↦ inr (here.0, cell_of xs disk ∙ here.1, here.2) ],
-  λ is. (h disk).1 (elim is [ inl was ↦ inl was | inr here ↦ inr (here.0, sym (cell_of xs disk) ∙ here.1, here.2) ]),
-))
+pub gathered_seen : (grid : GridData) (xs : List (Option ℕ)) (lists : ListsData) (IsSuch : GridData → ℕ → Type 0) (old new : List ℕ) →
+    lists_of grid (cells_in xs) ≡ lists → AreGatheredIn xs (IsSuch grid) old new → (disk : ℕ) →
+    Contains new disk ↔ (Contains old disk ⊎ ((cell : ℕ) × IsListed lists cell disk × IsSuch lists.grid cell))
+gathered_seen grid xs lists IsSuch old new seen h =
+    subst (λ (l : ListsData). (disk : ℕ) →
+    Contains new disk ↔ (Contains old disk ⊎ ((cell : ℕ) × IsListed l cell disk × IsSuch l.grid cell))) seen (λ disk. (
+      λ is. elim ((h disk).0 is) [ inl was ↦ inl was | inr here ↦ inr (here.0, cell_of xs disk ∙ here.1, here.2) ],
+      λ is. (h disk).1 (elim is [ inl was ↦ inl was | inr here ↦ inr (here.0, sym (cell_of xs disk) ∙ here.1, here.2) ]),
+    ))

@@ -1,5 +1,5 @@
 -- The disks that are gathered after others.
-use Rattle.std.proofs.Common.{◌≡◌, ◌≢◌, ◌⊎◌, ◌↔◌, inl, inr, ℕ, zero, suc, ◌+◌, ◌-◌, ◌<◌, ◌≤◌, List, [], ◌∷◌, ◌++◌, length, take, drop, get_or, arith, refl, sym, subst, ap, ◌∙◌}
+use Rattle.std.proofs.Common.{◌≡◌, ◌≢◌, ◌⊎◌, ◌↔◌, inl, inr, ℕ, zero, suc, ◌+◌, ◌-◌, ◌*◌, ◌<◌, ◌≤◌, List, [], ◌∷◌, ◌++◌, length, take, drop, get_or, arith, refl, sym, subst, ap, ◌∙◌}
 use Rattle.std.specs.Prelude.{Option, Some, None, IsSomeAnd}
 use Rattle.std.specs.List.{Contains}
 use Rattle.std.proofs.Math.Nat.{mod-eq_of_lt}
@@ -7,13 +7,11 @@ use Rattle.std.proofs.lemmas.Bool.{cases_lt}
 use Rattle.std.proofs.lemmas.Option.{none-some}
 use Rattle.std.proofs.lemmas.List.{append-nil, append_assoc, length-append, length-drop, length-take-le, take_at, drop_at, get_or_at, get_or_default, get_or-drop, get_or-take, get_or_append_left, take-append-drop, take-append-le, drop-append-le}
 use Rattle.std.proofs.lemmas.List.Elements.{Contains-append_left, Contains-append_right, Contains-append_cases}
-use Rattle.cell_grid.specs.Grid.{GridData}
-use Rattle.cell_lists.specs.declared.near.Block.{Block}
 use Rattle.cell_lists.specs.declared.pointer.Pointer.{Pointer}
 use Rattle.cell_lists.specs.declared.places.Places.{Places}
 use Rattle.cell_lists.specs.declared.gathered.TheConstants.{MOST_GATHERED}
 use Rattle.cell_lists.specs.Firsts.{IsFirstOf}
-use Rattle.cell_lists.specs.Nearby.{IsWithinBlock}
+use Rattle.cell_lists.specs.Nearby.{IsInLine}
 use Rattle.cell_lists.specs.Pointer.{disk_of, SaysMore}
 use Rattle.cell_lists.specs.Places.{Holds}
 use Rattle.cell_lists.specs.Chain.{ChainsData, IsCellOf, InBucket, IsFirst, LeadsOn}
@@ -120,15 +118,17 @@ both_added cells First Second Both a b c (xs, xs_added, x) (ys, ys_added, y) spl
     all disk cell here (inr such) = from_later cells xs ys disk (y.all disk cell here such)
 
 -- one more cell
-next_cell : (first cell n : ℕ) → first ≤ cell → (((first ≤ n) × (n < cell + 1)) ↔ (((first ≤ n) × (n < cell)) ⊎ (n ≡ cell)))
+pub next_cell : (first cell n : ℕ) → first ≤ cell → (((first ≤ n) × (n < cell + 1)) ↔ (((first ≤ n) × (n < cell)) ⊎ (n ≡ cell)))
 next_cell first cell n le = grind arith
 
-pub cell_added : (cells : List (Option ℕ)) (first cell : ℕ) (a b : List ℕ) (o : Option ℕ) → first ≤ cell →
-    StartsAdded cells (λ n. (first ≤ n) × (n < cell)) a b → IsFirstOf (IsCellOf cells cell) 0 o →
-    StartsAdded cells (λ n. (first ≤ n) × (n < cell + 1)) a (with_offered b o)
-cell_added cells first cell a b o le h is =
-    both_added cells (λ n. (first ≤ n) × (n < cell)) (λ n. n ≡ cell) (λ n. (first ≤ n) × (n < cell + 1)) a b (with_offered b o) h
-    (head_added cells cell b o is) (λ n. next_cell first cell n le)
+-- three cells in a line
+pub line_added : (cells : List (Option ℕ)) (first step : ℕ) (a b c d : List ℕ) → StartsAdded cells (λ n. n ≡ first) a b →
+    StartsAdded cells (λ n. n ≡ first + step) b c → StartsAdded cells (λ n. n ≡ first + 2 * step) c d → StartsAdded cells (IsInLine first step) a d
+line_added cells first step a b c d one two three =
+    both_added cells (λ n. n ≡ first) (λ n. (n ≡ first + step) ⊎ (n ≡ first + 2 * step)) (IsInLine first step) a b d one
+    (both_added cells (λ n. n ≡ first + step) (λ n. n ≡ first + 2 * step) (λ n. (n ≡ first + step) ⊎ (n ≡ first + 2 * step)) b c d two three
+    (λ n. (λ h. h, λ h. h)))
+    (λ n. (λ h. h, λ h. h))
 
 -- ---- disks that have a greater one in their cell
 -- a pointer of a bucket of one cell says of that cell what it says
@@ -429,14 +429,14 @@ following_ends cells old first new places following none = record {
   );
 }
 
--- ---- all disks of a block
+-- ---- all disks of some cells
 pub starts_behind : (cells : List (Option ℕ)) (IsSuch : ℕ → Type 0) (old new : List ℕ) → StartsAdded cells IsSuch old new → AreAllListed cells (drop (length old) new)
 starts_behind cells IsSuch old new (starts, added, are) = subst (AreAllListed cells) (sym (ap (drop (length old)) added ∙ drop_at old starts (length old) refl))
     (λ disk is. (let h = are.listed disk is in (h.0, h.1)))
 
-pub gathered_in : (cells : List (Option ℕ)) (grid : GridData) (block : Block) (old starts new : List ℕ) → StartsAdded cells (IsWithinBlock grid block) old starts →
-    AreFollowed cells (length old) starts new → AreGatheredIn cells grid block old new
-gathered_in cells grid block old mid new (starts, added, are) followed disk = (
+pub gathered_in : (cells : List (Option ℕ)) (IsSuch : ℕ → Type 0) (old starts new : List ℕ) → StartsAdded cells IsSuch old starts →
+    AreFollowed cells (length old) starts new → AreGatheredIn cells IsSuch old new
+gathered_in cells IsSuch old mid new (starts, added, are) followed disk = (
   λ is. forward (Contains-append_cases (take (length old) new) (drop (length old) new) disk (subst (λ (xs : List ℕ). Contains xs disk) (sym whole) is)),
   λ h. subst (λ (xs : List ℕ). Contains xs disk) whole (backward h),
 )
@@ -451,14 +451,14 @@ gathered_in cells grid block old mid new (starts, added, are) followed disk = (
     behind = ap (drop (length old)) added ∙ drop_at old starts (length old) refl
 
     forward : Contains (take (length old) new) disk ⊎ Contains (drop (length old) new) disk →
-        Contains old disk ⊎ ((cell : ℕ) × IsCellOf cells cell disk × IsWithinBlock grid block cell)
+        Contains old disk ⊎ ((cell : ℕ) × IsCellOf cells cell disk × IsSuch cell)
     forward (inl is) = inl (subst (λ (xs : List ℕ). Contains xs disk) before is)
     forward (inr is) =
         let from = subst (λ (xs : List ℕ). IsFromOneOf cells xs disk) behind ((followed.all disk).0 is) in
         let start = are.listed from.0 from.1 in
         inr (start.0, subst (λ (n : ℕ). IsCellOf cells n disk) (one_cell cells from.2.0 start.0 from.0 from.2.1 start.1) from.2.2, start.2)
 
-    backward : Contains old disk ⊎ ((cell : ℕ) × IsCellOf cells cell disk × IsWithinBlock grid block cell) → Contains (take (length old) new ++ drop (length old) new) disk
+    backward : Contains old disk ⊎ ((cell : ℕ) × IsCellOf cells cell disk × IsSuch cell) → Contains (take (length old) new ++ drop (length old) new) disk
     backward (inl is) = Contains-append_left (take (length old) new) (drop (length old) new) disk (subst (λ (xs : List ℕ). Contains xs disk) (sym before) is)
     backward (inr h) = Contains-append_right (take (length old) new) (drop (length old) new) disk
         ((followed.all disk).1 (subst (λ (xs : List ℕ). IsFromOneOf cells xs disk) (sym behind) (are.all disk h.0 h.1 h.2)))

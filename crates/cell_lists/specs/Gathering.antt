@@ -1,15 +1,12 @@
 -- How the disks of some cells are gathered: the first of each cell, and then the next of each that was gathered.
 use Rattle.std.specs.Prelude.{◌≡◌, ◌↔◌, ◌⊎◌, ℕ, ◌<◌, ◌≤◌, List, [], ◌∷◌, ◌++◌, length, take, drop, slice_index_or, Option, Some, None, IsSomeAnd}
 use Rattle.std.specs.List.{Contains}
-use Rattle.cell_grid.specs.Grid.{GridData}
-use Rattle.cell_lists.specs.declared.near.Block.{Block}
 use Rattle.cell_lists.specs.declared.pointer.Pointer.{Pointer}
 use Rattle.cell_lists.specs.declared.places.Places.{Places}
 use Rattle.cell_lists.specs.Pointer.{disk_of, SaysMore}
 use Rattle.cell_lists.specs.Places.{Holds}
 use Rattle.cell_lists.specs.Firsts.{IsFirstOf}
 use Rattle.cell_lists.specs.Chain.{ChainsData, IsCellOf}
-use Rattle.cell_lists.specs.Nearby.{IsWithinBlock}
 
 -- the list with a number appended, if there is one
 abbrev pub with_offered : List ℕ → Option ℕ → List ℕ
@@ -60,7 +57,7 @@ pub record AreFollowed (cells : List (Option ℕ)) (first : ℕ) (old new : List
   pub kept : take first new ≡ take first old
   pub all : (disk : ℕ) → (Contains (drop first new) disk ↔ IsFromOneOf cells (drop first old) disk)
 
--- the new disks are the old ones and those that are listed in the block
-abbrev pub AreGatheredIn : List (Option ℕ) → GridData → Block → List ℕ → List ℕ → Type 0
-AreGatheredIn cells grid block old new = (disk : ℕ) →
-    Contains new disk ↔ (Contains old disk ⊎ ((cell : ℕ) × IsCellOf cells cell disk × IsWithinBlock grid block cell))
+-- the new disks are the old ones and those that are listed in such cells
+abbrev pub AreGatheredIn : List (Option ℕ) → (ℕ → Type 0) → List ℕ → List ℕ → Type 0
+AreGatheredIn cells IsSuch old new = (disk : ℕ) →
+    Contains new disk ↔ (Contains old disk ⊎ ((cell : ℕ) × IsCellOf cells cell disk × IsSuch cell))

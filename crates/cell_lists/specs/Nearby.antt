@@ -1,5 +1,5 @@
 -- Blocks of cells, and the disks that are listed in them.
-use Rattle.std.specs.Prelude.{◌⊎◌, ◌↔◌, ℕ, ◌+◌, ◌<◌, ◌≤◌, List}
+use Rattle.std.specs.Prelude.{◌≡◌, ◌⊎◌, ◌↔◌, ℕ, ◌+◌, ◌*◌, ◌<◌, ◌≤◌, List}
 use Rattle.std.specs.List.{Contains}
 use Rattle.cell_grid.specs.Grid.{GridData, column_of, row_of, IsAdjacent}
 use Rattle.cell_lists.specs.declared.near.Block.{Block}
@@ -32,3 +32,12 @@ columns_to block row column = record { left = block.left; right = column; low = 
 -- the new disks are the old ones and those that are listed in the block
 abbrev pub AreGathered : ListsData → Block → List ℕ → List ℕ → Type 0
 AreGathered lists block old new = (disk : ℕ) → Contains new disk ↔ (Contains old disk ⊎ IsListedWithin lists block disk)
+
+-- the cell is the first of three in a line, or one step or two steps from it
+abbrev pub IsInLine : ℕ → ℕ → ℕ → Type 0
+IsInLine first step cell = (cell ≡ first) ⊎ ((cell ≡ first + step) ⊎ (cell ≡ first + 2 * step))
+
+-- the new disks are the old ones and those that are listed in these three cells
+abbrev pub AreGatheredInLine : ListsData → ℕ → ℕ → List ℕ → List ℕ → Type 0
+AreGatheredInLine lists first step old new = (disk : ℕ) →
+    Contains new disk ↔ (Contains old disk ⊎ ((cell : ℕ) × IsListed lists cell disk × IsInLine first step cell))

@@ -5,10 +5,11 @@
 //! them at once. A pointer to a disk says whether the disk has a next one, so only the nodes of the disks that have one
 //! are read then.
 
-ghost use Rattle.std.specs.Prelude.{◌*◌, ℕ, ◌<◌, ◌≤◌, take, drop, IfSome, IsTrue};
+ghost use Rattle.std.specs.Prelude.{◌≡◌, ◌+◌, ◌*◌, ℕ, ◌<◌, ◌≤◌, take, drop, IfSome, IsTrue};
 ghost use Rattle.cell_lists.specs.declared.gathered.TheConstants.{MOST_GATHERED};
 ghost use Rattle.cell_lists.specs.Chain.{AreCells};
-ghost use Rattle.cell_lists.specs.Nearby.{IsBlock, IsWithinBlock};
+ghost use Rattle.cell_grid.specs.Grid.{IsCell};
+ghost use Rattle.cell_lists.specs.Nearby.{IsBlock, IsWithinBlock, IsInLine};
 ghost use Rattle.cell_lists.specs.Places.{Holds};
 ghost use Rattle.cell_lists.specs.Gathering.{HaveOwnBuckets, AreAllListed, StartsAdded, ArePending, AreFollowed, AreGatheredIn};
 
@@ -25,7 +26,7 @@ impl Chains {
     pub fn gather(&self, grid: &Grid, block: Block, gathered: &mut Gathered) -> bool
         requires cells { AreCells grid.now self.now.cells }
         requires block { IsBlock grid.now block }
-        ensures { IsTrue result → AreGatheredIn self.now.cells grid.now block gathered.old gathered.new }
+        ensures { IsTrue result → AreGatheredIn self.now.cells (IsWithinBlock grid.now block) gathered.old gathered.new }
     {
         if !self.has_buckets(grid.rows() * grid.columns()) {
             return false;
@@ -43,6 +44,58 @@ impl Chains {
         };
         gathered.count = count;
         true
+    }
+
+    // The same for three cells in a line: `first`, and those one step and two steps from it.
+    #[inline(always)]
+    pub fn gather_line(&self, grid: &Grid, first: u32, step: u32, gathered: &mut Gathered) -> bool
+        requires cells { AreCells grid.now self.now.cells }
+        requires line { IsCell grid.now (first + 2 * step) }
+        ensures { IsTrue result → AreGatheredIn self.now.cells (IsInLine first step) gathered.old gathered.new }
+    {
+        if !self.has_buckets(grid.rows() * grid.columns()) {
+            return false;
+        }
+        if gathered.count > MOST_GATHERED - 3 {
+            return false;
+        }
+        let disks = &mut gathered.disks;
+        let before = SoFar {
+            count: gathered.count,
+            pending: Places::none(),
+        };
+        let heads = self.gather_heads_in_line(first, step, disks, before);
+        let Some(count) = self.gather_nexts(gathered.count, disks, heads) else {
+            return false;
+        };
+        gathered.count = count;
+        true
+    }
+
+    // Gathers the least disk of each of these three cells behind those of `before`, as `gather_heads` does.
+    #[inline(always)]
+    fn gather_heads_in_line(
+        &self,
+        first: u32,
+        step: u32,
+        disks: &mut [u32; MOST_GATHERED],
+        before: SoFar,
+    ) -> SoFar
+        requires own { HaveOwnBuckets self.now }
+        requires buckets { first + 2 * step < self.now.buckets }
+        requires room { before.count + 3 ≤ MOST_GATHERED }
+        requires none { (p : ℕ) → ¬ Holds before.pending p }
+        ensures room { result.count ≤ MOST_GATHERED }
+        ensures more { before.count ≤ result.count }
+        ensures added { StartsAdded self.now.cells (IsInLine first step) (take before.count disks.old)
+            (take result.count disks.new) }
+        ensures pending { ArePending self.now.cells before.count (take result.count disks.new) result.pending }
+    {
+        let start = first as usize;
+        let step = step as usize;
+        let one = self.offer_head(start, disks, before);
+        let two = self.offer_head(start + step, disks, one);
+        self.offer_head(start + 2 * step, disks, two)
     }
 
     // Gathers the least disk of each cell of a block behind those of `first`. The answer says how many there are then,
@@ -100,12 +153,30 @@ impl Chains {
         if (end - first) as usize > MOST_GATHERED - before.count {
             return None;
         }
-        let heads = self.heads();
         let mut so_far = before;
         for cell in first..end {
-            so_far = so_far.offer(disks, heads[cell as usize]);
+            so_far = self.offer_head(cell as usize, disks, so_far);
         }
         Some(so_far)
+    }
+
+    // The same for one cell, without the test.
+    #[inline(always)]
+    fn offer_head(&self, cell: usize, disks: &mut [u32; MOST_GATHERED], before: SoFar) -> SoFar
+        requires own { HaveOwnBuckets self.now }
+        requires bucket { cell < self.now.buckets }
+        requires room { before.count < MOST_GATHERED }
+        ensures room { result.count ≤ MOST_GATHERED }
+        ensures more { before.count ≤ result.count }
+        ensures one { result.count ≤ before.count + 1 }
+        ensures added { StartsAdded self.now.cells (λ n. n ≡ cell) (take before.count disks.old)
+            (take result.count disks.new) }
+        ensures pending { (start : ℕ) → start ≤ before.count →
+            ArePending self.now.cells start (take before.count disks.old) before.pending →
+            ArePending self.now.cells start (take result.count disks.new) result.pending }
+    {
+        let heads = self.heads();
+        before.offer(disks, heads[cell])
     }
 
     // Gathers the next disk after each pending one, then the next after those, until none is pending. None if there is

@@ -31,11 +31,11 @@ impl Model for Lists {
     ghost invariant = { λ a. AreCells a.grid a.chains.cells };
 }
 
-ghost use Rattle.std.specs.Prelude.{◌≡◌, ◌+◌, ◌<◌, ◌≤◌, OnOk, OnErr, IfOk, IfSome, IsTrue};
+ghost use Rattle.std.specs.Prelude.{◌≡◌, ◌+◌, ◌*◌, ◌<◌, ◌≤◌, OnOk, OnErr, IfOk, IfSome, IsTrue};
 ghost use Rattle.std.specs.FinMap as map;
 ghost use Rattle.cell_grid.specs.Grid.{IsCell};
 ghost use Rattle.cell_lists.specs.Firsts.{IsFirstOf, AreAllFrom, lesser_of};
-ghost use Rattle.cell_lists.specs.Nearby.{IsBlock, IsListedWithin, IsListedNear, AreGathered, columns_to};
+ghost use Rattle.cell_lists.specs.Nearby.{IsBlock, IsListedWithin, IsListedNear, AreGathered, AreGatheredInLine, columns_to};
 ghost use Rattle.cell_lists.specs.Listing.{lists_of, IsListed, IsUnlisted, IsFirstIn, AreInGrid, with_disk, without_disk};
 
 impl Lists {
@@ -167,6 +167,15 @@ impl Lists {
         ensures { IsTrue result → AreGathered self.now block gathered.old gathered.new }
     {
         self.chains.gather(&self.grid, block, gathered)
+    }
+
+    /// The same for three cells in a line: `first`, and those one step and two steps from it.
+    #[inline(always)]
+    pub fn gather_line(&self, first: u32, step: u32, gathered: &mut Gathered) -> bool
+        requires { IsCell self.now.grid (first + 2 * step) }
+        ensures { IsTrue result → AreGatheredInLine self.now first step gathered.old gathered.new }
+    {
+        self.chains.gather_line(&self.grid, first, step, gathered)
     }
 }
 

@@ -1,2 +1,3 @@
 -- The lemmas of the tests.
+mod Alone
 mod Views

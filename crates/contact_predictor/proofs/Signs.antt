@@ -1,11 +1,9 @@
 -- What the machine's tests tell of signed numbers of 64 bits.
-use Rattle.std.proofs.Common.{◌≡◌, ◌↔◌, IsTrue, ◌<◌, Bool, true, false, T, refl, sym, ap, subst, ◌∙◌}
-use lib.Signed.{mag, lt_z, le_z}
+use Rattle.std.proofs.Common.{◌≡◌, ◌↔◌, IsTrue, Bool, true, false, T, refl, sym, subst, ◌∙◌}
+use lib.Signed.{lt_z, le_z}
 use Rattle.std.specs.Prelude.{ℤ, pos, FitsSigned, ◌≤ℤ◌, ◌<ℤ◌}
 use mir.Syntax.{w64}
-use Rattle.plane_vectors.specs.declared.Vector.{Vector}
 use Rattle.plane_vectors.proofs.Sizes.{sent, sent_same}
-use Rattle.contact_predictor.specs.Contact.{gap}
 
 is_true : (b : Bool) → T b → b ≡ true
 is_true true h = refl
@@ -23,11 +21,3 @@ negative z n fits is = rw (sent_same z fits ∙ is) (less n (pos 0))
 
 pub not_negative : (z n : ℤ) → FitsSigned w64 z → z ≡ n → IsTrue (le_z (pos 0) (sent z)) ↔ (pos 0 ≤ℤ n)
 not_negative z n fits is = rw (sent_same z fits ∙ is) (no_more (pos 0) n)
-
--- a result has its bits
-pub fits_by : (z : ℤ) → mag z < 9223372036854775808 → FitsSigned w64 z
-fits_by z h = record { sfits = h }
-
--- the squared gap that a call returned
-pub gap_is : (r : Vector) (distance z : ℤ) → FitsSigned w64 distance → z ≡ gap r (sent distance) → z ≡ gap r distance
-gap_is r distance z fits is = is ∙ ap (gap r) (sent_same distance fits)

@@ -17,13 +17,12 @@ pub record FitsApproach (r u : Vector) (distance : ℤ) : Type 0 where
   pub closing : nat_abs (dot r u) < 2 ^ 63
   pub gap : nat_abs (gap r distance) < 2 ^ 63
 
--- the products of two of its numbers fit 64 bits too
-pub record IsSmall (q : Approach) : Type 0 where
+-- its numbers are as great as those of two disks in a box may be, at most
+pub record IsFit (q : Approach) : Type 0 where
   pub not_negative : pos 0 ≤ℤ q.square
-  pub square : nat_abs q.square < 2 ^ 62
-  pub closing : nat_abs q.closing ≤ 2 ^ 31
-  pub gap : nat_abs q.gap < 2 ^ 62
-  pub product : nat_abs q.square * nat_abs q.gap < 2 ^ 63
+  pub square : nat_abs q.square ≤ 2 ^ 43
+  pub closing : nat_abs q.closing ≤ 2 ^ 52
+  pub gap : nat_abs q.gap ≤ 2 ^ 61
 
 -- the disks approach, and the discriminant is positive
 abbrev pub IsCourse : Approach → Type 0

@@ -1,14 +1,13 @@
 //! The squared gap of two disks on straight paths as a quadratic of the ticks, in 64 bits.
 
-ghost use Rattle.std.specs.Prelude.{◌≡◌, ◌↔◌, ◌*◌, ◌^◌, ◌≤◌, ℕ, ℤ, pos, nat_abs, ◌+ℤ◌, ◌*ℤ◌, ◌≤ℤ◌, ◌<ℤ◌, IsTrue, IfSome};
+ghost use Rattle.std.specs.Prelude.{◌≡◌, ◌↔◌, ℤ, pos, ◌+ℤ◌, ◌*ℤ◌, ◌≤ℤ◌, ◌<ℤ◌, IsTrue};
 ghost use Rattle.std.specs.Int.{int_wrap, w64};
 ghost use Rattle.plane_vectors.specs.declared.Vector.{Vector};
 ghost use Rattle.plane_vectors.specs.Vectors.{dot};
 ghost use Rattle.contact_predictor.specs.Contact.{IsContact, IsOnlyContactAfter};
-ghost use Rattle.contact_predictor.specs.Approach.{FitsApproach, IsApproachOf, IsSmall, IsCourse, IsEarly, closing_after, gap_after};
+ghost use Rattle.contact_predictor.specs.Approach.{FitsApproach, IsApproachOf, IsFit, IsCourse, IsEarly, closing_after, gap_after};
 
-use crate::MAX_TICKS;
-use crate::roots::{PAST_FLOATS, float_quotient, small_root};
+use crate::roots::smaller_root;
 use plane_vectors::Vector;
 
 /// The quadratic a s^2 + 2 b s + c in the number s of ticks, for two disks on straight paths: their squared gap, which
@@ -49,14 +48,14 @@ impl Approach {
         }
     }
 
-    /// Whether the disks approach each other on paths that cross, if they don't overlap. If the products are great,
-    /// nothing is said of the answer.
+    /// Whether the disks approach each other on paths that cross, if they don't overlap. The products take 128 bits.
     #[inline(always)]
     pub fn is_course(self) -> bool
-        ensures { IsSmall self → IsTrue result ↔ IsCourse self }
+        ensures { IsTrue result ↔ IsCourse self }
     {
-        let product = self.square.wrapping_mul(self.gap);
-        (self.closing < 0) & (product < self.closing.wrapping_mul(self.closing))
+        let product = i128::from(self.square) * i128::from(self.gap);
+        let square = i128::from(self.closing) * i128::from(self.closing);
+        (self.closing < 0) & (product < square)
     }
 
     /// Whether the disks overlap.
@@ -67,105 +66,64 @@ impl Approach {
         self.gap < 0
     }
 
-    /// After how many ticks, at most 2^30, two disks that are apart, and approach each other on paths that cross,
-    /// are at their last whole tick before they overlap. None says nothing: a guess wasn't confirmed, which is seldom.
+    /// After how many ticks two disks that are apart, and approach each other on paths that cross, are at their last
+    /// whole tick before they overlap.
     #[inline(always)]
-    pub fn contact(self) -> Option<u64>
-        requires small { IsSmall self }
+    pub fn contact(self) -> u64
+        requires fits { IsFit self }
         requires apart { pos 0 ≤ℤ self.gap }
         requires course { IsCourse self }
-        ensures found { IfSome result (λ ticks. (r u : Vector) (distance : ℤ) → IsApproachOf r u distance self →
-            IsOnlyContactAfter r u distance ticks) }
-        ensures near { IfSome result (λ ticks. ticks ≤ 2 ^ 30) }
+        ensures found { (r u : Vector) (distance : ℤ) → IsApproachOf r u distance self → IsOnlyContactAfter r u distance result }
+        ensures early { IsEarly self result }
     {
-        match self.quick_contact() {
-            Some(ticks) => Some(ticks),
-            None => self.contact_by_integers(),
-        }
-    }
-
-    /// The same as [`contact`](Approach::contact), by floats alone: None also if a float doesn't hold the numbers.
-    #[inline(always)]
-    pub fn quick_contact(self) -> Option<u64>
-        requires small { IsSmall self }
-        requires apart { pos 0 ≤ℤ self.gap }
-        requires course { IsCourse self }
-        ensures found { IfSome result (λ ticks. (r u : Vector) (distance : ℤ) → IsApproachOf r u distance self →
-            IsOnlyContactAfter r u distance ticks) }
-        ensures near { IfSome result (λ ticks. ticks ≤ 2 ^ 30) }
-    {
-        match self.float_guess() {
-            Some(ticks) if self.ends_after(ticks) => Some(ticks),
-            _ => None,
-        }
-    }
-
-    // The smaller root by floats, up to rounding. It is tested, so that it is known not to be late. None if a float
-    // doesn't hold the numbers, or the test fails.
-    #[inline(always)]
-    fn float_guess(self) -> Option<u64>
-        requires small { IsSmall self }
-        ensures early { IfSome result (IsEarly self) }
-        ensures near { IfSome result (λ ticks. ticks ≤ 2 ^ 30) }
-    {
-        let closing = self.closing.unsigned_abs();
-        let gap = self.gap.unsigned_abs();
-        let discriminant = self.discriminant();
-        if gap.max(discriminant) >= PAST_FLOATS {
-            return None;
-        }
-        let ticks = float_quotient(gap, discriminant, closing);
-        if ticks <= MAX_TICKS && ticks * closing <= gap {
-            Some(ticks)
+        let ticks = smaller_root(self.square, self.closing, self.gap);
+        if self.is_early(ticks) && self.ends_after(ticks) {
+            ticks
         } else {
-            None
+            self.contact_by_halving()
         }
     }
 
-    // The same as `contact`, by whole numbers alone. It is seldom called, so it is kept apart.
+    // Whether this many ticks are at most c / |b|, as the smaller root is. For so many 64 bits are enough.
+    #[inline(always)]
+    fn is_early(self, ticks: u64) -> bool
+        ensures { IsTrue result ↔ IsEarly self ticks }
+    {
+        u128::from(ticks) * u128::from(self.closing.unsigned_abs())
+            <= u128::from(self.gap.unsigned_abs())
+    }
+
+    // The same as `contact`, by halving the span in which it must be: in as many steps as that has bits. It is seldom
+    // called, so it is kept apart.
     #[inline(never)]
-    fn contact_by_integers(self) -> Option<u64>
-        requires small { IsSmall self }
+    fn contact_by_halving(self) -> u64
+        requires fits { IsFit self }
         requires apart { pos 0 ≤ℤ self.gap }
         requires course { IsCourse self }
-        ensures found { IfSome result (λ ticks. (r u : Vector) (distance : ℤ) → IsApproachOf r u distance self →
-            IsOnlyContactAfter r u distance ticks) }
-        ensures near { IfSome result (λ ticks. ticks ≤ 2 ^ 30) }
+        ensures found { (r u : Vector) (distance : ℤ) → IsApproachOf r u distance self → IsOnlyContactAfter r u distance result }
+        ensures early { IsEarly self result }
     {
-        let ticks = self.guess();
-        if ticks <= MAX_TICKS && self.ends_after(ticks) {
-            Some(ticks)
-        } else {
-            None
+        // The ticks at which the disks approach are the first ones, up to the contact.
+        let mut low = 0;
+        let mut high = self.gap.unsigned_abs() / self.closing.unsigned_abs() + 1;
+        while high - low > 1 {
+            let middle = low + (high - low) / 2;
+            if self.after(middle as i64).is_approaching() {
+                low = middle;
+            } else {
+                high = middle;
+            }
         }
-    }
-
-    // The smaller root, up to rounding. It is only known not to be late: it is at most c / |b|.
-    #[inline(always)]
-    fn guess(self) -> u64
-        requires { self.closing <ℤ pos 0 }
-        ensures { IsEarly self result }
-    {
-        let root = small_root(self.discriminant());
-        self.gap.unsigned_abs() / root.saturating_add(self.closing.unsigned_abs())
-    }
-
-    // The discriminant, wrapped to 64 bits: the proof needs to know nothing of it.
-    #[inline(always)]
-    fn discriminant(self) -> u64 {
-        let square = self.closing.wrapping_mul(self.closing);
-        let product = self.square.wrapping_mul(self.gap);
-        square.wrapping_sub(product).cast_unsigned()
+        low
     }
 
     // Whether they approach after `ticks` ticks for the last time.
     #[inline(always)]
     fn ends_after(self, ticks: u64) -> bool
-        requires small { IsSmall self }
+        requires fits { IsFit self }
         requires apart { pos 0 ≤ℤ self.gap }
         requires course { IsCourse self }
         requires early { IsEarly self ticks }
-        requires near { ticks ≤ 2 ^ 30 }
         ensures { IsTrue result → (r u : Vector) (distance : ℤ) → IsApproachOf r u distance self →
             IsOnlyContactAfter r u distance ticks }
     {
@@ -173,11 +131,11 @@ impl Approach {
         then.is_approaching() && !then.after(1).is_approaching()
     }
 
-    /// Whether the disks are at their last whole tick before they overlap. If the products are great, nothing is said
-    /// of the answer.
+    /// Whether the disks are at their last whole tick before they overlap. If its numbers are greater than those of
+    /// disks in a box, nothing is said of the answer.
     #[inline(always)]
     pub fn is_contact(self) -> bool
-        ensures { IsSmall self → (r u : Vector) (distance : ℤ) → IsApproachOf r u distance self →
+        ensures { IsFit self → (r u : Vector) (distance : ℤ) → IsApproachOf r u distance self →
             IsTrue result ↔ IsContact r u distance }
     {
         if self.overlap() {

@@ -1,16 +1,16 @@
 -- The least of the topmost keys of a tree is the least of its leaves.
-use Rattle.std.proofs.Common.{◌≡◌, ◌≢◌, ◌⊎◌, ℕ, zero, suc, ◌+◌, ◌-◌, ◌*◌, ◌/◌, ◌^◌, ◌<◌, ◌≤◌, List, [], ◌∷◌, length, take, drop, set, get_or, replicate, below_more, arith, refl, sym, ap, subst, ◌∙◌, inl, inr}
-use Rattle.std.specs.Prelude.{Some, None, is_some, false, if◌then◌else◌}
+use Rattle.std.proofs.Common.{◌≡◌, ◌≢◌, ◌⊎◌, ℕ, zero, suc, ◌+◌, ◌-◌, ◌*◌, ◌/◌, ◌^◌, ◌<◌, ◌≤◌, List, [], ◌∷◌, length, take, drop, set, get_or, replicate, map, arith, refl, sym, ap, subst, ◌∙◌, inl, inr}
+use Rattle.std.specs.Prelude.{Some, None, if◌then◌else◌}
 use Rattle.std.specs.Ordering.{is_lt}
 use Rattle.std.specs.declared.cmp.Ordering.{Ordering}
 use Rattle.std.specs.declared.cmp.Ordering.TheVariants.{Less, Equal, Greater}
-use Rattle.std.proofs.lemmas.List.{get_or-take, get_or-drop, get_or-set_same, get_or-set_other, get_or_past, get_or_default, get_or-replicate, length-replicate, length-drop, drop-replicate}
-use Rattle.std.proofs.lemmas.Bool.{false≢true}
+use Rattle.std.proofs.lemmas.List.{get_or-take, get_or-drop, get_or-set_same, get_or-set_other, get_or_past, get_or_default, get_or-replicate, length-replicate, length-drop, drop-replicate, drop-map, drop-set-add, map-set}
+use Rattle.std.proofs.Math.ListN.{get_or-map}
 use Rattle.event_stamps.specs.declared.Stamp.{Stamp}
 use Rattle.event_stamps.specs.Order.{Before, stamp_cmp}
 use Rattle.event_stamps.specs.Least.{earlier_of}
 use Rattle.event_stamps.proofs.StampOrder.{before_decides, before_trans, same_stamp, not_before_itself}
-use Rattle.event_tree.specs.Keys.{Key, IsNotAfter, IsLeastKey, IsLeastFrom, IsPlayed, IsTree, IsTreeBut, IsSetAt, key_at}
+use Rattle.event_tree.specs.Keys.{Key, IsNotAfter, IsLeastKey, IsLeastFrom, IsPlayed, IsTree, IsTreeBut, key_at}
 
 -- ---- the order of keys
 not_after_itself : (a : Key) → IsNotAfter a a
@@ -98,12 +98,6 @@ both nodes start m n a b left right = record {
         not_after_trans (earlier_of a b) b (key_at nodes (start + i)) (lesser a b).second
         (subst (λ (k : Key). IsNotAfter b k) at (right.least (i - m) (omega arith)))
 
-pub least_of_three : (nodes : List Key) (a b c : Key) → 3 ≤ length nodes → a ≡ get_or nodes 0 a → b ≡ get_or nodes 1 b →
-    c ≡ get_or nodes 2 c → IsLeastFrom nodes 0 3 (earlier_of (earlier_of a b) c)
-least_of_three nodes a b c within ea eb ec =
-    let left = both nodes 0 1 1 a b (alone nodes 0 a (omega arith) ea) (alone nodes 1 b (omega arith) eb) in
-    both nodes 0 2 1 (earlier_of a b) c left (alone nodes 2 c (omega arith) ec)
-
 pub least_of_two : (nodes : List Key) (a b : Key) → 2 ≤ length nodes → a ≡ get_or nodes 0 a → b ≡ get_or nodes 1 b →
     IsLeastFrom nodes 0 2 (earlier_of a b)
 least_of_two nodes a b within ea eb = both nodes 0 1 1 a b (alone nodes 0 a (omega arith) ea) (alone nodes 1 b (omega arith) eb)
@@ -119,44 +113,50 @@ least_of_four nodes start a b c d within ea eb ec ed =
     (alone nodes (start + 2 + 1) d (omega arith) last) in
     both nodes start 2 2 (earlier_of a b) (earlier_of c d) left right
 
+-- the key that is read of one of some ranks
+pub key_read : {A : Type 0} (key : A → Key) (ranks : List A) (place : ℕ) (a : A) → a ≡ get_or ranks place a →
+    key a ≡ get_or (map key ranks) place (key a)
+key_read key ranks place a read = ap key read ∙ sym (get_or-map key ranks place a)
+
 -- one of the four that were cut out
-pub one_of_four : {A : Type 0} → (nodes : List A) (start i place : ℕ) (a : A) → i < 4 → start + i ≡ place →
-    a ≡ get_or (take (start + 4 - start) (drop start nodes)) i a → a ≡ get_or nodes place a
-one_of_four nodes start i place a lt at read = read ∙ get_or-take (start + 4 - start) (drop start nodes) i a (omega arith)
-    ∙ get_or-drop start nodes i a ∙ ap (λ (k : ℕ). get_or nodes k a) at
+pub one_of_four : {A : Type 0} (key : A → Key) (ranks : List A) (start i place : ℕ) (a : A) → i < 4 → start + i ≡ place →
+    a ≡ get_or (take (start + 4 - start) (drop start ranks)) i a → key a ≡ get_or (map key ranks) place (key a)
+one_of_four key ranks start i place a lt at read =
+    key_read key ranks place a (read ∙ get_or-take (start + 4 - start) (drop start ranks) i a (omega arith)
+    ∙ get_or-drop start ranks i a ∙ ap (λ (k : ℕ). get_or ranks k a) at)
 
 -- ---- down the tree
 -- a node's key is not after its child's
-above : (roots first : ℕ) (nodes : List Key) (k j : ℕ) → IsTree roots first nodes → k < first → 4 * k + roots ≤ j → j < 4 * k + 4 + roots →
+above : (first : ℕ) (nodes : List Key) (k j : ℕ) → IsTree first nodes → k < first → 4 * k + 2 ≤ j → j < 4 * k + 4 + 2 →
     IsNotAfter (key_at nodes k) (key_at nodes j)
-above roots first nodes k j tree inner ge lt = subst (λ (key : Key). IsNotAfter (key_at nodes k) key)
-    (at_same nodes (4 * k + roots + (j - (4 * k + roots))) j (omega arith))
-    ((tree.played k inner).least (j - (4 * k + roots)) (omega arith))
+above first nodes k j tree inner ge lt = subst (λ (key : Key). IsNotAfter (key_at nodes k) key)
+    (at_same nodes (4 * k + 2 + (j - (4 * k + 2))) j (omega arith))
+    ((tree.played k inner).least (j - (4 * k + 2)) (omega arith))
 
-top_first : (roots first : ℕ) (nodes : List Key) (top : Key) (m j : ℕ) → 0 < roots → IsTree roots first nodes → IsLeastFrom nodes 0 roots top →
-    j ≤ m → j < 4 * first + roots → IsNotAfter top (key_at nodes j)
-top_first roots first nodes top m j some tree least le lt = go m j le lt (top_or_not j)
+top_first : (first : ℕ) (nodes : List Key) (top : Key) (m j : ℕ) → IsTree first nodes → IsLeastFrom nodes 0 2 top →
+    j ≤ m → j < 4 * first + 2 → IsNotAfter top (key_at nodes j)
+top_first first nodes top m j tree least le lt = go m j le lt (top_or_not j)
   where
-    top_or_not : (j : ℕ) → (j < roots) ⊎ (roots ≤ j)
+    top_or_not : (j : ℕ) → (j < 2) ⊎ (2 ≤ j)
     top_or_not j = grind arith
 
-    go : (m j : ℕ) → j ≤ m → j < 4 * first + roots → (j < roots) ⊎ (roots ≤ j) → IsNotAfter top (key_at nodes j)
+    go : (m j : ℕ) → j ≤ m → j < 4 * first + 2 → (j < 2) ⊎ (2 ≤ j) → IsNotAfter top (key_at nodes j)
     go m j le lt (inl few) =
         subst (λ (key : Key). IsNotAfter top key) (at_same nodes (0 + j) j (omega arith)) (least.least j few)
     go zero j le lt (inr more) = absurd (omega arith)
     go (suc m) j le lt (inr more) =
-        let k = (j - roots) / 4 in
+        let k = (j - 2) / 4 in
         not_after_trans top (key_at nodes k) (key_at nodes j)
         (go m k (omega arith) (omega arith) (top_or_not k))
-        (above roots first nodes k j tree (omega arith) (omega arith) (omega arith))
+        (above first nodes k j tree (omega arith) (omega arith) (omega arith))
 
 -- ---- and up: a node's key is one of the leaves'
 abbrev LeafWith : ℕ → List Key → Key → Type 0
 LeafWith first nodes key = (disk : ℕ) × (key_at nodes (first + disk) ≡ key)
 
-leaf_with : (roots first : ℕ) (nodes : List Key) (m k : ℕ) → 0 < roots → IsTree roots first nodes → first ≤ k + m →
+leaf_with : (first : ℕ) (nodes : List Key) (m k : ℕ) → IsTree first nodes → first ≤ k + m →
     LeafWith first nodes (key_at nodes k)
-leaf_with roots first nodes m k some tree le = go m k le (leaf_or_not k)
+leaf_with first nodes m k tree le = go m k le (leaf_or_not k)
   where
     leaf_or_not : (k : ℕ) → (first ≤ k) ⊎ (k < first)
     leaf_or_not k = grind arith
@@ -166,16 +166,16 @@ leaf_with roots first nodes m k some tree le = go m k le (leaf_or_not k)
     go zero k le (inr inner) = absurd (omega arith)
     go (suc m) k le (inr inner) =
         let one = (tree.played k inner).one in
-        let child : ℕ = 4 * k + roots + one.0 in
+        let child : ℕ = 4 * k + 2 + one.0 in
         let leaf = go m child (omega arith) (leaf_or_not child) in
         (leaf.0, leaf.1 ∙ one.2)
 
 -- ---- the least
-pub top_is_least : (roots first : ℕ) (nodes : List Key) (top : Key) → 0 < roots → 0 < length nodes → IsTree roots first nodes →
-    IsLeastFrom nodes 0 roots top → IsLeastKey (drop first nodes) top
-top_is_least roots first nodes top low some tree least = record {
+pub top_is_least : (first : ℕ) (nodes : List Key) (top : Key) → 0 < length nodes → IsTree first nodes →
+    IsLeastFrom nodes 0 2 top → IsLeastKey (drop first nodes) top
+top_is_least first nodes top some tree least = record {
   one = λ s e.
-      let leaf = leaf_with roots first nodes first least.one.0 low tree (omega arith) in
+      let leaf = leaf_with first nodes first least.one.0 tree (omega arith) in
       let at = at_same nodes least.one.0 (0 + least.one.0) (omega arith) in
       (leaf.0, get_or-drop first nodes leaf.0 None ∙ leaf.1 ∙ at ∙ least.one.2 ∙ e);
   least = λ i. rw (get_or-drop first nodes i None) (not_after i (within (first + i) (length nodes)));
@@ -188,7 +188,7 @@ top_is_least roots first nodes top low some tree least = record {
         IsNotAfter top (key_at nodes (first + i))
     not_after i (inl lt) =
         let len = tree.len some in
-        top_first roots first nodes top (first + i) (first + i) low tree least (omega arith) (omega arith)
+        top_first first nodes top (first + i) (first + i) tree least (omega arith) (omega arith)
     not_after i (inr ge) = rw (get_or_past nodes (first + i) None ge) tt
 
 -- ---- playing again
@@ -205,51 +205,61 @@ same_least old new start many key same least = record {
 }
 
 -- the parent is played, and the rest but its own parent stay so
-pub played_up : (roots first child parent : ℕ) (nodes : List Key) (key : Key) → roots ≤ 4 → first ≤ length nodes →
-    IsTreeBut roots first child nodes → parent + 1 ≡ (child + 4 - roots) / 4 → parent < first →
-    IsLeastFrom nodes (4 * parent + roots) 4 key → IsTreeBut roots first parent (set nodes parent key)
-played_up roots first child parent nodes key few len but above within least k inner other = go (same_or_not k parent)
+pub played_up : (first child parent : ℕ) (nodes : List Key) (key : Key) → first ≤ length nodes →
+    IsTreeBut first child nodes → parent + 1 ≡ (child + 2) / 4 → parent < first →
+    IsLeastFrom nodes (4 * parent + 2) 4 key → IsTreeBut first parent (set nodes parent key)
+played_up first child parent nodes key len but above within least k inner other = go (same_or_not k parent)
   where
     stays : (n : ℕ) → n ≢ parent → key_at nodes n ≡ key_at (set nodes parent key) n
     stays n ne = sym (get_or-set_other nodes parent n key None ne)
 
-    same : (i : ℕ) → i < 4 → key_at nodes (4 * k + roots + i) ≡ key_at (set nodes parent key) (4 * k + roots + i)
-    same i lt = stays (4 * k + roots + i) (omega arith)
+    same : (i : ℕ) → i < 4 → key_at nodes (4 * k + 2 + i) ≡ key_at (set nodes parent key) (4 * k + 2 + i)
+    same i lt = stays (4 * k + 2 + i) (omega arith)
 
-    go : (k ≡ parent) ⊎ (k ≢ parent) → IsPlayed roots (set nodes parent key) k
-    go (inl e) = subst (λ (v : Key). IsLeastFrom (set nodes parent key) (4 * k + roots) 4 v)
+    go : (k ≡ parent) ⊎ (k ≢ parent) → IsPlayed (set nodes parent key) k
+    go (inl e) = subst (λ (v : Key). IsLeastFrom (set nodes parent key) (4 * k + 2) 4 v)
         (sym (get_or-set_same nodes parent key None (omega arith)) ∙ at_same (set nodes parent key) parent k (sym e))
-        (same_least nodes (set nodes parent key) (4 * k + roots) 4 key same
-        (subst (λ (n : ℕ). IsLeastFrom nodes (4 * n + roots) 4 key) (sym e) least))
-    go (inr ne) = subst (λ (v : Key). IsLeastFrom (set nodes parent key) (4 * k + roots) 4 v) (stays k ne)
-        (same_least nodes (set nodes parent key) (4 * k + roots) 4 (key_at nodes k) same (but k inner (omega arith)))
+        (same_least nodes (set nodes parent key) (4 * k + 2) 4 key same
+        (subst (λ (n : ℕ). IsLeastFrom nodes (4 * n + 2) 4 key) (sym e) least))
+    go (inr ne) = subst (λ (v : Key). IsLeastFrom (set nodes parent key) (4 * k + 2) 4 v) (stays k ne)
+        (same_least nodes (set nodes parent key) (4 * k + 2) 4 (key_at nodes k) same (but k inner (omega arith)))
 
 -- if the parent keeps its key, all are played
-pub kept_up : (roots first child parent : ℕ) (nodes : List Key) → roots ≤ 4 → first ≤ 2 ^ 32 → length nodes ≡ 4 * first + roots →
-    IsTreeBut roots first child nodes → parent + 1 ≡ (child + 4 - roots) / 4 → IsPlayed roots nodes parent → IsTree roots first nodes
-kept_up roots first child parent nodes few most len but above here = record {
+pub kept_up : (first child parent : ℕ) (nodes : List Key) → first ≤ 2 ^ 32 → length nodes ≡ 4 * first + 2 →
+    IsTreeBut first child nodes → parent + 1 ≡ (child + 2) / 4 → IsPlayed nodes parent → IsTree first nodes
+kept_up first child parent nodes most len but above here = record {
   most = most;
   within = omega arith;
   len = λ some. len;
   played = λ k inner. at k inner (same_or_not k parent);
 }
   where
-    at : (k : ℕ) → k < first → (k ≡ parent) ⊎ (k ≢ parent) → IsPlayed roots nodes k
-    at k inner (inl e) = subst (λ (n : ℕ). IsPlayed roots nodes n) (sym e) here
+    at : (k : ℕ) → k < first → (k ≡ parent) ⊎ (k ≢ parent) → IsPlayed nodes k
+    at k inner (inl e) = subst (λ (n : ℕ). IsPlayed nodes n) (sym e) here
     at k inner (inr ne) = but k inner (omega arith)
 
 -- a new key of a leaf leaves all nodes played but its parent
-pub leaf_set : (roots first leaf : ℕ) (nodes : List Key) (key : Key) → roots ≤ 4 → first ≤ leaf → IsTree roots first nodes →
-    IsTreeBut roots first leaf (set nodes leaf key)
-leaf_set roots first leaf nodes key few after tree k inner other =
-    subst (λ (v : Key). IsLeastFrom (set nodes leaf key) (4 * k + roots) 4 v) (stays k (omega arith))
-    (same_least nodes (set nodes leaf key) (4 * k + roots) 4 (key_at nodes k) same (tree.played k inner))
+pub leaf_set : (first leaf : ℕ) (nodes : List Key) (key : Key) → first ≤ leaf → IsTree first nodes →
+    IsTreeBut first leaf (set nodes leaf key)
+leaf_set first leaf nodes key after tree k inner other =
+    subst (λ (v : Key). IsLeastFrom (set nodes leaf key) (4 * k + 2) 4 v) (stays k (omega arith))
+    (same_least nodes (set nodes leaf key) (4 * k + 2) 4 (key_at nodes k) same (tree.played k inner))
   where
     stays : (n : ℕ) → n ≢ leaf → key_at nodes n ≡ key_at (set nodes leaf key) n
     stays n ne = sym (get_or-set_other nodes leaf n key None ne)
 
-    same : (i : ℕ) → i < 4 → key_at nodes (4 * k + roots + i) ≡ key_at (set nodes leaf key) (4 * k + roots + i)
-    same i lt = stays (4 * k + roots + i) (omega arith)
+    same : (i : ℕ) → i < 4 → key_at nodes (4 * k + 2 + i) ≡ key_at (set nodes leaf key) (4 * k + 2 + i)
+    same i lt = stays (4 * k + 2 + i) (omega arith)
+
+-- playing changes no leaf but the one that was set
+pub set_leaves : {A : Type 0} (key : A → Key) (first place : ℕ) (old new before after : List A) (a : A) {keys : List Key} →
+    new ≡ after → drop first after ≡ drop first before → before ≡ set old (first + place) a → drop first (map key old) ≡ keys →
+    drop first (map key new) ≡ set keys place (key a)
+set_leaves key first place old new before after a now same is view =
+    let leaves = ap (drop first) now ∙ same ∙ ap (drop first) is in
+    drop-map key first new ∙ ap (map key) leaves ∙ sym (drop-map key first _)
+    ∙ ap (drop first) (map-set key old (first + place) a) ∙ drop-set-add first (map key old) place (key a)
+    ∙ ap (λ (ks : List Key). set ks place (key a)) view
 
 -- ---- more room
 -- if no key is set, no disk has one
@@ -260,41 +270,44 @@ none_at n disk = at (below_or_not disk n)
     at (inl lt) = get_or-replicate n disk None None lt
     at (inr ge) = get_or_past (replicate n None) disk None (let len = length-replicate {A = Key} n None in omega arith)
 
+-- ranks of no key
+map_blank : {A : Type 0} (key : A → Key) (n : ℕ) (a : A) → key a ≡ None → map key (replicate n a) ≡ replicate n None
+map_blank key zero a none = refl
+map_blank key (suc n) a none = λ i. none i ∷ map_blank key n a none i
+
+pub blank_keys : {A : Type 0} (key : A → Key) (ranks : List A) (n : ℕ) (a : A) → ranks ≡ replicate n a → key a ≡ None →
+    map key ranks ≡ replicate n None
+blank_keys key ranks n a is none = ap (map key) is ∙ map_blank key n a none
+
 -- a tree without keys
-pub blank_tree : (roots first : ℕ) (nodes : List Key) → first ≤ 2 ^ 32 → nodes ≡ replicate (4 * first + roots) None → IsTree roots first nodes
-blank_tree roots first nodes most blank =
-    let len : length nodes ≡ 4 * first + roots = ap length blank ∙ length-replicate {A = Key} (4 * first + roots) None in
+pub blank_tree : (first : ℕ) (nodes : List Key) → first ≤ 2 ^ 32 → nodes ≡ replicate (4 * first + 2) None → IsTree first nodes
+blank_tree first nodes most blank =
+    let len : length nodes ≡ 4 * first + 2 = ap length blank ∙ length-replicate {A = Key} (4 * first + 2) None in
     record {
       most = most;
       within = omega arith;
       len = λ some. len;
-      played = λ k inner. subst (λ (v : List Key). IsPlayed roots v k) (sym blank) (played k);
+      played = λ k inner. subst (λ (v : List Key). IsPlayed v k) (sym blank) (played k);
     }
   where
-    none : (k : ℕ) → key_at (replicate (4 * first + roots) None) k ≡ None
-    none k = none_at (4 * first + roots) k
+    none : (k : ℕ) → key_at (replicate (4 * first + 2) None) k ≡ None
+    none k = none_at (4 * first + 2) k
 
-    played : (k : ℕ) → IsPlayed roots (replicate (4 * first + roots) None) k
-    played k = rw (none k) record { one = (0, omega arith, none (4 * k + roots + 0)); least = λ i lt. rw (none (4 * k + roots + i)) tt }
+    played : (k : ℕ) → IsPlayed (replicate (4 * first + 2) None) k
+    played k = rw (none k) record { one = (0, omega arith, none (4 * k + 2 + 0)); least = λ i lt. rw (none (4 * k + 2 + i)) tt }
 
 -- its leaves are free, and many enough
-pub blank_leaves : (roots first : ℕ) (nodes : List Key) → nodes ≡ replicate (4 * first + roots) None →
-    (length (drop first nodes) ≡ 3 * first + roots) × ((disk : ℕ) → key_at (drop first nodes) disk ≡ None)
-blank_leaves roots first nodes blank =
-    let leaves : drop first nodes ≡ replicate (4 * first + roots - first) None =
-    ap (λ (v : List Key). drop first v) blank ∙ drop-replicate first (4 * first + roots) None in
-    let len = ap length leaves ∙ length-replicate {A = Key} (4 * first + roots - first) None in
-    (omega (arith, len), λ disk. ap (λ (v : List Key). key_at v disk) leaves ∙ none_at (4 * first + roots - first) disk)
+pub blank_leaves : (first : ℕ) (nodes : List Key) → nodes ≡ replicate (4 * first + 2) None →
+    (length (drop first nodes) ≡ 3 * first + 2) × ((disk : ℕ) → key_at (drop first nodes) disk ≡ None)
+blank_leaves first nodes blank =
+    let leaves : drop first nodes ≡ replicate (4 * first + 2 - first) None =
+    ap (λ (v : List Key). drop first v) blank ∙ drop-replicate first (4 * first + 2) None in
+    let len = ap length leaves ∙ length-replicate {A = Key} (4 * first + 2 - first) None in
+    (omega (arith, len), λ disk. ap (λ (v : List Key). key_at v disk) leaves ∙ none_at (4 * first + 2 - first) disk)
 
 -- a disk's key is in the node of its leaf
 pub leaf_within : (first disk : ℕ) (nodes keys : List Key) → drop first nodes ≡ keys → disk < length keys → first + disk < length nodes
 leaf_within first disk nodes keys view lt = let len = ap length view in let left = length-drop first nodes in omega arith
-
-pub leaf_key : (first disk : ℕ) (nodes keys : List Key) (key : Key) → drop first nodes ≡ keys → disk < length keys →
-    key ≡ get_or nodes (first + disk) key → key ≡ key_at keys disk
-leaf_key first disk nodes keys key view lt read =
-    read ∙ get_or_default nodes (first + disk) key None (leaf_within first disk nodes keys view lt)
-    ∙ sym (get_or-drop first nodes disk None) ∙ ap (λ (v : List Key). key_at v disk) view
 
 -- no key is the least of none
 pub none_least : (first : ℕ) (nodes keys : List Key) → drop first nodes ≡ keys → length nodes ≡ 0 → IsLeastKey keys None
@@ -307,15 +320,3 @@ none_least first nodes keys view none =
     empty : (keys : List Key) → length keys ≡ 0 → IsLeastKey keys None
     empty [] e = record { one = λ s is. absurd (never s is); least = λ disk. tt }
     empty (key ∷ keys) e = absurd (omega arith)
-
--- one key more is copied
-pub copied_more : (old wider : List Key) (disk : ℕ) (key : Key) → disk < length wider → key ≡ key_at old disk →
-    ((i : ℕ) → i < disk → key_at wider i ≡ key_at old i) → (i : ℕ) → i < disk + 1 → key_at (set wider disk key) i ≡ key_at old i
-copied_more old wider disk key within same copied = below_more _ _
-    (λ i lt. get_or-set_other wider disk i key None (omega arith) ∙ copied i lt)
-    (get_or-set_same wider disk key None within ∙ same)
-
--- a disk past the last has no key already
-pub none_past : (disk : ℕ) (key : Key) (keys : List Key) → length keys ≤ disk → is_some key ≡ false → IsSetAt disk key keys keys
-none_past disk None keys past none = record { set = get_or_past keys disk None past; others = λ other ne. refl }
-none_past disk (Some s) keys past none = absurd (false≢true (sym none))

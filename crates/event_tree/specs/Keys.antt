@@ -1,5 +1,5 @@
 -- Keys, the least of them, and the tree that finds it.
-use Rattle.std.specs.Prelude.{◌≡◌, ◌≢◌, ⊤, ℕ, ◌+◌, ◌-◌, ◌*◌, ◌/◌, ◌^◌, ◌<◌, ◌≤◌, List, length, slice_index_or, Option, Some, None}
+use Rattle.std.specs.Prelude.{◌≡◌, ◌≢◌, ⊤, ℕ, ◌+◌, ◌*◌, ◌/◌, ◌^◌, ◌<◌, ◌≤◌, List, length, slice_index_or, Option, Some, None}
 use Rattle.event_stamps.specs.declared.Stamp.{Stamp}
 use Rattle.event_stamps.specs.Order.{Before}
 
@@ -28,36 +28,26 @@ pub record IsLeastKey (keys : List Key) (key : Key) : Type 0 where
   pub one : (s : Stamp) → key ≡ Some s → (disk : ℕ) × (key_at keys disk ≡ Some s)
   pub least : (disk : ℕ) → IsNotAfter key (key_at keys disk)
 
--- one disk has this key, and the others have theirs
-pub record IsSetAt (disk : ℕ) (key : Key) (old new : List Key) : Type 0 where
-  pub set : key_at new disk ≡ key
-  pub others : (other : ℕ) → other ≢ disk → key_at new other ≡ key_at old other
-
 -- ---- how the keys are kept
--- room for this many keys, and the same key for each disk
-pub record HasWiderRoom (old : List Key) (room : ℕ) (new : List Key) : Type 0 where
-  pub enough : room ≤ length new
-  pub same : (disk : ℕ) → key_at new disk ≡ key_at old disk
-
 -- one of this many keys from a place on, and not after any of them
 pub record IsLeastFrom (nodes : List Key) (start many : ℕ) (key : Key) : Type 0 where
   pub one : (i : ℕ) × (i < many) × (key_at nodes (start + i) ≡ key)
   pub least : (i : ℕ) → i < many → IsNotAfter key (key_at nodes (start + i))
 
--- the node has the least of its children's keys; the first node's children come after this many nodes at the top
-abbrev pub IsPlayed : ℕ → List Key → ℕ → Type 0
-IsPlayed roots nodes k = IsLeastFrom nodes (4 * k + roots) 4 (key_at nodes k)
+-- the node has the least of its children's keys; two nodes at the top have no parent
+abbrev pub IsPlayed : List Key → ℕ → Type 0
+IsPlayed nodes k = IsLeastFrom nodes (4 * k + 2) 4 (key_at nodes k)
 
--- the nodes below `first` are played, and the others have the keys; `roots` nodes at the top have no parent
-pub record IsTree (roots first : ℕ) (nodes : List Key) : Type 0 where
+-- the nodes below `first` are played, and the others have the keys
+pub record IsTree (first : ℕ) (nodes : List Key) : Type 0 where
   pub most : first ≤ 2 ^ 32
   pub within : first ≤ length nodes
-  pub len : 0 < length nodes → length nodes ≡ 4 * first + roots
-  pub played : (k : ℕ) → k < first → IsPlayed roots nodes k
+  pub len : 0 < length nodes → length nodes ≡ 4 * first + 2
+  pub played : (k : ℕ) → k < first → IsPlayed nodes k
 
 -- all nodes but the parent of one are played
-abbrev pub IsTreeBut : ℕ → ℕ → ℕ → List Key → Type 0
-IsTreeBut roots first child nodes = (k : ℕ) → k < first → (k + 1) ≢ ((child + 4 - roots) / 4) → IsPlayed roots nodes k
+abbrev pub IsTreeBut : ℕ → ℕ → List Key → Type 0
+IsTreeBut first child nodes = (k : ℕ) → k < first → (k + 1) ≢ ((child + 2) / 4) → IsPlayed nodes k
 
 -- room for this many keys, and none is set
 pub record IsBlank (room : ℕ) (keys : List Key) : Type 0 where

@@ -1,14 +1,13 @@
 //! A key and a bound of each disk, and the least of the keys, kept while single ones change.
 
-ghost use Rattle.std.specs.Prelude.{◌≡◌, IfSome, OnOk};
+ghost use Rattle.std.specs.Prelude.{◌≡◌, IfSome, IfOk, OnOk};
 ghost use Rattle.event_tree.specs.Keys.{IsLeastKey, key_at};
 ghost use Rattle.event_tree.specs.Packing.{HasRoom};
-ghost use Rattle.event_tree.specs.Entries.{EntriesData, IsEntered, is_empty};
+ghost use Rattle.event_tree.specs.Entries.{EntriesData, IsEntered, AreSame, is_empty};
 
 use crate::code::Code;
-use crate::narrow::{Narrow, NarrowEntry};
 use crate::packed::Packed;
-use crate::wide::Wide;
+use crate::table::{Entry, Table};
 use event_stamps::Stamp;
 use std::alloc::{AllocError, Global};
 use std::marker::Model;
@@ -16,12 +15,12 @@ use std::marker::Model;
 /// A key and a bound of each disk: a stamp, or none.
 ///
 /// While all of them have ticks below 2^27 and rounds below 8, an entry of 16 bytes has both, and four entries are in
-/// one line of the cache. From the first one that doesn't fit on, all are kept in an `EventTree` and a list.
+/// one line of the cache. From the first one that doesn't fit on, one has 32 bytes.
 #[derive(Drop)]
 pub struct Entries {
-    narrow: Narrow,
+    narrow: Table<Code>,
     // The wide form, once something doesn't fit.
-    wide: Option<Wide>,
+    wide: Option<Table<Packed>>,
 }
 
 impl Model for Entries {
@@ -39,7 +38,7 @@ impl Entries {
         ensures { result ≡ is_empty }
     {
         Entries {
-            narrow: Narrow::new(alloc),
+            narrow: Table::new(alloc),
             wide: None,
         }
     }
@@ -96,17 +95,6 @@ impl Entries {
         }
     }
 
-    /// The key of a disk, as a code; none if some key or bound has no code.
-    #[inline(always)]
-    pub fn key_code(&self, disk: u32) -> Option<Code>
-        ensures { IfSome result (λ code. code ≡ key_at self.now.keys disk) }
-    {
-        match &self.wide {
-            Some(_) => None,
-            None => Some(self.narrow.key(disk)),
-        }
-    }
-
     /// The bound of a disk, as a code; none if it has no code.
     #[inline(always)]
     pub fn bound_code(&self, disk: u32) -> Option<Code>
@@ -133,7 +121,7 @@ impl Entries {
         ensures { OnOk result (IsEntered disk (key, bound) self.old self.new) }
     {
         if self.wide.is_none() {
-            return self.narrow.set(alloc, disk, NarrowEntry { key, bound });
+            return self.narrow.set(alloc, disk, Entry { key, bound });
         }
         self.set_wide(alloc, disk, key.packed(), bound.packed())
     }
@@ -155,7 +143,7 @@ impl Entries {
             && let Some(key) = Code::of(key)
             && let Some(bound) = Code::of(bound)
         {
-            return self.narrow.set(alloc, disk, NarrowEntry { key, bound });
+            return self.narrow.set(alloc, disk, Entry { key, bound });
         }
         self.set_wide(alloc, disk, key, bound)
     }
@@ -172,12 +160,28 @@ impl Entries {
         ensures { OnOk result (IsEntered disk (key, bound) self.old self.new) }
     {
         if let Some(wide) = &mut self.wide {
-            return wide.set(alloc, disk, key, bound);
+            return wide.set(alloc, disk, Entry { key, bound });
         }
-        let mut wide = self.narrow.widened(alloc)?;
-        wide.set(alloc, disk, key, bound)?;
-        self.narrow = Narrow::new(alloc);
+        let mut wide = widened(alloc, &self.narrow)?;
+        wide.set(alloc, disk, Entry { key, bound })?;
+        self.narrow = Table::new(alloc);
         self.wide = Some(wide);
         Ok(())
     }
+}
+
+// The same table in wide form.
+fn widened(alloc: Global, narrow: &Table<Code>) -> Result<Table<Packed>, AllocError>
+    ensures { IfOk result (AreSame narrow.now) }
+{
+    let mut wide = Table::new(alloc);
+    for disk in 0..narrow.room() {
+        let disk = disk as u32;
+        let entry = Entry {
+            key: narrow.key(disk).packed(),
+            bound: narrow.bound(disk).packed(),
+        };
+        wide.set(alloc, disk, entry)?;
+    }
+    Ok(wide)
 }

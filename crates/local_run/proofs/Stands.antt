@@ -1,14 +1,10 @@
 -- A region that begins as one that stood on a state stands on it too.
-use Rattle.std.proofs.Common.{◌≡◌, ◌≢◌, ℕ, Option, Some, None, slice_get, refl, sym, ap, ◌∙◌, subst}
+use Rattle.std.proofs.Common.{◌≡◌, ◌≢◌, Option, Some, None, slice_get, refl, sym, ap, ◌∙◌, subst}
 use Rattle.std.specs.Prelude.{option_map}
 use Rattle.std.proofs.lemmas.Option.{same_Some}
 use Rattle.region_view.specs.Views.{IsViewOf}
-use Rattle.cell_sequence.specs.State.{CellStateData}
 use Rattle.local_run.specs.declared.home.Home.{Home}
 use Rattle.local_run.specs.LocalRun.{Local}
-use Rattle.local_run.specs.Opening.{RegionData}
-use Rattle.local_run.specs.Standing.{StandsOn}
-use Rattle.local_run.specs.RunOn.{BeginsAs}
 use Rattle.local_run.specs.Begun.{BegunStillStand}
 
 some_there : {A : Type 0} (o : Option A) → o ≢ None → (x : A) × (o ≡ Some x)

@@ -6,6 +6,9 @@ ghost use Rattle.cell_grid.specs.Grid.{IsRegion};
 use cell_grid::Grid;
 use fixed_motion::Rules;
 
+/// How far apart the numbers of linked regions are at most: a region has one column at least, and reaches one beside it.
+pub const FARTHEST: u32 = 2;
+
 /// A region of a grid: the logical process that runs the events of its own columns.
 #[derive(Clone, Copy, PartialEq, Eq)]
 pub struct Home {

@@ -12,7 +12,7 @@ mod moves;
 
 pub use answers::{Differs, Hearing, Step};
 pub use entry::{Entry, MAX_ENTRIES};
-pub use home::Home;
+pub use home::{FARTHEST, Home};
 pub use laws::{
     begun_still_stand, entries_were_due, hearings_have_one_answer, hearings_keep_right,
     logs_go_one_way, messages_are_in_turn, raising_keeps_right, rollbacks_keep_right,

@@ -8,15 +8,11 @@ use Rattle.event_stamps.specs.Least.{IsLeastOf, earlier_of}
 use Rattle.event_stamps.proofs.Least.{least_same}
 use Rattle.cell_grid.specs.Grid.{GridData, Owns}
 use Rattle.cell_lists.specs.declared.near.Block.{Block}
-use Rattle.cell_lists.specs.Listing.{ListsData}
-use Rattle.cell_lists.specs.Nearby.{IsWithinBlock, IsListedWithin, AreGathered}
+use Rattle.cell_lists.specs.Nearby.{IsWithinBlock, IsListedWithin}
 use Rattle.region_view.specs.Views.{ViewData}
 use Rattle.region_view.proofs.Naming.{none_among}
 use Rattle.region_queue.specs.declared.finder.Finder.{Finder}
-use Rattle.region_queue.specs.declared.parts.Parts.{Parts}
-use Rattle.region_queue.specs.Outside.{IsListedInParts}
-use Rattle.region_queue.specs.Finding.{IsReady, IsNativePair, IsNativeWith, IsNearby, AreAllWithin, IsBlockBeside, AreListed, IsLowKey}
-use Rattle.region_queue.proofs.Low.{low_as}
+use Rattle.region_queue.specs.Finding.{IsReady, IsNativePair, IsNativeWith, IsNearby, AreAllWithin, IsBlockBeside, AreListed}
 use Rattle.region_queue.proofs.Candidates.{listed_at, with_more, with_same}
 
 -- ---- one after the other
@@ -77,47 +73,3 @@ best_gathered finder view disk block With old near o within none gathered h =
   where
     are : (i : ℕ) → Contains near i ↔ With i
     are = gathered_first near old With none gathered
-
--- the same for a key that isn't after them
-pub low_gathered : (finder : Finder) (view : ViewData) (disk : ℕ) (block : Block) (With : ℕ → Type 0) (old near : List ℕ)
-    (o : Option Stamp) → ((i : ℕ) → With i → IsListedWithin finder.lists block i) → old ≡ [] →
-    ((i : ℕ) → Contains near i ↔ (Contains old i ⊎ With i)) →
-    (AreAllWithin finder.lists block near → IsLowKey (IsNativeWith finder view disk (λ i. Contains near i)) disk o) →
-    IsLowKey (IsNativeWith finder view disk With) disk o
-low_gathered finder view disk block With old near o within none gathered h =
-    low_as finder view disk (λ i. Contains near i) With o (λ i x. (are i).1 x) (h (λ i x. within i ((are i).0 x)))
-  where
-    are : (i : ℕ) → Contains near i ↔ With i
-    are = gathered_first near old With none gathered
-
--- what is listed may be said in another way
-pub gathered_as : (With Has : ℕ → Type 0) (old new : List ℕ) → ((i : ℕ) → With i ↔ Has i) →
-    ((i : ℕ) → Contains new i ↔ (Contains old i ⊎ With i)) → (i : ℕ) → Contains new i ↔ (Contains old i ⊎ Has i)
-gathered_as With Has old new alike are i = (
-  λ x. elim ((are i).0 x) [ inl before ↦ inl before | inr with ↦ inr ((alike i).0 with) ],
-  λ x. elim x [ inl before ↦ (are i).1 (inl before) | inr has ↦ (are i).1 (inr ((alike i).1 has)) ],
-)
-
--- four times
-pub gathered_parts : (lists : ListsData) (parts : Parts) (a b c d e : List ℕ) → AreGathered lists parts.left a b →
-    AreGathered lists parts.right b c → AreGathered lists parts.low c d → AreGathered lists parts.high d e →
-    (i : ℕ) → Contains e i ↔ (Contains a i ⊎ IsListedInParts lists parts i)
-gathered_parts lists parts a b c d e left right low high i = (
-  λ x. elim ((high i).0 x) [
-    | inr w ↦ inr (inr w)
-    | inl x ↦ elim ((low i).0 x) [
-      | inr w ↦ inr (inl (inr w))
-      | inl x ↦ elim ((right i).0 x) [
-        | inr w ↦ inr (inl (inl (inr w)))
-        | inl x ↦ elim ((left i).0 x) [ inr w ↦ inr (inl (inl (inl w))) | inl x ↦ inl x ]
-      ]
-    ]
-  ],
-  λ x. elim x [
-    | inl before ↦ (high i).1 (inl ((low i).1 (inl ((right i).1 (inl ((left i).1 (inl before)))))))
-    | inr (inl (inl (inl w))) ↦ (high i).1 (inl ((low i).1 (inl ((right i).1 (inl ((left i).1 (inr w)))))))
-    | inr (inl (inl (inr w))) ↦ (high i).1 (inl ((low i).1 (inl ((right i).1 (inr w)))))
-    | inr (inl (inr w)) ↦ (high i).1 (inl ((low i).1 (inr w)))
-    | inr (inr w) ↦ (high i).1 (inr w)
-  ],
-)

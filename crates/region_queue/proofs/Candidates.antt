@@ -168,6 +168,12 @@ pair_without finder view disk other none s (inl low) =
 pair_without finder view disk other none s (inr high) =
     none_without_first finder view s (ap (rows_in view) high.1.1.0 ∙ none) high.0
 
+-- nor of one that isn't there itself
+pub pair_without_itself : (finder : Finder) (view : ViewData) (disk other : ℕ) → rows_in view disk ≡ None →
+    HasNone (IsNativePair finder view disk other)
+pair_without_itself finder view disk other none s x =
+    pair_without finder view other disk none s (elim x [ inl low ↦ inr low | inr high ↦ inl high ])
+
 pub pair_low : (finder : Finder) (view : ViewData) (i j : ℕ) (o : Option Stamp) → i < j → IsLeastOf (IsNativeOf finder view i j) o →
     IsLeastOf (IsNativePair finder view i j) o
 pair_low finder view i j o lt h = least_same (IsNativeOf finder view i j) (IsNativePair finder view i j) o (λ t x. inl x)

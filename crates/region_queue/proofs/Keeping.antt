@@ -1,7 +1,7 @@
 -- The disks that are kept, at the front of the list in which they are.
 use Rattle.std.proofs.Common.{◌≡◌, ◌≢◌, inl, inr, ℕ, ◌+◌, ◌<◌, ◌≤◌, Bool, true, false, List, [], ◌∷◌, ◌++◌, length, take, set, get_or, arith, refl, sym, subst, ap, ◌∙◌}
 use mir.Val.{bool_byte}
-use Rattle.std.specs.Prelude.{ℤ, ◌*ℤ◌, Option, Some, None, IfSome, slice_index_or}
+use Rattle.std.specs.Prelude.{Option, Some, None, IfSome}
 use Rattle.std.specs.List.{Contains}
 use Rattle.std.proofs.lemmas.List.{take_more, take_more_set, take-set, get_or-set_other, length-set}
 use Rattle.std.proofs.lemmas.List.Elements.{Contains-push, Contains-push_cases, Contains-append_left}
@@ -11,11 +11,11 @@ use Rattle.event_stamps.specs.declared.Stamp.{Stamp}
 use Rattle.event_stamps.specs.Least.{IsLeastOf, HasNone}
 use Rattle.event_stamps.proofs.Least.{least_same}
 use Rattle.event_rules.specs.Events.{NeverHit}
-use Rattle.event_rules.specs.Small.{HaveSmallProducts, IsSmallPair}
+use Rattle.event_rules.specs.Pairs.{IsValidPair}
 use Rattle.region_view.specs.declared.action.Placed.{Placed}
-use Rattle.region_view.specs.Views.{ViewData, rows_in, AreRowsOf}
+use Rattle.region_view.specs.Views.{ViewData, rows_in}
 use Rattle.region_queue.specs.declared.finder.Finder.{Finder}
-use Rattle.region_queue.specs.Finding.{IsReady, IsNativePair, IsNativeWith, NeverMeet, IsMissed, IsMissedBySmall, IsMissedByGreatest, AreKept}
+use Rattle.region_queue.specs.Finding.{IsReady, IsNativePair, IsNativeWith, NeverMeet, IsMissed, AreKept}
 use Rattle.region_queue.proofs.Again.{take_whole}
 use Rattle.region_queue.proofs.Beside.{pair_never}
 use Rattle.region_queue.proofs.Candidates.{pair_without}
@@ -120,69 +120,27 @@ kept_as IsOut Has old new has are = record {
 
 -- ---- a disk that is out has no native event
 -- what a test of two disks tells holds for the disk of a row that is there
-pub missed_row : (disk other : Disk) (row : Option Placed) (may : Bool) → IfSome row (λ q. other ≡ q.disk) →
-    ((rules : Rules) → IsSmallPair rules disk other → may ≡ false → NeverHit rules disk other) →
-    ((rules : Rules) → IsSmallPair rules disk other → may ≡ false → NeverHit rules other disk) → may ≡ false →
-    IsMissedBySmall disk row
-missed_row disk other None may is never turned missed = tt
-missed_row disk other (Some q) may is never turned missed = λ rules pair.
-    let before = subst (λ (d : Disk). IsSmallPair rules disk d) (sym is) pair in
-    subst (λ (d : Disk). NeverMeet rules disk d) is (never rules before missed, turned rules before missed)
+pub missed_row : (Such : Rules → Type 0) (disk other : Disk) (row : Option Placed) (may : Bool) → IfSome row (λ q. other ≡ q.disk) →
+    ((rules : Rules) → Such rules → IsValidPair rules disk other → may ≡ false → NeverHit rules disk other) →
+    ((rules : Rules) → Such rules → IsValidPair rules disk other → may ≡ false → NeverHit rules other disk) → may ≡ false →
+    IsMissed Such disk row
+missed_row Such disk other None may is never turned missed = tt
+missed_row Such disk other (Some q) may is never turned missed = λ rules such pair.
+    let before = subst (λ (d : Disk). IsValidPair rules disk d) (sym is) pair in
+    subst (λ (d : Disk). NeverMeet rules disk d) is (never rules such before missed, turned rules such before missed)
 
--- the same for a test by the square of the greatest diameter
-pub missed_row_greatest : (square : ℤ) (disk other : Disk) (row : Option Placed) (may : Bool) → IfSome row (λ q. other ≡ q.disk) →
-    ((rules : Rules) → IsSmallPair rules disk other → square ≡ rules.diameter *ℤ rules.diameter → may ≡ false → NeverHit rules disk other) →
-    ((rules : Rules) → IsSmallPair rules disk other → square ≡ rules.diameter *ℤ rules.diameter → may ≡ false → NeverHit rules other disk) →
-    may ≡ false → IsMissedByGreatest square disk row
-missed_row_greatest square disk other None may is never turned missed = tt
-missed_row_greatest square disk other (Some q) may is never turned missed = λ rules pair greatest.
-    let before = subst (λ (d : Disk). IsSmallPair rules disk d) (sym is) pair in
-    subst (λ (d : Disk). NeverMeet rules disk d) is (never rules before greatest missed, turned rules before greatest missed)
-
-pub none_missed : (finder : Finder) (view : ViewData) (disk other : ℕ) (p : Placed) (row : Option Placed) → rows_in view disk ≡ Some p →
-    rows_in view other ≡ row → IsMissed finder.rules p.disk row → HasNone (IsNativePair finder view disk other)
-none_missed finder view disk other p None here there missed = pair_without finder view disk other there
-none_missed finder view disk other p (Some q) here there missed =
-    pair_never finder view disk other p q here there missed.0 missed.1
-
--- two disks of a view
-small_pair : (finder : Finder) (view : ViewData) (disk other : ℕ) (p q : Placed) → IsReady finder view → HaveSmallProducts finder.rules →
-    rows_in view disk ≡ Some p → rows_in view other ≡ Some q → IsSmallPair finder.rules p.disk q.disk
-small_pair finder view disk other p q ready small here there = record {
-  checked = ready.checked;
-  products = small;
-  first_valid = ready.valid.disk disk p here;
-  second_valid = ready.valid.disk other q there;
-}
-
-missed : (finder : Finder) (view : ViewData) (disk other : ℕ) (p : Placed) (row : Option Placed) → IsReady finder view →
-    HaveSmallProducts finder.rules → rows_in view disk ≡ Some p → rows_in view other ≡ row → IsMissedBySmall p.disk row →
-    IsMissed finder.rules p.disk row
-missed finder view disk other p None ready small here there by = tt
-missed finder view disk other p (Some q) ready small here there by =
-    by finder.rules (small_pair finder view disk other p q ready small here there)
-
-missed_greatest : (finder : Finder) (view : ViewData) (disk other : ℕ) (p : Placed) (row : Option Placed) (square : ℤ) → IsReady finder view →
-    HaveSmallProducts finder.rules → square ≡ finder.rules.diameter *ℤ finder.rules.diameter → rows_in view disk ≡ Some p →
-    rows_in view other ≡ row → IsMissedByGreatest square p.disk row → IsMissed finder.rules p.disk row
-missed_greatest finder view disk other p None square ready small greatest here there by = tt
-missed_greatest finder view disk other p (Some q) square ready small greatest here there by =
-    by finder.rules (small_pair finder view disk other p q ready small here there) greatest
-
-pub none_by_small : (finder : Finder) (view : ViewData) (disk : ℕ) (p : Placed) (rows : List (Option Placed)) → IsReady finder view →
-    HaveSmallProducts finder.rules → rows_in view disk ≡ Some p → AreRowsOf view rows → (other : ℕ) →
-    IsMissedBySmall p.disk (slice_index_or rows other None) → HasNone (IsNativePair finder view disk other)
-none_by_small finder view disk p rows ready small here are other by =
-    none_missed finder view disk other p (slice_index_or rows other None) here (are other)
-    (missed finder view disk other p (slice_index_or rows other None) ready small here (are other) by)
-
-pub none_by_greatest : (finder : Finder) (view : ViewData) (disk : ℕ) (p : Placed) (rows : List (Option Placed)) (square : ℤ) →
-    IsReady finder view → HaveSmallProducts finder.rules → square ≡ finder.rules.diameter *ℤ finder.rules.diameter →
-    rows_in view disk ≡ Some p → AreRowsOf view rows → (other : ℕ) →
-    IsMissedByGreatest square p.disk (slice_index_or rows other None) → HasNone (IsNativePair finder view disk other)
-none_by_greatest finder view disk p rows square ready small greatest here are other by =
-    none_missed finder view disk other p (slice_index_or rows other None) here (are other)
-    (missed_greatest finder view disk other p (slice_index_or rows other None) square ready small greatest here (are other) by)
+-- two disks of a view, of which the first is told never to hit the second
+pub none_missed : (finder : Finder) (view : ViewData) (Such : Rules → Type 0) (disk other : ℕ) (p : Placed) (row : Option Placed) →
+    IsReady finder view → Such finder.rules → rows_in view disk ≡ Some p → rows_in view other ≡ row → IsMissed Such p.disk row →
+    HasNone (IsNativePair finder view disk other)
+none_missed finder view Such disk other p None ready such here there missed = pair_without finder view disk other there
+none_missed finder view Such disk other p (Some q) ready such here there missed =
+    let never = missed finder.rules such (record {
+      checked = ready.checked;
+      first = ready.valid.disk disk p here;
+      second = ready.valid.disk other q there;
+    }) in
+    pair_never finder view disk other p q here there never.0 never.1
 
 -- so the least event with one of those that are kept is the least with one of all
 pub least_of_all : (finder : Finder) (view : ViewData) (disk : ℕ) (old new : List ℕ) (o : Option Stamp) →

@@ -6,6 +6,7 @@ mod Candidates
 mod Covered
 pub mod InRange
 mod Keeping
+mod Line
 mod Low
 mod Moved
 mod Numbered

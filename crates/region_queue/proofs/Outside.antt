@@ -1,20 +1,21 @@
--- The part of a block of cells outside a second block, as four blocks or as one.
-use Rattle.std.proofs.Common.{◌≡◌, ◌⊎◌, ◌↔◌, inl, inr, ℕ, ◌<◌, ◌≤◌, max, min, arith, refl, sym, subst, ◌∙◌}
+-- The part of a block of cells outside a second block, as four blocks.
+use Rattle.std.proofs.Common.{◌≡◌, ◌⊎◌, inl, inr, ℕ, ◌<◌, ◌≤◌, max, min, arith, refl, sym, subst, ◌∙◌}
 use Rattle.std.proofs.lemmas.Bool.{cases_lt}
 use Rattle.std.specs.Prelude.{Option, Some, None, option_map}
 use Rattle.event_stamps.specs.declared.Stamp.{Stamp}
 use Rattle.event_stamps.specs.Least.{IsLeastOf, earlier_of}
-use Rattle.cell_grid.specs.Grid.{GridData, IsCell, IsAdjacent, column_of, row_of}
+use Rattle.cell_grid.specs.Grid.{GridData, IsAdjacent, column_of, row_of}
 use Rattle.cell_lists.specs.declared.near.Block.{Block}
 use Rattle.cell_lists.specs.Listing.{ListsData}
 use Rattle.cell_lists.specs.Nearby.{IsBlock, IsWithinBlock, IsListedWithin}
 use Rattle.region_view.specs.declared.action.Placed.{Placed}
 use Rattle.region_view.specs.Views.{ViewData, rows_in}
+use Rattle.region_view.proofs.Naming.{near_pair}
 use Rattle.region_queue.specs.declared.finder.Finder.{Finder}
 use Rattle.region_queue.specs.declared.parts.Parts.{Parts}
-use Rattle.region_queue.specs.Outside.{IsInBlock, IsPart, AreParts, IsRest, IsListedOutside, IsListedInParts}
-use Rattle.region_queue.specs.Finding.{IsReady, IsNativeWith, IsPairedBeyond, IsLowKey, IsLowBeyond, IsBlockBeside, AreListed, cell_in}
-use Rattle.region_queue.proofs.Candidates.{IsAround, with_more, pair_of, listed_beside}
+use Rattle.region_queue.specs.Outside.{IsInBlock, IsPart, AreParts, IsListedOutside, IsListedInParts}
+use Rattle.region_queue.specs.Finding.{IsReady, IsNativeWith, IsPairedBeyond, IsLowKey, IsLowBeyond, IsBlockBeside, IsListedBeyond, AreListed}
+use Rattle.region_queue.proofs.Candidates.{IsAround, with_more, pair_of, pair_beside, listed_at}
 
 -- ---- the parts of a block, cut at the sides of a second one
 -- the place of a side, moved to the block's own side if it is beyond that
@@ -29,33 +30,6 @@ below_cut k low high n i is from below = omega arith
 
 from_cut : (k low high n i : ℕ) → n ≡ max low (min k high) → i < high → n ≤ i → k ≤ i
 from_cut k low high n i is below from = omega arith
-
-after_cut : (k low high n i : ℕ) → n ≡ max low (min k high) → low ≤ i → k ≤ i → n ≤ i
-after_cut k low high n i is from past = omega arith
-
-least_between : (low k high n : ℕ) → low ≤ high → low < k → n ≡ min k high → low ≤ n
-least_between low k high n order before is = omega arith
-
-least_below : (k high n : ℕ) → n ≡ min k high → n ≤ high
-least_below k high n is = omega arith
-
-before_least : (k high n i : ℕ) → n ≡ min k high → i < n → i < k
-before_least k high n i is below = omega arith
-
-under_least : (k high n i : ℕ) → n ≡ min k high → i < k → i < high → i < n
-under_least k high n i is below within = omega arith
-
-trans : {k m n : ℕ} → k ≤ m → m ≤ n → k ≤ n
-trans h le = omega arith
-
-within : {k m n : ℕ} → k < m → m ≤ n → k < n
-within h le = omega arith
-
-at_least : {k m n : ℕ} → k ≡ m → k ≤ n → m ≤ n
-at_least is le = omega arith
-
-below : {k m n : ℕ} → k ≡ m → n < k → n < m
-below is lt = omega arith
 
 same : (n : ℕ) → n ≤ n
 same n = omega arith
@@ -179,100 +153,6 @@ part_outside lists block known part i of x =
     let row = row_of lists.grid x.0 in
     (x.0, x.1, in_block block known part column row of x.2, of.outside column row x.2)
 
--- ---- a rest that is one block
--- of blocks in the same rows the columns to the right of the second one, if it begins no further to the right
-pub right_rest : (block known : Block) (left : ℕ) → block.left ≤ block.right → block.low ≤ block.high → block.low ≡ known.low →
-    block.high ≡ known.high → known.left ≤ block.left → left ≡ max block.left (min known.right block.right) →
-    IsRest block known (record { left = left; right = block.right; low = block.low; high = block.high })
-right_rest block known left columns rows bottom top from cut =
-    let inside = cut_inside known.right block.left block.right left columns cut in
-    record {
-      part = record {
-        columns = inside.1;
-        rows = rows;
-        left = inside.0;
-        right = same block.right;
-        low = same block.low;
-        high = same block.high;
-        outside = λ column row of is. apart column known.right is.0.1
-            (from_cut known.right block.left block.right left column cut of.0.1 of.0.0);
-      };
-      whole = λ column row of out. elim (cases_lt column known.right) [
-        | inl before ↦ absurd (out ((trans from of.0.0, before), (at_least bottom of.1.0, below top of.1.1)))
-        | inr past ↦ ((after_cut known.right block.left block.right left column cut of.0.0 past, of.0.1), of.1)
-      ];
-    }
-
--- the columns to the left of it, if it ends no further to the left
-pub left_rest : (block known : Block) (right : ℕ) → block.left ≤ block.right → block.low ≤ block.high → block.low ≡ known.low →
-    block.high ≡ known.high → block.left < known.left → block.right ≤ known.right → right ≡ min known.left block.right →
-    IsRest block known (record { left = block.left; right = right; low = block.low; high = block.high })
-left_rest block known right columns rows bottom top from to cut = record {
-  part = record {
-    columns = least_between block.left known.left block.right right columns from cut;
-    rows = rows;
-    left = same block.left;
-    right = least_below known.left block.right right cut;
-    low = same block.low;
-    high = same block.high;
-    outside = λ column row of is. apart column known.left (before_least known.left block.right right column cut of.0.1) is.0.0;
-  };
-  whole = λ column row of out. elim (cases_lt column known.left) [
-    | inl before ↦ ((of.0.0, under_least known.left block.right right column cut before of.0.1), of.1)
-    | inr past ↦ absurd (out ((past, within of.0.1 to), (at_least bottom of.1.0, below top of.1.1)))
-  ];
-}
-
--- of blocks in the same columns the rows above it
-pub high_rest : (block known : Block) (low : ℕ) → block.left ≤ block.right → block.low ≤ block.high → block.left ≡ known.left →
-    block.right ≡ known.right → known.low ≤ block.low → low ≡ max block.low (min known.high block.high) →
-    IsRest block known (record { left = block.left; right = block.right; low = low; high = block.high })
-high_rest block known low columns rows first last from cut =
-    let inside = cut_inside known.high block.low block.high low rows cut in
-    record {
-      part = record {
-        columns = columns;
-        rows = inside.1;
-        left = same block.left;
-        right = same block.right;
-        low = inside.0;
-        high = same block.high;
-        outside = λ column row of is. apart row known.high is.1.1
-            (from_cut known.high block.low block.high low row cut of.1.1 of.1.0);
-      };
-      whole = λ column row of out. elim (cases_lt row known.high) [
-        | inl before ↦ absurd (out ((at_least first of.0.0, below last of.0.1), (trans from of.1.0, before)))
-        | inr past ↦ (of.0, (after_cut known.high block.low block.high low row cut of.1.0 past, of.1.1))
-      ];
-    }
-
--- the rows below it
-pub low_rest : (block known : Block) (high : ℕ) → block.left ≤ block.right → block.low ≤ block.high → block.left ≡ known.left →
-    block.right ≡ known.right → block.low < known.low → block.high ≤ known.high → high ≡ min known.low block.high →
-    IsRest block known (record { left = block.left; right = block.right; low = block.low; high = high })
-low_rest block known high columns rows first last from to cut = record {
-  part = record {
-    columns = columns;
-    rows = least_between block.low known.low block.high high rows from cut;
-    left = same block.left;
-    right = same block.right;
-    low = same block.low;
-    high = least_below known.low block.high high cut;
-    outside = λ column row of is. apart row known.low (before_least known.low block.high high row cut of.1.1) is.1.0;
-  };
-  whole = λ column row of out. elim (cases_lt row known.low) [
-    | inl before ↦ (of.0, (of.1.0, under_least known.low block.high high row cut before of.1.1))
-    | inr past ↦ absurd (out ((at_least first of.0.0, below last of.0.1), (past, within of.1.1 to)))
-  ];
-}
-
-pub rest_listed : (lists : ListsData) (block known line : Block) → IsRest block known line → (i : ℕ) →
-    IsListedWithin lists line i ↔ IsListedOutside lists block known i
-rest_listed lists block known line rest i = (
-  λ x. part_outside lists block known line i rest.part x,
-  λ x. (x.0, x.1, rest.whole (column_of lists.grid x.0) (row_of lists.grid x.0) x.2 x.3),
-)
-
 -- ---- all parts
 pub whole : (lists : ListsData) (block known : Block) (parts : Parts) (i : ℕ) → AreParts block known parts →
     IsListedOutside lists block known i → IsListedInParts lists parts i
@@ -327,34 +207,34 @@ pub placed_in : (o : Option Placed) (cell : ℕ) → option_map (λ (p : Placed)
 placed_in None cell e = absurd (let no = e in cc)
 placed_in (Some q) cell e = (q, refl, (let same : Some q.cell ≡ Some cell = e in cc))
 
--- the cells of the block around one are those adjacent to it, of the cells where disks are
-within_known : (finder : Finder) (view : ViewData) (old other : ℕ) (known : Block) → IsReady finder view →
-    IsAround finder.grid old known → (cell : ℕ) → cell_in view other ≡ Some cell →
-    (IsWithinBlock finder.lists.grid known cell ↔ IsAdjacent finder.grid old cell)
-within_known finder view old other known ready around cell at =
-    subst (λ (g : GridData). IsWithinBlock g known cell ↔ IsAdjacent finder.grid old cell) (sym ready.lists) ((around cell is).1, (around cell is).0)
-  where
-    is : IsCell finder.grid cell
-    is =
-        let p = placed_in (rows_in view other) cell at in
-        subst (IsCell finder.grid) p.2 (ready.valid.cell other p.0 p.1)
+-- of the blocks around two cells, the part of the first one outside the second one has the disks that are listed beyond
+pub listed_outside : (finder : Finder) (cell old : ℕ) (block known : Block) (i : ℕ) → finder.lists.grid ≡ finder.grid →
+    IsAround finder.grid cell block → IsAround finder.grid old known → IsListedBeyond finder cell old i →
+    IsListedOutside finder.lists block known i
+listed_outside finder cell old block known i grid_is around around_old h =
+    let is = around h.0 h.2 in
+    let was = around_old h.0 h.2 in
+    let out = subst (λ (g : GridData). IsWithinBlock g block h.0 × ¬ IsWithinBlock g known h.0) (sym grid_is)
+    (is.0 h.3, λ within. h.4 (was.1 within)) in
+    (h.0, h.1, out.0, out.1)
 
-pub low_beyond : (finder : Finder) (view : ViewData) (disk old : ℕ) (p : Placed) (block known : Block) (o : Option Stamp) → IsReady finder view →
-    rows_in view disk ≡ Some p → IsAround finder.grid p.cell block → IsAround finder.grid old known →
-    AreListed view finder.lists.cells → IsLowKey (IsNativeWith finder view disk (IsListedOutside finder.lists block known)) disk o →
+-- a key that isn't after the pairs with all that are listed beyond isn't after the pairs with those that the view has
+-- there
+pub low_beyond : (finder : Finder) (view : ViewData) (disk old : ℕ) (p : Placed) (With : ℕ → Type 0) (o : Option Stamp) →
+    IsReady finder view → rows_in view disk ≡ Some p → AreListed view finder.lists.cells →
+    ((i : ℕ) → IsListedBeyond finder p.cell old i → With i) → IsLowKey (IsNativeWith finder view disk With) disk o →
     IsLowBeyond finder view disk old o
-low_beyond finder view disk old p block known o ready row around around_old listed h =
-    record { low = λ s x. h.low s (from s x); pair = h.pair }
+low_beyond finder view disk old p With o ready row listed has h = record { low = λ s x. h.low s (from s x); pair = h.pair }
   where
-    from : (s : Stamp) → IsPairedBeyond finder view disk old s → IsNativeWith finder view disk (IsListedOutside finder.lists block known) s
+    from : (s : Stamp) → IsPairedBeyond finder view disk old s → IsNativeWith finder view disk With s
     from s x =
         let other = x.2.0 in
         let far = x.2.1 in
         let pair = x.2.2 in
-        let at = listed_beside finder view disk other p block s ready row around listed x.0 x.1 pair in
-        let same : at.0.cell ≡ far.0 = (let e : Some at.0.cell ≡ Some far.0 = sym at.2 ∙ listed other ∙ far.1 in cc) in
-        let is = within_known finder view old other known ready around_old far.0 far.1 in (
-          other,
-          (far.0, listed other ∙ far.1, subst (λ (n : ℕ). IsWithinBlock finder.lists.grid block n) same at.3, λ within. far.2 (is.0 within)),
-          pair_of finder view disk other s x.0 x.1 pair,
-        )
+        let beside = pair_beside finder.rules finder.grid view disk other p s row
+        (near_pair finder.rules finder.grid finder.region view s x.0 x.1) pair in
+        let q = beside.0 in
+        let at = listed_at view finder.lists other q listed beside.1 in
+        let same : far.0 ≡ q.cell = (let e : Some far.0 ≡ Some q.cell = sym far.1 ∙ sym (listed other) ∙ at in cc) in
+        let out = subst (λ (n : ℕ). ¬ IsAdjacent finder.grid old n) same far.2 in
+        (other, has other (q.cell, at, ready.valid.cell other q beside.1, beside.2, out), pair_of finder view disk other s x.0 x.1 pair)

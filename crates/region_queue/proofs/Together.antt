@@ -4,7 +4,7 @@ use Rattle.std.specs.Prelude.{Option, Some}
 use Rattle.std.specs.List.{Contains}
 use Rattle.event_stamps.specs.declared.Stamp.{Stamp}
 use Rattle.event_stamps.specs.Least.{HasNone}
-use Rattle.cell_grid.specs.Grid.{GridData, IsAdjacent}
+use Rattle.cell_grid.specs.Grid.{GridData}
 use Rattle.cell_lists.specs.declared.near.Block.{Block}
 use Rattle.cell_lists.specs.Nearby.{IsWithinBlock, AreGathered}
 use Rattle.region_view.specs.declared.action.Placed.{Placed}
@@ -12,7 +12,7 @@ use Rattle.region_view.specs.Views.{ViewData, rows_in}
 use Rattle.region_view.proofs.Naming.{near_pair}
 use Rattle.region_queue.specs.declared.finder.Finder.{Finder}
 use Rattle.region_queue.specs.Finding.{IsReady, IsNativePair, IsNativeWith, IsPaired, IsLowKey, IsLowPair, AreKept, AreListed, HasNearby, IsWider}
-use Rattle.region_queue.proofs.Candidates.{IsAround, listed_at, pair_found, pair_of, pair_beside, other_of}
+use Rattle.region_queue.proofs.Candidates.{IsAround, listed_at, pair_of, pair_beside, other_of}
 
 -- a disk that is listed around a cell is gathered with a wider block
 pub near_gathered : (finder : Finder) (view : ViewData) (at : ℕ) (block wider : Block) (old near : List ℕ) → IsReady finder view →
@@ -25,15 +25,6 @@ near_gathered finder view at block wider old near ready listed around has gather
       subst (λ (g : GridData). IsWithinBlock g wider q.cell) (sym ready.lists)
           (has finder.grid q.cell ((around q.cell (ready.valid.cell i q row)).0 beside)),
     ))
-
--- no native event with a disk in a cell that isn't adjacent
-pub far_none : (finder : Finder) (view : ViewData) (disk other : ℕ) (p : Placed) → rows_in view disk ≡ Some p →
-    ((q : Placed) → rows_in view other ≡ Some q → ¬ IsAdjacent finder.grid p.cell q.cell) → HasNone (IsNativePair finder view disk other)
-far_none finder view disk other p row far s n =
-    let pair = pair_found finder view disk other s n in
-    let beside = pair_beside finder.rules finder.grid view disk other p s row
-    (near_pair finder.rules finder.grid finder.region view s pair.0 pair.1) pair.2 in
-    far beside.0 beside.1 beside.2
 
 -- a key that isn't after the events with those kept of all that are near isn't after any pair
 pub low_kept : (finder : Finder) (view : ViewData) (disk : ℕ) (p : Placed) (near kept : List ℕ) (o : Option Stamp) →

@@ -13,10 +13,10 @@ use Rattle.event_tree.specs.Entries.{EntriesData, IsEntered, entry_at}
 use Rattle.event_tree.specs.Keys.{Key, IsNotAfter, key_at}
 use Rattle.region_queue.specs.Covering.{IsLowered}
 use Rattle.event_rules.specs.Events.{NeverHit}
-use Rattle.event_rules.specs.Small.{IsSmallPair}
+use Rattle.event_rules.specs.Pairs.{IsValidPair, reach_of}
 use Rattle.cell_grid.specs.Grid.{GridData, IsGridOf, IsRegion, IsCell, IsAdjacent, IsStripOf, Owns}
 use Rattle.cell_lists.specs.declared.near.Block.{Block}
-use Rattle.cell_lists.specs.Listing.{ListsData, IsUnlisted}
+use Rattle.cell_lists.specs.Listing.{ListsData, IsListed, IsUnlisted}
 use Rattle.cell_lists.specs.Nearby.{IsWithinBlock, IsListedWithin}
 use Rattle.region_view.specs.declared.action.Placed.{Placed}
 use Rattle.region_view.specs.Events.{IsAlone, IsNear}
@@ -117,22 +117,22 @@ HasNearby finder view cell disks = (i : ℕ) (q : Placed) → rows_in view i ≡
 abbrev pub IsWider : Block → Block → Type 0
 IsWider block wider = (grid : GridData) (cell : ℕ) → IsWithinBlock grid block cell → IsWithinBlock grid wider cell
 
+-- the disk is listed in a cell of the grid that is adjacent to one cell, and not to another one
+abbrev pub IsListedBeyond : Finder → ℕ → ℕ → ℕ → Type 0
+IsListedBeyond finder cell old disk = (at : ℕ) × IsListed finder.lists at disk × IsCell finder.grid at
+    × IsAdjacent finder.grid cell at × ¬ IsAdjacent finder.grid old at
+
 -- two disks never hit each other
 abbrev pub NeverMeet : Rules → Disk → Disk → Type 0
 NeverMeet rules disk other = NeverHit rules disk other × NeverHit rules other disk
 
--- a disk never hits the one that may stand at a number
-abbrev pub IsMissed : Rules → Disk → Option Placed → Type 0
-IsMissed rules disk row = IfSome row (λ q. NeverMeet rules disk q.disk)
+-- under all rules of a kind by which both are valid, a disk never hits the one that may stand at a number
+abbrev pub IsMissed : (Rules → Type 0) → Disk → Option Placed → Type 0
+IsMissed Such disk row = IfSome row (λ q. (rules : Rules) → Such rules → IsValidPair rules disk q.disk → NeverMeet rules disk q.disk)
 
--- nor does it under any rules by which both are valid and products are small
-abbrev pub IsMissedBySmall : Disk → Option Placed → Type 0
-IsMissedBySmall disk row = IfSome row (λ q. (rules : Rules) → IsSmallPair rules disk q.disk → NeverMeet rules disk q.disk)
-
--- nor under any such rules whose greatest diameter has this square
-abbrev pub IsMissedByGreatest : ℤ → Disk → Option Placed → Type 0
-IsMissedByGreatest square disk row = IfSome row (λ q. (rules : Rules) → IsSmallPair rules disk q.disk →
-    square ≡ rules.diameter *ℤ rules.diameter → NeverMeet rules disk q.disk)
+-- the number is the square of the disk's reach
+abbrev pub IsReachSquare : ℤ → Disk → Rules → Type 0
+IsReachSquare square disk rules = square ≡ reach_of rules disk *ℤ reach_of rules disk
 
 -- some disks are left, and for each one left out this holds
 pub record AreKept (IsOut : ℕ → Type 0) (old new : List ℕ) : Type 0 where

@@ -5,7 +5,8 @@ use Rattle.std.specs.FinMap as map
 use Rattle.fixed_motion.specs.declared.rules.Rules.{Rules}
 use Rattle.fixed_motion.specs.contracts.rules.Rules as rules_type
 use Rattle.fixed_motion.specs.Rules.{IsChecked}
-use Rattle.event_tree.specs.contracts.EventTree as tree_type
+use Rattle.event_tree.specs.contracts.entries.Entries as entries_type
+use Rattle.event_tree.specs.Entries.{EntriesData, entries_with}
 use Rattle.event_tree.specs.Keys.{Key}
 use Rattle.cell_grid.specs.contracts.grid.Grid as grid_type
 use Rattle.cell_grid.specs.declared.grid.Strip.{Strip}
@@ -33,11 +34,11 @@ queue_of rules grid region cells keys bounds =
 -- a queue is stored as its parts
 abbrev pub queue_code : Coded QueueData
 queue_code =
-    code_by (Rules × (GridData × (ℕ × (Cells × (List Key × List Key)))))
+    code_by (Rules × (GridData × (ℕ × (Cells × EntriesData))))
     (coded× rules_type.the_row.coded (coded× grid_type.the_row.coded (coded× coded_ℕ
-    (coded× (map.code coded_ℕ coded_ℕ) (coded× tree_type.the_row.coded tree_type.the_row.coded)))))
-    (λ q. (q.rules, (q.grid, (q.region, (q.cells, (q.keys, q.bounds))))))
-    (λ p. queue_of p.0 p.1.0 p.1.1.0 p.1.1.1.0 p.1.1.1.1.0 p.1.1.1.1.1) (λ _. refl)
+    (coded× (map.code coded_ℕ coded_ℕ) entries_type.the_row.coded))))
+    (λ q. (q.rules, (q.grid, (q.region, (q.cells, entries_with q.keys q.bounds)))))
+    (λ p. queue_of p.0 p.1.0 p.1.1.0 p.1.1.1.0 p.1.1.1.1.keys p.1.1.1.1.bounds) (λ _. refl)
 
 -- what each queue keeps: a region of a grid of checked rules, its columns, and lists of this grid
 pub record IsSoundQueue (r : Rules) (g : GridData) (k : ℕ) (columns : Strip) (listed : GridData) : Type 0 where

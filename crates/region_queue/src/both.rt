@@ -4,20 +4,20 @@ ghost use Rattle.std.specs.Prelude.{◌≡◌, ◌↔◌, ◌≤◌, ◌^◌, So
 ghost use Rattle.std.specs.FinMap as map;
 ghost use Rattle.std.specs.List.{Contains};
 ghost use Rattle.fixed_motion.specs.Rules.{IsChecked};
-ghost use Rattle.event_rules.specs.Small.{HaveSmallProducts, TellsByGreatest};
+ghost use Rattle.fixed_motion.specs.declared.rules.Rules.{Rules};
+ghost use Rattle.event_rules.specs.Rounded.{IsReachOf, TellsRounded};
 ghost use Rattle.event_stamps.specs.declared.Kind.TheVariants.{Pair};
-ghost use Rattle.event_stamps.specs.Least.{IsLeastOf, HasNone};
+ghost use Rattle.event_stamps.specs.Least.{HasNone};
 ghost use Rattle.event_stamps.specs.Order.{IsInRange};
-ghost use Rattle.region_view.specs.Views.{AreRowsOf};
-ghost use Rattle.cell_grid.specs.Grid.{GridData, IsCell, IsAdjacent, Owns};
+ghost use Rattle.cell_grid.specs.Grid.{GridData, IsCell, Owns};
 ghost use Rattle.cell_lists.specs.Nearby.{IsBlock};
 ghost use Rattle.region_view.specs.declared.action.Placed.{Placed};
 ghost use Rattle.region_view.specs.Views.{rows_in};
-ghost use Rattle.region_queue.specs.Finding.{IsReady, IsNativePair, IsNativeWith, IsNearby, IsBestSingle, IsLowKey, IsLowOf, IsMissedByGreatest, AreKept, AreListed, HasNearby, IsWider};
+ghost use Rattle.region_queue.specs.Finding.{IsReady, IsNativePair, IsNativeWith, IsBestSingle, IsLowKey, IsLowOf, IsMissed, AreKept, AreListed, HasNearby, IsWider};
 
-use crate::finder::{Codes, Finder, TICKS_OF_CODES, have_rows, owns_lower, row_in};
+use crate::finder::{Codes, Finder, TICKS_OF_CODES, have_rows, owns_lower};
 use cell_lists::{Block, Gathered, block_around};
-use event_rules::{EachMay, chance_between, each_may_hit, greatest_square, has_small_products};
+use event_rules::{EachMay, EachReach, chance_between, each_may_hit};
 use event_stamps::Stamp;
 use event_tree::Code;
 use fixed_motion::Disk;
@@ -35,7 +35,6 @@ impl Finder {
         ensures first { IfSome result (λ both. IsLowOf self.now view.now first both.0) }
         ensures second { IfSome result (λ both. IsLowOf self.now view.now second both.1) }
     {
-        let rows = view.compact()?;
         let one = view.get(first)?;
         let other = view.get(second)?;
         if !self.are_alike(&one, &other) {
@@ -46,8 +45,8 @@ impl Finder {
             return None;
         }
         let mut near_other = near.copy();
-        let square = greatest_square(&self.rules);
-        if !keep_both(rows, first, second, square, &mut near, &mut near_other) {
+        let reach = EachReach::of(&self.rules, &one.disk, &other.disk);
+        if !keep_both(view, first, second, reach, &mut near, &mut near_other) {
             return None;
         }
         let whole = self.owns_around(one.cell, other.cell);
@@ -56,21 +55,17 @@ impl Finder {
         Some((first_codes, second_codes))
     }
 
-    // Whether two disks have the greatest diameter and one base tick and are in adjacent cells, products are small, and
-    // ticks have codes. That mostly holds for two disks that have just hit each other.
+    // Whether two disks have one base tick and are in adjacent cells, and ticks have codes. That mostly holds for two
+    // disks that have just hit each other.
     #[inline(always)]
     fn are_alike(&self, one: &Placed, other: &Placed) -> bool
         requires checked { IsChecked self.now.rules }
         requires one { IsCell self.now.grid one.now.cell }
         requires other { IsCell self.now.grid other.now.cell }
         ensures base { IsTrue result → one.now.disk.base ≡ other.now.disk.base }
-        ensures products { IsTrue result → HaveSmallProducts self.now.rules }
         ensures codes { IsTrue result → self.now.rules.end ≤ 2 ^ 27 }
     {
-        one.disk.size == self.rules.diameter
-            && other.disk.size == self.rules.diameter
-            && has_small_products(&self.rules)
-            && one.disk.base == other.disk.base
+        one.disk.base == other.disk.base
             && self.has_codes()
             && self.grid.adjacent(one.cell, other.cell)
     }
@@ -115,7 +110,6 @@ impl Finder {
         whole: bool,
     ) -> Option<Codes>
         requires ready { IsReady self.now view.now }
-        requires products { HaveSmallProducts self.now.rules }
         requires codes { self.now.rules.end ≤ 2 ^ 27 }
         requires placed { map.get view.now disk ≡ Some placed.now }
         ensures single { IfSome result (λ codes. IsBestSingle self.now view.now disk codes.single) }
@@ -141,7 +135,6 @@ impl Finder {
         whole: bool,
     ) -> Option<Code>
         requires ready { IsReady self.now view.now }
-        requires products { HaveSmallProducts self.now.rules }
         requires placed { map.get view.now disk ≡ Some placed.now }
         requires own { IsTrue own ↔ Owns self.now.grid self.now.region placed.now.cell }
         ensures { IfSome result (IsLowKey (IsNativeWith self.now view.now disk (λ i. Contains others.now i)) disk) }
@@ -168,7 +161,6 @@ impl Finder {
         whole: bool,
     ) -> Option<Code>
         requires ready { IsReady self.now view.now }
-        requires products { HaveSmallProducts self.now.rules }
         requires placed { map.get view.now disk ≡ Some placed.now }
         requires own { IsTrue own ↔ Owns self.now.grid self.now.region placed.now.cell }
         ensures { IfSome result (IsLowKey (IsNativePair self.now view.now disk other) disk) }
@@ -195,70 +187,25 @@ impl Finder {
     }
 
     // A key that isn't after the native event of a disk with another. It is kept apart, as `key_beside` is, and reads
-    // the rows of both where they lie.
+    // the rows of both where they lie. None says nothing: it has no code.
     #[inline(never)]
     fn low_key(&self, view: &View, disk: u32, other: u32) -> Option<Code>
         requires ready { IsReady self.now view.now }
-        requires products { HaveSmallProducts self.now.rules }
         ensures { IfSome result (IsLowKey (IsNativePair self.now view.now disk other) disk) }
     {
-        let Some(rows) = view.compact() else {
-            return self.key_with(view, disk, other);
-        };
-        match self.low_stamp(view, rows, disk, other) {
-            Some(pair) => code_of_pair(pair),
-            None => self.key_with(view, disk, other),
-        }
+        code_of_pair(self.low_stamp(view, disk, other))
     }
 
-    // The stamp of this key if rows are compact. None says nothing; it is rare.
+    // The stamp of this key.
     #[inline(always)]
-    fn low_stamp(
-        &self,
-        view: &View,
-        rows: &[Compact],
-        disk: u32,
-        other: u32,
-    ) -> Option<Option<Stamp>>
+    fn low_stamp(&self, view: &View, disk: u32, other: u32) -> Option<Stamp>
         requires ready { IsReady self.now view.now }
-        requires products { HaveSmallProducts self.now.rules }
-        requires rows { AreRowsOf view.now rows.now }
-        ensures range { IfSome result (λ pair. IfSome pair IsInRange) }
-        ensures low { IfSome result (IsLowKey (IsNativePair self.now view.now disk other) disk) }
-    {
-        let _view = view;
-        let placed = row_in(rows, disk)?;
-        let near = row_in(rows, other)?;
-        chance_between(&self.rules, disk, &placed.disk, other, &near.disk)
-    }
-
-    // The native event of a disk with another, wherever that is. It is seldom asked for, so it is kept apart.
-    #[inline(never)]
-    fn key_with(&self, view: &View, disk: u32, other: u32) -> Option<Code>
-        requires ready { IsReady self.now view.now }
-        ensures { IfSome result (IsLeastOf (IsNativePair self.now view.now disk other)) }
+        ensures range { IfSome result IsInRange }
+        ensures low { IsLowKey (IsNativePair self.now view.now disk other) disk result }
     {
         let placed = view.get(disk)?;
-        if self.is_near(view, placed.cell, other) {
-            let own = self.owns(placed.cell);
-            Code::of(self.key_beside(view, disk, &placed, own, other, false))
-        } else {
-            Some(Code::none())
-        }
-    }
-
-    // Whether a disk is in a cell adjacent to this one.
-    #[inline(always)]
-    fn is_near(&self, view: &View, cell: u32, disk: u32) -> bool
-        requires ready { IsReady self.now view.now }
-        requires cell { IsCell self.now.grid cell }
-        ensures near { IsTrue result → IsNearby self.now view.now cell false disk }
-        ensures far { result ≡ false → (q : Placed) → rows_in view.now disk ≡ Some q → ¬ IsAdjacent self.now.grid cell q.cell }
-    {
-        match view.get(disk) {
-            Some(placed) => self.grid.adjacent(cell, placed.cell),
-            None => false,
-        }
+        let near = view.get(other)?;
+        chance_between(&self.rules, disk, &placed.disk, other, &near.disk)
     }
 }
 
@@ -298,28 +245,28 @@ fn joined(a: Block, b: Block) -> Block
 // there, or one of the others has a later base tick than the two, which is rare.
 #[inline(never)]
 fn keep_both(
-    rows: &[Compact],
+    view: &View,
     first: u32,
     second: u32,
-    square: i64,
+    reach: EachReach,
     near: &mut Gathered,
     near_other: &mut Gathered,
 ) -> bool
-    requires base { (p q : Placed) → slice_index_or rows.now first None ≡ Some p → slice_index_or rows.now second None ≡ Some q →
-        p.disk.base ≡ q.disk.base }
+    requires base { (p q : Placed) → rows_in view.now first ≡ Some p → rows_in view.now second ≡ Some q → p.disk.base ≡ q.disk.base }
     requires same { near_other.old ≡ near.old }
-    ensures one { IsTrue result → IfSome (slice_index_or rows.now first None) (λ row.
-        AreKept (λ i. IsMissedByGreatest square row.disk (slice_index_or rows.now i None)) near.old near.new) }
-    ensures other { IsTrue result → IfSome (slice_index_or rows.now second None) (λ row.
-        AreKept (λ i. IsMissedByGreatest square row.disk (slice_index_or rows.now i None)) near.old near_other.new) }
+    ensures one { IsTrue result → (p q : Placed) → rows_in view.now first ≡ Some p → rows_in view.now second ≡ Some q →
+        AreKept (λ i. IsMissed (λ rules. IsReachOf rules p.disk q.disk reach) p.disk (rows_in view.now i)) near.old near.new }
+    ensures other { IsTrue result → (p q : Placed) → rows_in view.now first ≡ Some p → rows_in view.now second ≡ Some q →
+        AreKept (λ i. IsMissed (λ rules. IsReachOf rules p.disk q.disk reach) q.disk (rows_in view.now i)) near.old near_other.new }
 {
-    let Some(one) = row_in(rows, first) else {
+    let Some(one) = view.get(first) else {
         return false;
     };
-    let Some(other) = row_in(rows, second) else {
+    let Some(other) = view.get(second) else {
         return false;
     };
-    keep_reached_by(rows, one.disk, other.disk, square, near, near_other)
+    let rows = view.compact();
+    keep_reached_by(rows, one.disk, other.disk, reach, near, near_other)
 }
 
 // The same for these two.
@@ -328,20 +275,22 @@ fn keep_reached_by(
     rows: &[Compact],
     one: Disk,
     other: Disk,
-    square: i64,
+    reach: EachReach,
     near: &mut Gathered,
     near_other: &mut Gathered,
 ) -> bool
     requires base { one.base ≡ other.base }
     requires same { near_other.old ≡ near.old }
-    ensures one { IsTrue result → AreKept (λ i. IsMissedByGreatest square one (slice_index_or rows.now i None)) near.old near.new }
-    ensures other { IsTrue result → AreKept (λ i. IsMissedByGreatest square other (slice_index_or rows.now i None)) near.old near_other.new }
+    ensures one { IsTrue result →
+        AreKept (λ i. IsMissed (λ rules. IsReachOf rules one other reach) one (slice_index_or rows.now i None)) near.old near.new }
+    ensures other { IsTrue result →
+        AreKept (λ i. IsMissed (λ rules. IsReachOf rules one other reach) other (slice_index_or rows.now i None)) near.old near_other.new }
 {
     let mut kept = 0;
     let mut kept_other = 0;
     for place in 0..near.len() {
         let disk = near.at(place);
-        let Some(may) = may_reach_either(rows, one, other, square, disk) else {
+        let Some(may) = may_reach_either(rows, one, other, reach, disk) else {
             return false;
         };
         near.put(kept, disk);
@@ -360,28 +309,30 @@ fn may_reach_either(
     rows: &[Compact],
     one: Disk,
     other: Disk,
-    square: i64,
+    reach: EachReach,
     disk: u32,
 ) -> Option<EachMay>
     requires { one.base ≡ other.base }
-    ensures one { IfSome result (λ may. may.0 ≡ false → IsMissedByGreatest square one (slice_index_or rows.now disk None)) }
-    ensures other { IfSome result (λ may. may.1 ≡ false → IsMissedByGreatest square other (slice_index_or rows.now disk None)) }
+    ensures one { IfSome result (λ may. may.0 ≡ false →
+        IsMissed (λ rules. IsReachOf rules one other reach) one (slice_index_or rows.now disk None)) }
+    ensures other { IfSome result (λ may. may.1 ≡ false →
+        IsMissed (λ rules. IsReachOf rules one other reach) other (slice_index_or rows.now disk None)) }
 {
     match rows.get(disk as usize) {
-        Some(row) => may_hit_either(one, other, &row.disk(), square),
+        Some(row) => may_hit_either(one, other, &row.disk(), reach),
         None => Some(EachMay::neither()),
     }
 }
 
 // Whether each of two disks may hit a third one. None says nothing: that has a later base tick.
 #[inline(always)]
-fn may_hit_either(one: Disk, other: Disk, third: &Disk, square: i64) -> Option<EachMay>
+fn may_hit_either(one: Disk, other: Disk, third: &Disk, reach: EachReach) -> Option<EachMay>
     requires { one.base ≡ other.base }
-    ensures one { IfSome result (λ may. TellsByGreatest square one third.now may.0) }
-    ensures other { IfSome result (λ may. TellsByGreatest square other third.now may.1) }
+    ensures one { IfSome result (λ may. (rules : Rules) → IsReachOf rules one other reach → TellsRounded rules one third.now may.0) }
+    ensures other { IfSome result (λ may. (rules : Rules) → IsReachOf rules one other reach → TellsRounded rules other third.now may.1) }
 {
     if third.base > one.base {
         return None;
     }
-    Some(each_may_hit(one, other, third, square))
+    Some(each_may_hit(one, other, third, reach))
 }

@@ -1,31 +1,25 @@
 //! The native candidates of a region that name a disk.
 
-ghost use Rattle.std.specs.Prelude.{◌≡◌, ◌↔◌, ◌⊎◌, ℕ, ◌<◌, ◌≤◌, ◌^◌, Some, None, IsTrue, IfSome, MatchOption, slice_index_or, false};
+ghost use Rattle.std.specs.Prelude.{◌≡◌, ◌↔◌, ◌⊎◌, ℕ, ◌<◌, ◌≤◌, ◌^◌, Some, None, IsTrue, IfSome, slice_index_or, false};
 ghost use Rattle.std.specs.List.{Contains};
 ghost use Rattle.std.specs.FinMap as map;
 ghost use Rattle.fixed_motion.specs.Rules.{IsChecked};
 ghost use Rattle.fixed_motion.specs.Motion.{IsValidDisk};
 ghost use Rattle.event_stamps.specs.declared.Kind.TheVariants.{Pair};
-ghost use Rattle.event_stamps.specs.Least.{IsLeastOf, HasNone, IsOnly};
+ghost use Rattle.event_stamps.specs.Least.{IsLeastOf, HasNone};
 ghost use Rattle.event_stamps.specs.Order.{IsInRange};
 ghost use Rattle.cell_grid.specs.Grid.{IsCell, IsAdjacent, IsStripOf, Owns};
 ghost use Rattle.cell_grid.specs.Crossing.{IsCrossEvent};
 ghost use Rattle.cell_lists.specs.Listing.{IsListed};
-ghost use Rattle.cell_lists.specs.Nearby.{IsBlock, IsListedWithin, AreGathered, columns_to};
-ghost use Rattle.region_queue.specs.Outside.{IsListedOutside, IsListedInParts};
+ghost use Rattle.cell_lists.specs.Nearby.{IsBlock, IsListedWithin, columns_to};
 ghost use Rattle.region_view.specs.declared.action.Placed.{Placed};
 ghost use Rattle.region_view.specs.Events.{IsAlone};
-ghost use Rattle.region_queue.specs.Finding.{IsReady, IsFound, IsAloneAt, IsPairPlaced, IsNativePair, IsNativeWith, IsBestSingle, IsBestPair, IsLowKey, IsLowBeyond, IsBlockBeside, IsNearby, AreAllWithin, IsMissed, IsMissedBySmall, IsMissedByGreatest, AreKept, AreListed};
-ghost use Rattle.region_view.specs.Views.{AreRowsOf};
-ghost use Rattle.event_rules.specs.Small.{HaveSmallProducts};
+ghost use Rattle.region_queue.specs.Finding.{IsReady, IsFound, IsAloneAt, IsPairPlaced, IsNativePair, IsNativeWith, IsBestSingle, IsBestPair, IsLowKey, IsLowBeyond, IsBlockBeside, IsListedBeyond, IsNearby, AreAllWithin, IsMissed, IsReachSquare, AreKept, AreListed};
 
-use crate::parts::{Parts, line_outside, parts_outside};
+use crate::parts::{line_beyond, parts_outside};
 use cell_grid::{Departure, Grid, Strip};
 use cell_lists::{Block, Gathered, Lists, block_around};
-use event_rules::{
-    event_between, first_wall, greatest_square, has_small_products, is_pair_event, may_hit,
-    may_hit_by_greatest, may_hit_by_small, quick_event_between,
-};
+use event_rules::{event_between, first_wall, is_pair_event, may_hit, reach_square};
 use event_stamps::{Kind, Stamp};
 use event_tree::{Code, Packed};
 use fixed_motion::{Disk, Rules};
@@ -109,10 +103,8 @@ impl Finder {
         }
         let placed = view.get(disk)?;
         let own = self.owns(placed.cell);
-        let block = block_around(&self.grid, placed.cell);
-        let known = block_around(&self.grid, old);
         let single = self.code_alone(view, disk, &placed, own)?;
-        let pair = self.low_outside(view, disk, &placed, own, block, known)?;
+        let pair = self.low_outside(view, disk, &placed, own, old)?;
         Some(Codes { single, pair })
     }
 
@@ -305,103 +297,99 @@ impl Finder {
         }
     }
 
-    // A key that isn't after the native events with disks in the cells of the block that aren't in the block `known`. None
+    // A key that isn't after the native pairs of a disk with those in cells that aren't adjacent to the cell `old`. None
     // says nothing: a key has no code.
+    #[inline(always)]
     fn low_outside(
         &self,
         view: &View,
         disk: u32,
         placed: &Placed,
         own: bool,
-        block: Block,
-        known: Block,
+        old: u32,
     ) -> Option<Code>
         requires ready { IsReady self.now view.now }
         requires placed { map.get view.now disk ≡ Some placed.now }
         requires own { IsTrue own ↔ Owns self.now.grid self.now.region placed.now.cell }
-        requires block { IsBlock self.now.grid block }
-        requires beside { IsBlockBeside self.now.grid placed.now.cell block }
-        requires known { IsBlock self.now.grid known }
-        ensures { IfSome result (λ key. AreListed view.now self.now.lists.cells → IsLowKey (IsNativeWith self.now view.now disk
-            (IsListedOutside self.now.lists block known)) disk key) }
+        requires old { IsCell self.now.grid old }
+        ensures { IfSome result (λ key. AreListed view.now self.now.lists.cells → IsLowBeyond self.now view.now disk old key) }
     {
         let mut near = Gathered::new();
-        if self.gather_outside(block, known, &mut near) && have_rows(view, &near) {
+        if self.gather_beyond(placed.cell, old, &mut near) && have_rows(view, &near) {
+            let block = block_around(&self.grid, placed.cell);
             self.low_among(view, disk, placed, own, block, &mut near)
         } else {
-            Code::of(self.best_in_parts(view, disk, placed, own, block, known))
+            self.low_by_parts(view, disk, placed, own, old)
         }
     }
 
-    // The least native event with a disk in one of these cells, cell by cell.
-    fn best_in_parts(
+    // Gathers the disks listed in the cells adjacent to one cell that aren't adjacent to another one. False if these
+    // aren't three in a line, as they are after nearly all crossings, or if there are too many.
+    #[inline(always)]
+    fn gather_beyond(&self, cell: u32, old: u32, near: &mut Gathered) -> bool
+        requires lists { self.now.lists.grid ≡ self.now.grid }
+        requires cell { IsCell self.now.grid cell }
+        ensures { IsTrue result → (i : ℕ) → IsListedBeyond self.now cell old i → Contains near.new i }
+    {
+        match line_beyond(&self.grid, cell, old) {
+            Some(line) => self.lists.gather_line(line.first, line.step, near),
+            None => false,
+        }
+    }
+
+    // What `low_outside` finds, after any other crossing, and in crowded cells. It is seldom called, so it is kept apart.
+    #[inline(never)]
+    fn low_by_parts(
         &self,
         view: &View,
         disk: u32,
         placed: &Placed,
         own: bool,
-        block: Block,
-        known: Block,
+        old: u32,
+    ) -> Option<Code>
+        requires ready { IsReady self.now view.now }
+        requires placed { map.get view.now disk ≡ Some placed.now }
+        requires own { IsTrue own ↔ Owns self.now.grid self.now.region placed.now.cell }
+        requires old { IsCell self.now.grid old }
+        ensures { IfSome result (λ key. AreListed view.now self.now.lists.cells → IsLowBeyond self.now view.now disk old key) }
+    {
+        let block = block_around(&self.grid, placed.cell);
+        let known = block_around(&self.grid, old);
+        let parts = parts_outside(block, known);
+        Code::of(
+            self.best_in_part(view, disk, placed, own, parts.left)
+                .earlier(self.best_in_part(view, disk, placed, own, parts.right))
+                .earlier(self.best_in_part(view, disk, placed, own, parts.low))
+                .earlier(self.best_in_part(view, disk, placed, own, parts.high)),
+        )
+    }
+
+    // The least native event of a disk with another that is listed in one of the parts. Most parts have no cell.
+    #[inline(always)]
+    fn best_in_part(
+        &self,
+        view: &View,
+        disk: u32,
+        placed: &Placed,
+        own: bool,
+        part: Block,
     ) -> Packed
         requires ready { IsReady self.now view.now }
         requires placed { map.get view.now disk ≡ Some placed.now }
         requires own { IsTrue own ↔ Owns self.now.grid self.now.region placed.now.cell }
-        requires block { IsBlock self.now.grid block }
-        requires beside { IsBlockBeside self.now.grid placed.now.cell block }
-        requires known { IsBlock self.now.grid known }
+        requires part { IsBlock self.now.grid part }
+        requires beside { IsBlockBeside self.now.grid placed.now.cell part }
         ensures { AreListed view.now self.now.lists.cells → IsLeastOf (IsNativeWith self.now view.now disk
-            (IsListedOutside self.now.lists block known)) result }
+            (IsListedWithin self.now.lists part)) result }
     {
-        let parts = parts_outside(block, known);
-        self.best_by_rows(view, disk, placed, own, parts.left)
-            .earlier(self.best_by_rows(view, disk, placed, own, parts.right))
-            .earlier(self.best_by_rows(view, disk, placed, own, parts.low))
-            .earlier(self.best_by_rows(view, disk, placed, own, parts.high))
-    }
-
-    // Gathers the disks that are listed in a block outside a second one, beside those that were gathered before. After
-    // a crossing they are in a line of cells, which is gathered at once.
-    #[inline(always)]
-    fn gather_outside(&self, block: Block, known: Block, near: &mut Gathered) -> bool
-        requires block { IsBlock self.now.lists.grid block }
-        requires known { IsBlock self.now.lists.grid known }
-        ensures { IsTrue result → (i : ℕ) →
-            Contains near.new i ↔ (Contains near.old i ⊎ IsListedOutside self.now.lists block known i) }
-    {
-        match line_outside(block, known) {
-            Some(line) => self.lists.gather(line, near),
-            None => self.gather_parts(parts_outside(block, known), near),
+        if part.left >= part.right || part.low >= part.high {
+            return Packed::new(None);
         }
+        self.best_by_rows(view, disk, placed, own, part)
     }
 
-    // Gathers the disks that are listed in one of the parts, beside those that were gathered before, as
-    // `gather` does for one block. It is seldom called, so it is kept apart.
-    #[inline(never)]
-    fn gather_parts(&self, parts: Parts, near: &mut Gathered) -> bool
-        requires left { IsBlock self.now.lists.grid parts.left }
-        requires right { IsBlock self.now.lists.grid parts.right }
-        requires low { IsBlock self.now.lists.grid parts.low }
-        requires high { IsBlock self.now.lists.grid parts.high }
-        ensures { IsTrue result → (i : ℕ) →
-            Contains near.new i ↔ (Contains near.old i ⊎ IsListedInParts self.now.lists parts i) }
-    {
-        self.gather_part(parts.left, near)
-            && self.gather_part(parts.right, near)
-            && self.gather_part(parts.low, near)
-            && self.gather_part(parts.high, near)
-    }
-
-    // The same for one part. Most parts have no cell.
-    #[inline(always)]
-    fn gather_part(&self, part: Block, near: &mut Gathered) -> bool
-        requires { IsBlock self.now.lists.grid part }
-        ensures { IsTrue result → AreGathered self.now.lists part near.old near.new }
-    {
-        part.left >= part.right || part.low >= part.high || self.lists.gather(part, near)
-    }
-
-    // A key that isn't after the native events of a disk with some others, which are listed in a block of cells beside
-    // its own. Keeps those of the others that the disk may hit. None says nothing: a key has no code.
+    // A key that isn't after the native events of a disk with some others, which are listed in a block of cells. Keeps
+    // those of the others that the disk may hit. None says nothing: a key has no code.
     #[inline(always)]
     fn low_among(
         &self,
@@ -415,17 +403,11 @@ impl Finder {
         requires ready { IsReady self.now view.now }
         requires placed { map.get view.now disk ≡ Some placed.now }
         requires own { IsTrue own ↔ Owns self.now.grid self.now.region placed.now.cell }
-        requires beside { IsBlockBeside self.now.grid placed.now.cell block }
-        ensures { IfSome result (λ key. AreListed view.now self.now.lists.cells → AreAllWithin self.now.lists block near.old →
-            IsLowKey (IsNativeWith self.now view.now disk (λ i. Contains near.old i)) disk key) }
+        ensures { IfSome result (IsLowKey (IsNativeWith self.now view.now disk (λ i. Contains near.old i)) disk) }
     {
-        if has_small_products(&self.rules) {
-            let whole = self.owns_columns(block.left, block.right);
-            self.keep_candidates(view, disk, placed, near);
-            self.low_pair(view, disk, placed, own, near, whole)
-        } else {
-            Code::of(self.best_among(view, disk, placed, own, block, near))
-        }
+        let whole = self.owns_columns(block.left, block.right);
+        self.keep_candidates(view, disk, placed, near);
+        self.low_pair(view, disk, placed, own, near, whole)
     }
 
     // The least native event of a disk with one of some others, which are listed in a block of cells beside its own.
@@ -459,8 +441,7 @@ impl Finder {
 
     // Keeps those of some disks with which a disk may have a native event, as far as their courses tell. This decides
     // nearly all pairs that are looked at. Which of them may hit can't be predicted, so all are tested first, with no
-    // branch on the answers. For a disk of the greatest diameter it costs less to treat all others as that great; for a
-    // smaller one that would keep too many.
+    // branch on the answers. Each is taken for one of the greatest diameter, so one distance serves for all.
     #[inline(always)]
     fn keep_candidates(&self, view: &View, disk: u32, placed: &Placed, near: &mut Gathered)
         requires ready { IsReady self.now view.now }
@@ -468,47 +449,12 @@ impl Finder {
         ensures { AreKept (λ i. HasNone (IsNativePair self.now view.now disk i)) near.old near.new }
     {
         let _disk = disk;
-        match view.compact() {
-            Some(rows) if has_small_products(&self.rules) => {
-                if placed.disk.size == self.rules.diameter {
-                    keep_reached(rows, &placed.disk, greatest_square(&self.rules), near)
-                } else {
-                    keep_met(rows, &placed.disk, near)
-                }
-            }
-            _ => self.keep_met_in(view, &placed.disk, near),
-        }
-    }
-
-    // Keeps those of some disks that a disk may hit. It is seldom called, since rows mostly are compact and products
-    // small.
-    #[inline(never)]
-    fn keep_met_in(&self, view: &View, disk: &Disk, near: &mut Gathered)
-        requires ready { IsReady self.now view.now }
-        requires valid { IsValidDisk self.now.rules disk.now }
-        ensures { AreKept (λ i. IsMissed self.now.rules disk.now (map.get view.now i)) near.old near.new }
-    {
-        let mut kept = 0;
-        for place in 0..near.len() {
-            let other = near.at(place);
-            let may = self.may_meet(view, disk, other);
-            near.put(kept, other);
-            kept += may as usize;
-        }
-        near.cut(kept);
-    }
-
-    // Whether a disk may hit another one, if that has a row.
-    #[inline(always)]
-    fn may_meet(&self, view: &View, disk: &Disk, other: u32) -> bool
-        requires ready { IsReady self.now view.now }
-        requires valid { IsValidDisk self.now.rules disk.now }
-        ensures { result ≡ false → IsMissed self.now.rules disk.now (map.get view.now other) }
-    {
-        match view.get(other) {
-            Some(row) => may_hit(&self.rules, disk, &row.disk),
-            None => false,
-        }
+        keep_met(
+            view.compact(),
+            &placed.disk,
+            reach_square(&self.rules, &placed.disk),
+            near,
+        );
     }
 
     // The same as `best_within`, cell by cell. It is for crowded cells, and for great grids whose cells share lists.
@@ -602,67 +548,7 @@ impl Finder {
         ensures { IsNearby self.now view.now placed.now.cell whole other →
             IsLeastOf (IsNativePair self.now view.now disk other) result }
     {
-        match view.compact() {
-            Some(rows) if has_small_products(&self.rules) => {
-                match self.quick_pair_beside(view, rows, disk, placed, own, other, whole) {
-                    Some(pair) => Packed::new(pair),
-                    None => self.key_beside_in(view, disk, placed, own, other, whole),
-                }
-            }
-            _ => self.key_beside_in(view, disk, placed, own, other, whole),
-        }
-    }
-
-    // The same for any rows. It is seldom called, so it is kept apart, and gets nothing of what was found before.
-    #[inline(never)]
-    fn key_beside_in(
-        &self,
-        view: &View,
-        disk: u32,
-        placed: &Placed,
-        own: bool,
-        other: u32,
-        whole: bool,
-    ) -> Packed
-        requires ready { IsReady self.now view.now }
-        requires placed { map.get view.now disk ≡ Some placed.now }
-        requires own { IsTrue own ↔ Owns self.now.grid self.now.region placed.now.cell }
-        ensures { IsNearby self.now view.now placed.now.cell whole other →
-            IsLeastOf (IsNativePair self.now view.now disk other) result }
-    {
         Packed::new(self.pair_beside(view, disk, placed, own, other, whole))
-    }
-
-    // The stamp of this event if rows are compact and products small. None says nothing; it is rare.
-    #[inline(always)]
-    fn quick_pair_beside(
-        &self,
-        view: &View,
-        rows: &[Compact],
-        disk: u32,
-        placed: &Placed,
-        own: bool,
-        other: u32,
-        whole: bool,
-    ) -> Option<Option<Stamp>>
-        requires ready { IsReady self.now view.now }
-        requires products { HaveSmallProducts self.now.rules }
-        requires placed { map.get view.now disk ≡ Some placed.now }
-        requires own { IsTrue own ↔ Owns self.now.grid self.now.region placed.now.cell }
-        requires rows { AreRowsOf view.now rows.now }
-        ensures range { IfSome result (λ pair. IfSome pair IsInRange) }
-        ensures least { IsNearby self.now view.now placed.now.cell whole other →
-            IfSome result (IsLeastOf (IsNativePair self.now view.now disk other)) }
-    {
-        let _view = view;
-        let Some(near) = row_in(rows, other) else {
-            return Some(None);
-        };
-        let home = whole || self.owns(near.cell);
-        if !owns_lower(disk, own, other, home) {
-            return Some(None);
-        }
-        quick_event_between(&self.rules, disk, &placed.disk, other, &near.disk)
     }
 
     // The stamp of this event.
@@ -692,67 +578,30 @@ impl Finder {
     }
 }
 
-// Keeps those of some disks that a disk may hit, given rows whose products are small. It is kept apart, so that the
-// loop has all registers.
+// Keeps those of some disks that a disk may hit, given the square of its reach. It is kept apart, so that the loop has
+// all registers.
 #[inline(never)]
-fn keep_met(rows: &[Compact], disk: &Disk, near: &mut Gathered)
-    ensures { AreKept (λ i. IsMissedBySmall disk.now (slice_index_or rows.now i None)) near.old near.new }
+fn keep_met(rows: &[Compact], disk: &Disk, square: i64, near: &mut Gathered)
+    ensures { AreKept (λ i. IsMissed (IsReachSquare square disk.now) disk.now (slice_index_or rows.now i None)) near.old near.new }
 {
     let mut kept = 0;
     for place in 0..near.len() {
         let other = near.at(place);
-        let may = may_meet_row(rows, disk, other);
+        let may = may_meet_row(rows, disk, square, other);
         near.put(kept, other);
         kept += may as usize;
     }
     near.cut(kept);
 }
 
-// Whether a disk may hit another one, if that has a row, and products are small.
+// Whether a disk may hit another one, if that has a row.
 #[inline(always)]
-fn may_meet_row(rows: &[Compact], disk: &Disk, other: u32) -> bool
-    ensures { result ≡ false → IsMissedBySmall disk.now (slice_index_or rows.now other None) }
+fn may_meet_row(rows: &[Compact], disk: &Disk, square: i64, other: u32) -> bool
+    ensures { result ≡ false → IsMissed (IsReachSquare square disk.now) disk.now (slice_index_or rows.now other None) }
 {
     match rows.get(other as usize) {
-        Some(row) => may_hit_by_small(disk, &row.disk()),
+        Some(row) => may_hit(disk, &row.disk(), square),
         None => false,
-    }
-}
-
-// The same as if all disks had the greatest diameter, whose square is given; else the loop would multiply it again for
-// each disk.
-#[inline(never)]
-fn keep_reached(rows: &[Compact], disk: &Disk, square: i64, near: &mut Gathered)
-    ensures { AreKept (λ i. IsMissedByGreatest square disk.now (slice_index_or rows.now i None)) near.old near.new }
-{
-    let mut kept = 0;
-    for place in 0..near.len() {
-        let other = near.at(place);
-        let may = may_reach_row(rows, disk, square, other);
-        near.put(kept, other);
-        kept += may as usize;
-    }
-    near.cut(kept);
-}
-
-#[inline(always)]
-fn may_reach_row(rows: &[Compact], disk: &Disk, square: i64, other: u32) -> bool
-    ensures { result ≡ false → IsMissedByGreatest square disk.now (slice_index_or rows.now other None) }
-{
-    match rows.get(other as usize) {
-        Some(row) => may_hit_by_greatest(disk, &row.disk(), square),
-        None => false,
-    }
-}
-
-// What stands at a number in some rows.
-#[inline(always)]
-pub(crate) fn row_in(rows: &[Compact], disk: u32) -> Option<Placed>
-    ensures { result ≡ slice_index_or rows.now disk None }
-{
-    match rows.get(disk as usize) {
-        Some(row) => row.get(),
-        None => None,
     }
 }
 
@@ -761,9 +610,7 @@ pub(crate) fn row_in(rows: &[Compact], disk: u32) -> Option<Placed>
 // there was nothing to read; the proof needs to know nothing of that, and no clause speaks of it. If the view has few
 // rows, they are in a near cache in any case, and none is read.
 pub(crate) fn have_rows(view: &View, near: &Gathered) -> bool {
-    let Some(rows) = view.compact() else {
-        return true;
-    };
+    let rows = view.compact();
     if rows.len() <= FEW_ROWS {
         return true;
     }

@@ -11,6 +11,14 @@
 //!
 //! After a collision or a crossing keys are found as codes of 8 bytes, which keys have whose ticks are below 2^27 and
 //! whose rounds are below 8. What has no code is found as a packed key, by an exact look around the disk.
+//!
+//! - **A contract sees** a [`Queue`] as the view that it stands for, and nothing else (`StandsFor`).
+//! - **Proved**: [`Queue::least`] answers the least native candidate of that view, or that there is none. After a change the
+//!   queue stands for the new view; each call says for which changes ([`Queue::touched`], [`Queue::struck`],
+//!   [`Queue::crossed`], [`Queue::take_back`]).
+//! - **Not claimed**: how often keys are found anew, and which way: codes and lists of cells only make it quick.
+//! - **Cost**: the queue has most of a step: some 10 other disks are tested for each event, of which less than two may
+//!   hit. `finder.rt` has these tests, `both.rt` those of two disks after a collision.
 #![tactic(auto)]
 
 mod both;

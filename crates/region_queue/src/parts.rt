@@ -1,8 +1,10 @@
-//! The cells of one block that aren't in a second one.
+//! The cells around one cell that aren't around another one.
 
-ghost use Rattle.std.specs.Prelude.{◌≡◌, ◌≤◌, IfSome};
-ghost use Rattle.region_queue.specs.Outside.{AreParts, IsRest};
+ghost use Rattle.std.specs.Prelude.{◌+◌, ◌*◌, ◌≤◌, IfSome, IsTrue};
+ghost use Rattle.cell_grid.specs.Grid.{IsCell};
+ghost use Rattle.region_queue.specs.Outside.{AreParts, HasAllBeyond, IsInside, IsStepBeyond};
 
+use cell_grid::Grid;
 use cell_lists::Block;
 
 // Four blocks that make up the part of a block outside a second one. No cell is in two of them.
@@ -55,67 +57,53 @@ pub(crate) fn parts_outside(block: Block, known: Block) -> Parts
     }
 }
 
-// The part of `block` outside `known` if it is one block, as it mostly is for the blocks around two cells side by side,
-// or one above the other: then it is a line of cells.
-#[inline(always)]
-pub(crate) fn line_outside(block: Block, known: Block) -> Option<Block>
-    requires columns { block.left ≤ block.right }
-    requires rows { block.low ≤ block.high }
-    ensures { IfSome result (IsRest block known) }
-{
-    if block.low == known.low && block.high == known.high {
-        columns_outside(block, known)
-    } else if block.left == known.left && block.right == known.right {
-        rows_outside(block, known)
-    } else {
-        None
-    }
+// Three cells in a line: the first, and those one step and two steps from it.
+#[derive(Clone, Copy)]
+pub(crate) struct Line {
+    pub first: u32,
+    pub step: u32,
 }
 
-// The same for blocks in the same rows.
+// The cells adjacent to one cell that aren't adjacent to another one, if these are three in a line, as they are when a
+// disk comes from one side into a cell with neighbours on all sides.
 #[inline(always)]
-fn columns_outside(block: Block, known: Block) -> Option<Block>
-    requires columns { block.left ≤ block.right }
-    requires rows { block.low ≤ block.high }
-    requires low { block.low ≡ known.low }
-    requires high { block.high ≡ known.high }
-    ensures { IfSome result (IsRest block known) }
+pub(crate) fn line_beyond(grid: &Grid, cell: u32, old: u32) -> Option<Line>
+    requires { IsCell grid.now cell }
+    ensures cells { IfSome result (λ line. IsCell grid.now (line.first + 2 * line.step)) }
+    ensures beyond { IfSome result (λ line. HasAllBeyond grid.now cell old line) }
 {
-    if known.left <= block.left {
-        Some(Block {
-            left: known.right.clamp(block.left, block.right),
-            ..block
-        })
-    } else if block.right <= known.right {
-        Some(Block {
-            right: known.left.min(block.right),
-            ..block
-        })
-    } else {
-        None
+    if !is_inside(grid, cell) {
+        return None;
     }
+    let step = step_beyond(cell.abs_diff(old), grid.columns())?;
+    // The middle one of the three is as far from the cell as the cell is from the old one.
+    Some(Line {
+        first: 2 * cell - old - step,
+        step,
+    })
 }
 
-// The same for blocks in the same columns.
+// The step of the line beyond two cells, by how far apart their numbers are: the line is a column if they are side by
+// side, and a row if one is above the other.
 #[inline(always)]
-fn rows_outside(block: Block, known: Block) -> Option<Block>
-    requires columns { block.left ≤ block.right }
-    requires rows { block.low ≤ block.high }
-    requires left { block.left ≡ known.left }
-    requires right { block.right ≡ known.right }
-    ensures { IfSome result (IsRest block known) }
+fn step_beyond(apart: u32, columns: u32) -> Option<u32>
+    ensures { IfSome result (IsStepBeyond apart columns) }
 {
-    if known.low <= block.low {
-        Some(Block {
-            low: known.high.clamp(block.low, block.high),
-            ..block
-        })
-    } else if block.high <= known.high {
-        Some(Block {
-            high: known.low.min(block.high),
-            ..block
-        })
-    } else {
-        None
+    if apart != 1 && apart != columns {
+        return None;
     }
+    Some(if apart == 1 { columns } else { 1 })
+}
+
+// Whether a cell has neighbours on all sides.
+#[inline(always)]
+fn is_inside(grid: &Grid, cell: u32) -> bool
+    requires { IsCell grid.now cell }
+    ensures { IsTrue result → IsInside grid.now cell }
+{
+    let columns = grid.columns();
+    let rows = grid.rows();
+    let column = grid.column(cell);
+    let row = grid.row(cell);
+    column > 0 && column + 1 < columns && row > 0 && row + 1 < rows
 }

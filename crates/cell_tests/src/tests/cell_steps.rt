@@ -1,6 +1,7 @@
 //! The first steps of cell runs.
 
-use super::helpers::{Step, expect, opened, run_next};
+use super::helpers::{Step, opened, run_next};
+use super::rows::expect;
 use cell_sequence::CellState;
 use event_stamps::Kind;
 use std::alloc::Global;

@@ -1,7 +1,7 @@
 //! Grids, lists of the disks in cells, and when disks leave their cells: tables worked out by hand, and a body that
 //! tries each tick.
 
-use super::helpers::expect;
+use super::rows::expect;
 use cell_grid::{Departure, Grid};
 use cell_lists::{Gathered, Lists, block_around};
 use event_stamps::Stamp;
@@ -361,20 +361,4 @@ fn near_one(alloc: Global) -> Result<(usize, Option<u32>), AllocError> {
     lists.put(alloc, ONE, cell)?;
     let near = lists.near(alloc, cell)?;
     Ok((near.len(), near.first().copied()))
-}
-
-// A box of 10 columns and 5 rows of 10 units.
-const SQUARES: Rules = Rules {
-    width: 100,
-    height: 50,
-    speed_limit: 3,
-    ..BLOCK
-};
-
-#[test]
-fn a_block_ends_at_the_sides(rt: HostRuntime) {
-    let grid = Grid::new(&SQUARES, 1);
-    let block = block_around(&grid, grid.cell_of(15, 5));
-    let found = (block.left, block.right, block.low, block.high);
-    expect(&rt, 0, found, (0, 3, 0, 2));
 }

@@ -1,4 +1,4 @@
-//! Calls on a cell state that several tests make, and the comparison of what is found with what is wanted.
+//! Calls on a cell state that several tests make.
 
 ghost use Rattle.std.specs.Prelude.{◌≡◌, IfOk};
 ghost use Rattle.cell_grid.specs.Grid.{IsAsked, IsRegion};
@@ -9,14 +9,7 @@ use cell_sequence::CellState;
 use event_stamps::{Kind, Stamp};
 use region_view::{Action, View, opening};
 use std::alloc::{AllocError, Global};
-use std::fmt::Debug;
-use std::process::Abort;
 use test_scenes::scene_of;
-
-/// The value found for a row has to be the one wanted.
-pub fn expect<V: PartialEq + Debug + Copy>(rt: &impl Abort, row: usize, found: V, wanted: V) {
-    assert!(rt; found == wanted, "row {row}: {found:?}, not {wanted:?}");
-}
 
 /// The cell state at the start of the scene of a text; none if the text is refused, or memory runs out.
 pub fn opened(alloc: Global, text: &str, regions: u32) -> Option<CellState>

@@ -5,7 +5,8 @@ ghost use Rattle.std.specs.Prelude.{◌≡◌, IfOk};
 ghost use Rattle.cell_grid.specs.Grid.{IsRegion};
 ghost use Rattle.region_queue.specs.Queue.{IsOf};
 
-use super::helpers::{expect, opened, run_next, view_of};
+use super::helpers::{opened, run_next, view_of};
+use super::rows::expect;
 use cell_sequence::CellState;
 use event_stamps::{Kind, Stamp};
 use region_queue::Queue;
@@ -176,6 +177,19 @@ const CROWD: &str = "width = 124\n\
     [12, 8, 2, 1], [12, 32, 2, -2], [32, 20, 1, -2], [32, 44, -2, -2], [52, 8, 2, 3], [52, 56, -1, 1], \
     [72, 20, 1, -2], [72, 44, -1, 1], [92, 8, -2, 2], [92, 32, -1, 2], [112, 20, -3, 2], [112, 44, 1, -2]]\n";
 
+// The same 2^23 times as far apart, and 2^18 times as fast: in nearly the greatest box, with the greatest speed limit.
+const VAST: &str = "width = 1040187392\n\
+    height = 536870912\n\
+    diameter = 33554432\n\
+    speed_limit = 1048576\n\
+    round_limit = 8\n\
+    end = 9600\n\
+    disks = [\
+    [100663296, 67108864, 524288, 262144], [100663296, 268435456, 524288, -524288], [268435456, 167772160, 262144, -524288], \
+    [268435456, 369098752, -524288, -524288], [436207616, 67108864, 524288, 786432], [436207616, 469762048, -262144, 262144], \
+    [603979776, 167772160, 262144, -524288], [603979776, 369098752, -262144, 262144], [771751936, 67108864, -524288, 524288], \
+    [771751936, 268435456, -262144, 524288], [939524096, 167772160, -786432, 524288], [939524096, 369098752, 262144, -524288]]\n";
+
 // Disks in a line that touch but for one unit: a velocity goes from the first to the last within one tick, by rounds
 // from 0 to 10.
 const ROUNDS: &str = "width = 124\n\
@@ -215,8 +229,40 @@ const DENSE: &str = "width = 66\n\
     [48, 6, 3, 2], [47, 17, -3, -1], [47, 26, 0, 3], [46, 36, -2, 2], [46, 46, -3, 0], [47, 56, 2, 1, 2], \
     [56, 7, 1, -2], [58, 16, 0, 2], [57, 26, 0, 0], [56, 36, -1, 3], [58, 47, -3, -2], [56, 57, 3, 1, 2]]\n";
 
+// The smallest disks, so fast that they pass each other, and the sides, within a tick.
+const PASSING: &str = "width = 1024\n\
+    height = 64\n\
+    diameter = 2\n\
+    speed_limit = 1024\n\
+    round_limit = 64\n\
+    end = 60\n\
+    disks = [\
+    [10, 10, 700, 1], [1000, 10, -600, 0], [10, 30, 500, 0], [900, 31, -900, 1], [500, 50, 300, -1], [700, 50, -1000, 0]]\n";
+
+// A lattice in which disks come to touch exactly, two and two, and then four and four.
+const LATTICE: &str = "width = 124\n\
+    height = 64\n\
+    diameter = 4\n\
+    speed_limit = 8\n\
+    round_limit = 64\n\
+    end = 200\n\
+    disks = [\
+    [20, 20, 1, 0], [28, 20, -1, 0], [20, 28, 1, 0], [28, 28, -1, 0], [60, 20, 1, 1], [68, 20, -1, 1], \
+    [60, 28, 1, -1], [68, 28, -1, -1], [100, 20, 1, 0], [104, 20, -1, 0], [100, 24, 0, -1], [104, 24, 0, -1]]\n";
+
+// One disk twenty times as wide as the others.
+const GREAT: &str = "width = 300\n\
+    height = 124\n\
+    diameter = 40\n\
+    speed_limit = 8\n\
+    round_limit = 8\n\
+    end = 200\n\
+    disks = [\
+    [60, 60, 1, 1], [20, 20, 2, 3, 2], [20, 100, 3, -2, 2], [100, 60, -2, 0, 2], [104, 64, -3, -1, 2], \
+    [140, 20, -2, 2, 2], [143, 24, 1, 1, 2], [200, 100, -3, -3, 2], [240, 60, -4, 0, 2], [244, 60, -5, 0, 2]]\n";
+
 // A row of the comparison is ten times the place of the scene, and the region.
-const SCENES: &[&str] = &[CROWD, ROUNDS, TICKS, DENSE];
+const SCENES: &[&str] = &[CROWD, VAST, ROUNDS, TICKS, DENSE, PASSING, LATTICE, GREAT];
 
 // More events than a run has.
 const MOST_EVENTS: u32 = 10_000;
@@ -234,7 +280,9 @@ fn queues_that_are_kept_find_what_queues_opened_anew_find(rt: HostRuntime) -> Re
         for region in 0..REGIONS {
             let (more, found, wrong) = course_of(rt.alloc(), text, region)?;
             let row = scene.wrapping_mul(10).wrapping_add(region as usize);
-            expect(&rt, row, wrong, None);
+            // else the scene is refused
+            let has_changes = more > 0 || region > 0;
+            expect(&rt, row, (wrong, has_changes), (None, true));
             calls = calls.wrapping_add(more);
             events = events.wrapping_add(found);
         }

@@ -5,7 +5,8 @@ ghost use Rattle.cell_grid.specs.Grid.{IsRegion};
 ghost use Rattle.region_view.specs.Setting.{IsInOrder};
 ghost use Rattle.region_view.specs.Messages.{RecordsCell};
 
-use super::helpers::{expect, opened, view_of};
+use super::helpers::{opened, view_of};
+use super::rows::expect;
 use cell_grid::Grid;
 use cell_sequence::CellState;
 use event_rules::Change;

@@ -1,5 +1,5 @@
 -- A cell of the grid is adjacent if its column and its row are at most one from those of the cell.
-use Rattle.std.proofs.Common.{◌≡◌, ℕ, ◌<◌, arith}
+use Rattle.std.proofs.Common.{◌≡◌, ◌<◌, arith}
 use Rattle.std.proofs.lemmas.Nat.{div_below, mod_below}
 use Rattle.cell_grid.specs.Grid.{column_of, row_of}
 use Rattle.cell_lists.proofs.near.block_around.Goals as goal

@@ -1,20 +1,17 @@
 -- The next disk is kept in each list or left out.
-use Rattle.std.proofs.Common.{◌≡◌, ℕ, ◌+◌, ◌<◌, ◌≤◌, List, length, take, get_or, arith, sym, subst, ◌∙◌, w64, to_z, of_z}
+use Rattle.std.proofs.Common.{◌≡◌, ℕ, ◌+◌, ◌<◌, ◌≤◌, List, length, get_or, arith, sym, subst, ◌∙◌}
 use mir.Val.{bool_byte}
-use Rattle.std.proofs.lemmas.Int.{to_z-of_z}
-use Rattle.std.specs.Prelude.{ℤ, None, slice_index_or}
+use Rattle.std.specs.Prelude.{None, slice_index_or}
 use Rattle.fixed_motion.specs.declared.disk.Disk.{Disk}
-use Rattle.region_queue.specs.Finding.{IsMissedByGreatest, AreKept}
+use Rattle.event_rules.specs.Rounded.{IsReachOf}
+use Rattle.region_queue.specs.Finding.{IsMissed, AreKept}
 use Rattle.region_queue.proofs.Keeping.{IsKeeping, keeping_none, keeping_more, keeping_all, byte_small}
 use Rattle.region_queue.proofs.both.keep_reached_by.Goals as goal
 
--- the code's square
-abbrev code : ℤ → ℤ
-code square = to_z w64 (of_z w64 square)
-
 pub loop-place-init : goal.loop-place-init
 loop-place-init c =
-    let Out : Disk → ℕ → Type 0 = λ disk i. IsMissedByGreatest (code c.args.square) disk (slice_index_or c.args.rows.now i None) in (
+    let Out : Disk → ℕ → Type 0 =
+    λ disk i. IsMissed (λ rules. IsReachOf rules c.args.one c.args.other c.args.reach) disk (slice_index_or c.args.rows.now i None) in (
       keeping_none (Out c.args.one) c.args.near.now,
       subst (λ (xs : List ℕ). IsKeeping (Out c.args.other) c.args.near.now xs 0 0) (sym c.requires.same)
           (keeping_none (Out c.args.other) c.args.near.now),
@@ -22,7 +19,8 @@ loop-place-init c =
 
 pub loop-place-preserved : goal.loop-place-preserved
 loop-place-preserved c =
-    let Out : Disk → ℕ → Type 0 = λ disk i. IsMissedByGreatest (code c.args.square) disk (slice_index_or c.args.rows.now i None) in
+    let Out : Disk → ℕ → Type 0 =
+    λ disk i. IsMissed (λ rules. IsReachOf rules c.args.one c.args.other c.args.reach) disk (slice_index_or c.args.rows.now i None) in
     let before = c.loop-place.invariant in
     let lt : c.loop-place.place < length c.args.near.now = omega (arith, c.len-place-end.ensures) in
     let here : c.at-disk.result ≡ get_or c.loop-place.near c.loop-place.place 0 = c.at-disk.ensures in
@@ -40,22 +38,19 @@ loop-place-preserved c =
 
 pub returns-clause-one : goal.returns-clause-one
 returns-clause-one c = λ _.
-    let IsOut : ℤ → ℕ → Type 0 = λ square i. IsMissedByGreatest square c.args.one (slice_index_or c.args.rows.now i None) in
-    let same : code c.args.square ≡ c.args.square = to_z-of_z w64 c.args.square c.ranges.square in
+    let IsOut : ℕ → Type 0 =
+    λ i. IsMissed (λ rules. IsReachOf rules c.args.one c.args.other c.args.reach) c.args.one (slice_index_or c.args.rows.now i None) in
     let past : length c.args.near.now ≤ c.loop-place.place = omega (arith, c.len-place-end.ensures) in
-    subst (λ (xs : List ℕ). AreKept (IsOut c.args.square) c.args.near.now xs) (sym c.cut.ensures)
-    (subst (λ (square : ℤ). AreKept (IsOut square) c.args.near.now (take c.loop-place.kept c.loop-place.near)) same
-    (keeping_all (IsOut (code c.args.square)) c.args.near.now c.loop-place.near c.loop-place.place c.loop-place.kept c.loop-place.invariant.0 past))
+    subst (λ (xs : List ℕ). AreKept IsOut c.args.near.now xs) (sym c.cut.ensures)
+    (keeping_all IsOut c.args.near.now c.loop-place.near c.loop-place.place c.loop-place.kept c.loop-place.invariant.0 past)
 
 pub returns-clause-other : goal.returns-clause-other
 returns-clause-other c = λ _.
-    let IsOut : ℤ → ℕ → Type 0 = λ square i. IsMissedByGreatest square c.args.other (slice_index_or c.args.rows.now i None) in
-    let same : code c.args.square ≡ c.args.square = to_z-of_z w64 c.args.square c.ranges.square in
+    let IsOut : ℕ → Type 0 =
+    λ i. IsMissed (λ rules. IsReachOf rules c.args.one c.args.other c.args.reach) c.args.other (slice_index_or c.args.rows.now i None) in
     let past : length c.args.near.now ≤ c.loop-place.place = omega (arith, c.len-place-end.ensures) in
-    subst (λ (xs : List ℕ). AreKept (IsOut c.args.square) c.args.near.now xs) (sym c.cut-2.ensures)
-    (subst (λ (square : ℤ). AreKept (IsOut square) c.args.near.now (take c.loop-place.kept_other c.loop-place.near_other)) same
-    (keeping_all (IsOut (code c.args.square)) c.args.near.now c.loop-place.near_other c.loop-place.place c.loop-place.kept_other
-    c.loop-place.invariant.1 past))
+    subst (λ (xs : List ℕ). AreKept IsOut c.args.near.now xs) (sym c.cut-2.ensures)
+    (keeping_all IsOut c.args.near.now c.loop-place.near_other c.loop-place.place c.loop-place.kept_other c.loop-place.invariant.1 past)
 
 pub overflow_add-kept : goal.overflow_add-kept
 overflow_add-kept c =

@@ -22,8 +22,9 @@ returns c = λ yes.
     let old = take c.gathered.inside.count c.gathered.inside.disks in
     let heads = take c.in-Some.heads.count c.gather_heads.new.disks in
     let new = take c.in-Some-gather_nexts.count c.gather_nexts.new.disks in
-    subst (λ (xs : List ℕ). AreGatheredIn cells c.args.grid.now c.args.block xs new) c.gathered.view_is
-    (gathered_in cells c.args.grid.now c.args.block old heads new c.in-Some.ensures.added
+    let Such = IsWithinBlock c.args.grid.now c.args.block in
+    subst (λ (xs : List ℕ). AreGatheredIn cells Such xs new) c.gathered.view_is
+    (gathered_in cells Such old heads new c.in-Some.ensures.added
     (subst (λ (n : ℕ). AreFollowed cells n heads new)
     (sym (all_taken c.gathered.inside.count c.gathered.inside.disks c.gathered.invariant c.gathered.told))
     c.in-Some-gather_nexts.ensures.followed))

@@ -1,16 +1,13 @@
 -- One more cell in each round.
-use Rattle.std.proofs.Common.{◌≡◌, ◌⊎◌, ◌↔◌, ◌+◌, ◌<◌, ◌≤◌, List, take, arith, sym, subst}
+use Rattle.std.proofs.Common.{◌≡◌, ◌+◌, ◌<◌, ◌≤◌, take, arith, subst}
 use Rattle.std.specs.Prelude.{ℕ}
-use Rattle.cell_lists.specs.Gathering.{StartsAdded, ArePending}
-use Rattle.cell_lists.specs.Places.{Holds}
-use Rattle.cell_lists.specs.Pointer.{disk_of, pointer_at, SaysMore}
-use Rattle.cell_lists.proofs.Walks.{nothing_added, cell_added, pending_more, all_taken}
+use Rattle.cell_lists.specs.Gathering.{StartsAdded}
+use Rattle.cell_lists.proofs.Walks.{nothing_added, both_added, next_cell}
 use Rattle.cell_lists.proofs.chains.Chains.gather_heads_of.Goals as goal
 
 pub loop-cell-init : goal.loop-cell-init
 loop-cell-init c = record {
   room = c.requires.room;
-  long = c.told-disks;
   more = omega arith;
   few = omega arith;
   added = nothing_added c.args.self.now.cells (λ n. (c.args.first ≤ n) × (n < c.args.first)) (take c.args.before.count c.args.disks.now)
@@ -20,26 +17,19 @@ loop-cell-init c = record {
 
 pub loop-cell-preserved : goal.loop-cell-preserved
 loop-cell-preserved c =
-    let cells = c.args.self.now.cells in
-    let old = take c.args.before.count c.args.disks.now in
+    let first = c.args.first in
+    let cell = c.loop-cell.cell in
     let was = c.loop-cell.invariant in
-    let before = take c.loop-cell.so_far.count c.loop-cell.disks in
-    let taken = all_taken c.loop-cell.so_far.count c.loop-cell.disks was.room was.long in
-    let x = pointer_at c.heads-heads.result.now c.loop-cell.cell in
-    let leads = c.heads-heads.ensures.first c.loop-cell.cell (omega arith) in
+    let offered = c.offer_head-so_far.ensures in
     record {
-      room = c.offer-so_far.ensures.room;
-      long = c.offer-so_far.array_long;
-      more = (let more = c.offer-so_far.ensures.more in let so_far = was.more in omega arith);
-      few = (let one = c.offer-so_far.ensures.one in let so_far = was.few in omega arith);
-      added = subst (λ (xs : List ℕ). StartsAdded cells (λ n. (c.args.first ≤ n) × (n < c.loop-cell.cell + 1)) old xs)
-          (sym c.offer-so_far.ensures.offered)
-          (cell_added cells c.args.first c.loop-cell.cell old before (disk_of x) c.loop-cell.auto.cell was.added leads.0);
-      pending = λ start le pending. subst (λ (xs : List ℕ). ArePending cells start xs c.offer-so_far.result.pending) (sym c.offer-so_far.ensures.offered)
-          (pending_more cells start before c.loop-cell.so_far.pending c.offer-so_far.result.pending x
-          (let more = was.more in omega (arith, taken)) leads.1
-          (subst (λ (n : ℕ). (p : ℕ) → (Holds c.offer-so_far.result.pending p ↔ (Holds c.loop-cell.so_far.pending p ⊎ ((p ≡ n) × SaysMore x)))) (sym taken)
-          c.offer-so_far.ensures.pending) (was.pending start le pending));
+      room = offered.room;
+      more = (let more = offered.more in let so_far = was.more in omega arith);
+      few = (let one = offered.one in let so_far = was.few in omega arith);
+      added = both_added c.args.self.now.cells (λ n. (first ≤ n) × (n < cell)) (λ n. n ≡ cell) (λ n. (first ≤ n) × (n < cell + 1))
+          (take c.args.before.count c.args.disks.now) (take c.loop-cell.so_far.count c.loop-cell.disks)
+          (take c.offer_head-so_far.result.count c.offer_head-so_far.new.disks) was.added offered.added
+          (λ n. next_cell first cell n c.loop-cell.auto.cell);
+      pending = λ start le pending. offered.pending start (let more = was.more in omega arith) (was.pending start le pending);
     }
 
 pub returns-clause-room : goal.returns-clause-room

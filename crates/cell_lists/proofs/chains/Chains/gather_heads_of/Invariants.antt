@@ -1,5 +1,5 @@
 -- The least disks of the cells below this one were added, and those that have a next one are pending.
-use Rattle.std.proofs.Common.{ℕ, ◌≡◌, ◌+◌, ◌<◌, ◌≤◌, length, take}
+use Rattle.std.proofs.Common.{ℕ, ◌+◌, ◌<◌, ◌≤◌, take}
 use Rattle.cell_lists.specs.declared.gathered.TheConstants.{MOST_GATHERED}
 use Rattle.cell_lists.specs.Gathering.{StartsAdded, ArePending}
 use Rattle.cell_lists.proofs.chains.Chains.gather_heads_of.Given as goal
@@ -7,7 +7,6 @@ use Rattle.cell_lists.proofs.chains.Chains.gather_heads_of.Given as goal
 abbrev pub invariant-loop-cell : goal.invariant-loop-cell
 invariant-loop-cell l = record {
   room : l.so_far.count ≤ MOST_GATHERED;
-  long : length l.disks ≡ MOST_GATHERED;
   more : l.fn.before.count ≤ l.so_far.count;
   few : l.so_far.count + l.fn.first ≤ l.fn.before.count + l.cell;
   added : StartsAdded l.self.cells (λ cell. (l.fn.first ≤ cell) × (cell < l.cell)) (take l.fn.before.count l.fn.disks) (take l.so_far.count l.disks);

@@ -1,9 +1,0 @@
--- Those disks so far that may hit are kept.
-use Rattle.std.specs.Prelude.{None, slice_index_or}
-use Rattle.region_queue.specs.Finding.{IsMissedByGreatest}
-use Rattle.region_queue.proofs.Keeping.{IsKeeping}
-use Rattle.region_queue.proofs.finder.keep_reached.Given as goal
-
-abbrev pub invariant-loop-place : goal.invariant-loop-place
-invariant-loop-place l =
-    IsKeeping (λ i. IsMissedByGreatest l.fn.square l.disk (slice_index_or l.rows i None)) l.fn.near l.near l.place l.kept
