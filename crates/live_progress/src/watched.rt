@@ -5,13 +5,17 @@ ghost use Rattle.live_progress.specs.Watching.{SoFar, next_of, with_published, I
 
 use crate::{Board, Pen, Progress};
 use event_rules::{Change, Deaf, Listener};
+use std::sync::Wait;
 
 /// A listener that publishes each event and then tells it on.
 ///
-/// Its meaning consists of what the pen has published, the loan of the pen, its board, and the meaning of the listener
-/// within, if that tells one.
+/// Publishing needs a runtime, and telling a listener doesn't pass one: so the runtime is kept here, and telling this
+/// listener may wait, as [`Board::publish`] may. Its meaning consists of what the pen has published, the loan of the
+/// pen, its board, and the meaning of the listener within, if that tells one.
 #[derive(Drop)]
-pub struct Watched<'p, L: Listener> {
+pub struct Watched<'p, R: Wait, L: Listener> {
+    /// The runtime.
+    pub rt: &'p R,
     /// The board that shows each event.
     pub board: &'p Board,
     /// The pen of the board.
@@ -24,7 +28,7 @@ pub struct Watched<'p, L: Listener> {
     pub ghost alike: { (one other : _) → is_some (L.meaning one) ≡ is_some (L.meaning other) },
 }
 
-impl<'p, L: Listener> Listener for Watched<'p, L> {
+impl<'p, R: Wait, L: Listener> Listener for Watched<'p, R, L> {
     ghost Meaning = { SoFar L.Meaning };
 
     ghost after = { with_published L.after };
@@ -44,9 +48,10 @@ impl<'p, L: Listener> Listener for Watched<'p, L> {
     }
 
     /// Publishes one more event, at the change's tick, and then tells the listener within.
+    #[inline(always)]
     fn event(&mut self, change: &Change) -> Result<(), Deaf> {
         let next = next(self.pen.last(), change);
-        self.board.publish(self.pen, next);
+        self.board.publish(self.rt, self.pen, next);
         self.inner.event(change)
     }
 }

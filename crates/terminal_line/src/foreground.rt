@@ -1,7 +1,9 @@
 //! Whether the process may write to the terminal.
 
-use std::fs;
+ghost use Rattle.std.specs.Prelude.{◌≡◌, true, IfErr};
+
 use std::rt::Files;
+use std::{fs, io};
 
 // The file in which the system describes the process in one line (proc(5)).
 const STAT: &str = "/proc/self/stat";
@@ -14,8 +16,15 @@ pub trait Terminal {
 
 /// Whether the process belongs to the foreground group of its terminal. If the system doesn't tell, the answer is yes.
 pub fn is_in_foreground<R: AllocGlobal + Files>(rt: &R) -> bool {
-    match fs::read_to_string(rt, STAT) {
-        Ok(stat) => says_foreground(&stat).unwrap_or(true),
+    may_write(&fs::read_to_string(rt, STAT))
+}
+
+// Whether a process that is described so may write to its terminal, also if it couldn't be read how it is.
+fn may_write(stat: &io::Result<String>) -> bool
+    ensures { IfErr stat.now (λ _. result ≡ true) }
+{
+    match stat {
+        Ok(stat) => says_foreground(stat).unwrap_or(true),
         Err(_) => true,
     }
 }

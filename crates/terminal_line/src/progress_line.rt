@@ -4,8 +4,9 @@
 //! begins a row of its own. The terminal cuts the line at its width. Nothing is shown while the process is in the
 //! background.
 //!
-//! Neither the thread that shows the line nor the one that ends it ever waits without end: both look again and again
-//! after short sleeps, and each look is counted.
+//! Neither the thread that shows the line nor the one that ends it waits for the other without end: both look again and
+//! again after short sleeps, and each look is counted. The thread that shows the line may have to wait for a step of
+//! the board's cell (see [`Board::look`]).
 
 ghost use Rattle.std.specs.Prelude.{◌≡◌};
 
@@ -16,8 +17,8 @@ use live_progress::{Board, Glass, Progress};
 use report_ports::{Given, Sink};
 use std::fmt;
 use std::fmt::{Display, Formatter, Write};
-use std::sync::Mutex;
 use std::sync::atomic::{AtomicBool, Ordering};
+use std::sync::{Mutex, Wait};
 use std::time::{Clock, Duration};
 
 // How many milliseconds a run goes on before the line is shown, and how many pass before it is rewritten.
@@ -77,7 +78,7 @@ impl ProgressLine {
 
     /// Shows what the board shows, some times a second, until the line is ended. The line stays hidden in the first
     /// second, and as long as no scene was read.
-    pub fn show<R: AllocGlobal + Eprint + Clock, T: Terminal>(
+    pub fn show<R: AllocGlobal + Eprint + Wait + Clock, T: Terminal>(
         &self,
         rt: &R,
         terminal: &T,
@@ -94,7 +95,7 @@ impl ProgressLine {
                 break;
             }
             let now = micros(rt);
-            let shown = board.look(&mut glass);
+            let shown = board.look(rt, &mut glass);
             let sight = ShownProgress {
                 shown,
                 end: board.end(),

@@ -1,11 +1,13 @@
 //! How workers share the processors with other programs.
 //!
 //! If more threads want to run than there are processors, the system takes a worker's away every few milliseconds, and
-//! mostly while it works on a region: then the other workers wait until it is back. Between two slices a worker holds
-//! no region, and the others do its work. So it is better to give the processor away there, a little before it would be
-//! taken.
+//! mostly while it works on a region: then the other workers, once they have done the rest, look and rest until it is
+//! back, or until they have done so as often as they may. Between two slices a worker holds no region, and the others do
+//! its work. So it is better to give the processor away there, a little before it would be taken.
 //!
 //! Nothing is claimed of it: the regions are right whichever worker runs them, and when.
+
+ghost use Rattle.std.specs.Prelude.{◌≤◌};
 
 use crate::moments::micros;
 use region_core::Gate;
@@ -14,8 +16,8 @@ use std::alloc::Global;
 use std::sync::atomic::{AtomicU64, Ordering};
 use std::time::{Clock, Duration};
 
-// A worker that comes more than this many microseconds after it came last was without a processor, or waited for one
-// that was.
+// A worker that comes more than this many microseconds after it came last was without a processor, or rested until one
+// came back that was.
 const LATE: u64 = 1_000;
 
 // For this many microseconds after that, a worker takes it that others want the processors.
@@ -85,9 +87,15 @@ impl<'r, R: Clock + Sync> Gate for TimeSharing<'r, R> {
     }
 
     fn rest(&self, worker: u32) {
-        let long = REST << doublings(worker);
-        self.rt.sleep(Duration::from_micros(long));
+        self.rt.sleep(Duration::from_micros(rest_micros(worker)));
     }
+}
+
+// For how many microseconds a worker sleeps if it has nothing to do.
+fn rest_micros(worker: u32) -> u64
+    ensures { result ≤ 1280 }
+{
+    REST << doublings(worker)
 }
 
 impl Stint {
