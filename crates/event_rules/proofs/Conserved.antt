@@ -22,7 +22,7 @@ use Rattle.event_rules.proofs.Effects.{energy_by}
 use Rattle.event_rules.proofs.Ranges.{starts_valid}
 
 -- ---- sums of whole numbers
-total : {A : Type 0} → (A → ℤ) → List A → ℤ
+unfoldable pub total : {A : Type 0} → (A → ℤ) → List A → ℤ
 total f [] = pos 0
 total f (x ∷ xs) = f x +ℤ total f xs
 
@@ -56,7 +56,7 @@ total_is velocity items =
     none_before m = omega (arith, ints)
 
 -- a disk's part is put in the place of another's
-replaced : (f : Disk → ℤ) (disks : List Disk) (i : ℕ) (old new : Disk) → slice_get disks i ≡ Some old →
+pub replaced : (f : Disk → ℤ) (disks : List Disk) (i : ℕ) (old new : Disk) → slice_get disks i ≡ Some old →
     total f (slice_set disks i new) ≡ total f disks +ℤ (f new -ℤ f old)
 unfolding total
 replaced f [] i old new at = absurd (none-some old at)
@@ -75,7 +75,7 @@ other_place (b ∷ disks) i zero new a lt at = absurd (omega arith)
 other_place (b ∷ disks) zero (suc j) new a lt at = at
 other_place (b ∷ disks) (suc i) (suc j) new a lt at = other_place disks i j new a (omega arith) at
 
-replaced_both : (f : Disk → ℤ) (disks : List Disk) (i j : ℕ) (a b c d : Disk) → i < j →
+pub replaced_both : (f : Disk → ℤ) (disks : List Disk) (i j : ℕ) (a b c d : Disk) → i < j →
     slice_get disks i ≡ Some a → slice_get disks j ≡ Some b →
     total f (slice_set (slice_set disks i c) j d) ≡ total f disks +ℤ ((f c +ℤ f d) -ℤ (f a +ℤ f b))
 replaced_both f disks i j a b c d lt first second =

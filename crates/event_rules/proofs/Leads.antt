@@ -3,6 +3,7 @@ use Rattle.std.proofs.Common.{◌≡◌, ℕ, zero, suc, ◌+◌, ◌-◌, ◌/�
 use Rattle.std.specs.Prelude.{ℤ, pos, negsuc, nat_abs, FitsSigned, ◌+ℤ◌, ◌-ℤ◌, ◌*ℤ◌, ◌≤ℤ◌, ◌<ℤ◌}
 use Rattle.std.specs.Int.{int_wrap, w64}
 use Rattle.std.proofs.lemmas.Int.{ints, int_wrap_fits, to_z_pos, of_z-to_z}
+use lib.Signed.{quot_z}
 use Rattle.plane_vectors.proofs.Sizes.{size_of_product, sent}
 use Rattle.plane_vectors.specs.Vectors.{vector, IsWithin}
 use Rattle.fixed_motion.specs.declared.rules.Rules.{Rules}
@@ -12,7 +13,7 @@ use Rattle.fixed_motion.specs.Motion.{half_of, centre_of, velocity_of}
 use Rattle.fixed_motion.proofs.Sizes.{inside_in_box, in_box_size, slow_size}
 use Rattle.contact_predictor.specs.Contact.{coordinate_after}
 use Rattle.event_rules.specs.Predict.{separation_of}
-use Rattle.event_rules.specs.Small.{IsValidPair}
+use Rattle.event_rules.specs.Pairs.{IsValidPair}
 
 -- ---- places
 back : (u : ℤ) (t : ℕ) → u *ℤ (pos 0 -ℤ pos t) ≡ pos 0 -ℤ (u *ℤ pos t)
@@ -151,3 +152,9 @@ half_told m n d w hm lm hn ln em en ew ed = half_sum m n (sent d) hm hn em en (t
         (λ i. half i +ℤ half i) ∙ whole m n em en
     twice (negsuc m) n hm lm hn ln em en e = absurd (not_negative m hm)
     twice (pos m) (negsuc n) hm lm hn ln em en e = absurd (not_negative n hn)
+
+pub half_whole : (m n : ℤ) → pos 2 ≤ℤ m → pos 2 ≤ℤ n → nat_abs m % 2 ≡ 0 → nat_abs n % 2 ≡ 0 →
+    quot_z (m +ℤ n) (pos 2) ≡ half_of m +ℤ half_of n
+half_whole (pos m) (pos n) hm hn em en = half_sum (pos m) (pos n) (pos ((m + n) / 2)) hm hn em en (omega (arith, ints))
+half_whole (negsuc m) n hm hn em en = absurd (omega (arith, ints))
+half_whole (pos m) (negsuc n) hm hn em en = absurd (omega (arith, ints))

@@ -1,4 +1,5 @@
 pub mod Apart
+mod Approaches
 pub mod Between
 pub mod Conserved
 mod Courses
@@ -6,27 +7,26 @@ pub mod Decided
 mod Effects
 pub mod Exists
 pub mod Fits
-mod Greatest
 mod Joins
 mod Leads
 pub mod Levels
-mod MayHit
 pub mod OneRun
 pub mod OneTick
 pub mod Ran
 pub mod Ranges
+mod Reaches
 pub mod Rise
+mod Rounded
+mod Rounding
 pub mod RunsTold
 mod Separations
 mod SideBySide
 mod Sides
-mod SmallProducts
 mod Speeds
 pub mod States
 pub mod Steps
 mod Swapped
 pub mod Telling
-mod Together
 pub mod Valid
 pub mod Walls
 pub mod Within

@@ -8,59 +8,36 @@ use Rattle.plane_vectors.specs.Vectors.{vector, difference, after, IsWithin}
 use Rattle.plane_vectors.proofs.Sizes.{sent, sent_same}
 use Rattle.fixed_motion.specs.declared.rules.Rules.{Rules}
 use Rattle.fixed_motion.specs.declared.disk.Disk.{Disk}
-use Rattle.fixed_motion.specs.Rules.{IsChecked}
-use Rattle.fixed_motion.specs.Motion.{IsInside, IsValidDisk, centre_of, velocity_of, place_of, contact_distance}
-use Rattle.fixed_motion.proofs.Sizes.{inside_in_box, difference_size, slow_size, contact_least, contact_most}
+use Rattle.fixed_motion.specs.Motion.{centre_of, velocity_of, place_of, contact_distance}
+use Rattle.fixed_motion.proofs.Sizes.{slow_size, contact_least, contact_most}
 use Rattle.contact_predictor.specs.Contact.{coordinate_after, IsContact, IsContactAfter}
 use Rattle.plane_vectors.proofs.Products.{distributes}
 use Rattle.event_rules.specs.declared.separation.Separation.{Separation}
 use Rattle.event_rules.specs.Events.{IsContactTick, TouchAt}
-use Rattle.event_rules.proofs.Courses.{inside_until}
-use Rattle.event_rules.specs.Predict.{IsOnlyChance, HaveBegun, AreInside, IsLastTogether, IsTouch, IsOnlyContactTick, IsSeparation, FitInABox, PathsTouchAfter, separation_of}
-use Rattle.event_rules.specs.Small.{IsValidPair}
+use Rattle.event_rules.specs.Predict.{IsOnlyChance, HaveBegun, AreInside, IsSeparation, PathsTouchAfter, separation_of}
+use Rattle.event_rules.specs.Pairs.{IsValidPair}
 
 -- ---- sizes
--- the separation of two disks that are inside
-pub inside_size : (rules : Rules) (a b : Disk) (p q : Vector) → IsChecked rules → IsValidDisk rules a → IsValidDisk rules b →
-    IsInside rules a p → IsInside rules b q → IsWithin (2 ^ 30) (difference p q)
-inside_size rules a b p q checked va vb ia ib =
-    difference_size p q (inside_in_box rules a p checked va.size ia) (inside_in_box rules b q checked vb.size ib)
-
 pub relative_size : (u v : Vector) → IsWithin (2 ^ 20) u → IsWithin (2 ^ 20) v → IsWithin (2 ^ 21) (difference u v)
 relative_size u v h k = record { x = size u.x v.x h.x k.x; y = size u.y v.y h.y k.y }
   where
     size : (m n : ℤ) → nat_abs m ≤ 2 ^ 20 → nat_abs n ≤ 2 ^ 20 → nat_abs (m -ℤ n) ≤ 2 ^ 21
     size m n h k = omega (arith, ints)
 
-pub distance_size : (rules : Rules) (a b : Disk) → IsChecked rules → IsValidDisk rules a → IsValidDisk rules b → nat_abs (contact_distance a b) ≤ 2 ^ 30
-distance_size rules a b checked va vb =
-    let least = contact_least rules a b va.size vb.size in
-    let most = contact_most rules a b va.size vb.size in
-    let fits = checked.diameter.1 in
-    let side = checked.width.1 in
-    omega (arith, ints)
-
 pub small_same : (n : ℤ) → nat_abs n ≤ 2 ^ 30 → sent n ≡ n
 small_same n h = sent_same n (omega (arith, ints))
 
-pub record AreSmall (s : Separation) : Type 0 where
-  pub places : IsWithin (2 ^ 30) s.places
-  pub velocities : IsWithin (2 ^ 21) s.velocities
-  pub distance : nat_abs s.distance ≤ 2 ^ 30
-  pub same : sent s.distance ≡ s.distance
+-- ---- the later base tick
+pub places_are : (a b : Disk) (s : Separation) → IsSeparation a b s → s.places ≡ separation_of a b
+places_are a b s h = h.places ∙ ap (λ (t : ℕ). difference (place_of a t) (place_of b t)) h.start
 
-pub are_small : (rules : Rules) (a b : Disk) (s : Separation) → IsChecked rules → IsValidDisk rules a → IsValidDisk rules b →
-    IsSeparation a b s → FitInABox s → AreSmall s
-are_small rules a b s checked va vb h near =
-    let velocities = relative_size (velocity_of a) (velocity_of b)
-    (slow_size rules (velocity_of a) checked va.velocity) (slow_size rules (velocity_of b) checked vb.velocity) in
-    let distance = subst (λ (d : ℤ). nat_abs d ≤ 2 ^ 30) (sym h.distance) (distance_size rules a b checked va vb) in
-    record {
-      places = near;
-      velocities = subst (λ (u : Vector). IsWithin (2 ^ 21) u) (sym h.velocities) velocities;
-      distance = distance;
-      same = small_same s.distance distance;
-    }
+pub distance_size : (rules : Rules) (a b : Disk) → IsValidPair rules a b → nat_abs (contact_distance a b) ≤ 2 ^ 30
+distance_size rules a b pair =
+    let least = contact_least rules a b pair.first.size pair.second.size in
+    let most = contact_most rules a b pair.first.size pair.second.size in
+    let fits = pair.checked.diameter.1 in
+    let side = pair.checked.width.1 in
+    omega (arith, ints)
 
 -- the code's numbers are those meant
 pub separated : (rules : Rules) (a b : Disk) (start : ℕ) (r v w u : Vector) (d : ℤ) → IsValidPair rules a b →
@@ -68,7 +45,7 @@ pub separated : (rules : Rules) (a b : Disk) (start : ℕ) (r v w u : Vector) (d
     u ≡ vector (int_wrap w64 (v.x -ℤ w.x)) (int_wrap w64 (v.y -ℤ w.y)) → d ≡ contact_distance a b →
     IsSeparation a b (record { start = start; places = r; velocities = u; distance = sent d })
 separated rules a b start r v w u d pair e er ev ew eu ed =
-    let distance : sent (contact_distance a b) ≡ contact_distance a b = small_same (contact_distance a b) (distance_size rules a b pair.checked pair.first pair.second) in
+    let distance : sent (contact_distance a b) ≡ contact_distance a b = small_same (contact_distance a b) (distance_size rules a b pair) in
     let slow = relative_size (velocity_of a) (velocity_of b)
     (slow_size rules (velocity_of a) pair.checked pair.first.velocity) (slow_size rules (velocity_of b) pair.checked pair.second.velocity) in
     let x = same (a.vx -ℤ b.vx) slow.x in
@@ -82,18 +59,6 @@ separated rules a b start r v w u d pair e er ev ew eu ed =
   where
     same : (n : ℤ) → nat_abs n ≤ 2 ^ 21 → int_wrap w64 n ≡ n
     same n h = int_wrap_fits w64 n (omega (arith, ints))
-
--- disks that aren't near at the later base tick don't meet, since one of them is outside then
-pub never_far : (rules : Rules) (a b : Disk) (s : Separation) → IsChecked rules → IsValidDisk rules a → IsValidDisk rules b →
-    IsSeparation a b s → ¬ FitInABox s → (tick : ℕ) → IsContactTick rules a b tick → ⊥
-never_far rules a b s checked va vb h far tick contact =
-    let x : a.base ≤ tick = contact.first_base in
-    let y : b.base ≤ tick = contact.second_base in
-    let e = h.start in
-    let first = inside_until rules a s.start tick va.centre (omega arith) contact.first_inside in
-    let second = inside_until rules b s.start tick vb.centre (omega arith) contact.second_inside in
-    far (subst (λ (r : Vector). IsWithin (2 ^ 30) r) (sym h.places)
-    (inside_size rules a b (place_of a s.start) (place_of b s.start) checked va vb first second))
 
 -- ---- later ticks
 coordinate_later : (x v : ℤ) (m n : ℕ) → coordinate_after x v (m + n) ≡ coordinate_after (coordinate_after x v m) v n
@@ -141,24 +106,6 @@ touch_after a b start s begun =
       λ h. subst (λ (r : Vector). IsContact r u (contact_distance a b)) (sym e) h,
     )
 
--- the separation is small also at the last tick at which both are inside
-pub later_small : (rules : Rules) (a b : Disk) (s : Separation) (last : ℕ) → IsChecked rules → IsValidDisk rules a → IsValidDisk rules b →
-    IsSeparation a b s → IsLastTogether rules a b last → IsWithin (2 ^ 30) (after s.places s.velocities (last - s.start))
-later_small rules a b s last checked va vb h together =
-    let e = h.start in
-    let begun : HaveBegun a b last = together.begun in
-    let x : a.base ≤ last = begun.0 in
-    let y : b.base ≤ last = begun.1 in
-    let end : last < rules.end = together.end in
-    let at : s.start + (last - s.start) ≡ last = omega arith in
-    let inside : AreInside rules a b (s.start + (last - s.start)) =
-    (together.inside (s.start + (last - s.start)) (omega arith, omega arith) (omega arith)).1 (omega arith) in
-    let later = inside_size rules a b (place_of a (s.start + (last - s.start))) (place_of b (s.start + (last - s.start))) checked va vb inside.0 inside.1 in
-    let same = separation_later a b s.start (last - s.start) (omega arith, omega arith) in
-    let places = h.places in
-    let velocities = h.velocities in
-    subst (λ (r : Vector). IsWithin (2 ^ 30) r) (same ∙ sym (λ i. after (places i) (velocities i) (last - s.start))) later
-
 -- ---- contacts
 -- to be in contact a number of ticks after the separation is to be in contact then
 contact_same : (rules : Rules) (a b : Disk) (s : Separation) (n : ℕ) → IsSeparation a b s →
@@ -203,47 +150,21 @@ only_tick rules a b s n h only tick contact =
     let t : tick - s.start ≡ n = only (tick - s.start) at.1 in
     omega arith
 
-pub never_from : (rules : Rules) (a b : Disk) (s : Separation) → IsSeparation a b s →
-    ((n : ℕ) → IsContactAfter s.places s.velocities s.distance n → ⊥) → (tick : ℕ) → IsContactTick rules a b tick → ⊥
-never_from rules a b s h never tick contact = never (tick - s.start) (ticks_until rules a b s tick h contact).1
-
--- the contact of the paths is the contact of the disks, if they are inside then
-pub touch_from : (rules : Rules) (a b : Disk) (s : Separation) (n : ℕ) → IsSeparation a b s → PathsTouchAfter s n →
-    (s.start + n) < rules.end → AreInside rules a b (s.start + n) → IsTouch rules a b (s.start + n)
-touch_from rules a b s n h found before inside =
-    (contact_tick_from rules a b s n h found.contact inside, before, only_tick rules a b s n h found.only)
-
--- and no other tick
+-- paths that touch after the end tell of no contact before it
 pub no_touch : (rules : Rules) (a b : Disk) (s : Separation) (n : ℕ) → IsSeparation a b s → PathsTouchAfter s n →
-    ((s.start + n) < rules.end → AreInside rules a b (s.start + n) → ⊥) → (tick : ℕ) → tick < rules.end → IsContactTick rules a b tick → ⊥
-no_touch rules a b s n h found never tick before contact =
+    rules.end ≤ s.start + n → (tick : ℕ) → tick < rules.end → IsContactTick rules a b tick → ⊥
+no_touch rules a b s n h found late tick before contact =
     let e : tick ≡ s.start + n = only_tick rules a b s n h found.only tick contact in
-    never (omega arith) (subst (λ (t : ℕ). AreInside rules a b t) e (contact.first_inside, contact.second_inside))
+    omega arith
 
--- wherever they are then, there is no other one
+-- those that touch before it do so at the only contact tick, if the disks are inside then
 pub chance_from : (rules : Rules) (a b : Disk) (s : Separation) (n : ℕ) → IsSeparation a b s → PathsTouchAfter s n →
     (s.start + n) < rules.end → IsOnlyChance rules a b (s.start + n)
 chance_from rules a b s n h found before =
     let e = h.start in
-    record { begun = (omega arith, omega arith); end = before; only = only_tick rules a b s n h found.only }
-
--- the contact up to the last tick at which both are inside
-pub only_contact_tick : (rules : Rules) (a b : Disk) (s : Separation) (last n : ℕ) → IsSeparation a b s → IsLastTogether rules a b last →
-    n ≤ last - s.start → IsContactAfter s.places s.velocities s.distance n →
-    ((m : ℕ) → IsContactAfter s.places s.velocities s.distance m → m ≡ n) → IsOnlyContactTick rules a b last (s.start + n)
-only_contact_tick rules a b s last n h together le contact only =
-    let e = h.start in
-    let begun : HaveBegun a b last = together.begun in
-    let x : a.base ≤ last = begun.0 in
-    let y : b.base ≤ last = begun.1 in
-    let end : last < rules.end = together.end in
-    let within : s.start + n ≤ last = omega arith in
-    let inside = (together.inside (s.start + n) (omega arith, omega arith) (omega arith)).1 within in
-    (contact_tick_from rules a b s n h contact inside, within, only_tick rules a b s n h only)
-
-pub no_contact_tick : (rules : Rules) (a b : Disk) (s : Separation) (last : ℕ) → IsSeparation a b s →
-    ((n : ℕ) → n ≤ last - s.start → IsContactAfter s.places s.velocities s.distance n → ⊥) →
-    (tick : ℕ) → tick ≤ last → IsContactTick rules a b tick → ⊥
-no_contact_tick rules a b s last h never tick le contact =
-    let e = h.start in
-    never (tick - s.start) (omega arith) (ticks_until rules a b s tick h contact).1
+    record {
+      begun = (omega arith, omega arith);
+      end = before;
+      touch = contact_tick_from rules a b s n h found.contact;
+      only = only_tick rules a b s n h found.only;
+    }

@@ -1,11 +1,13 @@
 -- What the lanes of vectors hold.
-use Rattle.std.proofs.Common.{rules, ◌≡◌, ◌↔◌, ℕ, suc, ◌+◌, ◌-◌, ◌*◌, ◌/◌, ◌%◌, ◌^◌, ◌<◌, ◌≤◌, max, Bool, true, false, not, cond, IsTrue, List, [], ◌∷◌, map, arith, refl, sym, ap, subst, ◌∙◌, FitsSigned, to_z, of_z, bit_and, inl, inr}
-use Rattle.std.specs.Prelude.{ℤ, pos, negsuc, nat_abs, ◌+ℤ◌, ◌-ℤ◌, ◌*ℤ◌, ◌≤ℤ◌, ◌<ℤ◌, ◌&&◌}
+use Rattle.std.proofs.Common.{rules, ◌≡◌, ◌↔◌, ℕ, suc, ◌+◌, ◌-◌, ◌*◌, ◌/◌, ◌%◌, ◌^◌, ◌<◌, ◌≤◌, max, Bool, true, false, not, cond, IsTrue, List, [], ◌∷◌, map, arith, refl, sym, ap, subst, ◌∙◌, FitsSigned, to_z, of_z, bit_and, bit_or, ◌⊎◌, inl, inr}
+use Rattle.std.specs.Prelude.{ℤ, pos, negsuc, nat_abs, ◌+ℤ◌, ◌-ℤ◌, ◌*ℤ◌, ◌≤ℤ◌, ◌<ℤ◌, ◌&&◌, ◌||◌}
 use Rattle.std.specs.Int.{int_wrap, int_rem_euclid, w32, w64}
 use Rattle.std.specs.Int.RustNames.{unsigned_abs}
-use Rattle.std.proofs.lemmas.Int.{ints, wraps, wrapping_add-bits, int_wrap_fits, to_z_pos, of_z-to_z, to_z-of_z, SFits-int_wrap, fits_signed_from_abs, unsigned_abs-mul}
+use Rattle.std.proofs.lemmas.Int.{ints, wraps, wrapping_add-bits, int_wrap_fits, to_z_pos, of_z-to_z, to_z-of_z, SFits-int_wrap}
 use Rattle.std.proofs.lemmas.Bool.{false≢true, cases_lt}
 use Rattle.std.proofs.Math.Facts.{to_z-neg}
+use Rattle.std.proofs.lemmas.Nat.{pow_pos}
+use Rattle.std.proofs.Math.Nat.{mul-le-mul, pow-le-pow_right}
 use lib.Dec.{eqb}
 use lib.Lanes.{mask_l, top}
 use lib.Signed.{lt_z, shr_z}
@@ -17,14 +19,16 @@ use Rattle.fixed_motion.specs.declared.disk.Disk.{Disk}
 use Rattle.fixed_motion.specs.Motion.{centre_of, velocity_of, contact_distance}
 use Rattle.contact_predictor.specs.declared.approach.Approach.{Approach}
 use Rattle.contact_predictor.specs.Contact.{gap}
-use Rattle.contact_predictor.specs.Approach.{IsApproachOf, FitsApproach, IsSmall, IsCourse}
+use Rattle.contact_predictor.specs.Approach.{IsApproachOf, FitsApproach}
 use Rattle.event_rules.specs.Predict.{separation_of}
-use Rattle.event_rules.specs.Lanes.{Hold}
-use Rattle.event_rules.specs.Small.{IsValidPair, wrapped_after}
-use Rattle.event_rules.proofs.Greatest.{IsTold}
+use Rattle.event_rules.specs.Lanes.{Hold, wrapped_after}
+use Rattle.event_rules.specs.Pairs.{IsValidPair}
+use Rattle.event_rules.specs.Scale.{bits_from, rounded_down, rounded_up, CrossRounded, FitRounded}
 use Rattle.event_rules.proofs.Leads.{leading, apart_second, way_fits}
 use Rattle.event_rules.proofs.Separations.{small_same}
-use Rattle.event_rules.proofs.SmallProducts.{less, within_box}
+use Rattle.event_rules.proofs.Approaches.{within_box}
+use Rattle.event_rules.proofs.Reaches.{IsTold}
+use Rattle.event_rules.proofs.Rounding.{down_size, up_size, down_shifted, up_shifted}
 use Rattle.event_rules.proofs.Swapped.{IsOpposite, opposite_dot}
 
 -- a call's argument or result
@@ -115,7 +119,27 @@ low_twice z = wrapped_word (int_wrap w64 z) (SFits-int_wrap w64 z) ∙ ap (to_z 
         let lt : 18446744073709551616 - 1 - n % 18446744073709551616 < 18446744073709551616 = omega arith in
         words (18446744073709551616 - 1 - n % 18446744073709551616) lt ∙ omega arith
 
+-- as many low bits
+pub low_ones : (bits : ℕ) → bits ≤ 32 → to_z w64 (of_z w64 (to_z w64 ((1 * 2 ^ bits) % 18446744073709551616) -ℤ pos 1)) ≡ pos (2 ^ bits - 1)
+low_ones bits few = less_one (2 ^ bits) (pow_pos bits) (pow-le-pow_right (omega arith) few)
+  where
+    less_one : (k : ℕ) → 0 < k → k ≤ 2 ^ 32 → to_z w64 (of_z w64 (to_z w64 ((1 * k) % 18446744073709551616) -ℤ pos 1)) ≡ pos (k - 1)
+    less_one k p h =
+        let whole : (1 * k) % 18446744073709551616 ≡ k = omega arith in
+        let less : (pos k -ℤ pos 1) ≡ pos (k - 1) = omega (arith, ints) in
+        ap (λ (n : ℕ). to_z w64 (of_z w64 (to_z w64 n -ℤ pos 1))) whole
+        ∙ ap (λ (z : ℤ). to_z w64 (of_z w64 (z -ℤ pos 1))) (to_z_pos w64 k (omega arith))
+        ∙ ap (λ (z : ℤ). to_z w64 (of_z w64 z)) less ∙ sent_same (pos (k - 1)) (omega (arith, ints))
+
+pub ones_fit : (bits : ℕ) → bits ≤ 32 → FitsSigned w64 (pos (2 ^ bits - 1))
+ones_fit bits few =
+    let power : 2 ^ bits ≤ 2 ^ 32 = pow-le-pow_right (omega arith) few in
+    omega (arith, ints)
+
 -- ---- the test of both lanes
+less : (x y : ℤ) → IsTrue (lt_z x y) ↔ (x <ℤ y)
+less x y = (λ h. grind (arith, ints), λ h. grind (arith, ints))
+
 -- a lane of a mask
 abbrev mask : Bool → ℕ
 mask b = cond b 18446744073709551615 0
@@ -123,9 +147,11 @@ mask b = cond b 18446744073709551615 0
 abbrev bits : Bool → Bool → Bool → Bool → ℕ
 bits a b c d = mask_l (map (top 63) (bit_and (mask a) (mask c) ∷ (bit_and (mask b) (mask d) ∷ []))) % 18446744073709551616
 
-both : (x y : Bool) → IsTrue (x && y) ↔ (IsTrue x × IsTrue y)
-both true y = (λ h. (refl, h), λ h. h.1)
-both false y = (λ h. absurd (false≢true h), λ h. h.0)
+either_mask : (c e : Bool) → bit_or (mask c) (mask e) ≡ mask (c || e)
+either_mask true true = refl
+either_mask true false = refl
+either_mask false true = refl
+either_mask false false = refl
 
 first_bit : (a b c d : Bool) → not (eqb (bit_and (bits a b c d) 1) 0) ≡ (a && c)
 first_bit true true true true = refl
@@ -163,62 +189,120 @@ second_bit false false true false = refl
 second_bit false false false true = refl
 second_bit false false false false = refl
 
--- the tests of one lane, if l is the closing number wrapped to 32 bits
-abbrev is_closing : ℤ → Bool
-is_closing closing = lt_z (to_z w64 (of_z w64 closing)) (to_z w64 0)
+-- a number is negative
+abbrev is_negative : ℤ → Bool
+is_negative n = lt_z (to_z w64 (of_z w64 n)) (to_z w64 0)
 
-abbrev is_crossing : ℤ → ℤ → ℤ → Bool
-is_crossing square gap l = lt_z (to_z w64 (of_z w64 square * of_z w64 gap % 18446744073709551616))
-    (to_z w64 (of_z w64 l * of_z w64 l % 18446744073709551616))
+-- a product is less than a square
+abbrev is_less : ℤ → ℤ → ℤ → Bool
+is_less square gap nearing = lt_z (to_z w64 (of_z w64 square * of_z w64 gap % 18446744073709551616))
+    (to_z w64 (of_z w64 nearing * of_z w64 nearing % 18446744073709551616))
 
-lane_course : (q : Approach) → IsSmall q →
-    (IsTrue (is_closing q.closing) × IsTrue (is_crossing q.square q.gap (int_wrap w32 q.closing))) ↔ IsCourse q
-lane_course q small =
-    let sa = small.square in
-    let sb = small.closing in
-    let sc = small.gap in
-    let fa : FitsSigned w64 q.square = omega (arith, ints) in
-    let fb : FitsSigned w64 q.closing = omega (arith, ints) in
-    let fc : FitsSigned w64 q.gap = omega (arith, ints) in
-    let product : FitsSigned w64 (q.square *ℤ q.gap) =
-    fits_signed_from_abs w64 (q.square *ℤ q.gap) (rw (unsigned_abs-mul q.square q.gap) small.product) in
-    let squares : FitsSigned w64 (q.closing *ℤ q.closing) =
-    square_fits (q.closing *ℤ q.closing) (size_of_product q.closing q.closing (2 ^ 31) (2 ^ 31) sb sb) in
-    let nearing : IsTrue (is_closing q.closing) ↔ (q.closing <ℤ pos 0) = rw (sent_same q.closing fb) (less q.closing (pos 0)) in
-    let same : q.closing <ℤ pos 0 → int_wrap w32 q.closing ≡ q.closing = λ lt. int_wrap_fits w32 q.closing (low q.closing lt sb) in
-    let crossing : IsTrue (is_crossing q.square q.gap q.closing) ↔ ((q.square *ℤ q.gap) <ℤ (q.closing *ℤ q.closing)) =
-    rw (multiplied q.square q.gap fa fc product, multiplied q.closing q.closing fb fb squares) (less (q.square *ℤ q.gap) (q.closing *ℤ q.closing)) in (
-      λ h. let lt = nearing.0 h.0 in (lt, crossing.0 (subst (λ (l : ℤ). IsTrue (is_crossing q.square q.gap l)) (same lt) h.1)),
-      λ h. (nearing.1 h.0, subst (λ (l : ℤ). IsTrue (is_crossing q.square q.gap l)) (sym (same h.0)) (crossing.1 h.1)),
+-- the tests of one lane
+abbrev is_crossing : ℕ → ℕ → Approach → Bool
+is_crossing speeds places q = is_less (bits_from (2 * speeds) q.square) (bits_from (2 * places) q.gap)
+    (bits_from (speeds + places) (int_wrap w64 (pos (2 ^ (speeds + places) - 1) -ℤ q.closing)))
+
+less_small : (a c b : ℕ) → a ≤ 2147483648 → c ≤ 2147483648 → b ≤ 2147483648 → IsTrue (is_less (pos a) (pos c) (pos b)) ↔ (a * c < b * b)
+less_small a c b ha hc hb =
+    let product : a * c ≤ 2147483648 * 2147483648 = mul-le-mul ha hc in
+    let square : b * b ≤ 2147483648 * 2147483648 = mul-le-mul hb hb in
+    let fa : FitsSigned w64 (pos a) = omega (arith, ints) in
+    let fc : FitsSigned w64 (pos c) = omega (arith, ints) in
+    let fb : FitsSigned w64 (pos b) = omega (arith, ints) in
+    let fp : FitsSigned w64 (pos (a * c)) = omega (arith, ints) in
+    let fs : FitsSigned w64 (pos (b * b)) = omega (arith, ints) in
+    rw (multiplied (pos a) (pos c) fa fc fp, multiplied (pos b) (pos b) fb fb fs) (
+      λ h. naturals (a * c) (b * b) ((less (pos (a * c)) (pos (b * b))).0 h),
+      λ h. (less (pos (a * c)) (pos (b * b))).1 (integers (a * c) (b * b) h),
     )
   where
-    square_fits : (z : ℤ) → nat_abs z ≤ 2 ^ 31 * 2 ^ 31 → FitsSigned w64 z
-    square_fits z h = omega (arith, ints)
+    naturals : (m n : ℕ) → pos m <ℤ pos n → m < n
+    naturals m n h = omega (arith, ints)
 
-    low : (z : ℤ) → z <ℤ pos 0 → nat_abs z ≤ 2 ^ 31 → FitsSigned w32 z
-    low z lt h = omega (arith, ints)
+    integers : (m n : ℕ) → m < n → pos m <ℤ pos n
+    integers m n h = omega (arith, ints)
 
-lane_told : (q : Approach) (x : Bool) → x ≡ (is_closing q.closing && is_crossing q.square q.gap (int_wrap w32 q.closing)) →
-    IsSmall q → IsTrue x ↔ IsCourse q
-lane_told q x is small =
-    let all = both (is_closing q.closing) (is_crossing q.square q.gap (int_wrap w32 q.closing)) in
-    let told = lane_course q small in
-    rw is (λ h. told.0 (all.0 h), λ h. all.1 (told.1 h))
+lane_crosses : (speeds places : ℕ) (q : Approach) → speeds + places ≤ 23 → FitRounded speeds places q.square q.closing q.gap →
+    q.closing <ℤ pos 0 → pos 0 ≤ℤ q.gap → IsTrue (is_crossing speeds places q) ↔
+    (rounded_down (2 * speeds) q.square * rounded_down (2 * places) q.gap < rounded_up (speeds + places) q.closing * rounded_up (speeds + places) q.closing)
+lane_crosses speeds places q few fit nearing apart =
+    let down = rounded_down (2 * speeds) q.square in
+    let low = rounded_down (2 * places) q.gap in
+    let up = rounded_up (speeds + places) q.closing in
+    let square = down_shifted (2 * speeds) q.square fit.not_negative fit.square in
+    let gaps = down_shifted (2 * places) q.gap apart fit.gap in
+    let raised = up_shifted (speeds + places) q.closing few nearing fit.closing in
+    let same : is_crossing speeds places q ≡ is_less (pos down) (pos low) (pos up) = λ i. is_less (square i) (gaps i) (raised i) in
+    subst (λ (x : Bool). IsTrue x ↔ (down * low < up * up)) (sym same)
+    (less_small down low up (down_size (2 * speeds) q.square 2147483648 fit.square) (down_size (2 * places) q.gap 2147483648 fit.gap)
+    (up_size (speeds + places) q.closing 2147483648 fit.closing))
+
+-- so a lane tells that the paths cross
+lane_told : (speeds places : ℕ) (q : Approach) (x : Bool) → speeds + places ≤ 23 →
+    x ≡ (is_negative q.closing && (is_crossing speeds places q || is_negative q.gap)) →
+    FitsSigned w64 q.closing → FitsSigned w64 q.gap →
+    FitRounded speeds places q.square q.closing q.gap → IsTrue x ↔ CrossRounded speeds places q.square q.closing q.gap
+lane_told speeds places q x few is fb fc fit =
+    let near : IsTrue (is_negative q.closing) ↔ (q.closing <ℤ pos 0) = rw (sent_same q.closing fb) (less q.closing (pos 0)) in
+    let deep : IsTrue (is_negative q.gap) ↔ (q.gap <ℤ pos 0) = rw (sent_same q.gap fc) (less q.gap (pos 0)) in
+    let both = split (is_negative q.closing) (is_crossing speeds places q) (is_negative q.gap) in
+    rw is (
+      λ h. let told = both.0 h in
+          record {
+            nearing = near.0 told.0;
+            crossing = λ apart. elim told.1 [
+              | inl crosses ↦ (lane_crosses speeds places q few fit (near.0 told.0) apart).0 crosses
+              | inr deeper ↦ absurd (never q.gap apart (deep.0 deeper))
+            ];
+          },
+      λ h. both.1 (
+        near.1 h.nearing,
+        elim (sign q.gap) [
+          | inl apart ↦ inl ((lane_crosses speeds places q few fit h.nearing apart).1 (h.crossing apart))
+          | inr deeper ↦ inr (deep.1 deeper)
+        ],
+      ),
+    )
+  where
+    split : (x y z : Bool) → IsTrue (x && (y || z)) ↔ (IsTrue x × (IsTrue y ⊎ IsTrue z))
+    split true true z = (λ h. (refl, inl refl), λ h. refl)
+    split true false z = (λ h. (refl, inr h), λ h. elim h.1 [ inl wrong ↦ absurd (false≢true wrong) | inr either ↦ either ])
+    split false y z = (λ h. absurd (false≢true h), λ h. h.0)
+
+    never : (n : ℤ) → pos 0 ≤ℤ n → n <ℤ pos 0 → ⊥
+    never n h k = omega (arith, ints)
+
+    sign : (n : ℤ) → (pos 0 ≤ℤ n) ⊎ (n <ℤ pos 0)
+    sign (pos n) = inl (omega (arith, ints))
+    sign (negsuc n) = inr (omega (arith, ints))
 
 -- the code's answers
-abbrev bits_of : Approach → Approach → ℕ
-bits_of p q = bits (is_closing p.closing) (is_closing q.closing) (is_crossing p.square p.gap (int_wrap w32 p.closing))
-    (is_crossing q.square q.gap (int_wrap w32 q.closing))
+abbrev bits_of : ℕ → ℕ → Approach → Approach → ℕ
+bits_of speeds places p q = mask_l (map (top 63) (
+    bit_and (mask (is_negative p.closing)) (bit_or (mask (is_crossing speeds places p)) (mask (is_negative p.gap)))
+    ∷ (bit_and (mask (is_negative q.closing)) (bit_or (mask (is_crossing speeds places q)) (mask (is_negative q.gap))) ∷ [])
+    )) % 18446744073709551616
 
-pub lanes_told : (p q : Approach) →
-    (IsSmall p → IsTrue (not (eqb (bit_and (bits_of p q) 1) 0)) ↔ IsCourse p) × (IsSmall q → IsTrue (not (eqb (bits_of p q / 2) 0)) ↔ IsCourse q)
-lanes_told p q =
-    let a = is_closing p.closing in
-    let b = is_closing q.closing in
-    let c = is_crossing p.square p.gap (int_wrap w32 p.closing) in
-    let d = is_crossing q.square q.gap (int_wrap w32 q.closing) in (
-      lane_told p (not (eqb (bit_and (bits_of p q) 1) 0)) (first_bit a b c d),
-      lane_told q (not (eqb (bits_of p q / 2) 0)) (second_bit a b c d),
+pub lanes_told : (speeds places : ℕ) (p q : Approach) → speeds + places ≤ 23 → Hold (p.closing ∷ q.closing ∷ []) p.closing q.closing →
+    Hold (p.gap ∷ q.gap ∷ []) p.gap q.gap →
+    (FitRounded speeds places p.square p.closing p.gap → IsTrue (not (eqb (bit_and (bits_of speeds places p q) 1) 0))
+    ↔ CrossRounded speeds places p.square p.closing p.gap)
+    × (FitRounded speeds places q.square q.closing q.gap → IsTrue (not (eqb (bits_of speeds places p q / 2) 0))
+    ↔ CrossRounded speeds places q.square q.closing q.gap)
+lanes_told speeds places p q few closing gaps =
+    let a = is_negative p.closing in
+    let b = is_negative q.closing in
+    let c = is_crossing speeds places p || is_negative p.gap in
+    let d = is_crossing speeds places q || is_negative q.gap in
+    let same : bits_of speeds places p q ≡ bits a b c d = rw (
+      either_mask (is_crossing speeds places p) (is_negative p.gap),
+      either_mask (is_crossing speeds places q) (is_negative q.gap),
+    ) refl in (
+      lane_told speeds places p (not (eqb (bit_and (bits_of speeds places p q) 1) 0)) few
+          (ap (λ (n : ℕ). not (eqb (bit_and n 1) 0)) same ∙ first_bit a b c d) closing.first gaps.first,
+      lane_told speeds places q (not (eqb (bits_of speeds places p q / 2) 0)) few
+          (ap (λ (n : ℕ). not (eqb (n / 2) 0)) same ∙ second_bit a b c d) closing.second gaps.second,
     )
 
 -- ---- two disks
@@ -257,7 +341,7 @@ abbrev pub lanes_approach : ℤ → Vector → Vector → Approach
 lanes_approach square r u = record {
   square = int_wrap w64 (dot u u);
   closing = int_wrap w64 (dot r u);
-  gap = int_wrap w64 (int_wrap w64 (dot r r) -ℤ sent square);
+  gap = int_wrap w64 (int_wrap w64 (dot r r) -ℤ square);
 }
 
 lead_size : (m n : ℕ) → m ≤ 2 ^ 40 → n ≤ m → nat_abs (pos m -ℤ pos n) ≤ 2 ^ 40
@@ -289,13 +373,13 @@ velocities_turned rules a b pair =
     record { x = slow_turned a.vx b.vx of.first_speed.x of.second_speed.x; y = slow_turned a.vy b.vy of.first_speed.y of.second_speed.y }
 
 -- so the quadratic is the same
-same_approach : (r u s v : Vector) (distance square : ℤ) → IsOpposite r s → IsOpposite u v → FitsSigned w64 square →
+same_approach : (r u s v : Vector) (distance square : ℤ) → IsOpposite r s → IsOpposite u v →
     square ≡ distance *ℤ distance → FitsApproach r u distance → IsApproachOf r u distance (lanes_approach square s v)
-same_approach r u s v distance square hr hu fits is few = record {
+same_approach r u s v distance square hr hu is few = record {
   square = ap (int_wrap w64) (sym (opposite_dot u u v v hu hu)) ∙ exact (dot u u) few.square;
   closing = ap (int_wrap w64) (sym (opposite_dot r u s v hr hu)) ∙ exact (dot r u) few.closing;
-  gap = ap (λ (n : ℤ). int_wrap w64 (int_wrap w64 n -ℤ sent square)) (sym (opposite_dot r r s s hr hr))
-      ∙ ap (λ (k : ℤ). int_wrap w64 (int_wrap w64 (dot r r) -ℤ k)) (sent_same square fits ∙ is)
+  gap = ap (λ (n : ℤ). int_wrap w64 (int_wrap w64 n -ℤ square)) (sym (opposite_dot r r s s hr hr))
+      ∙ ap (λ (k : ℤ). int_wrap w64 (int_wrap w64 (dot r r) -ℤ k)) is
       ∙ once (dot r r) (distance *ℤ distance) ∙ exact (gap r distance) few.gap;
 }
   where
@@ -305,10 +389,10 @@ same_approach r u s v distance square hr hu fits is few = record {
     once : (m k : ℤ) → int_wrap w64 (int_wrap w64 m -ℤ k) ≡ int_wrap w64 (m -ℤ k)
     once m k = search (rules, wraps)
 
-pub lanes_tell : (square : ℤ) (rules : Rules) (a b : Disk) (place : Vector) → FitsSigned w64 square → b.base ≤ a.base →
+pub lanes_tell : (square : ℤ) (rules : Rules) (a b : Disk) (place : Vector) → b.base ≤ a.base →
     (a.base ≤ 2 ^ 40 → b.base ≤ 2 ^ 40 → place ≡ wrapped_after b (pos a.base -ℤ pos b.base)) → IsValidPair rules a b →
     IsTold square rules a b (lanes_approach square (low_vector place (centre_of a)) (low_vector (velocity_of b) (velocity_of a)))
-lanes_tell square rules a b place fits le at pair =
+lanes_tell square rules a b place le at pair =
     let of = leading rules a b pair in
     let r = separation_of a b in
     let u = difference (velocity_of a) (velocity_of b) in
@@ -318,5 +402,5 @@ lanes_tell square rules a b place fits le at pair =
       told = λ distance is near few.
           same_approach r u (low_vector place (centre_of a)) (low_vector (velocity_of b) (velocity_of a)) distance square
           (places_turned rules a b place pair le (at of.first_base of.second_base) (within_box rules r pair.checked near))
-          (velocities_turned rules a b pair) fits is few;
+          (velocities_turned rules a b pair) is few;
     }

@@ -84,8 +84,7 @@ contact_tick_swapped rules a b tick h = record {
 }
 
 -- ---- events
--- disks that have no contact tick before the end have none in the other order
--- disks that never meet hit each other in neither order
+-- disks that have no contact tick hit each other in neither order
 pub never_hit : (rules : Rules) (a b : Disk) → ((tick : ℕ) → IsContactTick rules a b tick → ⊥) → NeverHit rules a b
 never_hit rules a b never i j s event = never s.tick event.0
 
@@ -96,50 +95,50 @@ pub no_event_falling : (rules : Rules) (i j : ℕ) (a b : Disk) → ((tick : ℕ
     (s : Stamp) → IsPairEvent rules j b i a s → ⊥
 no_event_falling rules i j a b never s event = never s.tick event.1 (contact_tick_swapped rules b a s.tick event.0)
 
--- the meeting of two disks is their one event, in the order of their numbers
-pub event_rising : (rules : Rules) (i j tick round first second : ℕ) (a b : Disk) → i < j → IsTouch rules a b tick →
-    round ≡ max (mark_at a tick) (mark_at b tick) → first ≡ min i j → second ≡ max i j →
-    IsOnly (IsPairEvent rules i a j b) (record { tick = tick; round = round; kind = Pair; first = first; second = second })
-event_rising rules i j tick round first second a b lt meeting r f s =
-    let lower : first ≡ i = omega arith in
-    let higher : second ≡ j = omega arith in
-    let stamp : record { tick = tick; round = round; kind = Pair; first = first; second = second } ≡ pair_stamp i a j b tick =
-    λ n. record { tick = tick; round = r n; kind = Pair; first = lower n; second = higher n } in
-    ((meeting.0, meeting.1, stamp), λ t event. event.2 ∙ ap (pair_stamp i a j b) (meeting.2 t.tick event.0) ∙ sym stamp)
+touch_swapped : (rules : Rules) (a b : Disk) (tick : ℕ) → IsTouch rules a b tick → IsTouch rules b a tick
+touch_swapped rules a b tick touch =
+    (contact_tick_swapped rules a b tick touch.0, touch.1, λ t contact. touch.2 t (contact_tick_swapped rules b a t contact))
 
-pub event_falling : (rules : Rules) (i j tick round first second : ℕ) (a b : Disk) → j < i → IsTouch rules a b tick →
-    round ≡ max (mark_at a tick) (mark_at b tick) → first ≡ min i j → second ≡ max i j →
-    IsOnly (IsPairEvent rules j b i a) (record { tick = tick; round = round; kind = Pair; first = first; second = second })
-event_falling rules i j tick round first second a b lt meeting r f s =
-    let lower : first ≡ j = omega arith in
-    let higher : second ≡ i = omega arith in
-    let later : round ≡ max (mark_at b tick) (mark_at a tick) = r ∙ max_comm (mark_at a tick) (mark_at b tick) in
-    let stamp : record { tick = tick; round = round; kind = Pair; first = first; second = second } ≡ pair_stamp j b i a tick =
-    λ n. record { tick = tick; round = later n; kind = Pair; first = lower n; second = higher n } in (
-      (contact_tick_swapped rules a b tick meeting.0, meeting.1, stamp),
-      λ t event. event.2 ∙ ap (pair_stamp j b i a) (meeting.2 t.tick (contact_tick_swapped rules b a t.tick event.0)) ∙ sym stamp,
-    )
+-- the stamp of two disks at a tick is told by their numbers in either order
+rising_stamp : (i j tick : ℕ) (a b : Disk) → i < j → pair_stamp (min i j) a (max i j) b tick ≡ pair_stamp i a j b tick
+rising_stamp i j tick a b lt =
+    let lower : min i j ≡ i = omega arith in
+    let higher : max i j ≡ j = omega arith in
+    λ n. pair_stamp (lower n) a (higher n) b tick
+
+falling_stamp : (i j tick : ℕ) (a b : Disk) → j < i → pair_stamp (min i j) a (max i j) b tick ≡ pair_stamp j b i a tick
+falling_stamp i j tick a b lt =
+    let lower : min i j ≡ j = omega arith in
+    let higher : max i j ≡ i = omega arith in
+    let round = max_comm (mark_at a tick) (mark_at b tick) in
+    λ n. record { tick = tick; round = round n; kind = Pair; first = lower n; second = higher n }
+
+-- the contact of two disks is their one event
+only_event : (rules : Rules) (i j tick : ℕ) (a b : Disk) → IsTouch rules a b tick → IsOnly (IsPairEvent rules i a j b) (pair_stamp i a j b tick)
+only_event rules i j tick a b touch =
+    ((touch.0, touch.1, refl), λ t event. event.2 ∙ ap (pair_stamp i a j b) (touch.2 t.tick event.0))
+
+pub event_rising : (rules : Rules) (i j tick : ℕ) (a b : Disk) → i < j → IsTouch rules a b tick →
+    IsOnly (IsPairEvent rules i a j b) (pair_stamp (min i j) a (max i j) b tick)
+event_rising rules i j tick a b lt touch =
+    subst (IsOnly (IsPairEvent rules i a j b)) (sym (rising_stamp i j tick a b lt)) (only_event rules i j tick a b touch)
+
+pub event_falling : (rules : Rules) (i j tick : ℕ) (a b : Disk) → j < i → IsTouch rules a b tick →
+    IsOnly (IsPairEvent rules j b i a) (pair_stamp (min i j) a (max i j) b tick)
+event_falling rules i j tick a b lt touch =
+    subst (IsOnly (IsPairEvent rules j b i a)) (sym (falling_stamp i j tick a b lt))
+    (only_event rules j i tick b a (touch_swapped rules a b tick touch))
 
 -- the only tick at which they can is that of their event, if there is one
-pub chance_stamp : (rules : Rules) (i j tick round first second : ℕ) (a b : Disk) → IsOnlyChance rules a b tick →
-    round ≡ max (mark_at a tick) (mark_at b tick) → first ≡ min i j → second ≡ max i j →
-    IsChance rules i a j b (record { tick = tick; round = round; kind = Pair; first = first; second = second })
-chance_stamp rules i j tick round first second a b chance r f s = record {
+pub chance_stamp : (rules : Rules) (i j tick : ℕ) (a b : Disk) → IsOnlyChance rules a b tick →
+    IsChance rules i a j b (pair_stamp (min i j) a (max i j) b tick)
+chance_stamp rules i j tick a b chance = record {
   kind = refl;
-  first = f;
-  second = s;
-  round = r;
-  rising = λ lt t event.
-      let lower : first ≡ i = omega arith in
-      let higher : second ≡ j = omega arith in
-      let stamp : record { tick = tick; round = round; kind = Pair; first = first; second = second } ≡ pair_stamp i a j b tick =
-      λ n. record { tick = tick; round = r n; kind = Pair; first = lower n; second = higher n } in
-      event.2 ∙ ap (pair_stamp i a j b) (chance.only t.tick event.0) ∙ sym stamp;
+  first = refl;
+  second = refl;
+  round = refl;
+  rising = λ lt t event. event.2 ∙ ap (pair_stamp i a j b) (chance.only t.tick event.0) ∙ sym (rising_stamp i j tick a b lt);
   falling = λ lt t event.
-      let lower : first ≡ j = omega arith in
-      let higher : second ≡ i = omega arith in
-      let later : round ≡ max (mark_at b tick) (mark_at a tick) = r ∙ max_comm (mark_at a tick) (mark_at b tick) in
-      let stamp : record { tick = tick; round = round; kind = Pair; first = first; second = second } ≡ pair_stamp j b i a tick =
-      λ n. record { tick = tick; round = later n; kind = Pair; first = lower n; second = higher n } in
-      event.2 ∙ ap (pair_stamp j b i a) (chance.only t.tick (contact_tick_swapped rules b a t.tick event.0)) ∙ sym stamp;
+      event.2 ∙ ap (pair_stamp j b i a) (chance.only t.tick (contact_tick_swapped rules b a t.tick event.0))
+      ∙ sym (falling_stamp i j tick a b lt);
 }

@@ -1,20 +1,17 @@
 //! When two disks hit each other next.
 
-ghost use Rattle.std.specs.Prelude.{◌≡◌, ◌↔◌, ℕ, ◌^◌, ◌<◌, ◌≤◌, nat_abs, IsTrue, IfSome, MatchOption, max};
-ghost use Rattle.plane_vectors.specs.Vectors.{IsWithin};
+ghost use Rattle.std.specs.Prelude.{◌≡◌, ◌↔◌, ℕ, ◌<◌, ◌≤◌, IsTrue, MatchOption, max, min};
 ghost use Rattle.fixed_motion.specs.Rules.{IsChecked};
 ghost use Rattle.fixed_motion.specs.Motion.{IsValidDisk, IsInside, mark_at};
-ghost use Rattle.contact_predictor.specs.Contact.{IsContact};
 ghost use Rattle.event_stamps.specs.declared.Stamp.{Stamp};
 ghost use Rattle.event_stamps.specs.declared.Kind.TheVariants.{Pair};
 ghost use Rattle.event_stamps.specs.Least.{IsOnly};
-ghost use Rattle.event_rules.specs.Events.{IsPairEvent, IsContactTick, TouchAt, IsChance, HaveNoEvent};
+ghost use Rattle.event_rules.specs.Events.{IsPairEvent, IsContactTick, TouchAt, IsChance, HaveNoEvent, pair_stamp};
 ghost use Rattle.event_rules.specs.Predict.{HaveBegun, TouchInside, IsTouch, IsOnlyChance};
-ghost use Rattle.event_rules.specs.Small.{IsSmallPair};
 
-use crate::contact_ticks::{are_inside_at, only_chance, quick_tick, touching_tick};
-use crate::separation::{distance_between, has_small_products};
-use contact_predictor::{Approach, is_contact};
+use crate::contact_ticks::{are_inside_at, only_chance, touching_tick};
+use crate::separation::distance_between;
+use contact_predictor::Approach;
 use event_stamps::{Kind, Stamp};
 use fixed_motion::{Disk, Rules};
 use plane_vectors::Vector;
@@ -46,82 +43,36 @@ pub fn event_between(rules: &Rules, i: u32, a: &Disk, j: u32, b: &Disk) -> Optio
     ensures falling { j < i → MatchOption result ((s : Stamp) → IsPairEvent rules.now j b.now i a.now s → ⊥)
         (IsOnly (IsPairEvent rules.now j b.now i a.now)) }
 {
-    event_at(rules, i, a, j, b, touching_tick(rules, a, b))
-}
-
-// The event of two disks that hit each other at the tick `found`, or never.
-#[inline(always)]
-fn event_at(rules: &Rules, i: u32, a: &Disk, j: u32, b: &Disk, found: Option<u64>) -> Option<Stamp>
-    requires { MatchOption found ((tick : ℕ) → tick < rules.now.end → IsContactTick rules.now a.now b.now tick → ⊥)
-        (IsTouch rules.now a.now b.now) }
-    ensures rising { i < j → MatchOption result ((s : Stamp) → IsPairEvent rules.now i a.now j b.now s → ⊥)
-        (IsOnly (IsPairEvent rules.now i a.now j b.now)) }
-    ensures falling { j < i → MatchOption result ((s : Stamp) → IsPairEvent rules.now j b.now i a.now s → ⊥)
-        (IsOnly (IsPairEvent rules.now j b.now i a.now)) }
-{
-    let _rules = rules;
     // Which number is lower can't be predicted, and it matters only if the disks hit each other: whether and when they
     // do is the same in either order.
-    let tick = found?;
-    Some(Stamp {
+    Some(stamp_at(i, a, j, b, touching_tick(rules, a, b)?))
+}
+
+/// A stamp that is that of the event of two different disks if they hit each other, which isn't told: whether they are
+/// inside the box at that tick isn't tested. None says that they don't.
+#[inline(always)]
+pub fn chance_between(rules: &Rules, i: u32, a: &Disk, j: u32, b: &Disk) -> Option<Stamp>
+    requires checked { IsChecked rules.now }
+    requires first_valid { IsValidDisk rules.now a.now }
+    requires second_valid { IsValidDisk rules.now b.now }
+    ensures { MatchOption result (HaveNoEvent rules.now i a.now j b.now) (IsChance rules.now i a.now j b.now) }
+{
+    Some(stamp_at(i, a, j, b, only_chance(rules, a, b)?))
+}
+
+// The stamp of two disks that hit each other at this tick.
+#[inline(always)]
+fn stamp_at(i: u32, a: &Disk, j: u32, b: &Disk, tick: u64) -> Stamp
+    requires { HaveBegun a.now b.now tick }
+    ensures { result ≡ pair_stamp (min i j) a.now (max i j) b.now tick }
+{
+    Stamp {
         tick,
         round: round_at(a, b, tick),
         kind: Kind::Pair,
         first: i.min(j),
         second: i.max(j),
-    })
-}
-
-/// What [`event_between`] tells if products are small, without the parts that are seldom needed. None says nothing:
-/// then `event_between` has to be asked.
-#[inline(always)]
-pub fn quick_event_between(
-    rules: &Rules,
-    i: u32,
-    a: &Disk,
-    j: u32,
-    b: &Disk,
-) -> Option<Option<Stamp>>
-    requires { IsSmallPair rules.now a.now b.now }
-    ensures rising { i < j → IfSome result (λ event. MatchOption event ((s : Stamp) → IsPairEvent rules.now i a.now j b.now s → ⊥)
-        (IsOnly (IsPairEvent rules.now i a.now j b.now))) }
-    ensures falling { j < i → IfSome result (λ event. MatchOption event ((s : Stamp) → IsPairEvent rules.now j b.now i a.now s → ⊥)
-        (IsOnly (IsPairEvent rules.now j b.now i a.now))) }
-{
-    let found = quick_tick(rules, a, b)?;
-    Some(event_at(rules, i, a, j, b, found))
-}
-
-/// A stamp that is that of the event of two different disks if they hit each other, which isn't told: whether they are
-/// inside the box at that tick isn't tested. The inner None says that they don't. None says nothing: then
-/// [`event_between`] has to be asked.
-#[inline(always)]
-pub fn chance_between(rules: &Rules, i: u32, a: &Disk, j: u32, b: &Disk) -> Option<Option<Stamp>>
-    requires { IsSmallPair rules.now a.now b.now }
-    ensures { IfSome result (λ event. MatchOption event (HaveNoEvent rules.now i a.now j b.now)
-        (IsChance rules.now i a.now j b.now)) }
-{
-    let found = only_chance(rules, a, b)?;
-    Some(chance_at(rules, i, a, j, b, found))
-}
-
-// The stamp of two disks that can hit each other at the tick `found` alone, or never.
-#[inline(always)]
-fn chance_at(rules: &Rules, i: u32, a: &Disk, j: u32, b: &Disk, found: Option<u64>) -> Option<Stamp>
-    requires { MatchOption found ((tick : ℕ) → tick < rules.now.end → IsContactTick rules.now a.now b.now tick → ⊥)
-        (IsOnlyChance rules.now a.now b.now) }
-    ensures { MatchOption result (HaveNoEvent rules.now i a.now j b.now) (IsChance rules.now i a.now j b.now) }
-{
-    let _rules = rules;
-    let tick = found?;
-    let round = round_at(a, b, tick);
-    Some(Stamp {
-        tick,
-        round,
-        kind: Kind::Pair,
-        first: i.min(j),
-        second: i.max(j),
-    })
+    }
 }
 
 // The greater of the marks of two disks at a tick. Both are 0 unless that is the later of their base ticks.
@@ -208,20 +159,5 @@ fn touch_at(rules: &Rules, a: &Disk, p: Vector, b: &Disk, q: Vector) -> bool
     let places = p.minus(q);
     let velocities = a.velocity().minus(b.velocity());
     let distance = distance_between(a, b);
-    if has_small_products(rules) {
-        Approach::new(places, velocities, distance).is_contact()
-    } else {
-        great_contact(places, velocities, distance)
-    }
-}
-
-// Whether two disks are in contact, whatever their products. Scenes with great products are rare, so it is kept apart.
-#[inline(never)]
-fn great_contact(places: Vector, velocities: Vector, distance: i64) -> bool
-    requires separation { IsWithin (2 ^ 30) places }
-    requires velocity { IsWithin (2 ^ 21) velocities }
-    requires distance { nat_abs distance ≤ 2 ^ 30 }
-    ensures { IsTrue result ↔ IsContact places velocities distance }
-{
-    is_contact(places, velocities, distance)
+    Approach::new(places, velocities, distance).is_contact()
 }

@@ -1,18 +1,18 @@
 -- Disks mirrored: their places, contacts and sides.
-use Rattle.std.proofs.Common.{◌≡◌, inl, inr, ℕ, zero, suc, ◌+◌, ◌-◌, ◌*◌, Bool, true, false, sym, ap, ◌∙◌, subst, refl, arith}
-use Rattle.std.specs.Prelude.{ℤ, pos, negsuc, neg_ℤ, nat_abs, ◌+ℤ◌, ◌-ℤ◌, ◌*ℤ◌, ◌≤ℤ◌, ◌<ℤ◌, int_lt, if◌then◌else◌}
+use Rattle.std.proofs.Common.{◌≡◌, inl, inr, ℕ, ◌+◌, ◌-◌, ◌*◌, sym, ap, ◌∙◌, subst, refl, arith}
+use Rattle.std.specs.Prelude.{ℤ, pos, neg_ℤ, nat_abs, ◌+ℤ◌, ◌-ℤ◌, ◌*ℤ◌, ◌≤ℤ◌, ◌<ℤ◌}
 use Rattle.std.proofs.lemmas.Int.{ints}
-use Rattle.std.proofs.lemmas.Nat.{div_below}
 use borrow.Author.Differences.{up, down, product_is, neg_is, same_in}
 use Rattle.plane_vectors.specs.declared.Vector.{Vector}
 use Rattle.plane_vectors.specs.Vectors.{vector, sum, difference, dot}
 use Rattle.fixed_motion.specs.declared.rules.Rules.{Rules}
 use Rattle.fixed_motion.specs.declared.disk.Disk.{Disk}
 use Rattle.fixed_motion.specs.Motion.{IsInside, IsSlow, place_of, velocity_of, radius_of, contact_distance}
-use Rattle.contact_predictor.specs.Contact.{IsApproaching, IsContact}
-use Rattle.impulse_rounding.specs.Impulse.{nearest, ceiling, signed, with_signs, rounded_impulse, parting, impulse_of}
+use Rattle.contact_predictor.specs.Contact.{IsContact}
+use Rattle.impulse_rounding.specs.Impulse.{signed, impulse_of}
 use Rattle.event_rules.specs.Events.{IsContactTick, IsWallTick, IsPast}
 use Rattle.event_rules.proofs.Within.{product_sides}
+use Rattle.alike_runs.proofs.Turned.{neg_twice, neg_product, neg_sum, neg_size, component_reversed, of_parts, IsTurn, contact_turned, impulse_turned}
 use Rattle.mirrored_runs.specs.Mirror.{Axis, LeftRight, BottomTop, mirrored, mirrored_place, mirrored_vector, mirrored_side}
 
 -- ---- numbers
@@ -24,28 +24,8 @@ neg_times a b =
     let third = neg_is (a *ℤ b) in
     same_in (neg_ℤ a *ℤ b) (neg_ℤ (a *ℤ b)) (omega arith)
 
-neg_twice : (a : ℤ) → neg_ℤ (neg_ℤ a) ≡ a
-neg_twice a = omega (arith, ints)
-
-neg_product : (x y : ℤ) → neg_ℤ x *ℤ neg_ℤ y ≡ x *ℤ y
-neg_product (pos zero) (pos zero) = refl
-neg_product (pos zero) (pos (suc n)) = omega (arith, ints)
-neg_product (pos zero) (negsuc n) = omega (arith, ints)
-neg_product (pos (suc m)) (pos zero) = omega (arith, ints)
-neg_product (pos (suc m)) (pos (suc n)) = refl
-neg_product (pos (suc m)) (negsuc n) = refl
-neg_product (negsuc m) (pos zero) = omega (arith, ints)
-neg_product (negsuc m) (pos (suc n)) = refl
-neg_product (negsuc m) (negsuc n) = refl
-
-neg_sum : (x y : ℤ) → neg_ℤ x +ℤ neg_ℤ y ≡ neg_ℤ (x +ℤ y)
-neg_sum x y = omega (arith, ints)
-
 neg_difference : (x y : ℤ) → (neg_ℤ x -ℤ neg_ℤ y) ≡ neg_ℤ (x -ℤ y)
 neg_difference x y = omega (arith, ints)
-
-pub neg_size : (x : ℤ) → nat_abs (neg_ℤ x) ≡ nat_abs x
-neg_size x = grind (arith, ints)
 
 -- a coordinate as far from the opposite side, in a box of width or height w
 across_twice : (w x : ℤ) → w -ℤ (w -ℤ x) ≡ x
@@ -181,37 +161,15 @@ not_past_both axis rules a low high p q inside h k across = by_axis axis (past_b
     by_axis LeftRight h k across = neither _ _ _ _ inside.left inside.right (h.left across.0) (k.right across.1)
     by_axis BottomTop h k across = neither _ _ _ _ inside.bottom inside.top (h.bottom across.0) (k.top across.1)
 
--- ---- contacts
-approaching_mirrored : (axis : Axis) (r u : Vector) (distance : ℤ) →
-    (IsApproaching r u distance → IsApproaching (mirrored_vector axis r) (mirrored_vector axis u) distance)
-    × (IsApproaching (mirrored_vector axis r) (mirrored_vector axis u) distance → IsApproaching r u distance)
-approaching_mirrored axis r u distance = (
-  λ h. record {
-    apart = subst (λ (n : ℤ). pos 0 ≤ℤ (n -ℤ (distance *ℤ distance))) (sym (dot_mirrored axis r r)) h.apart;
-    approaching = subst (λ (n : ℤ). n <ℤ pos 0) (sym (dot_mirrored axis r u)) h.approaching;
-  },
-  λ h. record {
-    apart = subst (λ (n : ℤ). pos 0 ≤ℤ (n -ℤ (distance *ℤ distance))) (dot_mirrored axis r r) h.apart;
-    approaching = subst (λ (n : ℤ). n <ℤ pos 0) (dot_mirrored axis r u) h.approaching;
-  },
-)
-
-contact_mirrored : (axis : Axis) (r u : Vector) (distance : ℤ) → IsContact r u distance →
-    IsContact (mirrored_vector axis r) (mirrored_vector axis u) distance
-contact_mirrored axis r u distance h =
-    let a = dot_mirrored axis u u in
-    let b = dot_mirrored axis r u in
-    let c = dot_mirrored axis r r in
-    record {
-      approaching = (approaching_mirrored axis r u distance).0 h.approaching;
-      crossing = crosses _ _ _ _ _ _ (distance *ℤ distance) a b c h.crossing;
-      last = λ next. h.last ((approaching_mirrored axis (sum r u) u distance).1
-          (subst (λ (p : Vector). IsApproaching p (mirrored_vector axis u) distance) (sum_mirrored axis r u) next));
-    }
+is_turn : (axis : Axis) → IsTurn (mirrored_vector axis)
+is_turn axis = record { dots = dot_mirrored axis; sums = sum_mirrored axis; parts = parts axis }
   where
-    crosses : (a b c a' b' c' d : ℤ) → a' ≡ a → b' ≡ b → c' ≡ c → (a *ℤ (c -ℤ d)) <ℤ (b *ℤ b) → (a' *ℤ (c' -ℤ d)) <ℤ (b' *ℤ b')
-    crosses a b c a' b' c' d p q t h = rw (p, q, t) h
+    parts : (axis : Axis) (round : ℕ → ℕ → ℕ) → ((d : ℕ) → round 0 d ≡ 0) → (r : Vector) (b n : ℕ) →
+        of_parts round (mirrored_vector axis r) b n ≡ mirrored_vector axis (of_parts round r b n)
+    parts LeftRight round none r b n = let x = component_reversed round b n r.x none in λ i. vector (x i) (signed r.y (round (b * nat_abs r.y) n))
+    parts BottomTop round none r b n = let y = component_reversed round b n r.y none in λ i. vector (signed r.x (round (b * nat_abs r.x) n)) (y i)
 
+-- ---- contacts
 pub separation_mirrored : (axis : Axis) (rules : Rules) (a b : Disk) (tick : ℕ) →
     difference (place_of (mirrored axis rules a) tick) (place_of (mirrored axis rules b) tick)
     ≡ mirrored_vector axis (difference (place_of a tick) (place_of b tick))
@@ -230,62 +188,13 @@ contact_tick_mirrored axis rules a b tick h =
       second_base = h.second_base;
       first_inside = inside_at_mirrored axis rules a tick h.first_inside;
       second_inside = inside_at_mirrored axis rules b tick h.second_inside;
-      contact = in_place _ _ _ _ (contact_distance a b) r u (contact_mirrored axis _ _ (contact_distance a b) h.contact);
+      contact = in_place _ _ _ _ (contact_distance a b) r u (contact_turned (mirrored_vector axis) (is_turn axis) _ _ (contact_distance a b) h.contact);
     }
   where
     in_place : (r u s v : Vector) (distance : ℤ) → s ≡ r → v ≡ u → IsContact r u distance → IsContact s v distance
     in_place r u s v distance p q h = rw (p, q) h
 
 -- ---- impulses
-signed_mirrored : (x : ℤ) (n : ℕ) → (x ≡ pos 0 → n ≡ 0) → signed (neg_ℤ x) n ≡ neg_ℤ (signed x n)
-signed_mirrored (pos zero) n none = rw (none refl) refl
-signed_mirrored (pos (suc m)) n none = refl
-signed_mirrored (negsuc m) n none = sym (neg_twice (pos n))
-
--- one component of an impulse whose exact size is b |x| / n
-component_mirrored : (round : ℕ → ℕ → ℕ) (b n : ℕ) (x : ℤ) → ((d : ℕ) → round 0 d ≡ 0) →
-    signed (neg_ℤ x) (round (b * nat_abs (neg_ℤ x)) n) ≡ neg_ℤ (signed x (round (b * nat_abs x) n))
-component_mirrored round b n x none =
-    ap (λ (m : ℕ). signed (neg_ℤ x) (round (b * m) n)) (neg_size x)
-    ∙ signed_mirrored x (round (b * nat_abs x) n) (λ e. ap (λ (m : ℕ). round m n) (nothing e) ∙ none n)
-  where
-    nothing : x ≡ pos 0 → b * nat_abs x ≡ 0
-    nothing e = rw e (omega arith)
-
-rounded_mirrored : (axis : Axis) (round : ℕ → ℕ → ℕ) (r u : Vector) → ((d : ℕ) → round 0 d ≡ 0) →
-    rounded_impulse round (mirrored_vector axis r) (mirrored_vector axis u) ≡ mirrored_vector axis (rounded_impulse round r u)
-rounded_mirrored axis round r u none =
-    (λ i. by_parts (mirrored_vector axis r) (nat_abs (dot_mirrored axis r u i)) (nat_abs (dot_mirrored axis r r i)))
-    ∙ parts axis (nat_abs (dot r u)) (nat_abs (dot r r))
-  where
-    by_parts : Vector → ℕ → ℕ → Vector
-    by_parts s b n = with_signs s (round (b * nat_abs s.x) n) (round (b * nat_abs s.y) n)
-
-    parts : (axis : Axis) (b n : ℕ) → by_parts (mirrored_vector axis r) b n ≡ mirrored_vector axis (by_parts r b n)
-    parts LeftRight b n = let x = component_mirrored round b n r.x none in λ i. vector (x i) (signed r.y (round (b * nat_abs r.y) n))
-    parts BottomTop b n = let y = component_mirrored round b n r.y none in λ i. vector (signed r.x (round (b * nat_abs r.x) n)) (y i)
-
-nearest_none : (d : ℕ) → nearest 0 d ≡ 0
-nearest_none zero = refl
-nearest_none (suc k) = let below = div_below (2 * 0 + suc k) (2 * suc k) 1 (omega arith) (omega arith) in omega arith
-
-ceiling_none : (d : ℕ) → ceiling 0 d ≡ 0
-ceiling_none zero = refl
-ceiling_none (suc k) = let below = div_below (0 + (suc k - 1)) (suc k) 1 (omega arith) (omega arith) in omega arith
-
 pub impulse_mirrored : (axis : Axis) (r u : Vector) →
     impulse_of (mirrored_vector axis r) (mirrored_vector axis u) ≡ mirrored_vector axis (impulse_of r u)
-impulse_mirrored axis r u =
-    let near = rounded_mirrored axis nearest r u nearest_none in
-    let more = rounded_mirrored axis ceiling r u ceiling_none in
-    let n = rounded_impulse nearest r u in
-    let test : parting (mirrored_vector axis r) (mirrored_vector axis u) (rounded_impulse nearest (mirrored_vector axis r) (mirrored_vector axis u))
-    ≡ parting r u n =
-    ap (parting (mirrored_vector axis r) (mirrored_vector axis u)) near
-    ∙ (λ i. dot_mirrored axis r u i +ℤ (pos 2 *ℤ dot_mirrored axis r n i)) in
-    (λ i. if int_lt (pos 0) (test i) then near i else more i)
-    ∙ chosen (int_lt (pos 0) (parting r u n)) n (rounded_impulse ceiling r u)
-  where
-    chosen : (p : Bool) (m n : Vector) → (if p then mirrored_vector axis m else mirrored_vector axis n) ≡ mirrored_vector axis (if p then m else n)
-    chosen true m n = refl
-    chosen false m n = refl
+impulse_mirrored axis r u = impulse_turned (mirrored_vector axis) (is_turn axis) r u

@@ -32,7 +32,8 @@ use Rattle.collision_report.specs.Blocks.{disk_lines, block, blocks, block_ticks
 use Rattle.collision_report.specs.Report.{listed, is_wall, is_pair, latest, changes_text, last_blocks, counts_text, end_block, report}
 use Rattle.mirrored_runs.specs.Mirror.{Axis, LeftRight, BottomTop, mirrored, mirrored_vector, mirrored_scene, mirrored_side, mirrored_second, mirrored_if, mirrored_change, mirrored_spot, mirrored_outcome}
 use Rattle.mirrored_runs.specs.Reports.{Line, WallLine, PairLine, StateLine, DiskLine, DoneLine, LimitLine, WallsLine, PairsLine, MomentumLine, EnergyLine, line_text, mirrored_line, AreMirrored, ReportsMirror}
-use Rattle.mirrored_runs.proofs.Mirrored.{neg_size, sum_mirrored}
+use Rattle.alike_runs.proofs.Turned.{neg_size}
+use Rattle.mirrored_runs.proofs.Mirrored.{sum_mirrored}
 use Rattle.mirrored_runs.proofs.MirroredRuns.{mirrored_disks, effect_mirrored, spots_mirrored, runs_mirror}
 
 -- ---- sums

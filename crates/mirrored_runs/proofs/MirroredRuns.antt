@@ -1,10 +1,7 @@
 -- Runs mirrored: candidates, their order, their results, and states.
-use Rattle.std.proofs.Common.{◌≡◌, ◌⊎◌, inl, inr, ℕ, ◌+◌, ◌<◌, Bool, true, false, List, [], ◌∷◌, map, sym, ap, ◌∙◌, subst, refl, arith, Option, Some, None, Result, Ok, Err, slice_get, slice_set}
+use Rattle.std.proofs.Common.{◌≡◌, inl, inr, ℕ, ◌+◌, ◌<◌, Bool, true, false, List, [], ◌∷◌, map, sym, ap, ◌∙◌, subst, refl, arith, Option, Some, None, Result, Ok, Err, slice_get, slice_set}
 use Rattle.std.specs.Prelude.{ℤ, neg_ℤ, nat_abs, ◌*ℤ◌, ◌<ℤ◌, ◌==◌, ◌&&◌, nat_lt, nat_le, if◌then◌else◌}
 use Rattle.std.specs.Option.{option_map}
-use Rattle.std.specs.Ordering.{nat_cmp, ordering_then}
-use Rattle.std.specs.declared.cmp.Ordering.{Ordering}
-use Rattle.std.specs.declared.cmp.Ordering.TheVariants.{Less}
 use Rattle.std.proofs.lemmas.Bool.Decides.{nat_tests}
 use Rattle.std.proofs.lemmas.Option.{none-some, same_Some, slice_get-map}
 use Rattle.std.proofs.lemmas.List.{map-set, length-map}
@@ -17,10 +14,9 @@ use Rattle.fixed_motion.specs.Scene.{IsAtStart}
 use Rattle.event_stamps.specs.declared.Stamp.{Stamp}
 use Rattle.event_stamps.specs.declared.Kind.{Kind}
 use Rattle.event_stamps.specs.declared.Kind.TheVariants.{Cross, Wall, Pair}
-use Rattle.event_stamps.specs.Order.{Before, kind_number}
+use Rattle.event_stamps.specs.Order.{Before}
 use Rattle.event_rules.specs.declared.change.Change.{Change}
 use Rattle.event_rules.specs.declared.change.Limit.{Limit}
-use Rattle.event_rules.specs.declared.change.Limit.TheVariants.{Rounds, Speed}
 use Rattle.event_rules.specs.declared.outcome.Outcome.{Outcome}
 use Rattle.event_rules.specs.declared.outcome.Outcome.TheVariants.{Done, Limit as Passes}
 use Rattle.impulse_rounding.specs.Impulse.{impulse_of}
@@ -29,8 +25,10 @@ use Rattle.event_rules.specs.Effect.{applied, change_of, keeps_speed, turned, bo
 use Rattle.event_rules.specs.Told.{HasDisksOf}
 use Rattle.event_rules.specs.Run.{Runs, IsCandidate, IsWallCandidate, IsPairCandidate, IsNext, ComesTo, partner_of, set_some, effect, spot_of, spots_of}
 use Rattle.mirrored_runs.specs.Mirror.{Axis, LeftRight, BottomTop, mirrored, mirrored_vector, mirrored_side, mirrored_second, mirrored_stamp, mirrored_if, mirrored_change, mirrored_limit, mirrored_spot, mirrored_outcome, RunsMirror, MirrorsAreValid}
-use Rattle.mirrored_runs.proofs.Mirrored.{neg_size, dot_mirrored, sum_mirrored, difference_mirrored, slow_mirrored, place_mirrored, places_mirrored, mirrored_twice, inside_mirrored, wall_mirrored, AreAcross, not_past_both, separation_mirrored, contact_tick_mirrored, impulse_mirrored}
+use Rattle.mirrored_runs.proofs.Mirrored.{dot_mirrored, sum_mirrored, difference_mirrored, slow_mirrored, place_mirrored, places_mirrored, mirrored_twice, inside_mirrored, wall_mirrored, AreAcross, not_past_both, separation_mirrored, contact_tick_mirrored, impulse_mirrored}
 use Rattle.event_rules.proofs.Ran.{ran, ran_tellable}
+use Rattle.alike_runs.proofs.Turned.{neg_size}
+use Rattle.alike_runs.proofs.Carried.{order_by, seconds_by, result_by, applied_by}
 
 -- ---- sides
 side_twice : (axis : Axis) (n : ℕ) → mirrored_side axis (mirrored_side axis n) ≡ n
@@ -80,41 +78,6 @@ is_slow_mirrored LeftRight rules v = let size = neg_size v.x in
 is_slow_mirrored BottomTop rules v = let size = neg_size v.y in
     λ i. nat_le (nat_abs v.x) (nat_abs rules.speed_limit) && nat_le (size i) (nat_abs rules.speed_limit)
 
--- ---- order
-then_also : (a b : ℕ) (o p : Ordering) → (a ≡ b → o ≡ Less → p ≡ Less) → ordering_then (nat_cmp a b) o ≡ Less →
-    ordering_then (nat_cmp a b) p ≡ Less
-then_also a b o p h less = elim (parts a b o less) [
-  | inl lt ↦ smaller a b p lt
-  | inr same ↦ equal a b p same.0 (h same.0 same.1)
-]
-  where
-    parts : (a b : ℕ) (o : Ordering) → ordering_then (nat_cmp a b) o ≡ Less → (a < b) ⊎ ((a ≡ b) × (o ≡ Less))
-    parts a b o less = grind arith
-
-    smaller : (a b : ℕ) (o : Ordering) → a < b → ordering_then (nat_cmp a b) o ≡ Less
-    smaller a b o lt = grind arith
-
-    equal : (a b : ℕ) (o : Ordering) → a ≡ b → o ≡ Less → ordering_then (nat_cmp a b) o ≡ Less
-    equal a b o e h = grind arith
-
-cmp_also : (m n p q : ℕ) → (m < n → p < q) → nat_cmp m n ≡ Less → nat_cmp p q ≡ Less
-cmp_also m n p q h less = below p q (h (from m n less))
-  where
-    below : (p q : ℕ) → p < q → nat_cmp p q ≡ Less
-    below p q lt = grind arith
-
-    from : (m n : ℕ) → nat_cmp m n ≡ Less → m < n
-    from m n less = grind arith
-
--- stamps that differ from two others only in their last numbers
-order_by : (s t : Stamp) (m n : ℕ) →
-    (s.tick ≡ t.tick → kind_number s.kind ≡ kind_number t.kind → s.first ≡ t.first → m < n → s.second < t.second) →
-    Before (record { tick = s.tick; round = s.round; kind = s.kind; first = s.first; second = m })
-    (record { tick = t.tick; round = t.round; kind = t.kind; first = t.first; second = n }) → Before s t
-order_by s t m n h before =
-    then_also s.tick t.tick _ _ (λ tick. then_also s.round t.round _ _ (λ round. then_also (kind_number s.kind) (kind_number t.kind) _ _
-    (λ kind. then_also s.first t.first _ _ (λ first. cmp_also m n s.second t.second (h tick kind first))))) before
-
 module _ (axis : Axis) (rules : Rules) where
   bounced_mirrored : (s : Stamp) (a : Disk) → bounced (mirrored_stamp axis s) (mirrored axis rules a) ≡ mirrored axis rules (bounced s a)
   bounced_mirrored s a =
@@ -153,31 +116,16 @@ module _ (axis : Axis) (rules : Rules) where
   speeds_mirrored s a (Some b) = let first = is_slow_mirrored axis rules (velocity_of a) in let second = is_slow_mirrored axis rules (velocity_of b) in λ i. first i && second i
 
   abbrev mirrored_result : Result Change Limit → Result Change Limit
-  mirrored_result (Ok c) = Ok (mirrored_change axis rules c)
-  mirrored_result (Err limit) = Err (mirrored_limit axis limit)
+  mirrored_result r = result_by (mirrored_change axis rules) (mirrored_limit axis) r
 
   applied_mirrored : (s : Stamp) (a : Disk) (b : Option Disk) →
       applied rules (mirrored_stamp axis s) (mirrored axis rules a) (mirrored_if axis rules b) ≡ mirrored_result (applied rules s a b)
   applied_mirrored s a b =
-      by_change _ (change_mirrored s a b) (speeds_mirrored s (change_of s a b).first (change_of s a b).second)
-      ∙ by_tests (s.round == rules.round_limit) (keeps_speed rules (change_of s a b))
-    where
-      outcome_of : Bool → Bool → Change → Result Change Limit
-      outcome_of p q c = if p then Err (Rounds (mirrored_stamp axis s)) else if q then Ok c else Err (Speed (mirrored_stamp axis s))
-
-      by_change : (c : Change) → c ≡ mirrored_change axis rules (change_of s a b) →
-          keeps_speed rules (mirrored_change axis rules (change_of s a b)) ≡ keeps_speed rules (change_of s a b) →
-          outcome_of (s.round == rules.round_limit) (keeps_speed rules c) c
-          ≡ outcome_of (s.round == rules.round_limit) (keeps_speed rules (change_of s a b)) (mirrored_change axis rules (change_of s a b))
-      by_change c e f =
-          (λ i. outcome_of (s.round == rules.round_limit) (keeps_speed rules (e i)) (e i))
-          ∙ (λ i. outcome_of (s.round == rules.round_limit) (f i) (mirrored_change axis rules (change_of s a b)))
-
-      by_tests : (p q : Bool) → outcome_of p q (mirrored_change axis rules (change_of s a b))
-          ≡ mirrored_result (if p then Err (Rounds s) else if q then Ok (change_of s a b) else Err (Speed s))
-      by_tests true q = refl
-      by_tests false true = refl
-      by_tests false false = refl
+      let c = change_of s a b in
+      let d = change_of (mirrored_stamp axis s) (mirrored axis rules a) (mirrored_if axis rules b) in
+      let same = change_mirrored s a b in
+      applied_by (mirrored_change axis rules) (mirrored_limit axis) (s.round == rules.round_limit) (keeps_speed rules c) (keeps_speed rules d)
+      s (mirrored_stamp axis s) c d same (ap (keeps_speed rules) same ∙ speeds_mirrored s c.first c.second) refl refl
 
   -- ---- states
   abbrev pub mirrored_disks : List Disk → List Disk
@@ -280,38 +228,8 @@ module _ (axis : Axis) (rules : Rules) where
 
   candidates_order : (disks : List Disk) (s t : Stamp) → IsCandidate rules disks s → IsCandidate rules disks t →
       Before (mirrored_stamp axis s) (mirrored_stamp axis t) → Before s t
-  candidates_order disks s t h k before = order_by s t (mirrored_second axis s.kind s.second) (mirrored_second axis t.kind t.second) by_kinds before
-    where
-      as_wall : (u : Stamp) → IsWallCandidate rules disks u → u.kind ≡ Wall
-      as_wall u w = ap (λ (v : Stamp). v.kind) w.2.2
-
-      as_pair : (u : Stamp) → IsPairCandidate rules disks u → u.kind ≡ Pair
-      as_pair u p = ap (λ (v : Stamp). v.kind) p.1.2.2.2
-
-      differ : (j k : Kind) → j ≡ Wall → k ≡ Pair → kind_number j ≡ kind_number k → ⊥
-      differ j k p q e =
-          let one : kind_number j ≡ 1 = ap kind_number p in
-          let two : kind_number k ≡ 2 = ap kind_number q in
-          omega arith
-
-      in_place : (m n p q : ℕ) → m ≡ p → n ≡ q → m < n → p < q
-      in_place m n p q e f lt = omega arith
-
-      by_kinds : s.tick ≡ t.tick → kind_number s.kind ≡ kind_number t.kind → s.first ≡ t.first →
-          mirrored_second axis s.kind s.second < mirrored_second axis t.kind t.second → s.second < t.second
-      by_kinds tick kind first lt = elim h [
-        | inl wall ↦ elim k [
-          | inl other ↦ walls_order disks s t wall other tick first
-              (in_place _ _ _ _ (ap (λ (j : Kind). mirrored_second axis j s.second) (as_wall s wall))
-              (ap (λ (j : Kind). mirrored_second axis j t.second) (as_wall t other)) lt)
-          | inr other ↦ absurd (differ s.kind t.kind (as_wall s wall) (as_pair t other) kind)
-        ]
-        | inr pair ↦ elim k [
-          | inl other ↦ absurd (differ t.kind s.kind (as_wall t other) (as_pair s pair) (sym kind))
-          | inr other ↦ in_place _ _ _ _ (ap (λ (j : Kind). mirrored_second axis j s.second) (as_pair s pair))
-              (ap (λ (j : Kind). mirrored_second axis j t.second) (as_pair t other)) lt
-        ]
-      ]
+  candidates_order disks s t h k before = order_by s t (mirrored_second axis s.kind s.second) (mirrored_second axis t.kind t.second)
+      (λ tick kind first. seconds_by (mirrored_second axis) (λ n. refl) rules disks s t h k kind (λ wall other. walls_order disks s t wall other tick first)) before
 
   next_mirrored : (disks : List Disk) (s : Stamp) → IsNext rules disks s →
       IsNext rules (mirrored_disks disks) (mirrored_stamp axis s)

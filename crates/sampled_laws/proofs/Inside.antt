@@ -1,5 +1,5 @@
 -- At each tick of a run all disks are in the box.
-use Rattle.std.proofs.Common.{◌≡◌, ◌∙◌, ℕ, zero, suc, ◌+◌, Bool, true, false, ◌&&◌, int_le, if◌then◌else◌, ℤ, pos, ◌-ℤ◌, ◌≤ℤ◌, List, [], ◌∷◌, length, slice_get, Some, ap, refl, sym, subst, arith}
+use Rattle.std.proofs.Common.{◌≡◌, ◌∙◌, ℕ, suc, ◌+◌, Bool, true, false, ◌&&◌, int_le, if◌then◌else◌, ℤ, pos, ◌-ℤ◌, ◌≤ℤ◌, List, [], ◌∷◌, length, slice_get, Some, ap, refl, sym, arith}
 use Rattle.std.proofs.lemmas.Int.{ints}
 use Rattle.std.proofs.lemmas.List.Sums.{sum_by-cons}
 use Rattle.plane_vectors.specs.declared.Vector.{Vector}
@@ -17,11 +17,11 @@ use Rattle.sampled_laws.specs.Laws.{SquaresAreEnergy, LastSquaresAreEnergy}
 use Rattle.sampled_laws.proofs.Steps.{state_at_tick, state_at_end, spots_at_end}
 use native.Mathlib.Nat.{le_refl}
 
-both : (a b : Bool) → a ≡ true → b ≡ true → (a && b) ≡ true
+pub both : (a b : Bool) → a ≡ true → b ≡ true → (a && b) ≡ true
 both true b h k = k
 both false b h k = cc
 
-at_most : (m n : ℤ) → m ≤ℤ n → int_le m n ≡ true
+pub at_most : (m n : ℤ) → m ≤ℤ n → int_le m n ≡ true
 at_most m n h = grind (arith, ints)
 
 -- from side to side

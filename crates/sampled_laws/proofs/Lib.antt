@@ -5,3 +5,7 @@ mod Inside
 mod Small
 mod Sides
 mod Pushes
+mod Outward
+mod Virials
+mod AtPlaces
+mod AddedUp

@@ -58,13 +58,13 @@ same_between f g (Some every) end from to some h =
 
 -- ---- a run
 -- the changes before a tick, from the first on
-none_before : (c : Change) (cs : List Change) (tick : ℕ) → tick ≤ c.stamp.tick → take_while (λ (d : Change). nat_lt d.stamp.tick tick) (c ∷ cs) ≡ []
+pub none_before : (c : Change) (cs : List Change) (tick : ℕ) → tick ≤ c.stamp.tick → take_while (λ (d : Change). nat_lt d.stamp.tick tick) (c ∷ cs) ≡ []
 none_before c cs tick le =
     let test : nat_lt c.stamp.tick tick ≡ false = grind arith in
     take_while-cons (λ (d : Change). nat_lt d.stamp.tick tick) c cs
     ∙ ap (λ (b : Bool). cond b (c ∷ take_while (λ (d : Change). nat_lt d.stamp.tick tick) cs) []) test
 
-one_before : (c : Change) (cs : List Change) (tick : ℕ) → c.stamp.tick < tick →
+pub one_before : (c : Change) (cs : List Change) (tick : ℕ) → c.stamp.tick < tick →
     take_while (λ (d : Change). nat_lt d.stamp.tick tick) (c ∷ cs) ≡ c ∷ take_while (λ (d : Change). nat_lt d.stamp.tick tick) cs
 one_before c cs tick lt =
     let test : nat_lt c.stamp.tick tick ≡ true = grind arith in

@@ -1,5 +1,5 @@
 -- An event of two disks pushes them apart.
-use Rattle.std.proofs.Common.{◌≡◌, ◌∙◌, inl, inr, ℕ, ◌<◌, ℤ, pos, nat_abs, ◌+ℤ◌, ◌-ℤ◌, ◌*ℤ◌, Option, Some, None, List, ap, refl, sym, subst, arith}
+use Rattle.std.proofs.Common.{◌≡◌, ◌∙◌, inl, inr, ℕ, ◌<◌, ℤ, pos, nat_abs, ◌+ℤ◌, ◌-ℤ◌, ◌*ℤ◌, Some, List, ap, sym, subst, arith}
 use Rattle.std.specs.Prelude.{fold, ◌<ℤ◌}
 use Rattle.std.proofs.lemmas.Int.{ints}
 use Rattle.std.proofs.lemmas.Option.{none-some, same_Some}
@@ -10,10 +10,10 @@ use Rattle.fixed_motion.specs.declared.disk.Disk.{Disk}
 use Rattle.fixed_motion.specs.Motion.{centre_of, place_of, velocity_of}
 use Rattle.impulse_rounding.proofs.Exact.{recedes}
 use Rattle.event_rules.specs.declared.change.Change.{Change}
-use Rattle.event_rules.specs.Effect.{change_of, impulse_at, pushed, pushed_back}
+use Rattle.event_rules.specs.Effect.{impulse_at, pushed, pushed_back}
 use Rattle.event_rules.specs.Run.{effect}
 use Rattle.event_rules.specs.Conservation.{velocity_if, velocity_at}
-use Rattle.event_rules.proofs.Ran.{RanWall, RanPair, ran}
+use Rattle.event_rules.proofs.Ran.{RanPair, ran}
 use Rattle.collision_sums.specs.Sums.{virial_of}
 use Rattle.sampled_laws.specs.Laws.{IsPush, VirialsArePushes}
 use Rattle.sampled_laws.proofs.Steps.{step_of}
@@ -34,7 +34,7 @@ size_of w h = omega (arith, ints)
 some_size : (w : ℤ) → pos 0 <ℤ w → 0 < nat_abs w
 some_size w h = omega (arith, ints)
 
-push : (rules : Rules) (disks : List Disk) (c : Change) (later : Disk) → RanPair rules disks c → c.second ≡ Some later → IsPush disks c later
+pub push : (rules : Rules) (disks : List Disk) (c : Change) (later : Disk) → RanPair rules disks c → c.second ≡ Some later → IsPush disks c later
 push rules disks c later p e =
     let s = c.stamp in let a = p.first in let b = p.second in
     let r = difference (place_of a s.tick) (place_of b s.tick) in

@@ -1,5 +1,5 @@
 -- What the sides took is what they turned.
-use Rattle.std.proofs.Common.{◌≡◌, ◌∙◌, inl, inr, ◌⊎◌, ℕ, ◌+◌, ◌*◌, ◌^◌, ◌<◌, ◌≤◌, Bool, true, false, if◌then◌else◌, ℤ, pos, neg_ℤ, nat_abs, ◌+ℤ◌, ◌-ℤ◌, ◌*ℤ◌, List, [], ◌∷◌, length, Some, None, ap, refl, sym, subst, arith}
+use Rattle.std.proofs.Common.{◌≡◌, ◌∙◌, inl, inr, ◌⊎◌, ℕ, ◌+◌, ◌*◌, ◌^◌, ◌≤◌, Bool, true, false, if◌then◌else◌, ℤ, pos, neg_ℤ, nat_abs, ◌+ℤ◌, ◌-ℤ◌, ◌*ℤ◌, List, [], ◌∷◌, length, ap, sym, subst, arith}
 use Rattle.std.specs.Prelude.{fold, ◌<ℤ◌, ◌≤ℤ◌}
 use Rattle.std.proofs.lemmas.Int.{ints}
 use Rattle.plane_vectors.specs.declared.Vector.{Vector}
@@ -14,9 +14,9 @@ use Rattle.event_stamps.specs.declared.Stamp.{Stamp}
 use Rattle.event_rules.specs.declared.change.Change.{Change}
 use Rattle.event_rules.specs.declared.outcome.Outcome.{Outcome}
 use Rattle.event_rules.specs.Events.{IsPast, IsWallTick}
-use Rattle.event_rules.specs.Effect.{change_of, turned, bounced, moved, pushed, pushed_back, impulse_at}
+use Rattle.event_rules.specs.Effect.{turned, moved, pushed, pushed_back, impulse_at}
 use Rattle.event_rules.specs.Run.{Runs, IsValidState, effect}
-use Rattle.event_rules.specs.Conservation.{turned_at, turned_by, turned_by_sides, velocity_at, RunsConserve}
+use Rattle.event_rules.specs.Conservation.{turned_at, turned_by, velocity_at, RunsConserve}
 use Rattle.event_rules.proofs.Fits.{change_fits}
 use Rattle.event_rules.proofs.Ran.{RanWall, RanPair, ran, event_valid}
 use Rattle.event_rules.proofs.Ranges.{starts_valid, few_events}
@@ -35,16 +35,16 @@ record IsTaken (s : Sums) (turned : Vector) (t : Sums) : Type 0 where
 
 -- ---- a side
 -- a disk within its side that is past it a tick later moves towards it
-towards_least : (radius p v : ℤ) → radius ≤ℤ p → (p +ℤ v) <ℤ radius → v <ℤ pos 0
+pub towards_least : (radius p v : ℤ) → radius ≤ℤ p → (p +ℤ v) <ℤ radius → v <ℤ pos 0
 towards_least radius p v h k = omega (arith, ints)
 
-towards_most : (most p v : ℤ) → p ≤ℤ most → most <ℤ (p +ℤ v) → pos 0 <ℤ v
+pub towards_most : (most p v : ℤ) → p ≤ℤ most → most <ℤ (p +ℤ v) → pos 0 <ℤ v
 towards_most most p v h k = omega (arith, ints)
 
-added_is : (total n : ℕ) → total ≤ 2 ^ 112 → n ≤ 2 ^ 21 → added total n ≡ total + n
+pub added_is : (total n : ℕ) → total ≤ 2 ^ 112 → n ≤ 2 ^ 21 → added total n ≡ total + n
 added_is total n h k = omega arith
 
-twice_size : (v : ℤ) → nat_abs v ≤ 2 ^ 20 → taken_of (neg_ℤ v) ≤ 2 ^ 21
+pub twice_size : (v : ℤ) → nat_abs v ≤ 2 ^ 20 → taken_of (neg_ℤ v) ≤ 2 ^ 21
 twice_size v h = omega (arith, ints)
 
 -- the lower of two sides takes what is added, the upper what is taken off
@@ -70,13 +70,13 @@ neither_takes : (low high : ℕ) → ((pos 0 +ℤ pos high) +ℤ pos low) ≡ (p
 neither_takes low high = omega (arith, ints)
 
 -- room for one more
-record HasRoom (s : Sums) : Type 0 where
+pub record HasRoom (s : Sums) : Type 0 where
   pub left : s.left ≤ 2 ^ 112
   pub right : s.right ≤ 2 ^ 112
   pub bottom : s.bottom ≤ 2 ^ 112
   pub top : s.top ≤ 2 ^ 112
 
-has_room : (p w : ℕ) (s : Sums) → w ≤ 2 ^ 90 → IsSmall p w s → HasRoom s
+pub has_room : (p w : ℕ) (s : Sums) → w ≤ 2 ^ 90 → IsSmall p w s → HasRoom s
 has_room p w s h small =
     let left = small.left in let right = small.right in let bottom = small.bottom in let top = small.top in
     record { left = omega arith; right = omega arith; bottom = omega arith; top = omega arith }

@@ -1,16 +1,16 @@
 -- How great the sums of a run can become.
-use Rattle.std.proofs.Common.{◌≡◌, ◌∙◌, inl, inr, ◌⊎◌, ℕ, ◌+◌, ◌*◌, ◌^◌, ◌<◌, ◌≤◌, min, Bool, true, false, cond, if◌then◌else◌, ℤ, nat_abs, ◌-ℤ◌, List, [], ◌∷◌, length, Option, Some, None, ap, refl, sym, subst, arith, le_trans}
+use Rattle.std.proofs.Common.{◌≡◌, ℕ, ◌+◌, ◌*◌, ◌^◌, ◌≤◌, Bool, true, false, cond, if◌then◌else◌, ℤ, nat_abs, ◌-ℤ◌, List, [], ◌∷◌, length, Option, Some, None, refl, arith}
 use Rattle.std.specs.Prelude.{◌==◌, is_some, nat_lt, slice_get}
 use Rattle.std.proofs.lemmas.Int.{ints}
 use Rattle.std.proofs.lemmas.List.Sums.{sum_by-cons, count_by-le-length}
 use Rattle.std.proofs.Math.Nat.{mul-le-mul}
 use Rattle.plane_vectors.specs.declared.Vector.{Vector}
-use Rattle.plane_vectors.specs.Vectors.{IsWithin, difference, dot}
+use Rattle.plane_vectors.specs.Vectors.{IsWithin, difference}
 use Rattle.plane_vectors.proofs.Sizes.{dot_size}
 use Rattle.fixed_motion.specs.declared.rules.Rules.{Rules}
 use Rattle.fixed_motion.specs.declared.disk.Disk.{Disk}
 use Rattle.fixed_motion.specs.Rules.{IsChecked}
-use Rattle.fixed_motion.specs.Motion.{IsValidDisk, IsInBox, centre_of, velocity_of}
+use Rattle.fixed_motion.specs.Motion.{IsValidDisk, centre_of, velocity_of}
 use Rattle.fixed_motion.proofs.Sizes.{difference_size, inside_in_box, slow_size}
 use Rattle.event_stamps.specs.declared.Stamp.{Stamp}
 use Rattle.event_rules.specs.declared.change.Change.{Change}
@@ -38,7 +38,7 @@ pub record IsSmall (p w : ℕ) (s : Sums) : Type 0 where
   pub bottom : s.bottom ≤ 2 ^ 21 * w
   pub top : s.top ≤ 2 ^ 21 * w
 
-wider : (p w q x : ℕ) (s : Sums) → p ≤ q → w ≤ x → IsSmall p w s → IsSmall q x s
+pub wider : (p w q x : ℕ) (s : Sums) → p ≤ q → w ≤ x → IsSmall p w s → IsSmall q x s
 wider p w q x s h k small =
     let pairs = small.pairs in let virial = small.virial in let walls = small.walls in
     let left = small.left in let right = small.right in let bottom = small.bottom in let top = small.top in
@@ -56,7 +56,7 @@ added_most : (total n m k : ℕ) → total ≤ m → n ≤ k → added total n �
 added_most total n m k h g = omega (arith, h, g)
 
 -- ---- one event
-virial_small : (rules : Rules) (v : Vector) (a b : Disk) → IsChecked rules → IsWithin (2 ^ 20) v → IsValidDisk rules a → IsValidDisk rules b →
+pub virial_small : (rules : Rules) (v : Vector) (a b : Disk) → IsChecked rules → IsWithin (2 ^ 20) v → IsValidDisk rules a → IsValidDisk rules b →
     virial_of v a b ≤ 2 ^ 52
 virial_small rules v a b checked slow first second =
     let r = difference (centre_of a) (centre_of b) in
@@ -92,7 +92,7 @@ pair_small rules margin p w s v a b h small = by_test (has_middle_in_part rules 
     by_test false = wider p w (p + 1) w s (omega arith) (omega arith) small
 
 -- a side takes at most twice the greatest component
-taken_most : (rules : Rules) (side : ℕ) (a : Disk) → IsChecked rules → IsValidDisk rules a → taken_of (across_of side a) ≤ 2 ^ 21
+pub taken_most : (rules : Rules) (side : ℕ) (a : Disk) → IsChecked rules → IsValidDisk rules a → taken_of (across_of side a) ≤ 2 ^ 21
 taken_most rules side a checked valid =
     let own = slow_size rules (velocity_of a) checked valid.velocity in by_test own.x own.y (nat_lt side 2)
   where
@@ -129,7 +129,7 @@ wall_small rules margin p w s side a h small = by_test (is_along rules margin si
     by_test true = with_taken_small p w s side (taken_of (across_of side a)) h small
     by_test false = wider p w p (w + 1) s (omega arith) (omega arith) small
 
-slow_if : (rules : Rules) (o : Option Disk) → IsChecked rules → ((a : Disk) → o ≡ Some a → IsValidDisk rules a) → IsWithin (2 ^ 20) (velocity_if o)
+pub slow_if : (rules : Rules) (o : Option Disk) → IsChecked rules → ((a : Disk) → o ≡ Some a → IsValidDisk rules a) → IsWithin (2 ^ 20) (velocity_if o)
 slow_if rules None checked h = record { x = omega (arith, ints); y = omega (arith, ints) }
 slow_if rules (Some a) checked h = slow_size rules (velocity_of a) checked (h a refl).velocity
 
@@ -155,7 +155,7 @@ step_small rules margin p w disks s c checked state fits small =
     event_small rules margin p w (length disks) c.stamp.tick disks s c.stamp c.first c.second checked state fits.first.valid fits.second small
 
 -- ---- a run
-small_from : (rules : Rules) (margin p w : ℕ) (disks : List Disk) (s : Sums) (cs : List Change) (outcome : Outcome) → IsChecked rules →
+pub small_from : (rules : Rules) (margin p w : ℕ) (disks : List Disk) (s : Sums) (cs : List Change) (outcome : Outcome) → IsChecked rules →
     IsValidState rules disks → Runs rules disks cs outcome → IsSmall p w s →
     IsSmall (p + pairs cs) (w + length cs) (sums_after (Summed margin) rules disks s cs)
 small_from rules margin p w disks s [] outcome checked state run small = wider p w (p + 0) (w + 0) s (omega arith) (omega arith) small

@@ -1,5 +1,5 @@
 -- What each step of a run keeps.
-use Rattle.std.proofs.Common.{◌≡◌, ◌∙◌, inl, inr, ℕ, ◌+◌, ◌≤◌, List, [], ◌∷◌, ◌++◌, length, Ok, ap, refl, sym, subst}
+use Rattle.std.proofs.Common.{◌≡◌, ◌∙◌, inl, inr, ℕ, List, [], ◌∷◌, ◌++◌, length, Ok, refl, sym, subst}
 use Rattle.std.specs.Prelude.{fold}
 use Rattle.fixed_motion.specs.declared.rules.Rules.{Rules}
 use Rattle.fixed_motion.specs.declared.disk.Disk.{Disk}

@@ -8,3 +8,4 @@ mod Only
 mod BounceRun
 mod ValidRows
 mod Lines
+mod GlanceRun

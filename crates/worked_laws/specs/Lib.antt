@@ -4,3 +4,4 @@ pub mod Pair
 pub mod Bounce
 pub mod Others
 pub mod Texts
+pub mod Glance

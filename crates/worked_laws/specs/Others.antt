@@ -32,6 +32,14 @@ hit_beside = record the_hit { stamp = record hit_stamp { first = 1; second = 2 }
 abbrev pub three_end : List Spot
 three_end = record { x = pos 10; y = pos 16; vx = pos 0; vy = pos 0 } ∷ pair_end
 
+-- two disks at opposite ends, which in one tick come nearer by 16 units: they start 20 apart, as D + 2 · 8 asks
+abbrev pub far_disks : List Disk
+far_disks = disk_at (pos 10) (pos 8) 0 0 ∷ disk_at (pos 30) (neg_ℤ (pos 8)) 0 0 ∷ []
+
+-- the number of the one at the left
+abbrev pub is_of_left : ℕ → Bool
+is_of_left n = nat_lt n 1
+
 -- the numbers of the two
 abbrev pub is_of_pair : ℕ → Bool
 is_of_pair n = nat_lt 0 n

@@ -11,9 +11,13 @@ use Rattle.event_rules.specs.declared.outcome.Spot.{Spot}
 abbrev pub box_until : ℕ → Rules
 box_until end = record { width = pos 40; height = pos 20; diameter = pos 4; speed_limit = pos 8; round_limit = 8; end = end }
 
--- a disk at this x, 10 units from the bottom, with this velocity to the right, as its last event left it, or the start
+-- a disk at this x and y, with this velocity, as its last event left it, or the start
+abbrev pub disk_from : ℤ → ℤ → ℤ → ℤ → ℕ → ℕ → Disk
+disk_from x y vx vy base mark = record { x = x; y = y; vx = vx; vy = vy; size = pos 4; base = base; mark = mark }
+
+-- one 10 units from the bottom, with this velocity to the right
 abbrev pub disk_at : ℤ → ℤ → ℕ → ℕ → Disk
-disk_at x vx base mark = record { x = x; y = pos 10; vx = vx; vy = pos 0; size = pos 4; base = base; mark = mark }
+disk_at x vx base mark = disk_from x (pos 10) vx (pos 0) base mark
 
 -- the same at the end
 abbrev pub spot_at : ℤ → ℤ → Spot

@@ -7,10 +7,9 @@ use Rattle.event_rules.proofs.SideBySide.{subtracted}
 use Rattle.event_rules.proofs.lanes.less.Goals as goal
 
 pub returns : goal.returns
-returns c = λ m n held.
-    let k = c.args.number in
-    rw held.are (record {
-      are = λ i. subtracted m k held.first c.ranges.number i ∷ (subtracted n k held.second c.ranges.number i ∷ []);
+returns c = λ m n k l held others.
+    rw (held.are, others.are) (record {
+      are = λ i. subtracted m k held.first others.first i ∷ (subtracted n l held.second others.second i ∷ []);
       first = SFits-int_wrap w64 (m -ℤ k);
-      second = SFits-int_wrap w64 (n -ℤ k);
+      second = SFits-int_wrap w64 (n -ℤ l);
     })
