@@ -1,5 +1,6 @@
 pub mod Logged
 pub mod Heads
+pub mod Laid
 pub mod Nearness
 pub mod Undoing
 pub mod Running

@@ -44,14 +44,15 @@ ghost use Rattle.std.specs.List.{insert};
 ghost use Rattle.event_stamps.specs.declared.Stamp.{Stamp};
 ghost use Rattle.region_view.specs.Acting.{stamp_of};
 ghost use Rattle.local_run.specs.Entries.{native_of, RiseFrom, entries_below, entries_from};
-ghost use Rattle.event_log.specs.Logged.{entries_in, backs_in, stamps_in, senders_in, setters_in, sets, native_at};
-ghost use Rattle.event_log.specs.Collisions.{change_in, change_at};
+ghost use Rattle.event_log.specs.Logged.{entries_in, backs_in, stamps_in, senders_in, setters_in, native_at};
+ghost use Rattle.event_log.specs.Collisions.{change_at};
 ghost use Rattle.event_log.specs.Heads.{row_count, whole_count, logged, IsOrdered};
+ghost use Rattle.event_log.specs.Laid.{logged_by, HasRows, HasWhole, HasOrder};
 ghost use Rattle.event_log.specs.Nearness.{IsFar, AllUpTo};
 
 use crate::heads::{Form, count_earlier, edge, lower, raise_from};
-use crate::narrow::{disk_in, row_in};
 use crate::nearness::first_near;
+use crate::reading::Laid;
 use cell_grid::Grid;
 use event_rules::Change;
 use event_stamps::Stamp;
@@ -110,31 +111,29 @@ impl EventLog {
         count_earlier(&self.heads, at)
     }
 
+    // An entry where it is kept, by its place.
+    #[inline(always)]
+    fn laid(&self, i: usize) -> Laid<'_>
+        requires { i < length self.now }
+        ensures logged { slice_get self.now i ≡ Some (logged_by result) }
+        ensures rows { HasRows result }
+        ensures whole { HasWhole result }
+        ensures order { HasOrder result }
+    {
+        Laid {
+            head: &self.heads[i],
+            rows: &self.rows,
+            wholes: &self.wholes,
+        }
+    }
+
     /// An entry, by its place.
     #[inline(always)]
     pub fn entry(&self, i: usize) -> Entry
         requires within { i < length self.now }
         ensures { slice_get (entries_in self.now) i ≡ Some result }
     {
-        let head = self.heads[i];
-        let row = head.row as usize;
-        match head.form {
-            Form::Crossing => Entry::Native(Action::Cross {
-                stamp: head.stamp,
-                cell: head.cell,
-            }),
-            Form::Single => Entry::Native(Action::Hit(Change {
-                stamp: head.stamp,
-                first: disk_in(&self.rows, row + 1),
-                second: None,
-            })),
-            Form::Double => Entry::Native(Action::Hit(Change {
-                stamp: head.stamp,
-                first: disk_in(&self.rows, row + 2),
-                second: Some(disk_in(&self.rows, row + 3)),
-            })),
-            Form::Whole => self.wholes[head.whole as usize].0,
-        }
+        self.laid(i).entry()
     }
 
     /// The rows that lead back over an entry, by its place.
@@ -142,18 +141,7 @@ impl EventLog {
         requires within { i < length self.now }
         ensures { slice_get (backs_in self.now) i ≡ Some result }
     {
-        let head = self.heads[i];
-        let row = head.row as usize;
-        match head.form {
-            Form::Crossing | Form::Single => {
-                Rows::one((head.stamp.first, row_in(&self.rows, row)))
-            }
-            Form::Double => Rows::two(
-                (head.stamp.first, row_in(&self.rows, row)),
-                (head.stamp.second, row_in(&self.rows, row + 1)),
-            ),
-            Form::Whole => self.wholes[head.whole as usize].1,
-        }
+        self.laid(i).back()
     }
 
     /// The action of an entry, by its place; none if and only if there is no such entry, or it is a message.
@@ -174,22 +162,10 @@ impl EventLog {
     pub fn change(&self, i: usize) -> Option<Change>
         ensures { result ≡ change_at self.now i }
     {
-        let head = self.heads.get(i)?;
-        let row = head.row as usize;
-        match head.form {
-            Form::Crossing => None,
-            Form::Single => Some(Change {
-                stamp: head.stamp,
-                first: disk_in(&self.rows, row + 1),
-                second: None,
-            }),
-            Form::Double => Some(Change {
-                stamp: head.stamp,
-                first: disk_in(&self.rows, row + 2),
-                second: Some(disk_in(&self.rows, row + 3)),
-            }),
-            Form::Whole => change_of(&self.wholes[head.whole as usize].0),
+        if self.len() <= i {
+            return None;
         }
+        self.laid(i).change()
     }
 
     /// The stamp of the action of an entry, by its place; none if and only if [`native`](EventLog::native) is none.
@@ -197,14 +173,10 @@ impl EventLog {
     pub fn native_stamp(&self, i: usize) -> Option<Stamp>
         ensures { result ≡ option_map stamp_of (native_at self.now i) }
     {
-        let head = self.heads.get(i)?;
-        match head.form {
-            Form::Crossing | Form::Single | Form::Double => Some(head.stamp),
-            Form::Whole => match &self.wholes[head.whole as usize].0 {
-                Entry::Native(action) => Some(action.stamp()),
-                Entry::Heard { .. } => None,
-            },
+        if self.len() <= i {
+            return None;
         }
+        self.laid(i).native_stamp()
     }
 
     /// The region that sent the message of an entry, by its place; none if the entry is an event of the region's own
@@ -214,14 +186,7 @@ impl EventLog {
         requires within { i < length self.now }
         ensures { slice_get (senders_in self.now) i ≡ Some result }
     {
-        let head = self.heads[i];
-        match head.form {
-            Form::Crossing | Form::Single | Form::Double => None,
-            Form::Whole => match &self.wholes[head.whole as usize].0 {
-                Entry::Native(_) => None,
-                Entry::Heard { from, .. } => Some(*from),
-            },
-        }
+        self.laid(i).sender()
     }
 
     /// Whether an entry, by its place, sets the row of a disk. It looks at the head alone, unless the entry is kept
@@ -231,12 +196,7 @@ impl EventLog {
         requires within { i < length self.now }
         ensures { slice_get (setters_in disk self.now) i ≡ Some result }
     {
-        let head = self.heads[i];
-        match head.form {
-            Form::Crossing | Form::Single => head.stamp.first == disk,
-            Form::Double => head.stamp.first == disk || head.stamp.second == disk,
-            Form::Whole => has_row(&self.wholes[head.whole as usize].1, disk),
-        }
+        self.laid(i).sets(disk)
     }
 
     /// The first entry from a place on that may have to do with some rows: it has one of their disks, or a row that
@@ -416,17 +376,6 @@ fn push_rows(into: &mut Vec<Compact>, rows: &[Compact])
     }
 }
 
-// The collision of an entry; none if it is a crossing or a message.
-#[inline(always)]
-fn change_of(entry: &Entry) -> Option<Change>
-    ensures { result ≡ change_in (native_of entry.now) }
-{
-    match entry {
-        Entry::Native(Action::Hit(change)) => Some(*change),
-        Entry::Native(Action::Cross { .. }) | Entry::Heard { .. } => None,
-    }
-}
-
 // The action of an entry; none if it is a message.
 #[inline(always)]
 fn native_of(entry: &Entry) -> Option<Action>
@@ -435,17 +384,6 @@ fn native_of(entry: &Entry) -> Option<Action>
     match entry {
         Entry::Native(action) => Some(*action),
         Entry::Heard { .. } => None,
-    }
-}
-
-// Whether one of some rows is that of a disk.
-fn has_row(rows: &Rows, disk: u32) -> bool
-    ensures { result ≡ sets disk rows.now }
-{
-    match rows.as_slice() {
-        [] => false,
-        [row] => row.0 == disk,
-        [first, second, ..] => first.0 == disk || second.0 == disk,
     }
 }
 

@@ -24,6 +24,7 @@ use Rattle.local_run.specs.Entries.{entry_stamp}
 use Rattle.local_run.specs.LocalRun.{Local, Trails, trail_of, prepended, IsInPlace, IsRight, IsMove}
 use Rattle.local_run.specs.Answers.{with_entry, IsInTurn}
 use Rattle.region_parts.specs.Inbox.{InboxData, next_from, taken_from, with_taken}
+use Rattle.region_parts.specs.Sending.{MaySend, HasSent}
 use Rattle.local_run.specs.Taken.{is_of, taken_of}
 use Rattle.region_core.specs.Live.{base_in, run_in, start_in, now_in, HasTrace, IsInbox, IsOutbox, IsBodyOf}
 use Rattle.event_log.specs.Logged.{Logged, entries_in}
@@ -140,13 +141,12 @@ outbox_heard home floor live q m is = record {
 }
 
 pub outbox_native : (home : Home) (floor : Stamp) (live : Live) (x : Action) (sent : Trails) →
-    IsOutbox home (base_in live) (entries_in live.log) live.sent.items → length sent ≡ length live.sent.items →
-    ((to : ℕ) → SendsTo home to → trail_of sent to ≡ trail_of live.sent.items to
-    ++ prepended (message_of home.grid to (rows_in (now_in live).view) x) []) →
+    IsOutbox home (base_in live) (entries_in live.log) live.sent.items →
+    HasSent home (rows_in (now_in live).view) x live.sent.items sent →
     IsOutbox home (base_in live) ((entries_in live.log) ++ Native x ∷ []) sent
-outbox_native home floor live x sent is size each = record {
-  regions = size ∙ is.regions;
-  each = λ to lt linked. each to (lt, linked)
+outbox_native home floor live x sent is has = record {
+  regions = has.size ∙ is.regions;
+  each = λ to lt linked. has.told to (lt, linked)
       ∙ ap (λ (ms : List Message). ms ++ prepended (message_of home.grid to (rows_in (now_in live).view) x) [])
       (is.each to lt linked)
       ∙ sym (sent_native home.grid to (run_in floor live) x);
@@ -224,17 +224,26 @@ native_valid home floor live x place is fits =
       grid = sym is.queue.grid i;
     }) valid)
 
-pub after_what_was_sent : (home : Home) (floor : Stamp) (live : Live) (x : Action) → IsBodyOf home floor live →
+after_what_was_sent : (home : Home) (floor : Stamp) (live : Live) (x : Action) → IsBodyOf home floor live →
     Fits home (run_in floor live) (Run x) → (to : ℕ) → SendsTo home to →
     IsAfterAll (trail_of live.sent.items to) (stamp_of x)
 after_what_was_sent home floor live x is fits to sends m among =
     sent_before_turn home.grid to (base_in live) floor (stamp_of x) (entries_in live.log) is.right.rises fits.1.1 m
     (subst (IsAmong m) (is.sent.each to sends.0 sends.1) among)
 
-pub cells_are : (home : Home) (floor : Stamp) (live : Live) → IsInPlace home → IsBodyOf home floor live →
-    HasCells home.grid (rows_in live.view)
-cells_are home floor live place is = subst (λ (v : ViewData). HasCells home.grid (rows_in v)) (now_is live is.traced)
-    (valid_now home (run_in floor live) place is.right).cell
+pub may_send : (home : Home) (floor : Stamp) (live : Live) (x : Action) → IsInPlace home → IsBodyOf home floor live →
+    Fits home (run_in floor live) (Run x) → MaySend home (rows_in live.view) x live.sent.items
+may_send home floor live x place is fits =
+    let valid = native_action home floor live x place is fits in
+    record {
+      number = place.number;
+      cells = subst (λ (v : ViewData). HasCells home.grid (rows_in v)) (now_is live is.traced)
+          (valid_now home (run_in floor live) place is.right).cell;
+      order = valid.order;
+      cell = valid.cell;
+      size = is.sent.regions;
+      after = after_what_was_sent home floor live x is fits;
+    }
 
 -- ---- what ran
 -- a body that ran an action and sent its messages, in parts
@@ -244,9 +253,7 @@ pub record HasActed (home : Home) (live new : Live) (x : Action) : Type 0 where
   pub view : new.view ≡ after_action live.view x
   pub queue : IsOf new.queue live.queue.rules live.queue.grid live.queue.region
   pub stands : StandsFor new.queue new.view
-  pub size : length new.sent.items ≡ length live.sent.items
-  pub told : (to : ℕ) → SendsTo home to → trail_of new.sent.items to ≡ trail_of live.sent.items to
-      ++ prepended (message_of home.grid to (rows_in live.view) x) []
+  pub sent : HasSent home (rows_in live.view) x live.sent.items new.sent.items
 
 pub acted_is_live : (home : Home) (floor : Stamp) (live new : Live) (x : Action) → IsBodyOf home floor live →
     Fits home (run_in floor live) (Run x) → HasActed home live new x → IsBodyOf home floor new
@@ -264,8 +271,7 @@ acted_is_live home floor live new x kept fits is =
       stands = is.stands;
       inbox = subst (IsInbox home (entries_in live.log ++ Native x ∷ [])) (sym is.inbox)
           (inbox_native home (entries_in live.log) live.inbox x kept.inbox);
-      sent = outbox_native home floor live x new.sent.items kept.sent is.size
-          (λ to sends. is.told to sends
-          ∙ ap (λ (v : ViewData). trail_of live.sent.items to
-          ++ prepended (message_of home.grid to (rows_in v) x) []) (sym (now_is live kept.traced)));
+      sent = outbox_native home floor live x new.sent.items kept.sent
+          (subst (λ (v : ViewData). HasSent home (rows_in v) x live.sent.items new.sent.items)
+          (sym (now_is live kept.traced)) is.sent);
     }

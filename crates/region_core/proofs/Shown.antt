@@ -1,5 +1,5 @@
 -- What a region shows of what it sends and heard.
-use Rattle.std.proofs.Common.{◌≡◌, ◌⊎◌, inr, ℕ, ◌<◌, Bool, true, false, List, [], length, Option, Some, None, MatchOption, ap, sym, ◌∙◌, subst, refl, arith}
+use Rattle.std.proofs.Common.{◌≡◌, ◌⊎◌, inr, ℕ, ◌<◌, Bool, true, false, List, [], length, Option, Some, None, MatchOption, ap, sym, ◌∙◌, subst, refl}
 use Rattle.std.specs.Prelude.{◌↔◌, IsTrue, is_some, not, option_map, option_copied, slice_get}
 use Rattle.std.proofs.lemmas.Bool.{false≢true}
 use Rattle.std.proofs.lemmas.Option.{none-some, same_Some, slice_get-get_or}

@@ -1,5 +1,5 @@
 -- What the tests of weaving tell.
-use Rattle.std.proofs.Common.{◌≡◌, ℕ, zero, suc, ◌==◌, ◌∙◌, Bool, ◌&&◌, true, List, [], ◌∷◌, drop, slice_get, Option, Some, None, sym, ap, subst, arith}
+use Rattle.std.proofs.Common.{◌≡◌, ℕ, zero, suc, ◌==◌, ◌∙◌, Bool, ◌&&◌, true, List, [], ◌∷◌, drop, slice_get, Option, Some, None, sym, ap, subst}
 use Rattle.fixed_motion.specs.declared.disk.Disk.{Disk}
 use Rattle.std.specs.Prelude.{IfSome}
 use Rattle.std.proofs.lemmas.Option.{none-some, same_Some}

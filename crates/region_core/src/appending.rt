@@ -15,7 +15,7 @@ ghost use Rattle.local_run.specs.Moves.{Fits};
 
 use crate::Entry;
 use crate::live::Live;
-use region_parts::{Place, send_if_told};
+use region_parts::{Place, send};
 use region_queue::Queue;
 use region_view::{Action, Message, Rows, View};
 use std::alloc::{AllocError, Global};
@@ -63,8 +63,7 @@ impl Live {
         ensures run { OnOk result
             (run_in place.now.floor self.new ≡ with_entry (run_in place.now.floor self.old) (Native action)) }
     {
-        let is_untold = place.is_untold(&self.view, &action);
-        send_if_told(&mut self.sent, &place.home, &self.view, &action, is_untold)?;
+        send(&mut self.sent, &place.home, &self.view, &action)?;
         self.log.act(&mut self.view, &action)?;
         tell(alloc, &mut self.queue, &self.view, &action)?;
         Ok(())

@@ -1,7 +1,11 @@
 //! Work that is done beside a burst.
 
 /// Work that is done piece by piece beside a burst, with something that is lent to it. A worker that would wait does
-/// it.
+/// it, any number of pieces or none.
+//
+// Work and what is lent come as two loans: a struct that holds a loan would need a lifetime in the bound of `simulate`.
+// A closure's clause can't quote the relation of an impl, so there it is written out. Laws of an impl can't cite proofs of
+// their own crate, so those of telling are proved in `commit_horizon`.
 pub trait Beside<W> {
     /// Whether the work may go on with what is lent.
     ghost fits: { Self → W → Type 0 };

@@ -118,6 +118,17 @@ impl Region {
         }
     }
 
+    /// Takes the region out; what stays here is spent.
+    pub fn take(&mut self) -> Region
+        ensures taken { result ≡ self.old }
+        ensures spent { self.new ≡ spent self.old }
+    {
+        Region {
+            place: self.place,
+            live: self.live.take(),
+        }
+    }
+
     /// One step: runs the event that is due, or takes in the message that is due.
     ///
     /// # Errors

@@ -16,7 +16,7 @@ ghost use Rattle.region_core.specs.Replaced.{HearsOn, IsReplaced};
 use crate::Hearing;
 use crate::live::Live;
 use event_stamps::{Stamp, is_before};
-use region_messages::{Trail, first_news};
+use region_messages::Trail;
 use region_parts::Place;
 use std::alloc::{AllocError, Global};
 
@@ -47,7 +47,7 @@ impl Live {
 
     /// Hears what is new since the other's last mark. All that was there then is taken to be heard, and a message that
     /// isn't sent any more counts only once the other's `clock` is past it. A message that comes late is taken in at
-    /// its place if that is possible; else what was done since it is taken back.
+    /// its place if that is possible; else what was done since it is taken back. False if nothing is new.
     ///
     /// # Errors
     /// Out of memory: what is left is to be dropped.
@@ -58,18 +58,21 @@ impl Live {
         from: u32,
         sent: &Trail,
         clock: Option<Stamp>,
-    ) -> Result<(), AllocError>
+    ) -> Result<bool, AllocError>
         requires live { IsLive place.now self.old }
         requires region { IsRegion place.now.home.grid from }
         requires hearable { IsHearable place.now.home place.now.floor from sent.now }
         ensures base { OnOk result (base_in self.new ≡ base_in self.old) }
         ensures live { OnOk result (IsLive place.now self.new) }
     {
-        let Some(at) = self.weave_news(alloc, place, from, sent, clock)? else {
-            return Ok(());
+        let Some(first) = self.inbox.first_news(from, sent, clock, 0) else {
+            return Ok(false);
+        };
+        let Some(at) = self.weave_news(alloc, place, from, sent, clock, first)? else {
+            return Ok(true);
         };
         self.hear_from(alloc, place, from, at, sent)?;
-        Ok(())
+        Ok(true)
     }
 
     // Hears what a region sends from a stamp on; what was heard from it before the stamp stays.
@@ -151,14 +154,6 @@ impl Live {
     pub(crate) fn has_news(&self, to: u32) -> bool {
         match self.sent.get(to as usize) {
             Some(trail) => trail.has_news(),
-            None => false,
-        }
-    }
-
-    /// Whether something is new in what a region sends, by its number (see [`first_news`]).
-    pub(crate) fn finds_news(&self, from: u32, sent: &Trail, clock: Option<Stamp>) -> bool {
-        match self.inbox.heard(from) {
-            Some(heard) => first_news(heard, sent, clock, 0).is_some(),
             None => false,
         }
     }

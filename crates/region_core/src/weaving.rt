@@ -29,6 +29,7 @@ use std::alloc::{AllocError, Global};
 
 impl Live {
     /// Takes in what is new in what a region sends, message by message, each at its place, as long as that is possible.
+    /// `first` is where that begins.
     /// What was done from the first hindrance on is taken back. The answer is the stamp from which on messages are
     /// still to be heard; none if nothing is new any more.
     ///
@@ -41,6 +42,7 @@ impl Live {
         from: u32,
         sent: &Trail,
         clock: Option<Stamp>,
+        first: News,
     ) -> Result<Option<Stamp>, AllocError>
         requires live { IsLive place.now self.old }
         requires region { IsRegion place.now.home.grid from }
@@ -48,21 +50,20 @@ impl Live {
         ensures live { OnOk result (IsLive place.now self.new) }
         ensures base { OnOk result (base_in self.new ≡ base_in self.old) }
     {
-        let mut known = 0;
+        let mut news = first;
         for _ in 0..MAX_ENTRIES {
-            let Some(news) = self.inbox.first_news(from, sent, clock, known) else {
-                return Ok(None);
-            };
             let Some(message) = told_at(sent, &news) else {
                 return Ok(Some(news.at));
             };
             if !self.weave_or_rewind(alloc, place, from, message)? {
                 return Ok(Some(news.at));
             }
-            known = news.known;
+            let Some(next) = self.inbox.first_news(from, sent, clock, news.known) else {
+                return Ok(None);
+            };
+            news = next;
         }
-        let news = self.inbox.first_news(from, sent, clock, known);
-        Ok(news.map(|news| news.at))
+        Ok(Some(news.at))
     }
 
     // Takes in a message at its place, or takes back what was done from the first hindrance on. False if it did

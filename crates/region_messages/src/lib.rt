@@ -115,7 +115,9 @@ impl Trail {
         ensures { self.new ≡ from at self.old }
     {
         let dropped = count_below(&self.messages, at);
-        self.messages.drain(..dropped);
+        let rest = self.messages.len() - dropped;
+        self.messages.copy_within(dropped.., 0);
+        self.messages.truncate(rest);
         self.kept = self.kept.saturating_sub(dropped);
         self.heard = self.heard.saturating_sub(dropped);
     }

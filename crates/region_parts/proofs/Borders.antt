@@ -211,13 +211,6 @@ collision_untold h at change first second = untold_rows h at (Hit change)
     (subst (λ (rows : List (ℕ × Placed)). AreFar h at (each put_row rows)) (append-nil _)
     (one_far h at change.stamp.second change.second [] second tt)))
 
--- of one disk
-pub side_untold : (h : Home) (at : Placing) (change : Change) → change.second ≡ None →
-    IsFarRow h (at change.stamp.first) → IsUntold h at (Hit change)
-side_untold h at change is far =
-    collision_untold h at change far
-    (subst (λ (o : Option Disk). IfSome o (λ _. IsFarRow h (at change.stamp.second))) (sym is) tt)
-
 -- of two
 pub pair_untold : (h : Home) (at : Placing) (change : Change) (second : Disk) → change.second ≡ Some second →
     IsFarRow h (at change.stamp.first) → IsFarRow h (at change.stamp.second) → IsUntold h at (Hit change)

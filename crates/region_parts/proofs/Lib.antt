@@ -8,3 +8,4 @@ mod Back
 pub mod Borders
 mod Hindrances
 mod Passed
+mod Untold

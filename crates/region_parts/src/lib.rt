@@ -15,5 +15,5 @@ pub use aside::first_in_way;
 pub use border::Border;
 pub use inbox::Inbox;
 pub use place::Place;
-pub use sending::{send_crossing, send_hit, send_if_told};
+pub use sending::{send, send_crossing, send_hit};
 pub use trails::{cut_from, drop_before, empty_trails};

@@ -9,6 +9,9 @@ use std::marker::Model;
 pub(crate) const MAX_HELD: usize = MAX_REGIONS as usize;
 
 /// A seat, with which a worker takes regions out. Contracts see the table's name, and what the seat knows of the table.
+//
+// It keeps the words that it saw: with versions alone a `take_out` that does nothing and answers `Away` would meet its
+// clause. A seat with all parts knows that it is alone; after 127 splits of one seat it doesn't.
 #[derive(Drop)]
 pub struct TableSeat {
     pub(crate) token: Token,

@@ -1,5 +1,5 @@
 -- A row of small numbers is the row in its compact form.
-use Rattle.std.proofs.Common.{◌≡◌, ◌≢◌, ℕ, ◌+◌, ◌*◌, ◌/◌, ◌%◌, ◌^◌, ◌<◌, ◌==◌, Bool, true, false, Decides, arith, refl, sym, ap, subst, ◌∙◌, ℤ, to_z, of_z, w32, w64}
+use Rattle.std.proofs.Common.{◌≡◌, ◌≢◌, ℕ, ◌+◌, ◌*◌, ◌^◌, ◌<◌, ◌==◌, Bool, true, false, Decides, arith, refl, sym, ap, subst, ◌∙◌, ℤ, to_z, of_z, w32, w64}
 use Rattle.std.specs.Prelude.{if◌then◌else◌, Option, Some, None, ◌≤ℤ◌}
 use lib.Dec.{T}
 use lib.Signed.{le_z}

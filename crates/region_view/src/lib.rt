@@ -2,6 +2,15 @@
 //!
 //! A region runs the events whose first disk is in its own columns. What it sees reaches one column further,
 //! so it sees all disks of these events.
+//!
+//! - **A contract sees** a [`View`] as a list of rows by disk number, each a disk with its cell, or nothing for a disk out
+//!   of sight. An [`Action`] is an event or a crossing, with what it does; a [`Message`] is what another region is told
+//!   of one.
+//! - **Proved**: each event has one home, which sees it, and in which it does the same as in the state of the whole
+//!   ([`each_event_has_one_home`], [`natives_act_alike`]). Who is told of an action sees the state after it, too
+//!   ([`told_sees`]). What a disk does by itself, and two in adjacent cells, is found exactly.
+//! - **Not proved**: what a row costs. It is kept in 32 bytes ([`Compact`]), into which each valid disk fits, so a view of
+//!   65,536 disks has 2 MiB, and setting a row writes half a line of a cache.
 #![tactic(auto)]
 
 mod action;

@@ -8,9 +8,9 @@ use std::marker::Model;
 /// Placed disks by number.
 ///
 /// Memory is taken for each number up to the greatest one that ever had a row, or for up to twice as many, and at the
-/// opening for those of all disks: 32 bytes a number. If a row has a coordinate, a component of its velocity or a size
-/// that doesn't fit 32 bits with a sign, a base tick from 2^43 on or a mark from 2^20 on, it is 72 bytes a number from
-/// then on. No valid disk has such numbers.
+/// opening for those of all disks: 32 bytes a number. There is no memory for a row with a coordinate, a component of its
+/// velocity or a size that doesn't fit 32 bits with a sign, a base tick from 2^43 on or a mark from 2^20 on. No valid
+/// disk has such numbers.
 #[derive(Drop)]
 pub struct View {
     slots: Slots,
@@ -51,8 +51,7 @@ impl View {
         self.slots.get(disk)
     }
 
-    /// The row of a disk as it is kept. None if there is none, and if the view has a row whose numbers are too great
-    /// for the narrow form.
+    /// The row of a disk as it is kept. None if there is none.
     #[inline(always)]
     pub fn narrow(&self, disk: u32) -> Option<Compact>
         ensures { IfSome result (IsRowThere (map.get self.now disk)) }
@@ -70,13 +69,12 @@ impl View {
         self.slots.set_narrow(disk, row)
     }
 
-    /// What stands at each number, as it is kept, up to the last number for which there is room. None if the view has a
-    /// row whose numbers are too great for the narrow form.
+    /// What stands at each number, as it is kept, up to the last number for which there is room.
     #[inline(always)]
-    pub fn compact(&self) -> Option<&[Compact]>
-        ensures { IfSome result (λ rows. AreRowsOf self.now rows.now) }
+    pub fn compact(&self) -> &[Compact]
+        ensures { AreRowsOf self.now result.now }
     {
-        self.slots.compact()
+        self.slots.as_slice()
     }
 
     /// The first disk from number `from` on that has a row: its number and the row. None says that no
@@ -108,8 +106,7 @@ impl View {
     }
 
     /// Sets these rows, and takes away what stands at the numbers of those that have no disk. Afterwards `rows` holds
-    /// what stood at these numbers before. Memory is taken only for a disk that had no row, and for the first row whose
-    /// numbers are too great for the narrow form.
+    /// what stood at these numbers before. Memory is taken only for a disk that had no row.
     ///
     /// # Errors
     /// Out of memory: the view and the rows stay as they are.

@@ -2,13 +2,14 @@
 
 ghost use Rattle.std.specs.Prelude.{◌<◌};
 
-use super::{FARTHEST, Locks};
+use super::Locks;
 use crate::held::Held;
 use crate::origin::Origin;
 use crate::post::Post;
 use crate::progress::RegionProgress;
 use crate::trying::try_often;
 use event_stamps::Stamp;
+use local_run::FARTHEST;
 use std::alloc::{AllocError, Global};
 use std::sync::atomic::Ordering;
 use std::sync::{Mutex, MutexGuard};
@@ -16,8 +17,8 @@ use std::sync::{Mutex, MutexGuard};
 impl<O: Origin> Locks<O> {
     /// Under the lock of a region, has it hear what others posted to it; lets it run up to `steps` steps while what is
     /// due there is before a bound; and has it post what it sends. The answer says how far it came; it is none if
-    /// somebody else holds the lock. If the region was taken back, it makes no step, and the first stamp of all counts
-    /// as due.
+    /// somebody else holds the lock. A region that was taken back is spent: it makes no step, and its floor counts as
+    /// due.
     ///
     /// A post that somebody else holds is left for the next call, and counts as news: else a burst might end though the
     /// region has something to hear or to post.

@@ -1,4 +1,4 @@
-use Rattle.std.proofs.Common.{◌≡◌, ℕ, ◌+◌, ◌≤◌, inl, inr, length, ap, subst, sym}
+use Rattle.std.proofs.Common.{ℕ, ◌+◌, ◌≤◌, inl, inr, length, ap, subst, sym}
 use Rattle.std.proofs.lemmas.Bool.{both_ways}
 use Rattle.region_messages.proofs.Starts.{one_more_alike, next_apart, one_ends}
 use Rattle.region_messages.proofs.count_same.Goals as goal

@@ -1,4 +1,4 @@
-use Rattle.std.proofs.Common.{◌≡◌, ◌+◌, ◌<◌, ◌++◌, [], List, Option, length, ap, sym, ◌∙◌, arith}
+use Rattle.std.proofs.Common.{◌≡◌, ℕ, ◌+◌, ◌<◌, ◌++◌, [], List, Option, length, ap, sym, ◌∙◌, arith}
 use Rattle.std.specs.Prelude.{min}
 use Rattle.std.proofs.lemmas.Bool.{false≢true}
 use Rattle.std.proofs.lemmas.List.{get_or_read}
@@ -44,11 +44,15 @@ loop-to-preserved c =
     ∙ ap (λ (o : Option Message). trail_of new to ++ prepended o []) c.message_for-message.ensures)
     c.loop-to.invariant
 
-pub returns-clause-told : goal.returns-clause-told
-returns-clause-told c = λ to sends.
-    let below = all_below_end c.args.home.now to c.min-end.result c.regions-regions.ensures.kept
-    (c.min-end.ensures ∙ ap (min (c.args.home.now.number + 3)) c.regions-regions.ensures.value) sends in
-    c.loop-to.invariant.below to sends (omega arith)
+pub returns : goal.returns
+returns c = record {
+  size = c.loop-to.invariant.size;
+  told = λ to sends.
+      let below = all_below_end c.args.home.now to c.min-end.result c.regions-regions.ensures.kept
+      (c.min-end.ensures ∙ ap (min (c.args.home.now.number + 2 + 1)) c.regions-regions.ensures.value
+      ∙ ap (λ (n : ℕ). min n c.args.home.now.grid.regions) (omega arith)) sends in
+      c.loop-to.invariant.below to sends (omega arith);
+}
 
 pub message_for-message-requires-clause-cells : goal.message_for-message-requires-clause-cells
 message_for-message-requires-clause-cells c = c.requires.cells

@@ -12,20 +12,12 @@ use Rattle.region_queue.specs.Finding.{KeepCells}
 use Rattle.region_core.proofs.Told.{hit_leaves, hit_keeps_cells}
 use Rattle.region_parts.proofs.Lists.{as_many}
 use Rattle.region_core.proofs.Traced.{stands_newest}
-use Rattle.region_core.proofs.Appended.{cells_are, acted_is_live, further_run, native_action, native_valid, after_what_was_sent}
+use Rattle.region_core.proofs.Appended.{acted_is_live, further_run, native_action, native_valid, may_send}
 use Rattle.region_core.proofs.live.Live.collide_and_send.Goals as goal
 
-pub send_hit-requires-clause-cells : goal.send_hit-requires-clause-cells
-send_hit-requires-clause-cells c =
-    cells_are c.args.place.now.home c.args.place.now.floor c.args.self.now c.requires.live.place.home c.requires.live.body
-
-pub send_hit-requires-clause-order : goal.send_hit-requires-clause-order
-send_hit-requires-clause-order c = (native_action c.args.place.now.home c.args.place.now.floor c.args.self.now
-    (Hit c.args.change.now) c.requires.live.place.home c.requires.live.body c.requires.fits).order
-
-pub send_hit-requires-clause-after : goal.send_hit-requires-clause-after
-send_hit-requires-clause-after c = after_what_was_sent c.args.place.now.home c.args.place.now.floor c.args.self.now
-    (Hit c.args.change.now) c.requires.live.body c.requires.fits
+pub send_hit-requires-clause-may : goal.send_hit-requires-clause-may
+send_hit-requires-clause-may c = may_send c.args.place.now.home c.args.place.now.floor c.args.self.now
+    (Hit c.args.change.now) c.requires.live.place.home c.requires.live.body c.requires.fits
 
 pub collide-requires-clause-order : goal.collide-requires-clause-order
 collide-requires-clause-order c =
@@ -67,8 +59,7 @@ returns-clause-live c =
                 (later_still stamp.first (stamp.second ∷ []) stamp.second (here_first stamp.second []))))
                 (subst (KeepCells live.view) (sym c.in_ok-collide.ensures.view)
                 (hit_keeps_cells live.view (collision stamp c.args.first.now c.args.second.now)));
-            size = c.in_ok-send_hit.ensures.size;
-            told = c.in_ok-send_hit.ensures.told;
+            sent = c.in_ok-send_hit.ensures;
           };
     }
 

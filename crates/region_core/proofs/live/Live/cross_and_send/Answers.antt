@@ -7,23 +7,12 @@ use Rattle.local_run.proofs.Untouched.{crossing_moves}
 use Rattle.local_run.specs.declared.entry.Entry.TheVariants.{Native}
 use Rattle.region_parts.proofs.Lists.{as_many}
 use Rattle.region_core.proofs.Traced.{stands_newest}
-use Rattle.region_core.proofs.Appended.{cells_are, acted_is_live, further_run, native_action, native_valid, after_what_was_sent}
+use Rattle.region_core.proofs.Appended.{acted_is_live, further_run, native_valid, may_send}
 use Rattle.region_core.proofs.live.Live.cross_and_send.Goals as goal
 
-pub send_crossing-requires : goal.send_crossing-requires
-send_crossing-requires c =
-    let home = c.args.place.now.home in
-    let live = c.args.self.now in
-    let valid = native_action home c.args.place.now.floor live (Cross c.args.stamp.now c.args.cell) c.requires.live.place.home c.requires.live.body
-    c.requires.fits in
-    record {
-      number = c.requires.live.place.home.number;
-      cells = cells_are home c.args.place.now.floor live c.requires.live.place.home c.requires.live.body;
-      cell = valid.cell;
-      untold = c.requires.untold;
-      size = c.requires.live.body.sent.regions;
-      after = after_what_was_sent home c.args.place.now.floor live (Cross c.args.stamp.now c.args.cell) c.requires.live.body c.requires.fits;
-    }
+pub send_crossing-requires-clause-may : goal.send_crossing-requires-clause-may
+send_crossing-requires-clause-may c = may_send c.args.place.now.home c.args.place.now.floor c.args.self.now
+    (Cross c.args.stamp.now c.args.cell) c.requires.live.place.home c.requires.live.body c.requires.fits
 
 pub crossed-requires : goal.crossed-requires
 crossed-requires c =
@@ -49,8 +38,7 @@ returns-clause-live c =
             stands = c.in_ok-crossed.ensures.stands live.view (stands_newest home c.args.place.now.floor live c.requires.live.body)
                 (subst (IsMoved c.args.stamp.now.first live.view) (sym c.in_ok-cross.ensures.view)
                 (crossing_moves live.view c.args.stamp.now c.args.cell));
-            size = c.in_ok-send_crossing.ensures.size;
-            told = c.in_ok-send_crossing.ensures.told;
+            sent = c.in_ok-send_crossing.ensures;
           };
     }
 

@@ -4,32 +4,12 @@ use Rattle.region_view.specs.Views.{ViewData, rows_in}
 use Rattle.local_run.specs.declared.entry.Entry.TheVariants.{Native}
 use Rattle.region_parts.proofs.Lists.{as_many}
 use Rattle.region_core.proofs.Traced.{stands_newest}
-use Rattle.region_core.proofs.Appended.{cells_are, acted_is_live, further_run, native_action, native_valid, after_what_was_sent}
+use Rattle.region_core.proofs.Appended.{acted_is_live, further_run, native_action, native_valid, may_send}
 use Rattle.region_core.proofs.live.Live.run.Goals as goal
 
-pub is_untold-is_untold-requires-clause-cells : goal.is_untold-is_untold-requires-clause-cells
-is_untold-is_untold-requires-clause-cells c =
-    cells_are c.args.place.now.home c.args.place.now.floor c.args.self.now c.requires.live.place.home c.requires.live.body
-
-pub is_untold-is_untold-requires-clause-cell : goal.is_untold-is_untold-requires-clause-cell
-is_untold-is_untold-requires-clause-cell c = (native_action c.args.place.now.home c.args.place.now.floor c.args.self.now c.args.action
-    c.requires.live.place.home c.requires.live.body c.requires.fits).cell
-
-pub send_if_told-requires : goal.send_if_told-requires
-send_if_told-requires c =
-    let home = c.args.place.now.home in
-    let live = c.args.self.now in
-    let valid = native_action home c.args.place.now.floor live c.args.action c.requires.live.place.home c.requires.live.body
-    c.requires.fits in
-    record {
-      number = c.requires.live.place.home.number;
-      cells = cells_are home c.args.place.now.floor live c.requires.live.place.home c.requires.live.body;
-      order = valid.order;
-      cell = valid.cell;
-      untold = c.is_untold-is_untold.ensures;
-      size = c.requires.live.body.sent.regions;
-      after = after_what_was_sent home c.args.place.now.floor live c.args.action c.requires.live.body c.requires.fits;
-    }
+pub send-requires : goal.send-requires
+send-requires c = may_send c.args.place.now.home c.args.place.now.floor c.args.self.now c.args.action
+    c.requires.live.place.home c.requires.live.body c.requires.fits
 
 pub act-requires : goal.act-requires
 act-requires c = record {
@@ -61,8 +41,7 @@ returns-clause-live c =
             queue = c.tell.ensures.queue;
             stands = c.in_ok-tell.ensures.stands live.view (stands_newest home c.args.place.now.floor live c.requires.live.body)
                 c.in_ok-act.ensures.view;
-            size = c.in_ok-send_if_told.ensures.size;
-            told = c.in_ok-send_if_told.ensures.told;
+            sent = c.in_ok-send.ensures;
           };
     }
 
@@ -71,6 +50,3 @@ returns-clause-run c =
     let live = c.args.self.now in
     further_run c.args.place.now.floor live (record live { view = c.act.new.view; log = c.act.new.self }) (Native c.args.action)
     c.requires.live.body.traced refl c.in_ok-act.ensures.log c.in_ok-act.ensures.view
-
-pub is_untold-is_untold-requires-clause-place : goal.is_untold-is_untold-requires-clause-place
-is_untold-is_untold-requires-clause-place c = c.requires.live.place

@@ -4,7 +4,7 @@ use Rattle.region_core.proofs.live.Live.weave_news.Goals as goal
 
 pub weave_or_rewind-requires-clause-hearable : goal.weave_or_rewind-requires-clause-hearable
 weave_or_rewind-requires-clause-hearable c = hearable_one c.args.place.now.home c.args.place.now.floor c.args.from
-    c.in-Some-told_at.message c.args.sent.now c.requires.hearable c.in-Some-told_at.ensures
+    c.in-Some.message c.args.sent.now c.requires.hearable c.in-Some.ensures
 
 pub loop-preserved : goal.loop-preserved
 loop-preserved c =
@@ -16,12 +16,6 @@ returns-then-not-branch-clause-base c =
 
 pub returns-then-not-branch-clause-live : goal.returns-then-not-branch-clause-live
 returns-then-not-branch-clause-live c = c.in_ok-weave_or_rewind.ensures.live
-
-pub returns-in_default-told_at-clause-base : goal.returns-in_default-told_at-clause-base
-returns-in_default-told_at-clause-base c = c.loop.invariant.1
-
-pub returns-in_default-told_at-clause-live : goal.returns-in_default-told_at-clause-live
-returns-in_default-told_at-clause-live c = c.loop.invariant.0
 
 pub returns-in_default-clause-base : goal.returns-in_default-clause-base
 returns-in_default-clause-base c = c.loop.invariant.1
@@ -41,8 +35,12 @@ weave_or_rewind-requires-clause-region c = c.requires.region
 pub weave_or_rewind-requires-clause-live : goal.weave_or_rewind-requires-clause-live
 weave_or_rewind-requires-clause-live c = c.loop.invariant.0
 
-pub first_news-news-requires : goal.first_news-news-requires
-first_news-news-requires c = subst (λ (n : ℕ). c.args.from < n) (sym c.loop.invariant.0.body.inbox.regions) c.requires.region
-
 pub first_news-requires : goal.first_news-requires
-first_news-requires c = subst (λ (n : ℕ). c.args.from < n) (sym c.loop.invariant.0.body.inbox.regions) c.requires.region
+first_news-requires c = subst (λ (n : ℕ). c.args.from < n) (sym c.in_ok-weave_or_rewind.ensures.live.body.inbox.regions)
+    c.requires.region
+
+pub returns-in_default-first_news-clause-base : goal.returns-in_default-first_news-clause-base
+returns-in_default-first_news-clause-base c = c.in_ok-weave_or_rewind.ensures.base ∙ c.loop.invariant.1
+
+pub returns-in_default-first_news-clause-live : goal.returns-in_default-first_news-clause-live
+returns-in_default-first_news-clause-live c = c.in_ok-weave_or_rewind.ensures.live

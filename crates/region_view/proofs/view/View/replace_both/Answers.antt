@@ -1,7 +1,7 @@
 -- The slots keep what stands in them while room is made.
 use Rattle.std.proofs.Common.{◌≢◌, ℕ, [], ◌∷◌, arith, ap, ◌∙◌}
 use Rattle.std.proofs.lemmas.Result.{err_from_is_err_and}
-use Rattle.region_view.specs.Slots.{SlotsData, slot_at}
+use Rattle.region_view.specs.Slots.{SlotList, slot_at}
 use Rattle.region_view.proofs.InSlots.{same_placed, put_both, get_in, set_other, takes_still}
 use Rattle.region_view.proofs.view.View.replace_both.Goals as goal
 
@@ -35,7 +35,7 @@ returns-clause-rows c =
     let apart : j ≢ i = omega arith in
     let before = c.replace-before.ensures.before ∙ stood i in
     let after = c.replace-after.ensures.before
-    ∙ ap (λ (slots : SlotsData). slot_at slots j) c.replace-before.ensures.slots
+    ∙ ap (λ (slots : SlotList). slot_at slots j) c.replace-before.ensures.slots
     ∙ set_other c.make_room-2.new.self i j c.args.first.1 apart ∙ stood j in
     c.two.ensures ∙ (λ k. (i, before k) ∷ (j, after k) ∷ [])
 

@@ -8,4 +8,4 @@ pub returns : goal.returns
 returns c = λ i past.
     let len = c.len.ensures.value in
     sym (get_in c.self.inside.slots c.args.self.now i c.self.view_is)
-    ∙ get_or_past c.self.inside.slots.rows i None (omega arith)
+    ∙ get_or_past c.self.inside.slots i None (omega arith)

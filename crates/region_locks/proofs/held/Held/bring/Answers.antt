@@ -1,0 +1,6 @@
+use Rattle.std.proofs.Common.{sym, subst}
+use Rattle.region_locks.specs.Holding.{IsHeld}
+use Rattle.region_locks.proofs.held.Held.bring.Goals as goal
+
+pub invariant_of-self : goal.invariant_of-self
+invariant_of-self g c = subst (IsHeld g.O.Origin.opening) (sym c.bring.ensures) c.self.invariant
