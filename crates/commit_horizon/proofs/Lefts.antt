@@ -1,7 +1,7 @@
 -- What is left of logs from their heads on, and the first of all that is left.
 use Rattle.std.proofs.Common.{◌≡◌, inl, inr, ℕ, zero, suc, ◌+◌, ◌<◌, ◌≤◌, List, [], ◌∷◌, ◌++◌, length, drop, set, get_or, map, get_or-set_same, get_or-set_other}
 use Rattle.std.proofs.Common.{Option, Some, None, sym, ap, ◌∙◌, subst, refl, arith}
-use Rattle.std.specs.Prelude.{slice_get, option_map, IfSome}
+use Rattle.std.specs.Prelude.{slice_get, option_map, IfSome, IsTrue, false}
 use Rattle.std.specs.Option.{IsSome, is_some}
 use Rattle.std.proofs.lemmas.Bool.{cases_lt}
 use Rattle.std.proofs.lemmas.List.{drop_all, get_or_past, get_or_push, get_or_append_left, get_or-map, length-map, length_push, length-set, set-set}
@@ -27,7 +27,7 @@ use Rattle.commit_horizon.specs.Leading.{IsLeader}
 use Rattle.commit_horizon.specs.Telling.{MayBeTold}
 use Rattle.commit_horizon.specs.Untold.{actions_in, left_from, StandsIn, IsNextHead, PassesCrossings, IsNextHit, BeginsInRange, AllBeginInRange, AreFirstHeads, lefts, merged_of, AllCanBeTold, CanBeTellings, AreUntold}
 use Rattle.commit_horizon.proofs.Heads.{rest_at, entry_at, native_entry, native_within, below_or_last}
-use Rattle.commit_horizon.proofs.Leaders.{leads_at, none_leads}
+use Rattle.commit_horizon.proofs.Leaders.{leads_at, none_leads, stamp_there}
 use Rattle.commit_horizon.proofs.MergedLists.{merge_is, within_lists, NoneBeginsBefore, GoesFirst, least_goes, nothing_left, first_can, list_can}
 use Rattle.commit_horizon.proofs.Passing.{lists_still_rise, later_can, passes_one, Passed, crossings_passed}
 use Rattle.commit_horizon.proofs.Tellings.{hit_there}
@@ -167,13 +167,32 @@ pub log_at : (logs : List (List Logged)) (k : ℕ) (log : List Logged) → k < l
     get_or (map entries_in logs) k [] ≡ entries_in log
 log_at logs k log lt is = get_or-map entries_in logs k log [] lt ∙ ap entries_in (sym is)
 
--- the log of the first head
-pub first_log : (logs : List (List Logged)) (heads : Heads) (first : Leader) →
-    AreUntold (map entries_in logs) heads first → (s : Stamp) → Some s ≡ first.stamp → (log : List Logged) →
-    log ≡ get_or logs first.number log → get_or (map entries_in logs) first.number [] ≡ entries_in log
-first_log logs heads first untold s leads log is = log_at logs first.number log
-    (subst (λ (n : ℕ). first.number < n) (untold.count ∙ length-map logs entries_in)
-    (leads_at heads first s untold.leads leads).0) is
+-- the first action that is left, and the log that it is in
+pub record FirstLeft (logs : List (List Entry)) (first : Leader) (log : List Entry) : Type 0 where
+  pub stamp : Stamp
+  pub leads : Some stamp ≡ first.stamp
+  pub in_log : get_or logs first.number [] ≡ log
+  pub action : Action
+  pub found : native_in (slice_get log first.place) ≡ Some action
+
+pub first_left : (logs : List (List Logged)) (heads : Heads) (first : Leader) →
+    AreUntold (map entries_in logs) heads first → (first.stamp ≡ None → IsTrue false) → (log : List Logged) →
+    log ≡ get_or logs first.number log → FirstLeft (map entries_in logs) first (entries_in log)
+first_left logs heads first untold some log is =
+    let there = stamp_there first.stamp some in
+    let least = leads_at heads first there.0 untold.leads there.1 in
+    let head : Head = record { stamp = there.0; place = first.place } in
+    let in_log = log_at logs first.number log
+    (subst (λ (n : ℕ). first.number < n) (untold.count ∙ length-map logs entries_in) least.0) is in
+    let first_of = begins (entries_in log) head
+    (subst (λ (es : List Entry). StandsIn es head) in_log (untold.stand first.number head least.1)) in
+    record {
+      stamp = there.0;
+      leads = there.1;
+      in_log = in_log;
+      action = first_of.0;
+      found = first_of.1.at;
+    }
 
 module _ (logs : List (List Entry)) (heads : Heads) (first : Leader) (untold : AreUntold logs heads first) where
   abbrev lists : List (List Action)
@@ -189,22 +208,25 @@ module _ (logs : List (List Entry)) (heads : Heads) (first : Leader) (untold : A
       each : (k : ℕ) → get_or lists k [] ≡ []
       each k = left_at logs heads k untold.count ∙ ap (left_from (get_or logs k [])) (heads_none k)
 
-  module _ (s : Stamp) (leads : Some s ≡ first.stamp) (log : List Entry) (in_log : get_or logs first.number [] ≡ log) where
+  module _ (log : List Entry) (here : FirstLeft logs first log) where
+    abbrev s : Stamp
+    s = here.stamp
+
+    abbrev x : Action
+    x = here.action
+
     abbrev head : Head
     head = record { stamp = s; place = first.place }
 
     least : IsLeadingHead heads (Some (first.number, head))
-    least = leads_at heads first s untold.leads leads
+    least = leads_at heads first s untold.leads here.leads
 
     of_head : (x : Action) × Begins log head x
-    of_head = begins log head (subst (λ (es : List Entry). StandsIn es head) in_log (untold.stand first.number head least.1))
+    of_head = begins log head (subst (λ (es : List Entry). StandsIn es head) here.in_log (untold.stand first.number head least.1))
 
     -- its action is there
     pub is_there : IsSome (native_in (slice_get log first.place))
     is_there = ap is_some of_head.1.at
-
-    pub action_there : (x : Action) × (native_in (slice_get log first.place) ≡ Some x)
-    action_there = (of_head.0, of_head.1.at)
 
     pub place_within : first.place < length log
     place_within = native_within log first.place of_head.0 of_head.1.at
@@ -212,149 +234,148 @@ module _ (logs : List (List Entry)) (heads : Heads) (first : Leader) (untold : A
     abbrev rest : List Action
     rest = actions_in (drop (first.place + 1) log)
 
-    module _ (x : Action) (found : native_in (slice_get log first.place) ≡ Some x) where
-      own : get_or lists first.number [] ≡ x ∷ rest
-      own = left_at logs heads first.number untold.count ∙ ap (left_from (get_or logs first.number [])) least.1
-          ∙ ap (λ (es : List Entry). left_from es (Some head)) in_log ∙ of_head.1.left
-          ∙ ap (λ (v : Action). v ∷ rest) (same_Some of_head.0 x (sym of_head.1.at ∙ found))
+    own : get_or lists first.number [] ≡ x ∷ rest
+    own = left_at logs heads first.number untold.count ∙ ap (left_from (get_or logs first.number [])) least.1
+        ∙ ap (λ (es : List Entry). left_from es (Some head)) here.in_log ∙ of_head.1.left
+        ∙ ap (λ (v : Action). v ∷ rest) (same_Some of_head.0 x (sym of_head.1.at ∙ here.found))
 
-      stamp_at : stamp_of x ≡ s
-      stamp_at = ap stamp_of (same_Some x of_head.0 (sym found ∙ of_head.1.at)) ∙ of_head.1.stamp
+    stamp_at : stamp_of x ≡ s
+    stamp_at = ap stamp_of (same_Some x of_head.0 (sym here.found ∙ of_head.1.at)) ∙ of_head.1.stamp
 
-      none_before : NoneBeginsBefore lists x
-      none_before q y ys at = by_head (head_at heads q) refl
-          (sym (left_at logs heads q untold.count) ∙ at)
-        where
-          by_head : (found : Option Head) → head_at heads q ≡ found →
-              left_from (get_or logs q []) (head_at heads q) ≡ y ∷ ys → ¬ Before (stamp_of y) (stamp_of x)
-          by_head None is left = let same : [] ≡ y ∷ ys = sym (ap (left_from (get_or logs q [])) is) ∙ left in absurd cc
-          by_head (Some other) is left =
-              let begin = begins (get_or logs q []) other (untold.stand q other is) in
-              let same : begin.0 ∷ actions_in (drop (other.place + 1) (get_or logs q [])) ≡ y ∷ ys =
-              sym begin.1.left ∙ sym (ap (left_from (get_or logs q [])) is) ∙ left in
-              let first_is : begin.0 ≡ y = cc in
-              λ less. least.2 q other is (subst (λ (v : Stamp). Before v s)
-              (sym (ap stamp_of first_is) ∙ begin.1.stamp) (subst (Before (stamp_of y)) stamp_at less))
+    none_before : NoneBeginsBefore lists x
+    none_before q y ys at = by_head (head_at heads q) refl
+        (sym (left_at logs heads q untold.count) ∙ at)
+      where
+        by_head : (found : Option Head) → head_at heads q ≡ found →
+            left_from (get_or logs q []) (head_at heads q) ≡ y ∷ ys → ¬ Before (stamp_of y) (stamp_of x)
+        by_head None is left = let same : [] ≡ y ∷ ys = sym (ap (left_from (get_or logs q [])) is) ∙ left in absurd cc
+        by_head (Some other) is left =
+            let begin = begins (get_or logs q []) other (untold.stand q other is) in
+            let same : begin.0 ∷ actions_in (drop (other.place + 1) (get_or logs q [])) ≡ y ∷ ys =
+            sym begin.1.left ∙ sym (ap (left_from (get_or logs q [])) is) ∙ left in
+            let first_is : begin.0 ≡ y = cc in
+            λ less. least.2 q other is (subst (λ (v : Stamp). Before v s)
+            (sym (ap stamp_of first_is) ∙ begin.1.stamp) (subst (Before (stamp_of y)) stamp_at less))
 
-      pub goes : GoesFirst lists first.number x rest (merged_of lists)
-      goes = least_goes lists first.number x rest (merged_of lists) untold.told.merged own none_before
+    pub goes : GoesFirst lists first.number x rest (merged_of lists)
+    goes = least_goes lists first.number x rest (merged_of lists) untold.told.merged own none_before
 
-      -- it may be told
-      pub may_be_told : MayBeTold x
-      may_be_told = (first_can lists (merged_of lists) first.number x rest untold.told own).may
+    -- it may be told
+    pub may_be_told : MayBeTold x
+    may_be_told = (first_can lists (merged_of lists) first.number x rest untold.told own).may
 
-      within : first.number < length lists
-      within = within_lists lists first.number x rest own
+    within : first.number < length lists
+    within = within_lists lists first.number x rest own
 
-      -- it is the first of all
-      pub is_first : merged_of lists ≡ x ∷ goes.others
-      is_first = goes.first
+    -- it is the first of all
+    pub is_first : merged_of lists ≡ x ∷ goes.others
+    is_first = goes.first
 
-      others_can : CanBeTellings (set lists first.number rest) goes.others
-      others_can = record {
-        merged = goes.merged;
-        can = (subst AllCanBeTold goes.first untold.told.can).1;
-        rise = lists_still_rise lists first.number rest untold.told.rise within
-            (subst ActionStampsRise own (untold.told.rise first.number)).1;
-      }
+    others_can : CanBeTellings (set lists first.number rest) goes.others
+    others_can = record {
+      merged = goes.merged;
+      can = (subst AllCanBeTold goes.first untold.told.can).1;
+      rise = lists_still_rise lists first.number rest untold.told.rise within
+          (subst ActionStampsRise own (untold.told.rise first.number)).1;
+    }
 
-      -- so can the one after it
-      pub next_in_range : BeginsInRange rest
-      next_in_range = by_rest rest refl
-        where
-          by_rest : (left : List Action) → rest ≡ left → BeginsInRange left
-          by_rest [] is = tt
-          by_rest (y ∷ ys) is = (first_can (set lists first.number rest) goes.others first.number y ys others_can
-              (get_or-set_same lists first.number rest [] (within_lists lists first.number x rest own) ∙ is)).range
+    -- so can the one after it
+    pub next_in_range : BeginsInRange rest
+    next_in_range = by_rest rest refl
+      where
+        by_rest : (left : List Action) → rest ≡ left → BeginsInRange left
+        by_rest [] is = tt
+        by_rest (y ∷ ys) is = (first_can (set lists first.number rest) goes.others first.number y ys others_can
+            (get_or-set_same lists first.number rest [] (within_lists lists first.number x rest own) ∙ is)).range
 
-      -- and all those
-      pub rest_can : AllCanBeTold rest
-      rest_can = subst AllCanBeTold (get_or-set_same lists first.number rest [] within)
-          (list_can (set lists first.number rest) goes.others first.number others_can.merged others_can.can)
+    -- and all those
+    pub rest_can : AllCanBeTold rest
+    rest_can = subst AllCanBeTold (get_or-set_same lists first.number rest [] within)
+        (list_can (set lists first.number rest) goes.others first.number others_can.merged others_can.can)
 
-      -- with another head in its place
-      module _ (new : Option Head) (stands : IfSome new (StandsIn log)) where
-        abbrev later : Heads
-        later = set heads first.number new
+    -- with another head in its place
+    module _ (new : Option Head) (stands : IfSome new (StandsIn log)) where
+      abbrev later : Heads
+      later = set heads first.number new
 
-        abbrev left : List Action
-        left = left_from log new
+      abbrev left : List Action
+      left = left_from log new
 
-        lists_are : lefts logs later ≡ set lists first.number left
-        lists_are = left_set logs heads first.number new untold.count
-            ∙ ap (λ (es : List Entry). set lists first.number (left_from es new)) in_log
+      lists_are : lefts logs later ≡ set lists first.number left
+      lists_are = left_set logs heads first.number new untold.count
+          ∙ ap (λ (es : List Entry). set lists first.number (left_from es new)) here.in_log
 
-        stand : (k : ℕ) (other : Head) → head_at later k ≡ Some other → StandsIn (get_or logs k []) other
-        stand k other at = elim (same_or_other k first.number) [
-          | inl same ↦
-              let is : new ≡ Some other = sym (get_or-set_same heads first.number new None least.0)
-              ∙ sym (ap (head_at later) same) ∙ at in
-              subst (λ (n : ℕ). StandsIn (get_or logs n []) other) (sym same)
-              (subst (λ (es : List Entry). StandsIn es other) (sym in_log)
-              (subst (λ (o : Option Head). IfSome o (StandsIn log)) is stands))
-          | inr not ↦ untold.stand k other (sym (get_or-set_other heads first.number k new None not) ∙ at)
-        ]
+      stand : (k : ℕ) (other : Head) → head_at later k ≡ Some other → StandsIn (get_or logs k []) other
+      stand k other at = elim (same_or_other k first.number) [
+        | inl same ↦
+            let is : new ≡ Some other = sym (get_or-set_same heads first.number new None least.0)
+            ∙ sym (ap (head_at later) same) ∙ at in
+            subst (λ (n : ℕ). StandsIn (get_or logs n []) other) (sym same)
+            (subst (λ (es : List Entry). StandsIn es other) (sym here.in_log)
+            (subst (λ (o : Option Head). IfSome o (StandsIn log)) is stands))
+        | inr not ↦ untold.stand k other (sym (get_or-set_other heads first.number k new None not) ∙ at)
+      ]
 
-        module _ (xs : List Action) (can : CanBeTellings (set lists first.number left) xs) where
-          left_is : merged_of (lefts logs later) ≡ xs
-          left_is = ap merged_of lists_are ∙ merge_is (set lists first.number left) xs can.merged
+      module _ (xs : List Action) (can : CanBeTellings (set lists first.number left) xs) where
+        left_is : merged_of (lefts logs later) ≡ xs
+        left_is = ap merged_of lists_are ∙ merge_is (set lists first.number left) xs can.merged
 
-          left_untold : (leader : Leader) → IsLeader later leader → AreUntold logs later leader
-          left_untold leader is = record {
-            count = length-set heads first.number new ∙ untold.count;
-            stand = stand;
-            leads = is;
-            told = subst (CanBeTellings (lefts logs later)) (sym left_is)
-                (subst (λ (v : List (List Action)). CanBeTellings v xs) (sym lists_are) can);
-          }
+        left_untold : (leader : Leader) → IsLeader later leader → AreUntold logs later leader
+        left_untold leader is = record {
+          count = length-set heads first.number new ∙ untold.count;
+          stand = stand;
+          leads = is;
+          told = subst (CanBeTellings (lefts logs later)) (sym left_is)
+              (subst (λ (v : List (List Action)). CanBeTellings v xs) (sym lists_are) can);
+        }
 
-      -- with the next head in its place
-      module _ (new : Option Head) (next : IsNextHead log (first.place + 1) new) where
-        tellings : CanBeTellings (set lists first.number (left_from log new)) goes.others
-        tellings = subst (λ (v : List Action). CanBeTellings (set lists first.number v) goes.others) (sym next.left)
-            others_can
+    -- with the next head in its place
+    module _ (new : Option Head) (next : IsNextHead log (first.place + 1) new) where
+      tellings : CanBeTellings (set lists first.number (left_from log new)) goes.others
+      tellings = subst (λ (v : List Action). CanBeTellings (set lists first.number v) goes.others) (sym next.left)
+          others_can
 
-        -- all but the first is left
-        pub one_goes : merged_of lists ≡ x ∷ merged_of (lefts logs (set heads first.number new))
-        one_goes = goes.first ∙ ap (λ (v : List Action). x ∷ v) (sym (left_is new next.stands goes.others tellings))
+      -- all but the first is left
+      pub one_goes : merged_of lists ≡ x ∷ merged_of (lefts logs (set heads first.number new))
+      one_goes = goes.first ∙ ap (λ (v : List Action). x ∷ v) (sym (left_is new next.stands goes.others tellings))
 
-        pub still_untold : (leader : Leader) → IsLeader (set heads first.number new) leader →
-            AreUntold logs (set heads first.number new) leader
-        still_untold = left_untold new next.stands goes.others tellings
+      pub still_untold : (leader : Leader) → IsLeader (set heads first.number new) leader →
+          AreUntold logs (set heads first.number new) leader
+      still_untold = left_untold new next.stands goes.others tellings
 
-      -- with the head of the next collision in its place
-      module _ (new : Option Head) (next : IsNextHit log (first.place + 1) new) where
-        abbrev after : List Action
-        after = left_from log new
+    -- with the head of the next collision in its place
+    module _ (new : Option Head) (next : IsNextHit log (first.place + 1) new) where
+      abbrev after : List Action
+      after = left_from log new
 
-        passed : Passed (set lists first.number rest) first.number after goes.others
-        passed = crossings_passed next.passed.0 (set lists first.number rest) first.number after goes.others
-            next.passed.2 others_can
-            (get_or-set_same lists first.number rest [] within ∙ next.passed.1)
+      passed : Passed (set lists first.number rest) first.number after goes.others
+      passed = crossings_passed next.passed.0 (set lists first.number rest) first.number after goes.others
+          next.passed.2 others_can
+          (get_or-set_same lists first.number rest [] within ∙ next.passed.1)
 
-        hit_tellings : CanBeTellings (set lists first.number after) passed.others
-        hit_tellings = subst (λ (v : List (List Action)). CanBeTellings v passed.others)
-            (set-set lists first.number rest after) passed.tellings
+      hit_tellings : CanBeTellings (set lists first.number after) passed.others
+      hit_tellings = subst (λ (v : List (List Action)). CanBeTellings v passed.others)
+          (set-set lists first.number rest after) passed.tellings
 
-        others_are : merged_of (lefts logs (set heads first.number new)) ≡ passed.others
-        others_are = left_is new next.stands passed.others hit_tellings
+      others_are : merged_of (lefts logs (set heads first.number new)) ≡ passed.others
+      others_are = left_is new next.stands passed.others hit_tellings
 
-        -- all collisions are left but it
-        pub hits_go : hits (merged_of lists) ≡ hits (x ∷ []) ++ hits (merged_of (lefts logs (set heads first.number new)))
-        hits_go = ap hits goes.first ∙ hits_join (x ∷ []) goes.others
-            ∙ ap (λ (v : List Change). hits (x ∷ []) ++ v) (sym passed.same ∙ sym (ap hits others_are))
+      -- all collisions are left but it
+      pub hits_go : hits (merged_of lists) ≡ hits (x ∷ []) ++ hits (merged_of (lefts logs (set heads first.number new)))
+      hits_go = ap hits goes.first ∙ hits_join (x ∷ []) goes.others
+          ∙ ap (λ (v : List Change). hits (x ∷ []) ++ v) (sym passed.same ∙ sym (ap hits others_are))
 
-        pub fewer_left : length (merged_of (lefts logs (set heads first.number new))) < length (merged_of lists)
-        fewer_left = omega (
-          arith,
-          ap (λ (v : List Action). length v) others_are,
-          ap (λ (v : List Action). length v) goes.first,
-          passed.fewer,
-        )
+      pub fewer_left : length (merged_of (lefts logs (set heads first.number new))) < length (merged_of lists)
+      fewer_left = omega (
+        arith,
+        ap (λ (v : List Action). length v) others_are,
+        ap (λ (v : List Action). length v) goes.first,
+        passed.fewer,
+      )
 
-        pub hits_untold : (leader : Leader) → IsLeader (set heads first.number new) leader →
-            AreUntold logs (set heads first.number new) leader
-        hits_untold = left_untold new next.stands passed.others hit_tellings
+      pub hits_untold : (leader : Leader) → IsLeader (set heads first.number new) leader →
+          AreUntold logs (set heads first.number new) leader
+      hits_untold = left_untold new next.stands passed.others hit_tellings
 
 -- ---- logs that are taken in
 pub first_heads_none : (logs : List (List Entry)) → AreFirstHeads logs 0 []

@@ -1,6 +1,6 @@
 //! How workers with nothing to do leave the processors to others.
 
-ghost use Rattle.std.specs.Prelude.{◌<◌};
+ghost use Rattle.std.specs.Prelude.{◌≤◌};
 
 // There are seldom processors for more than some such groups of workers.
 const GROUP: u32 = 4;
@@ -12,7 +12,7 @@ const MOST_DOUBLINGS: u32 = 6;
 /// which it rests: once for each four workers before it. There are seldom processors for many, and a worker that looks
 /// or wakes takes one from those at work.
 pub fn doublings(worker: u32) -> u32
-    ensures { result < 8 }
+    ensures { result ≤ 6 }
 {
     (worker / GROUP).min(MOST_DOUBLINGS)
 }

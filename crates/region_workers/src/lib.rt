@@ -7,8 +7,7 @@
 #![tactic(auto)]
 
 mod bell;
-mod by_call;
-mod call;
+mod by_run_call;
 mod crowd;
 mod job;
 mod letters;
@@ -16,6 +15,7 @@ pub mod marks;
 pub mod pace;
 pub mod rendezvous;
 pub mod roll;
+mod run_call;
 mod schedule;
 mod shared;
 mod turns;
@@ -23,7 +23,7 @@ pub mod virtual_time;
 mod workers;
 
 pub use bell::Bell;
-pub use by_call::ByCall;
-pub use call::Call;
+pub use by_run_call::ByRunCall;
 pub use crowd::doublings;
+pub use run_call::RunCall;
 pub use workers::{MAX_WORKERS, Workers};

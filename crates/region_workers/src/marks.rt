@@ -105,11 +105,6 @@ impl Marks {
         self.marks.len()
     }
 
-    /// For how many disks they have room, 1 at least.
-    pub fn disks(&self) -> u64 {
-        self.disks
-    }
-
     /// How many steps a region makes in a slice at most.
     pub fn steps(&self) -> u32
         ensures { 0 < result }

@@ -1,9 +1,10 @@
 //! How far regions under locks run before they hear each other.
 //!
 //! What a region runs on old news is done again or put right later, so no region should run far ahead of the last one.
-//! But each slice costs a wait. So in a slice all regions run to the same bound. It lies a lead ([`crate::marks`]),
-//! that of the slowest region, beyond the earliest stamp still due anywhere. It counts from what is due and not from what
-//! was done last, since a region without events would hold up all others.
+//! But at the end of each slice workers that are done look and rest until all regions have run it, or until they have
+//! done so as often as they may. So in a slice all regions run to the same bound. It lies a lead ([`crate::marks`]), that
+//! of the slowest region, beyond the earliest stamp still due anywhere. It counts from what is due and not from what was
+//! done last, since a region without events would hold up all others.
 //!
 //! Nothing is claimed of it: the locks keep the regions right, however far they run.
 
@@ -14,10 +15,6 @@ use event_stamps::Stamp;
 use region_core::Region;
 use region_locks::RegionProgress;
 use std::alloc::{AllocError, Global};
-use std::sync::atomic::{AtomicU64, Ordering};
-
-// A region with this many disks or more doesn't fit a cache of a megabyte.
-const MANY_DISKS: u64 = 16_384;
 
 // A region without steps mustn't hold up the others for long.
 const GROWTH: Growth = Growth {
@@ -29,8 +26,6 @@ const GROWTH: Growth = Growth {
 #[derive(Drop)]
 pub struct Pace {
     marks: Marks,
-    // The farthest bound that there was, in parts of a tick.
-    farthest: AtomicU64,
 }
 
 /// How far a region runs in a slice.
@@ -50,13 +45,12 @@ impl Pace {
     pub fn new(alloc: Global, regions: &[Region]) -> Result<Pace, AllocError> {
         Ok(Pace {
             marks: Marks::open(alloc, regions)?,
-            farthest: AtomicU64::new(0),
         })
     }
 
-    /// Whether there is one region alone, of many disks.
-    pub(crate) fn is_alone_with_many(&self) -> bool {
-        self.marks.regions() == 1 && self.marks.disks() >= MANY_DISKS
+    /// Whether there is one region alone.
+    pub(crate) fn is_alone(&self) -> bool {
+        self.marks.regions() == 1
     }
 
     /// The next slice, if each region has this many steps left, 1 at least.
@@ -73,20 +67,9 @@ impl Pace {
             };
         }
         let bound = least.due.saturating_add(least.lead);
-        self.farthest.fetch_max(bound, Ordering::SeqCst);
         Slice {
             steps: left.min(self.marks.steps()),
             bound,
-        }
-    }
-
-    /// A slice of this many steps, to the farthest bound that there was.
-    pub fn settling_slice(&self, steps: u32) -> Slice
-        ensures { result.steps ≡ steps }
-    {
-        Slice {
-            steps,
-            bound: self.farthest.load(Ordering::SeqCst),
         }
     }
 

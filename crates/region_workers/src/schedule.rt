@@ -3,34 +3,30 @@
 ghost use Rattle.std.specs.Prelude.{◌<◌};
 
 use crate::pace::{Pace, Slice};
-use std::sync::atomic::{AtomicU64, Ordering};
-
-// The greatest number of slices in which the regions settle.
-const SETTLING_SLICES: u32 = 12;
+use std::sync::atomic::{AtomicBool, AtomicU64, Ordering};
 
 // By one in this many parts of it the work beside may be behind the steps.
 const MOST_BEHIND: u64 = 8;
 
 // The least number of steps of a burst that ends early.
-const SHORT_STEPS: u64 = 256;
+const SHORT_STEPS: u64 = 1_024;
 
 // A burst that ends early makes at least one in this many of its steps: the turns that are left still pass the gate.
 const SHORT_PART: u64 = 16;
 
-/// The slices of a burst, one after another. Each is run by all regions, and may go over the end of a turn. Before the
-/// last half of the last turn the regions begin to settle, each slice with as many steps as that half: they only run to
-/// the farthest bound so far, so that hardly anything is left of which they disagree.
+/// The slices of a burst, one after another. Each is run by all regions, and may go over the end of a turn. In the last
+/// one no region makes a step: they only hear each other.
 #[derive(Drop)]
 pub(crate) struct Schedule {
     // The number of steps in a turn.
     steps: u32,
-    // The number of steps before the regions settle, and how many of them come after the present slice.
+    // The number of steps of the burst, and how many of them come after the present slice.
     all: u64,
     left: AtomicU64,
+    // Whether the last slice has begun.
+    is_at_last: AtomicBool,
     // The turn in which the present slice begins.
     turn: AtomicU64,
-    // The number of slices in which the regions have settled.
-    settled: AtomicU64,
     // The slice: its steps and its bound.
     slice_steps: AtomicU64,
     slice_bound: AtomicU64,
@@ -42,13 +38,13 @@ impl Schedule {
     pub(crate) fn new(turns: u32, steps: u32, pace: &Pace) -> Schedule
         requires { 0 < steps }
     {
-        let all = steps_of_burst(turns, steps, pace).saturating_sub(u64::from(steps / 2));
+        let all = steps_of_burst(turns, steps, pace);
         let schedule = Schedule {
             steps,
             all,
             left: AtomicU64::new(all),
+            is_at_last: AtomicBool::new(false),
             turn: AtomicU64::new(0),
-            settled: AtomicU64::new(0),
             slice_steps: AtomicU64::new(0),
             slice_bound: AtomicU64::new(0),
         };
@@ -56,9 +52,9 @@ impl Schedule {
         schedule
     }
 
-    /// How many slices begin in a turn at most: one for each of its steps, and those in which the regions settle.
+    /// How many slices begin in a turn at most: one for each of its steps, and the last one.
     pub(crate) fn most_slices(&self) -> u32 {
-        self.steps.saturating_add(SETTLING_SLICES)
+        self.steps.saturating_add(1)
     }
 
     /// The turn that they are at.
@@ -66,8 +62,8 @@ impl Schedule {
         self.turn.load(Ordering::SeqCst)
     }
 
-    /// Whether a greater part of the steps before the regions settle is made than is done of some work, of which so much
-    /// is left, and there was so much at first. The work may be behind by a part of it.
+    /// Whether a greater part of the burst's steps is made than is done of some work, of which so much is left, and there
+    /// was so much at first. The work may be behind by a part of it.
     pub(crate) fn is_ahead_of(&self, left: u64, all: u64) -> bool {
         let made = self.all.saturating_sub(self.left.load(Ordering::SeqCst));
         let done = all.saturating_sub(left).saturating_add(all / MOST_BEHIND);
@@ -88,21 +84,16 @@ impl Schedule {
     /// Goes on to the next slice. False if there is none. It is called by one worker alone, while no region runs.
     pub(crate) fn go_on(&self, pace: &Pace) -> bool {
         let left = self.left.load(Ordering::SeqCst);
-        let slice = if left > 0 {
-            self.go_ahead(pace, left)
-        } else if self.settled.fetch_add(1, Ordering::SeqCst) < u64::from(SETTLING_SLICES) {
-            pace.settling_slice(self.steps - self.steps / 2)
-        } else {
-            return false;
-        };
-        self.slice_steps
-            .store(u64::from(slice.steps), Ordering::SeqCst);
-        self.slice_bound.store(slice.bound, Ordering::SeqCst);
-        true
+        if left > 0 {
+            self.go_ahead(pace, left);
+            return true;
+        }
+        self.slice_bound.store(0, Ordering::SeqCst);
+        !self.is_at_last.swap(true, Ordering::SeqCst)
     }
 
-    // The next slice, by how many steps are left before the regions settle.
-    fn go_ahead(&self, pace: &Pace, left: u64) -> Slice
+    // The next slice, by how many steps are left.
+    fn go_ahead(&self, pace: &Pace, left: u64)
         requires { 0 < left }
     {
         let slice = pace.next_slice(left.min(u64::from(u32::MAX)) as u32);
@@ -110,16 +101,17 @@ impl Schedule {
         self.turn.store(turn, Ordering::SeqCst);
         self.left
             .store(left - u64::from(slice.steps), Ordering::SeqCst);
-        slice
+        self.slice_steps
+            .store(u64::from(slice.steps), Ordering::SeqCst);
+        self.slice_bound.store(slice.bound, Ordering::SeqCst);
     }
 }
 
 // How many steps a burst makes in its turns, by how many there are and how many steps each has. One region alone has no
-// other to wait for; if it has too many disks for the cache, the burst ends early, so that what was done is told while
-// the cache still has it.
+// other to wait for, so the burst ends early: what was done is told while the cache still has it.
 fn steps_of_burst(turns: u32, steps: u32, pace: &Pace) -> u64 {
     let planned = u64::from(turns) * u64::from(steps);
-    if pace.is_alone_with_many() {
+    if pace.is_alone() {
         planned.min(SHORT_STEPS.max(planned / SHORT_PART))
     } else {
         planned

@@ -22,13 +22,13 @@ use Rattle.local_run.specs.declared.answers.Step.TheVariants.{Ran, Halted}
 use Rattle.local_run.specs.LocalRun.{Local, now_of, IsOffered}
 use Rattle.local_run.specs.Answers.{StepsTo}
 use Rattle.local_run.specs.Opening.{RegionData, home_of}
-use Rattle.commit_horizon.specs.Horizon.{LocalRuns, runs_of, AreStanding}
+use Rattle.commit_horizon.specs.Horizon.{LocalRuns, runs_of, AreStanding, IsBound}
 use Rattle.commit_horizon.specs.Commits.{Commits}
 use Rattle.commit_horizon.proofs.Offered.{cell_laws}
 use Rattle.run_core.specs.declared.answers.Advance.{Advance}
 use Rattle.run_core.specs.declared.answers.Advance.TheVariants.{Raised, End, Limit as Fails}
 use Rattle.run_core.specs.Second.{IsLeastDue, AllTakeIn}
-use Rattle.run_core.specs.Advances.{Leads, FailsNext, IsAdvance, FirstPart, SecondAnswers, SecondPart, Works}
+use Rattle.run_core.specs.Advances.{Leads, FailsNext, IsAdvance, FirstPart, SecondAnswers, SecondPart, WorksInParts, CommitsAtOnce, Works}
 use Rattle.run_core.proofs.Pass.{passes_keep}
 use Rattle.run_core.proofs.Fresh.{AllFresh, IsNextAt, RunsNext, pass_makes_fresh, offered_is, fresh_still}
 use Rattle.run_core.proofs.Fresh.{least_due_is_next, home_runs_next}
@@ -90,29 +90,62 @@ not_empty old new regions left batch s commits event less empty =
     commits.state ∙ ap (λ (xs : List Action). raised commits.horizon (followed_by old xs)) empty in
     subst (λ (v : CellStateData). HasNoneBelow v commits.horizon) same commits.none_below s event less
 
+-- it leads on from any runs with no more bounds
+commit_leads : (old new : CellStateData) (runs : LocalRuns) (given left : List RegionData) (batch : List Action) →
+    IsCellState old → ((h : Stamp) → IsBound old runs h → IsBound old (runs_of given) h) →
+    Commits old given batch new left → Leads old runs batch new
+commit_leads old new runs given left batch is bounds commits = record {
+  steps = commits.steps;
+  floor = commits.horizon;
+  state = commits.state;
+  cell = committed old new given left batch is commits;
+  at_least = λ h bound. none_lower new commits.horizon h commits.none_below
+      (commits.is_horizon.greatest h (bounds h bound));
+}
+
+at_once_leads : (old new : CellStateData) (runs : LocalRuns) (batch : List Action) (left : List RegionData) →
+    IsCellState old → CommitsAtOnce old runs batch new left → Leads old runs batch new
+at_once_leads old new runs batch left is at_once =
+    commit_leads old new runs at_once.given left batch is
+    (λ h bound. subst (λ (v : LocalRuns). IsBound old v h) (sym at_once.are) bound) at_once.commits
+
 -- ---- the first part
 first_leads : (old new : CellStateData) (runs : LocalRuns) (batch : List Action) (left : List RegionData) →
     IsCellState old → AreStanding old runs → FirstPart old runs batch new left →
     Leads old runs batch new
 first_leads old new runs batch left is stand first =
-    let kept = passes_keep old runs (runs_of first.heard) first.passes is stand first.hear in
-    let commits = first.commits in record {
-      steps = commits.steps;
-      floor = commits.horizon;
-      state = commits.state;
-      cell = committed old new first.heard left batch is commits;
-      at_least = λ h bound. none_lower new commits.horizon h commits.none_below
-          (commits.is_horizon.greatest h (kept.bound h bound));
-    }
+    commit_leads old new runs first.heard left batch is
+    (passes_keep old runs (runs_of first.heard) first.passes is stand first.hear).bound first.commits
 
--- ---- the second part
+-- ---- after a commit of nothing, which raises the floor to f
 -- a later floor in between makes no difference
 same_followed : (f h : Stamp) (state : CellStateData) (xs : List Action) →
     raised h (followed_by (raised f state) xs) ≡ raised h (followed_by state xs)
 same_followed f h state [] = refl
 same_followed f h state (x ∷ xs) = refl
 
--- after a commit of nothing, which raises the floor to f
+-- what leads on then leads on from the state before it
+leads_after : (old new : CellStateData) (runs mids : LocalRuns) (f : Stamp) (batch : List Action) →
+    Leads old runs [] (raised f old) → Leads (raised f old) mids batch new → Leads old runs batch new
+leads_after old new runs mids f batch first then = record {
+  steps = then.steps;
+  floor = then.floor;
+  state = then.state ∙ same_followed f then.floor old batch;
+  cell = then.cell;
+  at_least = λ h bound. subst (λ (v : CellStateData). HasNoneBelow v h) (sym then.state)
+      (none_after batch (raised f old) new.placed h first.cell then.steps (first.at_least h bound));
+}
+
+advance_after : (old new : CellStateData) (runs mids : LocalRuns) (f : Stamp) (answer : Advance) →
+    Leads old runs [] (raised f old) → IsAdvance (raised f old) mids answer new → IsAdvance old runs answer new
+advance_after old new runs mids f (Raised batch) first (then, some) =
+    (leads_after old new runs mids f batch first then, some)
+advance_after old new runs mids f (End batch) first (then, none) =
+    (leads_after old new runs mids f batch first then, none)
+advance_after old new runs mids f (Fails batch limit) first (then, fails) =
+    (leads_after old new runs mids f batch first then, fails)
+
+-- ---- the second part
 module _ (old : CellStateData) (runs : LocalRuns) (f : Stamp) (first : Leads old runs [] (raised f old))
     (fresh : LocalRuns) (dues : ℕ → Stamp) (k : ℕ) (all : AllFresh (raised f old) fresh)
     (least : IsLeastDue (raised f old) fresh dues k) where
@@ -159,14 +192,8 @@ module _ (old : CellStateData) (runs : LocalRuns) (f : Stamp) (first : Leads old
       (next_at (dues k) step.0.1.0) step)
     where
       leads : Leads old runs batch new
-      leads = record {
-        steps = commits.steps;
-        floor = commits.horizon;
-        state = commits.state ∙ same_followed f commits.horizon old batch;
-        cell = committed (raised f old) new after left batch here commits;
-        at_least = λ h bound. subst (λ (v : CellStateData). HasNoneBelow v h) (sym commits.state)
-            (none_after batch (raised f old) new.placed h here commits.steps (first.at_least h bound));
-      }
+      leads = leads_after old new runs (runs_of after) f batch first
+          (commit_leads (raised f old) new (runs_of after) after left batch here (λ h bound. bound) commits)
 
       by_answer : IsNextAt (raised f old) k (dues k) →
           RunsNext (raised f old) (dues k) (fresh k) (Ran (dues k)) (ran k) →
@@ -202,12 +229,12 @@ module _ (old : CellStateData) (runs : LocalRuns) (f : Stamp) (first : Leads old
       (first, fails limit kept step))
 
 -- ---- both parts
-pub works_well : (old new : CellStateData) (runs : LocalRuns) (answer : Advance) (left : List RegionData) →
-    IsCellState old → AreStanding old runs → Works old runs answer new left → IsAdvance old runs answer new
-works_well old new runs answer left is stand (inl (batch, first, some, same)) =
+parts_well : (old new : CellStateData) (runs : LocalRuns) (answer : Advance) (left : List RegionData) →
+    IsCellState old → AreStanding old runs → WorksInParts old runs answer new left → IsAdvance old runs answer new
+parts_well old new runs answer left is stand (inl (batch, first, some, same)) =
     subst (λ (v : Advance). IsAdvance old runs v new) (sym same)
     (first_leads old new runs batch left is stand first, some)
-works_well old new runs answer left is stand (inr (mid, regions, first, standing, part)) =
+parts_well old new runs answer left is stand (inr (mid, regions, first, standing, part)) =
     let leads = first_leads old mid runs [] regions is stand first in
     from_raised leads.floor
     (subst (Leads old runs []) leads.state leads)
@@ -220,3 +247,16 @@ works_well old new runs answer left is stand (inr (mid, regions, first, standing
     from_raised f leads standing part = second old runs f leads part.fresh part.dues part.home
         (pass_makes_fresh (raised f old) (runs_of regions) part.back part.fresh part.pass leads.cell
         standing part.rewound part.is_pass part.hear) part.least answer new left part.answers
+
+-- ---- an advance
+pub works_well : (old new : CellStateData) (runs : LocalRuns) (answer : Advance) (left : List RegionData) →
+    IsCellState old → Works old runs answer new left → IsAdvance old runs answer new
+works_well old new runs answer left is (inl (batch, at_once, some, same)) =
+    subst (λ (v : Advance). IsAdvance old runs v new) (sym same)
+    (at_once_leads old new runs batch left is at_once, some)
+works_well old new runs answer left is (inr (mid, regions, at_once, standing, parts)) =
+    let leads = at_once_leads old mid runs [] regions is at_once in
+    advance_after old new runs (runs_of regions) leads.floor answer
+    (subst (Leads old runs []) leads.state leads)
+    (subst (λ (v : CellStateData). IsAdvance v (runs_of regions) answer new) leads.state
+    (parts_well mid new (runs_of regions) answer left leads.cell standing parts))

@@ -13,11 +13,12 @@ use Rattle.commit_horizon.specs.Horizon.{LocalRuns}
 use Rattle.commit_horizon.specs.Commits.{Commits}
 use Rattle.run_core.specs.declared.answers.Advance.{Advance}
 use Rattle.run_core.specs.declared.answers.Advance.TheVariants.{Raised, End, Limit}
-use Rattle.run_core.specs.Advances.{IsAdvance, SecondAnswers, Works}
+use Rattle.run_core.specs.Advances.{IsAdvance, Works}
 use Rattle.run_core.specs.Simulates.{batch_of}
 use Rattle.run_core.specs.Laws.{AdvancesStayAtFloors}
 use Rattle.run_core.proofs.Advancing.{rules_after}
 use Rattle.run_core.proofs.OneState.{opening_after}
+use Rattle.run_core.proofs.Parts.{works_keep}
 use Rattle.run_core.proofs.Simulating.{grid_after, leads_of}
 
 -- ---- commits
@@ -43,20 +44,9 @@ past_by old new given left batch past commits =
 -- ---- advances
 pub past_on : (old new : CellStateData) (runs : LocalRuns) (answer : Advance) (left : List RegionData) →
     IsPast old.last old.floor → Works old runs answer new left → IsPast new.last new.floor
-past_on old new runs answer left past (inl (batch, first, some, same)) =
-    past_by old new first.heard left batch past first.commits
-past_on old new runs answer left past (inr (mid, regions, first, standing, second)) =
-    by_answer answer (past_by old mid first.heard regions [] past first.commits) second.answers
-  where
-    by_answer : (answer : Advance) → IsPast mid.last mid.floor →
-        SecondAnswers mid second.fresh second.home (second.dues second.home) answer new left →
-        IsPast new.last new.floor
-    by_answer (Raised batch) there (ran, after, step, others, took, commits) =
-        past_by mid new after left batch there commits
-    by_answer (End batch) there (at_end, none, same) =
-        subst (λ (v : CellStateData). IsPast v.last v.floor) (sym same) there
-    by_answer (Limit batch limit) there (kept, none, same) =
-        subst (λ (v : CellStateData). IsPast v.last v.floor) (sym same) there
+past_on old new runs answer left past works = works_keep (λ (v : CellStateData). IsPast v.last v.floor)
+    (λ before after given rest batch commits there. past_by before after given rest batch there commits)
+    new left old runs answer works past
 
 pub one_run_on : (old new : CellStateData) (runs : LocalRuns) (answer : Advance) → IsAdvance old runs answer new →
     AreOfOneRun old new

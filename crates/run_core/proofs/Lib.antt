@@ -23,3 +23,5 @@ mod Prefixes
 mod Untold
 mod Followed
 mod ToldOn
+mod Bursting
+mod Interleaved

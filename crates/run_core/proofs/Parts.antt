@@ -1,19 +1,41 @@
--- The two parts of an advance.
-use Rattle.std.proofs.Common.{◌≡◌, ◌≢◌, inl, inr, List, [], sym, subst, refl}
+-- How an advance works.
+use Rattle.std.proofs.Common.{◌≡◌, ◌≢◌, inl, inr, ℕ, List, [], sym, subst, refl}
+use Rattle.event_stamps.specs.declared.Stamp.{Stamp}
 use Rattle.event_stamps.specs.Order.{Before}
+use Rattle.event_stamps.proofs.StampOrder.{not_before_itself}
 use Rattle.region_view.specs.declared.action.Action.{Action}
 use Rattle.region_messages.proofs.Order.{before_not_before}
-use Rattle.cell_sequence.specs.State.{CellStateData, IsCellState}
+use Rattle.cell_sequence.specs.State.{CellStateData}
 use Rattle.local_run.specs.Opening.{RegionData}
-use Rattle.commit_horizon.specs.Horizon.{LocalRuns, runs_of, AllStand, AllKept}
+use Rattle.commit_horizon.specs.Horizon.{LocalRuns, runs_of, AreStanding}
 use Rattle.commit_horizon.specs.Commits.{Commits}
-use Rattle.commit_horizon.proofs.Standing.{are_standing}
 use Rattle.run_core.specs.declared.answers.Advance.{Advance}
 use Rattle.run_core.specs.declared.answers.Advance.TheVariants.{Raised, End, Limit}
-use Rattle.run_core.specs.Advances.{IsAdvance, FirstPart, SecondAnswers, Works}
+use Rattle.run_core.specs.Advances.{FirstPart, SecondAnswers, WorksInParts, CommitsAtOnce, Works}
 use Rattle.run_core.specs.Passing.{Agrees}
 use Rattle.run_core.specs.Taking.{MakesNext}
-use Rattle.run_core.proofs.Advancing.{works_well}
+
+-- ---- a commit at once
+module _ (old mid : CellStateData) (given left : List RegionData) (batch : List Action)
+    (commits : Commits old given batch mid left) where
+  at_once : CommitsAtOnce old (runs_of given) batch mid left
+  at_once = record { given = given; are = refl; commits = commits }
+
+  -- some actions were committed
+  pub works_at_once : batch ≢ [] → Works old (runs_of given) (Raised batch) mid left
+  works_at_once some = inl (batch, at_once, some, refl)
+
+  -- none was, and both parts followed
+  pub works_later : (new : CellStateData) (after : List RegionData) (answer : Advance) → batch ≡ [] →
+      AreStanding mid (runs_of left) → WorksInParts mid (runs_of left) answer new after →
+      Works old (runs_of given) answer new after
+  works_later new after answer none standing parts = inr (
+    mid,
+    left,
+    subst (λ (xs : List Action). CommitsAtOnce old (runs_of given) xs mid left) none at_once,
+    standing,
+    parts,
+  )
 
 -- ---- the two parts
 module _ (old mid : CellStateData) (given heard left : List RegionData) (batch : List Action)
@@ -22,12 +44,12 @@ module _ (old mid : CellStateData) (given heard left : List RegionData) (batch :
   first = record { passes = agrees.passes; heard = heard; hear = agrees.hear; commits = commits }
 
   -- some actions were committed
-  pub in_first : batch ≢ [] → Works old (runs_of given) (Raised batch) mid left
+  pub in_first : batch ≢ [] → WorksInParts old (runs_of given) (Raised batch) mid left
   in_first some = inl (batch, first, some, refl)
 
   -- none was, and one event was made after that
   pub in_second : (new : CellStateData) (after : List RegionData) (answer : Advance) → batch ≡ [] →
-      MakesNext mid left answer new after → Works old (runs_of given) answer new after
+      MakesNext mid left answer new after → WorksInParts old (runs_of given) answer new after
   in_second new after answer none made = inr (
     mid,
     left,
@@ -36,34 +58,39 @@ module _ (old mid : CellStateData) (given heard left : List RegionData) (batch :
     made.1,
   )
 
--- ---- what they answer
-pub answers_well : (old new : CellStateData) (given after : List RegionData) (answer : Advance) →
-    IsCellState old → AllStand old given → AllKept given → Works old (runs_of given) answer new after →
-    IsAdvance old (runs_of given) answer new
-answers_well old new given after answer is stand kept works =
-    works_well old new (runs_of given) answer after is (are_standing old given stand kept) works
+-- ---- what each commit keeps
+module _ (P : CellStateData → Type 0) (keeps : (old new : CellStateData) (given left : List RegionData)
+    (batch : List Action) → Commits old given batch new left → P old → P new) (new : CellStateData)
+    (left : List RegionData) where
+  event_keeps : (mid : CellStateData) (fresh : LocalRuns) (home : ℕ) (s : Stamp) (answer : Advance) →
+      SecondAnswers mid fresh home s answer new left → P mid → P new
+  event_keeps mid fresh home s (Raised batch) (ran, after, step, others, took, commits) there =
+      keeps mid new after left batch commits there
+  event_keeps mid fresh home s (End batch) (at_end, none, same) there = subst P (sym same) there
+  event_keeps mid fresh home s (Limit batch limit) (kept, none, same) there = subst P (sym same) there
 
--- ---- the floor
--- a commit never lowers it
-not_lowered_by : (old new : CellStateData) (given left : List RegionData) (batch : List Action) →
-    Commits old given batch new left → ¬ Before new.floor old.floor
-not_lowered_by old new given left batch commits =
-    subst (λ (v : CellStateData). ¬ Before v.floor old.floor) (sym commits.state) commits.is_horizon.bound.floor
+  parts_keep : (old : CellStateData) (runs : LocalRuns) (answer : Advance) →
+      WorksInParts old runs answer new left → P old → P new
+  parts_keep old runs answer (inl (batch, first, some, same)) there =
+      keeps old new first.heard left batch first.commits there
+  parts_keep old runs answer (inr (mid, regions, first, standing, second)) there =
+      event_keeps mid second.fresh second.home (second.dues second.home) answer second.answers
+      (keeps old mid first.heard regions [] first.commits there)
 
--- nor does an advance
+  -- an advance keeps
+  pub works_keep : (old : CellStateData) (runs : LocalRuns) (answer : Advance) →
+      Works old runs answer new left → P old → P new
+  works_keep old runs answer (inl (batch, at_once, some, same)) there =
+      keeps old new at_once.given left batch at_once.commits there
+  works_keep old runs answer (inr (mid, regions, at_once, standing, parts)) there =
+      parts_keep mid (runs_of regions) answer parts
+      (keeps old mid at_once.given regions [] at_once.commits there)
+
+-- so it never lowers the floor
 pub never_lowered : (old new : CellStateData) (runs : LocalRuns) (answer : Advance) (left : List RegionData) →
     Works old runs answer new left → ¬ Before new.floor old.floor
-never_lowered old new runs answer left (inl (batch, first, some, same)) =
-    not_lowered_by old new first.heard left batch first.commits
-never_lowered old new runs answer left (inr (mid, regions, first, standing, second)) =
-    by_answer answer (not_lowered_by old mid first.heard regions [] first.commits) second.answers
-  where
-    by_answer : (answer : Advance) → ¬ Before mid.floor old.floor →
-        SecondAnswers mid second.fresh second.home (second.dues second.home) answer new left →
-        ¬ Before new.floor old.floor
-    by_answer (Raised batch) not (ran, after, step, others, took, commits) = λ less.
-        not_lowered_by mid new after left batch commits (before_not_before new.floor mid.floor old.floor less not)
-    by_answer (End batch) not (at_end, none, same) =
-        subst (λ (v : CellStateData). ¬ Before v.floor old.floor) (sym same) not
-    by_answer (Limit batch limit) not (kept, none, same) =
-        subst (λ (v : CellStateData). ¬ Before v.floor old.floor) (sym same) not
+never_lowered old new runs answer left works = works_keep (λ (v : CellStateData). ¬ Before v.floor old.floor)
+    (λ before after given rest batch commits not less. subst (λ (v : CellStateData). ¬ Before v.floor before.floor)
+    (sym commits.state) commits.is_horizon.bound.floor
+    (before_not_before after.floor before.floor old.floor less not))
+    new left old runs answer works (not_before_itself old.floor)

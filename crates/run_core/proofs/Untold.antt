@@ -21,26 +21,34 @@ use Rattle.commit_horizon.specs.Horizon.{runs_of, AllStand, AllKept}
 use Rattle.commit_horizon.specs.Telling.{IsStateOf}
 use Rattle.commit_horizon.specs.Cutting.{FinalMade}
 use Rattle.commit_horizon.proofs.Commit.{final_is}
+use Rattle.commit_horizon.proofs.Standing.{are_standing}
 use Rattle.run_core.specs.declared.answers.Advance.TheVariants.{Raised}
 use Rattle.run_core.specs.declared.answers.AdvanceKind.{AdvanceKind}
 use Rattle.run_core.specs.declared.answers.AdvanceKind.TheVariants.{Raised as GoesOn, End as Ends, Limit as Fails}
 use Rattle.run_core.specs.Advances.{IsAdvance, Works}
-use Rattle.run_core.specs.AdvancesUntold.{answer_with, AdvanceMade, EventMade}
+use Rattle.run_core.specs.AdvancesUntold.{answer_with, AdvanceMade, PartsMade, EventMade}
 use Rattle.run_core.specs.Passing.{Agrees}
 use Rattle.run_core.specs.Simulates.{batch_of, AdvancesBy}
 use Rattle.run_core.specs.Standing.{GoesOnTo, ComesOf}
 use Rattle.run_core.specs.Taking.{StandOnCells, RunsEvent}
+use Rattle.run_core.proofs.Advancing.{works_well}
 use Rattle.run_core.proofs.Floors.{past_on}
 use Rattle.run_core.proofs.OneState.{goes_on_by}
 use Rattle.run_core.proofs.Simulating.{leads_of}
 use Rattle.run_core.proofs.Homes.{event_ran, event_halted, event_idled}
-use Rattle.run_core.proofs.Parts.{in_first, in_second, answers_well}
+use Rattle.run_core.proofs.Parts.{in_first, in_second, works_at_once, works_later}
 
 -- ---- one answer and another
 pub batch_in : (kind : AdvanceKind) (batch : List Action) → batch ≡ batch_of (answer_with kind batch)
 batch_in GoesOn batch = refl
 batch_in Ends batch = refl
 batch_in (Fails limit) batch = refl
+
+-- a kind that is none of the others
+pub ends_else : (kind : AdvanceKind) → ¬ (kind ≡ GoesOn) → ((limit : Failure) → ¬ (kind ≡ Fails limit)) → kind ≡ Ends
+ends_else GoesOn not_raised not_limit = absurd (not_raised refl)
+ends_else Ends not_raised not_limit = refl
+ends_else (Fails limit) not_raised not_limit = absurd (not_limit limit refl)
 
 -- what holds of a known error holds of a `Result` that is that error
 pub at_fault : {T E : Type 0} (P : Result T E → Type 0) (r : Result T E) (e fault : E) → r ≡ Err e → e ≡ fault →
@@ -115,7 +123,7 @@ module _ (old : CellStateData) (floor : Stamp) (is : IsCellState old) (floor_is 
       stand = event.stand;
     }
 
--- ---- both parts
+-- ---- batches
 -- whether a batch has a last action
 abbrev stamp_at : Action → List Action → Stamp
 stamp_at x [] = stamp_of x
@@ -142,23 +150,12 @@ raised_before : (h f : Stamp) (xs : List Action) (state : CellStateData) →
 raised_before h f [] state = refl
 raised_before h f (x ∷ xs) state = refl
 
-module _ (old : CellStateData) (given heard : List RegionData) (is : IsCellState old) (stand : AllStand old given)
-    (kept : AllKept given) (agrees : Agrees old given heard) (made : Final) (batch : List Action)
+-- ---- a commit, and what is made after it
+module _ (old : CellStateData) (heard : List RegionData) (made : Final) (batch : List Action)
     (left : List RegionData) (final : FinalMade old heard made batch left) where
-  -- the first part committed some actions
-  pub first_made : true ≡ is_some made.last → AdvanceMade old given GoesOn batch made left
-  first_made some =
-      let works = in_first old final.new given heard left batch agrees final.commits
-      (λ none. not_empty made.last batch final.is_last some none) in record {
-        new = final.new;
-        works = works;
-        is = answers_well old final.new given left (Raised batch) is stand kept works;
-        state = final_is old heard left made batch final;
-        is_last = final.is_last;
-        stand = final.commits.stand;
-      }
+  pub some_made : true ≡ is_some made.last → batch ≢ []
+  some_made some none = not_empty made.last batch final.is_last some none
 
-  -- it committed none
   module _ (not : false ≡ is_some made.last) where
     pub none_made : batch ≡ []
     none_made = empty_batch made.last batch final.is_last not
@@ -167,9 +164,9 @@ module _ (old : CellStateData) (given heard : List RegionData) (is : IsCellState
     same = final_is old heard left made batch final ∙ ap (λ (xs : List Action). raised made.floor (followed_by old xs)) none_made
 
     -- the state stays but for its floor
-    pub mid_comes : (earlier : CellStateData) → ComesOf earlier old.floor given old →
+    pub mid_comes : (earlier : CellStateData) (given : List RegionData) → ComesOf earlier old.floor given old →
         ComesOf earlier made.floor left final.new
-    mid_comes earlier of = record {
+    mid_comes earlier given of = record {
       is = final.cell;
       rules_are = ap (λ (v : CellStateData). v.rules) same ∙ of.rules_are;
       grid_is = ap (λ (v : CellStateData). v.grid) same ∙ of.grid_is;
@@ -177,21 +174,78 @@ module _ (old : CellStateData) (given heard : List RegionData) (is : IsCellState
       stand = final.commits.stand;
     }
 
-    pub second_made : (kind : AdvanceKind) (more : List Action) (then : Final) (last : List RegionData) →
-        EventMade final.new left kind more then last → AdvanceMade old given kind more then last
-    second_made kind more then last event =
-        let answer = answer_with kind more in
-        let works = in_second old final.new given heard left batch agrees final.commits event.new last answer none_made
-        event.is in record {
-          new = event.new;
-          works = works;
-          is = answers_well old event.new given last answer is stand kept works;
-          state = event.state
-              ∙ ap (λ (v : CellStateData). raised then.floor (followed_by v more)) same
-              ∙ raised_before made.floor then.floor more old;
-          is_last = event.is_last;
-          stand = event.stand;
-        }
+    pub mid_itself : (earlier : CellStateData) (given : List RegionData) → ComesOf earlier old.floor given old →
+        ComesOf earlier final.new.floor left final.new
+    mid_itself earlier given of =
+        subst (λ (f : Stamp). ComesOf earlier f left final.new) (sym final.floor) (mid_comes earlier given of)
+
+    -- what goes on from it goes on from the state before
+    state_on : (new : CellStateData) (then : Final) (more : List Action) →
+        new ≡ raised then.floor (followed_by final.new more) → new ≡ raised then.floor (followed_by old more)
+    state_on new then more is = is
+        ∙ ap (λ (v : CellStateData). raised then.floor (followed_by v more)) same
+        ∙ raised_before made.floor then.floor more old
+
+-- ---- both parts
+module _ (old : CellStateData) (given heard : List RegionData) (stand : AllStand old given) (kept : AllKept given)
+    (agrees : Agrees old given heard) (made : Final) (batch : List Action) (left : List RegionData)
+    (final : FinalMade old heard made batch left) where
+  -- the first part committed some actions
+  pub first_made : true ≡ is_some made.last → PartsMade old given GoesOn batch made left
+  first_made some = record {
+    new = final.new;
+    standing = are_standing old given stand kept;
+    works = in_first old final.new given heard left batch agrees final.commits
+        (some_made old heard made batch left final some);
+    state = final_is old heard left made batch final;
+    is_last = final.is_last;
+    stand = final.commits.stand;
+  }
+
+  -- it committed none
+  pub second_made : false ≡ is_some made.last → (kind : AdvanceKind) (more : List Action) (then : Final)
+      (last : List RegionData) → EventMade final.new left kind more then last →
+      PartsMade old given kind more then last
+  second_made not kind more then last event = record {
+    new = event.new;
+    standing = are_standing old given stand kept;
+    works = in_second old final.new given heard left batch agrees final.commits event.new last
+        (answer_with kind more) (none_made old heard made batch left final not) event.is;
+    state = state_on old heard made batch left final not event.new then more event.state;
+    is_last = event.is_last;
+    stand = event.stand;
+  }
+
+-- ---- an advance
+module _ (old : CellStateData) (given : List RegionData) (is : IsCellState old) (made : Final) (batch : List Action)
+    (left : List RegionData) (final : FinalMade old given made batch left) where
+  -- some actions were committed at once
+  pub made_at_once : true ≡ is_some made.last → AdvanceMade old given GoesOn batch made left
+  made_at_once some =
+      let works = works_at_once old final.new given left batch final.commits
+      (some_made old given made batch left final some) in record {
+        new = final.new;
+        works = works;
+        is = works_well old final.new (runs_of given) (Raised batch) left is works;
+        state = final_is old given left made batch final;
+        is_last = final.is_last;
+        stand = final.commits.stand;
+      }
+
+  -- none was
+  pub made_later : false ≡ is_some made.last → (kind : AdvanceKind) (more : List Action) (then : Final)
+      (last : List RegionData) → PartsMade final.new left kind more then last →
+      AdvanceMade old given kind more then last
+  made_later not kind more then last parts =
+      let works = works_later old final.new given left batch final.commits parts.new last (answer_with kind more)
+      (none_made old given made batch left final not) parts.standing parts.works in record {
+        new = parts.new;
+        works = works;
+        is = works_well old parts.new (runs_of given) (answer_with kind more) last is works;
+        state = state_on old given made batch left final not parts.new then more parts.state;
+        is_last = parts.is_last;
+        stand = parts.stand;
+      }
 
 -- ---- regions with their state
 module _ (earlier : CellStateData) (last : Option Stamp) (floor : Stamp) (given : List RegionData)

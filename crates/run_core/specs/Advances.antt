@@ -41,6 +41,13 @@ IsAdvance old runs (End batch) new = Leads old runs batch new × HasNone (IsCand
 IsAdvance old runs (Limit batch limit) new = Leads old runs batch new × FailsNext new limit
 
 -- ---- how it works
+-- a commit of regions with these runs, as they are
+pub record CommitsAtOnce (old : CellStateData) (runs : LocalRuns) (batch : List Action) (new : CellStateData)
+    (left : List RegionData) : Type 0 where
+  pub given : List RegionData
+  pub are : runs_of given ≡ runs
+  pub commits : Commits old given batch new left
+
 -- the first part: all hear each other until a pass rewinds none, and there is a commit
 pub record FirstPart (old : CellStateData) (runs : LocalRuns) (batch : List Action) (new : CellStateData)
     (left : List RegionData) : Type 0 where
@@ -77,8 +84,15 @@ pub record SecondPart (old : CellStateData) (runs : LocalRuns) (answer : Advance
   pub answers : SecondAnswers old fresh home (dues home) answer new left
 
 -- the first part, if it commits an action; or the second part after a first that commits none
-abbrev pub Works : CellStateData → LocalRuns → Advance → CellStateData → List RegionData → Type 0
-Works old runs answer new left =
+abbrev pub WorksInParts : CellStateData → LocalRuns → Advance → CellStateData → List RegionData → Type 0
+WorksInParts old runs answer new left =
     ((batch : List Action) × FirstPart old runs batch new left × (batch ≢ []) × (answer ≡ Raised batch))
     ⊎ ((mid : CellStateData) × (regions : List RegionData) × FirstPart old runs [] mid regions
     × AreStanding mid (runs_of regions) × SecondPart mid (runs_of regions) answer new left)
+
+-- a commit at once, if it commits an action; or the two parts after one that commits none
+abbrev pub Works : CellStateData → LocalRuns → Advance → CellStateData → List RegionData → Type 0
+Works old runs answer new left =
+    ((batch : List Action) × CommitsAtOnce old runs batch new left × (batch ≢ []) × (answer ≡ Raised batch))
+    ⊎ ((mid : CellStateData) × (regions : List RegionData) × CommitsAtOnce old runs [] mid regions
+    × AreStanding mid (runs_of regions) × WorksInParts mid (runs_of regions) answer new left)

@@ -5,6 +5,7 @@ pub mod Advances
 pub mod Simulates
 pub mod Turns
 pub mod Plays
+pub mod Interleavings
 pub mod Passing
 pub mod Taking
 pub mod AdvancesUntold

@@ -1,8 +1,11 @@
 -- How far a run has come.
-use Rattle.std.specs.Prelude.{ℕ, ◌+◌, ◌-◌, List, Option, Some, None}
+use Rattle.std.specs.Prelude.{ℕ, ◌+◌, ◌-◌, ◌≤◌, List, length, Option, Some, None}
+use Rattle.fixed_motion.specs.Scene.{SceneData}
 use Rattle.event_stamps.specs.declared.Stamp.{Stamp}
 use Rattle.event_stamps.specs.Order.{end_stamp, rank}
+use Rattle.event_rules.specs.declared.outcome.Outcome.{Outcome}
 use Rattle.region_view.specs.declared.action.Action.{Action}
+use Rattle.cell_sequence.specs.Run.{IsCellRun}
 use Rattle.cell_sequence.specs.State.{CellStateData}
 use Rattle.local_run.specs.Opening.{RegionData}
 use Rattle.commit_horizon.specs.Horizon.{LocalRuns}
@@ -34,3 +37,8 @@ pub record AdvancesBy (old : CellStateData) (runs : LocalRuns) (answer : Advance
 -- an advance of what a burst gave back
 abbrev pub Advances : CellStateData → Advance → CellStateData → Type 0
 Advances old answer new = (runs : LocalRuns) × AdvancesBy old runs answer new
+
+-- a number of bursts before and after a run with this outcome: at most one more than its cell run has actions
+abbrev pub FewBursts : SceneData → ℕ → Outcome → ℕ → ℕ → Type 0
+FewBursts scene asked outcome before after =
+    (actions : List Action) × IsCellRun scene asked actions outcome × (after ≤ before + length actions + 1)

@@ -3,7 +3,7 @@
 ghost use Rattle.std.specs.Prelude.{◌≡◌, [], IfOk};
 ghost use Rattle.cell_sequence.specs.State.{CellStateData};
 ghost use Rattle.commit_horizon.specs.Horizon.{runs_of, AllStand, AllKept};
-ghost use Rattle.run_core.specs.AdvancesUntold.{AdvanceMade, EventMade, answer_with};
+ghost use Rattle.run_core.specs.AdvancesUntold.{AdvanceMade, PartsMade, EventMade, answer_with};
 ghost use Rattle.run_core.specs.Simulates.{AdvancesBy};
 ghost use Rattle.run_core.specs.Standing.{ComesOf, GoesOnTo};
 
@@ -56,6 +56,26 @@ pub(crate) fn make_final(
     ensures { IfOk result (λ advanced. (state : CellStateData) →
         ComesOf earlier.now state.floor regions.old state →
         AdvanceMade state regions.old advanced.0 untold.new advanced.1 regions.new) }
+{
+    let at_once = commit_cutting(alloc, earlier.rules(), regions, untold)?;
+    if at_once.last.is_some() {
+        return Ok((AdvanceKind::Raised, at_once));
+    }
+    agree_and_make(alloc, earlier, regions, untold)
+}
+
+// The same for regions of which nothing is final as they are: they agree first.
+fn agree_and_make(
+    alloc: Global,
+    earlier: &CellState,
+    regions: &mut [Region],
+    untold: &mut Untold,
+) -> Result<(AdvanceKind, Final), AllocError>
+    requires stand { (state : CellStateData) × ComesOf earlier.now state.floor regions.old state }
+    requires told { untold.old ≡ [] }
+    ensures { IfOk result (λ advanced. (state : CellStateData) →
+        ComesOf earlier.now state.floor regions.old state →
+        PartsMade state regions.old advanced.0 untold.new advanced.1 regions.new) }
 {
     none_is_spent(regions);
     agree(alloc, earlier.grid(), regions)?;

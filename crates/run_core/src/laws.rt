@@ -1,6 +1,7 @@
 //! Laws of runs over regions, for those who read the definitions alone.
 
 ghost use Rattle.run_core.specs.Laws.{HearingsKeepBounds, PassesEnd, PassesEndInAgreement, AdvancesEnd, FewAdvances, LimitsEndTheRun, AdvancesStayAtFloors};
+ghost use Rattle.run_core.specs.Interleavings.{PlayedStand, InterleavingsTellTheRun};
 
 /// Regions that stand on a state go on standing on it whatever they hear from each other, and each of their bounds
 /// stays a bound: so hearing never lowers the commit horizon.
@@ -38,4 +39,12 @@ pub fn limits_end_the_run()
 /// that stand are told by the floor alone to stand on the same state.
 pub fn advances_stay_at_floors()
     ensures { AdvancesStayAtFloors }
+{}
+
+/// Each interleaving of steps and hearings tells the run. Regions that stand on a state may make the calls of any list, in
+/// its order, and stand on it then. Whatever lists they play before each advance, the collisions that are final are the
+/// first of the scene's run, and at the end they are that run, with its outcome.
+pub fn interleavings_tell_the_run()
+    ensures stand { PlayedStand }
+    ensures run { InterleavingsTellTheRun }
 {}

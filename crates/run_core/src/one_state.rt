@@ -31,7 +31,7 @@ impl Model for Standing {
         (seen_as s.earlier s.last s.floor s.regions.items) };
 }
 
-ghost use Rattle.std.specs.Prelude.{◌≡◌, ◌<◌, length, slice_get, Some, IfOk};
+ghost use Rattle.std.specs.Prelude.{◌≡◌, ◌<◌, ◌≤◌, ◌+◌, length, slice_get, Some, IfOk};
 ghost use Rattle.fixed_motion.specs.Rules.{IsChecked};
 ghost use Rattle.fixed_motion.specs.Motion.{IsValidDisk};
 ghost use Rattle.event_rules.specs.Run.{spots_of, spot_of};
@@ -116,6 +116,7 @@ impl Standing {
         requires of { IsOfRun (B.of burst.old) self }
         requires fits { S.fits beside.old lent.old }
         ensures of { B.of burst.new ≡ B.of burst.old }
+        ensures counted { B.bursts burst.new ≤ B.bursts burst.old + 1 }
         ensures state { IfOk result (λ worked. worked ≡ self) }
         ensures beside { S.goes beside.old lent.old beside.new lent.new }
     {
@@ -139,6 +140,7 @@ impl Standing {
         requires of { IsOfRun (B.of burst.old) self }
         requires fits { S.fits beside.old lent.old }
         ensures of { B.of burst.new ≡ B.of burst.old }
+        ensures counted { B.bursts burst.new ≤ B.bursts burst.old + 1 }
         ensures state { IfOk result (λ worked. worked ≡ self) }
         ensures beside { S.goes beside.old lent.old beside.new lent.new }
     {
@@ -164,6 +166,7 @@ impl Standing {
         requires of { IsOfRun (B.of burst.old) self }
         requires fits { S.fits beside.old lent.old }
         ensures of { B.of burst.new ≡ B.of burst.old }
+        ensures counted { B.bursts burst.new ≤ B.bursts burst.old + 1 }
         ensures state { IfOk result (λ worked. worked ≡ self) }
         ensures beside { S.goes beside.old lent.old beside.new lent.new }
     {

@@ -10,10 +10,10 @@ use commit_horizon::{Committed, Untold};
 use region_core::Region;
 use std::alloc::{AllocError, Global};
 
-/// Makes final what the regions did, which stand on the committed state by number: they hear each other
-/// until that takes nothing back, and what they did before the commit horizon is committed. If that is
-/// nothing, the next event of the cell run is made by its home, and committed; or there is none, or it fails
-/// a limit.
+/// Makes final what the regions did, which stand on the committed state by number: what they did before the commit
+/// horizon is committed. If that is nothing, they hear each other until that takes nothing back, and there is a
+/// commit again. If that one is empty too, the next event of the cell run is made by its home, and committed; or there
+/// is none, or it fails a limit.
 ///
 /// # Errors
 /// Out of memory: the committed state and the regions are to be given up.

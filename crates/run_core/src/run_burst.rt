@@ -1,6 +1,6 @@
 //! Bursts that may be of one run.
 
-ghost use Rattle.std.specs.Prelude.{◌≡◌, length, Option, None, IfOk, IsTrue};
+ghost use Rattle.std.specs.Prelude.{◌≡◌, ◌≤◌, ◌+◌, ℕ, length, Option, None, IfOk, IsTrue};
 ghost use Rattle.cell_sequence.specs.State.{CellStateData};
 ghost use Rattle.local_run.specs.Bursts.{AreTogether};
 ghost use Rattle.local_run.specs.RunOn.{AreRunOn};
@@ -19,6 +19,9 @@ pub trait RunBurst<S: Beside<W>, W> {
 
     /// Whether it gives back the very regions that it was given. It need not do that.
     ghost keeping: { Self → Type 0 };
+
+    /// In how many bursts it has worked, if it counts them.
+    ghost bursts: { Self → ℕ } = { λ _. 0 };
 
     /// Whether it is known to give back the very regions that it was given, each at its place and none spent.
     fn keeps(&self) -> bool
@@ -43,6 +46,7 @@ pub trait RunBurst<S: Beside<W>, W> {
         requires stand { StandIfOf (of self.old) regions.items }
         requires fits { S.fits beside.old lent.old }
         ensures of { of self.new ≡ of self.old }
+        ensures counted { bursts self.new ≤ bursts self.old + 1 }
         ensures count { IfOk result (λ worked. length worked.items ≡ length regions.items) }
         ensures kept { IfOk result (λ worked. keeping self.old → AreRunOn regions.items worked.items) }
         ensures beside { S.goes beside.old lent.old beside.new lent.new };

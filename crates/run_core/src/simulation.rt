@@ -1,6 +1,6 @@
 //! The run of a scene over regions.
 
-ghost use Rattle.std.specs.Prelude.{◌≡◌, None, IfOk, IfErr};
+ghost use Rattle.std.specs.Prelude.{◌≡◌, ◌≤◌, ◌+◌, None, IfOk, IfErr};
 ghost use Rattle.event_rules.specs.Told.{Told, AwaitsAll};
 ghost use Rattle.event_rules.specs.Tellings.{AwaitsRun, RunTold, RunCutShort, CountsRun};
 ghost use Rattle.cell_grid.specs.Grid.{IsAsked};
@@ -9,7 +9,7 @@ ghost use Rattle.cell_sequence.specs.State.{opening_state};
 ghost use Rattle.run_floors.specs.Floors.{IsOfRun};
 ghost use Rattle.commit_horizon.specs.Telling.{HitsCutShort};
 ghost use Rattle.run_core.specs.AdvancesUntold.{answer_with};
-ghost use Rattle.run_core.specs.Simulates.{Advances};
+ghost use Rattle.run_core.specs.Simulates.{Advances, FewBursts};
 
 use crate::advance_untold::advance_untold;
 use crate::answers::AdvanceKind;
@@ -49,7 +49,8 @@ pub fn simulate<B: Burst<Telling, L>, R: Threads + Sync, L: Listener>(
     simulate_by(rt, alloc, scene, regions, &mut any, listener)
 }
 
-/// The same with a burst that may be of this run alone. The regions are opened in as many threads as it has.
+/// The same with a burst that may be of this run alone. The regions are opened in as many threads as it has. It works in at
+/// most one burst more than the cell run has actions.
 ///
 /// # Errors
 /// The listener refused a change, and its count of refusals rose; or out of memory.
@@ -66,6 +67,7 @@ pub fn simulate_by<B: RunBurst<Telling, L>, R: Threads + Sync, L: Listener>(
     requires awaited { AwaitsRun L.after L.awaits scene.now (L.meaning listener.old) }
     ensures run { IfOk result (λ outcome.
         RunTold L.after scene.now outcome (L.meaning listener.old) (L.meaning listener.new)) }
+    ensures few_bursts { IfOk result (λ outcome. FewBursts scene.now regions outcome (B.bursts burst.old) (B.bursts burst.new)) }
     ensures cut_short { IfErr result (λ fault.
         RunCutShort L.after L.torn scene.now fault
         (L.meaning listener.old) (L.meaning listener.new)) }
@@ -76,18 +78,16 @@ pub fn simulate_by<B: RunBurst<Telling, L>, R: Threads + Sync, L: Listener>(
     let mut telling = Telling::new(alloc);
     'bursts: loop {
         let (kind, left) = work(rt, alloc, standing, burst, &mut telling, listener)?;
-        match kind {
-            AdvanceKind::Raised => standing = left,
-            AdvanceKind::End => {
-                telling.tell_rest(listener)?;
-                let spots = left.final_state(alloc)?;
-                return Ok(Outcome::Done(spots));
-            }
-            AdvanceKind::Limit(limit) => {
-                telling.tell_rest(listener)?;
-                return Ok(Outcome::Limit(limit));
-            }
+        if let AdvanceKind::Raised = kind {
+            standing = left;
+            continue 'bursts;
         }
+        telling.tell_rest(listener)?;
+        if let AdvanceKind::Limit(limit) = kind {
+            return Ok(Outcome::Limit(limit));
+        }
+        let spots = left.final_state(alloc)?;
+        return Ok(Outcome::Done(spots));
     }
 }
 
@@ -105,6 +105,7 @@ fn work<B: RunBurst<Telling, L>, R: Threads + Sync, L: Listener>(
     requires heard { telling.old.fault ≡ None }
     requires awaited { AwaitsAll L.after L.awaits (L.meaning listener.old) (hits telling.old.untold) }
     ensures of { B.of burst.new ≡ B.of burst.old }
+    ensures counted { B.bursts burst.new ≤ B.bursts burst.old + 1 }
     ensures advances { IfOk result (λ advanced.
         Advances standing (answer_with advanced.0 telling.new.untold) advanced.1) }
     ensures told { IfOk result (λ _.

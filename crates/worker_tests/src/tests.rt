@@ -9,3 +9,4 @@ mod pauses;
 mod regions;
 mod seats;
 mod table_workers;
+mod waiting;

@@ -44,7 +44,7 @@ const RISING: Disk = Disk {
     mark: 1,
 };
 
-// A disk so far away that it has no narrow form.
+// A disk so far away that its row has no narrow form.
 const FAR: Disk = Disk {
     x: 1_000_000_000_000,
     y: 10,
@@ -109,9 +109,22 @@ const BOTH_HIT: Action = Action::Hit(Change {
     second: Some(AT_REST),
 });
 
-const FAR_HIT: Action = Action::Hit(Change {
+// A hit of a disk that has no row.
+const UNSEEN_HIT: Action = Action::Hit(Change {
     stamp: Stamp {
         tick: 5,
+        round: 0,
+        kind: Kind::Wall,
+        first: 7,
+        second: 3,
+    },
+    first: RISING,
+    second: None,
+});
+
+const FAR_HIT: Action = Action::Hit(Change {
+    stamp: Stamp {
+        tick: 6,
         round: 0,
         kind: Kind::Wall,
         first: 0,
@@ -122,7 +135,7 @@ const FAR_HIT: Action = Action::Hit(Change {
 });
 
 // One action of each form that entries are kept in.
-const ACTIONS: &[Action] = &[CROSSING, HIT, BOTH_HIT, FAR_HIT];
+const ACTIONS: &[Action] = &[CROSSING, HIT, BOTH_HIT, UNSEEN_HIT];
 
 // The message of region 1 about both disks.
 fn message() -> Entry {
@@ -211,7 +224,6 @@ fn take_back(log: &mut EventLog, view: &mut View, times: usize) -> Result<Taken,
 
 // What there has to be after no entry is taken back, after one, and so on.
 fn all_taken() -> [Taken; 7] {
-    let far = Some(Placed { disk: FAR, cell: 2 });
     let rising = Some(Placed {
         disk: RISING,
         cell: 2,
@@ -221,8 +233,8 @@ fn all_taken() -> [Taken; 7] {
         cell: 2,
     });
     [
-        (None, far, at_rest, None),
-        (Some(Entry::Native(FAR_HIT)), rising, at_rest, None),
+        (None, rising, at_rest, None),
+        (Some(Entry::Native(UNSEEN_HIT)), rising, at_rest, None),
         (Some(Entry::Native(BOTH_HIT)), at_rest, at_rest, None),
         (Some(Entry::Native(HIT)), at_rest, rising, None),
         (
@@ -249,6 +261,42 @@ fn taking_back_leads_to_the_first_view(rt: HostRuntime) -> Result<(), Fail> {
         let case = (times, stamp_taken(found));
         expect(&rt, case, found == Some(*taken), true);
     }
+    Ok(())
+}
+
+// Whether an action is refused, and the length of the log and the row of disk 0 after it.
+type Refused = (bool, usize, Option<Placed>);
+
+fn refused(log: &mut EventLog, view: &mut View, action: &Action) -> Option<Refused> {
+    if log.len() >= MAX_ENTRIES || !is_in_order(action) {
+        return None;
+    }
+    let is_refused = log.act(view, action).is_err();
+    Some((is_refused, log.len(), view.get(0)))
+}
+
+// What comes of a hit by which a disk is far away, after the others; none if the rules are refused, or there is no room.
+fn far_hit_refused(alloc: Global) -> Result<Option<Refused>, AllocError> {
+    let Some(mut view) = empty_view(alloc)? else {
+        return Ok(None);
+    };
+    let mut log = EventLog::new(alloc);
+    if run_all(&mut log, &mut view)? {
+        Ok(refused(&mut log, &mut view, &FAR_HIT))
+    } else {
+        Ok(None)
+    }
+}
+
+#[test]
+fn a_row_too_great_for_its_form_is_refused(rt: HostRuntime) -> Result<(), Fail> {
+    let found = far_hit_refused(rt.alloc())?;
+    let rising = Some(Placed {
+        disk: RISING,
+        cell: 2,
+    });
+    let length = ACTIONS.len() + 1;
+    expect(&rt, length, found == Some((true, length, rising)), true);
     Ok(())
 }
 

@@ -1,11 +1,11 @@
 //! Helpers live as long as a run, and work on each of its bursts.
 
-ghost use Rattle.std.specs.Prelude.{◌≡◌};
+ghost use Rattle.std.specs.Prelude.{◌≡◌, ◌<◌, ◌≤◌};
 ghost use Rattle.cell_sequence.specs.State.{opening_state};
 
 use super::cases::expect;
-use super::regions::{empty_scene, opened};
-use fixed_motion::Scene;
+use super::regions::{RULES, empty_scene_of, opened_in};
+use fixed_motion::{Rules, Scene};
 use region_core::{Gate, Idle};
 use region_locks::Origin;
 use region_workers::{Bell, Workers};
@@ -18,19 +18,33 @@ use std::thread::Threads;
 
 const BURSTS: u32 = 3;
 
-// A gate at which worker 0 waits for a while, in the first turn of each burst, until worker 1 begins its own.
+// A box of 64 columns, so that there is a region for each of so many workers.
+const WIDE: Rules = Rules {
+    width: 1_280,
+    ..RULES
+};
+
+const REGIONS: u32 = 64;
+
+// How many workers there are: one helper, all of the first group of four, and three more numbers of groups.
+const CREWS: &[u32] = &[2, 4, 16, 33, 64];
+
+// A gate at which worker 0 waits for a while, in the first turn of each burst, until each helper begins its own.
 #[derive(Drop)]
 struct Meetings {
-    // How often worker 1 came, and how often worker 0 saw that it did.
+    helpers: u32,
+    // How often helpers came, and in how many bursts worker 0 saw that all did.
     came: AtomicU32,
     met: AtomicU32,
 }
 
 impl Meetings {
-    // Whether worker 1 comes once more than the two have met.
-    fn sees_the_other(&self) -> bool {
+    // Whether each helper comes once more than all have met.
+    fn sees_the_others(&self) -> bool {
+        let bursts = self.met.load(Ordering::SeqCst).saturating_add(1);
+        let comings = bursts.saturating_mul(self.helpers);
         for _ in 0..10_000_000u32 {
-            if self.came.load(Ordering::SeqCst) > self.met.load(Ordering::SeqCst) {
+            if self.came.load(Ordering::SeqCst) >= comings {
                 return true;
             }
             thread::yield_now();
@@ -41,9 +55,9 @@ impl Meetings {
 
 impl Gate for Meetings {
     fn turn(&self, worker: u32, _turn: u32) {
-        if worker == 1 {
+        if worker > 0 {
             self.came.fetch_add(1, Ordering::SeqCst);
-        } else if self.sees_the_other() {
+        } else if self.sees_the_others() {
             self.met.fetch_add(1, Ordering::SeqCst);
         }
     }
@@ -56,9 +70,9 @@ fn burst_once<O: Origin>(
     workers: &Workers<'_, Meetings>,
     bell: &Bell<O>,
 ) -> Result<(), AllocError>
-    requires of { O.opening ≡ opening_state scene.now 4 }
+    requires of { O.opening ≡ opening_state scene.now 64 }
 {
-    let regions = opened(alloc, scene)?;
+    let regions = opened_in(alloc, scene, REGIONS)?;
     drop(workers.burst(bell, alloc, regions, &mut Idle, &mut ())?);
     Ok(())
 }
@@ -70,7 +84,7 @@ fn burst_often<O: Origin>(
     workers: &Workers<'_, Meetings>,
     bell: &Bell<O>,
 ) -> Result<(), AllocError>
-    requires of { O.opening ≡ opening_state scene.now 4 }
+    requires of { O.opening ≡ opening_state scene.now 64 }
 {
     for _ in 0..BURSTS {
         burst_once(alloc, scene, workers, bell)?;
@@ -78,36 +92,43 @@ fn burst_often<O: Origin>(
     Ok(())
 }
 
-// The same while a helper is there.
-fn burst_with_helper<O: Origin + Send + Sync, R: Threads + Sync>(
+// The same while the helpers are there, of so many workers in all.
+fn burst_with_helpers<O: Origin + Send + Sync, R: Threads + Sync>(
     rt: &R,
     alloc: Global,
     scene: &Scene,
+    crew: u32,
     gate: &Meetings,
 ) -> Result<(), AllocError>
-    requires of { O.opening ≡ opening_state scene.now 4 }
+    requires some { 0 < crew }
+    requires few { crew ≤ 64 }
+    requires of { O.opening ≡ opening_state scene.now 64 }
 {
     let workers = Workers {
-        workers: 2,
+        workers: crew,
         turns: 1,
         steps: 1,
         gate,
     };
-    let bell: Bell<O> = Bell::new(alloc, 2)?;
+    let bell: Bell<O> = Bell::new(alloc, crew)?;
     workers.around(
         rt,
         &bell,
         1,
         &mut || -> Result<(), AllocError>
-            requires { O.opening ≡ opening_state scene.now 4 }
+            requires { O.opening ≡ opening_state scene.now 64 }
         { burst_often(alloc, scene, &workers, &bell) },
     )
 }
 
-// In how many bursts the two workers meet; none if there is no scene.
-fn bursts_met<R: Threads + Sync>(rt: &R, alloc: Global) -> Result<Option<u32>, AllocError> {
-    match empty_scene(alloc) {
-        Some(scene) => Ok(Some(bursts_met_in(rt, alloc, &scene)?)),
+// In how many bursts all of so many workers meet; none if there is no scene.
+fn bursts_met<R: Threads + Sync>(
+    rt: &R,
+    alloc: Global,
+    crew: u32,
+) -> Result<Option<u32>, AllocError> {
+    match empty_scene_of(alloc, WIDE) {
+        Some(scene) => Ok(Some(bursts_met_in(rt, alloc, &scene, crew.clamp(1, 64))?)),
         None => Ok(None),
     }
 }
@@ -116,19 +137,31 @@ fn bursts_met_in<R: Threads + Sync>(
     rt: &R,
     alloc: Global,
     scene: &Scene,
-) -> Result<u32, AllocError> {
+    crew: u32,
+) -> Result<u32, AllocError>
+    requires some { 0 < crew }
+    requires few { crew ≤ 64 }
+{
     let gate = Meetings {
+        helpers: crew - 1,
         came: AtomicU32::new(0),
         met: AtomicU32::new(0),
     };
     // Here the proof picks the state with which the run begins.
-    burst_with_helper::<Brand, R>(rt, alloc, scene, &gate)?;
+    burst_with_helpers::<Brand, R>(rt, alloc, scene, crew, &gate)?;
     Ok(gate.met.load(Ordering::SeqCst))
 }
 
 #[test]
-fn a_helper_comes_to_each_burst(rt: HostRuntime) -> Result<(), Fail> {
-    let found = bursts_met(&rt, rt.alloc())?;
-    expect(&rt, "bursts in which two meet", found, Some(BURSTS));
+fn each_helper_comes_to_each_burst(rt: HostRuntime) -> Result<(), Fail> {
+    for &crew in CREWS {
+        let found = bursts_met(&rt, rt.alloc(), crew)?;
+        expect(
+            &rt,
+            (crew, "workers, bursts in which all meet"),
+            found,
+            Some(BURSTS),
+        );
+    }
     Ok(())
 }

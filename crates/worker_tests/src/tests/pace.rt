@@ -142,20 +142,18 @@ fn seen(pace: &Pace, slice: &Slice) -> Seen {
     (slice.steps, pace.bound(slice))
 }
 
-// The next slice once the first steps are made, the next one after a message made an earlier stamp due, and one in
-// which the regions settle.
-fn later_slices(pace: &Pace) -> (Seen, Seen, Seen) {
+// The next slice once the first steps are made, and the next one after a message made an earlier stamp due.
+fn later_slices(pace: &Pace) -> (Seen, Seen) {
     pace.ran(0, &progress(16, 2, 10));
     pace.ran(1, &progress(0, 20, 20));
     let next = seen(pace, &pace.next_slice(3));
     pace.ran(0, &progress(16, 1, 9));
-    let earlier = seen(pace, &pace.next_slice(64));
-    (next, earlier, seen(pace, &pace.settling_slice(5)))
+    (next, seen(pace, &pace.next_slice(64)))
 }
 
 // The steps of the first slice of four regions without disks, whether it goes past their end, and later slices; none if
 // the rules are refused.
-type Slices = ((u32, bool), (Seen, Seen, Seen));
+type Slices = ((u32, bool), (Seen, Seen));
 
 fn slices(alloc: Global) -> Result<Option<Slices>, AllocError> {
     let Some(scene) = empty_scene(alloc) else {
@@ -175,10 +173,8 @@ fn a_slice_goes_as_far_as_its_steps_took_lately(rt: HostRuntime) -> Result<(), A
     let next = (3, Stamp::end_of(17));
     // A message makes an earlier stamp due.
     let earlier = (16, Stamp::end_of(16));
-    // Settling goes to the farthest bound.
-    let settling = (5, Stamp::end_of(17));
     let found = slices(rt.alloc())?;
-    let want: Slices = (first, (next, earlier, settling));
+    let want: Slices = (first, (next, earlier));
     expect(&rt, "steps and ends", found, Some(want));
     Ok(())
 }

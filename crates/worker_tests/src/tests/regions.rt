@@ -1,6 +1,7 @@
 //! Regions of scenes, and a scene without disks.
 
 ghost use Rattle.std.specs.Prelude.{◌<◌, ◌^◌, length, IfOk};
+ghost use Rattle.cell_grid.specs.Grid.{IsAsked};
 ghost use Rattle.cell_sequence.specs.State.{opening_state};
 ghost use Rattle.local_run.specs.Bursts.{AreTogether};
 ghost use Rattle.run_floors.specs.Regions.{StandOfRun};
@@ -22,8 +23,13 @@ pub const RULES: Rules = Rules {
 
 /// A scene without disks; none if its rules are refused.
 pub fn empty_scene(alloc: Global) -> Option<Scene> {
-    match RULES.check() {
-        Ok(()) => Some(Scene::new(RULES, Vec::new(alloc), None)),
+    empty_scene_of(alloc, RULES)
+}
+
+/// The scene of these rules without disks; none if they are refused.
+pub fn empty_scene_of(alloc: Global, rules: Rules) -> Option<Scene> {
+    match rules.check() {
+        Ok(()) => Some(Scene::new(rules, Vec::new(alloc), None)),
         Err(_) => None,
     }
 }
@@ -37,8 +43,18 @@ pub fn opened(alloc: Global, scene: &Scene) -> Result<Vec<Region>, AllocError>
     ensures together { IfOk result (λ regions. AreTogether regions.items) }
     ensures stand { IfOk result (λ regions. StandOfRun (opening_state scene.now 4) regions.items) }
 {
+    opened_in(alloc, scene, REGIONS)
+}
+
+/// The same if this many are asked for.
+pub fn opened_in(alloc: Global, scene: &Scene, asked: u32) -> Result<Vec<Region>, AllocError>
+    requires { IsAsked asked }
+    ensures few { IfOk result (λ regions. length regions.items < 2 ^ 32) }
+    ensures together { IfOk result (λ regions. AreTogether regions.items) }
+    ensures stand { IfOk result (λ regions. StandOfRun (opening_state scene.now asked) regions.items) }
+{
     // The clause of this call says that the scene is valid, so it has a run.
     let _count = scene.count();
-    let committed = Committed::open(alloc, scene, REGIONS)?;
+    let committed = Committed::open(alloc, scene, asked)?;
     committed.open_all(alloc)
 }

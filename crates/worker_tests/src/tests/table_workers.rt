@@ -1,6 +1,7 @@
 //! What workers on a table do to regions, and that two of them work at once.
 
 ghost use Rattle.std.specs.Prelude.{◌≡◌, length, None, IfOk};
+ghost use Rattle.cell_sequence.specs.State.{opening_state};
 ghost use Rattle.local_run.specs.Bursts.{AreTogether};
 ghost use Rattle.local_run.specs.RunOn.{AreRunOn};
 ghost use Rattle.commit_horizon.specs.TellingOn.{TellsOn};
@@ -10,11 +11,13 @@ use super::regions::{REGIONS, opened};
 use event_rules::{Change, Deaf, Listener};
 use event_stamps::{Kind, Stamp};
 use fixed_motion::Scene;
-use region_core::{Beside, Gate, OpenGate, Region};
+use region_core::{Gate, OpenGate, Region};
+use region_locks::Origin;
 use region_table::burst_in_table;
-use region_workers::{ByCall, Call, Workers};
-use run_core::{Telling, simulate};
+use region_workers::{ByRunCall, RunCall, Workers};
+use run_core::{Telling, simulate_by};
 use std::alloc::{AllocError, Global};
+use std::marker::Brand;
 use std::sync::atomic::{AtomicBool, Ordering};
 use std::test::Fail;
 use std::thread;
@@ -160,57 +163,53 @@ impl Listener for Counter {
 }
 
 // How many changes a run tells over which workers work; none if it is cut short.
-fn changes_by<R: Threads + Sync, G: Gate>(
+fn changes_by<R: Threads + Sync>(
     rt: &R,
     alloc: Global,
     scene: &Scene,
-    workers: &Workers<'_, G>,
+    workers: &Workers<'_, Meeting>,
 ) -> Option<u32> {
-    changes_by_call(
+    // Here the proof picks the state with which the run begins, for which a type stands.
+    changes_of::<Brand, R>(rt, alloc, scene, workers)
+}
+
+fn changes_of<O: Origin, R: Threads + Sync>(
+    rt: &R,
+    alloc: Global,
+    scene: &Scene,
+    workers: &Workers<'_, Meeting>,
+) -> Option<u32>
+    requires of { O.opening ≡ opening_state scene.now 4 }
+{
+    changes_by_call::<O, R, _>(
         rt,
         alloc,
         scene,
-        |regions: Vec<Region>, telling: &mut Telling, counter: &mut Counter| -> Worked
+        |regions: Vec<Region>, _telling: &mut Telling, _counter: &mut Counter| -> Worked
             requires { AreTogether regions.items }
             ensures given { IfOk result (λ worked. (length worked.items ≡ length regions.items)
                 × AreRunOn regions.items worked.items) }
             ensures beside { TellsOn (λ (m : Unit {0}) _. m) (λ _ _ _. Unit {0})
-                telling.old.untold telling.old.fault None 0 telling.new.untold telling.new.fault None 0 }
-        { work_alone(rt, alloc, workers, regions, telling, counter) },
+                _telling.old.untold _telling.old.fault None 0 _telling.new.untold _telling.new.fault None 0 }
+        { burst_in_table(workers, rt, alloc, regions) },
     )
 }
 
 // The regions that a burst gives back.
 type Worked = Result<Vec<Region>, AllocError>;
 
-// Lets workers work on the regions of a grid, and does nothing beside.
-fn work_alone<R: Threads + Sync, G: Gate, S: Beside<W>, W>(
-    rt: &R,
-    alloc: Global,
-    workers: &Workers<'_, G>,
-    regions: Vec<Region>,
-    _beside: &mut S,
-    _lent: &mut W,
-) -> Worked
-    requires { AreTogether regions.items }
-    ensures given { IfOk result (λ worked. (length worked.items ≡ length regions.items)
-        × AreRunOn regions.items worked.items) }
-    ensures beside { S.goes _beside.old _lent.old _beside.new _lent.new }
-{
-    burst_in_table(workers, rt, alloc, regions)
-}
-
-fn changes_by_call<R: Threads + Sync, C: Call<Telling, Counter> + Drop>(
+fn changes_by_call<O: Origin, R: Threads + Sync, C: RunCall<O, Telling, Counter> + Drop>(
     rt: &R,
     alloc: Global,
     scene: &Scene,
     call: C,
 ) -> Option<u32>
-    requires { C.keeping call }
+    requires keeping { C.keeping call }
+    requires of { O.opening ≡ opening_state scene.now 4 }
 {
-    let mut burst = ByCall::new(call);
+    let mut burst = ByRunCall::<O, Telling, Counter, C>::new(call, 1);
     let mut counter = Counter { changes: 0 };
-    match simulate(rt, alloc, scene, REGIONS, &mut burst, &mut counter) {
+    match simulate_by(rt, alloc, scene, REGIONS, &mut burst, &mut counter) {
         Ok(_) => Some(counter.changes),
         Err(_) => None,
     }

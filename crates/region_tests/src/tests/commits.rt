@@ -3,7 +3,8 @@
 ghost use Rattle.std.specs.Prelude.{◌<◌};
 ghost use Rattle.cell_grid.specs.Grid.{IsAsked};
 
-use super::opened::{Call, expect, regions_after};
+use super::cases::expect;
+use super::opened::{Call, regions_after};
 use cell_grid::MAX_REGIONS;
 use cell_sequence::CellState;
 use commit_horizon::{Batch, Committed};

@@ -1,4 +1,4 @@
-//! Committed states at the start, calls on regions, and the comparison of what is found with what is wanted.
+//! Committed states at the start, and calls on regions.
 
 ghost use Rattle.std.specs.Prelude.{IfOk};
 ghost use Rattle.cell_grid.specs.Grid.{IsAsked};
@@ -7,19 +7,7 @@ ghost use Rattle.commit_horizon.specs.Horizon.{AllStand};
 use commit_horizon::Committed;
 use region_core::Region;
 use std::alloc::{AllocError, Global};
-use std::fmt::Debug;
-use std::process::Abort;
 use test_scenes::{LONG, scene, scene_of};
-
-/// The value found in a case has to be the one wanted.
-pub fn expect<C: Debug + Copy, V: PartialEq + Debug + Copy>(
-    rt: &impl Abort,
-    case: C,
-    found: V,
-    wanted: V,
-) {
-    assert_eq!(rt; found, wanted, "{case:?}");
-}
 
 /// The committed state with which the run of some disks begins in a box of 20 columns.
 pub fn committed_of(

@@ -2,7 +2,8 @@
 
 ghost use Rattle.commit_horizon.specs.Horizon.{AllStand};
 
-use super::opened::{Call, committed_of, expect, regions_after};
+use super::cases::expect;
+use super::opened::{Call, committed_of, regions_after};
 use commit_horizon::Committed;
 use event_stamps::{Kind, Stamp};
 use region_core::Region;

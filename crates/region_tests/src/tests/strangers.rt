@@ -2,7 +2,8 @@
 
 ghost use Rattle.cell_grid.specs.Grid.{IsRegion};
 
-use super::opened::{committed_of, expect};
+use super::cases::expect;
+use super::opened::committed_of;
 use cell_grid::MAX_REGIONS;
 use cell_sequence::CellState;
 use commit_horizon::{Adopted, Committed};
