@@ -1,18 +1,18 @@
 -- What the sink below has taken of an output that was gathered.
-use Rattle.std.proofs.Common.{◌≡◌, ◌≢◌, ◌∙◌, ◌⊎◌, inl, inr, ℕ, zero, suc, ◌≤◌, List, [], ◌++◌, length, take, drop, Option, Some, None, refl, sym, ap, subst, append_assoc, arith}
+use Rattle.std.proofs.Common.{◌≡◌, ◌≢◌, ◌∙◌, inl, inr, ℕ, ◌≤◌, List, [], ◌++◌, length, take, drop, Option, Some, None, refl, sym, ap, subst, append_assoc, arith}
 use Rattle.std.specs.Prelude.{⊤}
 use Rattle.std.proofs.lemmas.List.{append-nil}
 use Rattle.std.proofs.Math.Seq.{take-nil}
 use Rattle.std.proofs.KnownBytes.{starts_with_rest}
 use Rattle.std.specs.Io.{StartsWith}
 use Rattle.std.specs.Io.KnownBytes.{Keeps}
-use Rattle.report_ports.specs.Ports.{AppendsPrefix, Rose}
+use Rattle.report_ports.specs.Ports.{AppendsPrefix}
 use Rattle.command_words.specs.declared.settings.Settings.{Settings}
 use Rattle.gathered_sink.specs.Gathered.{IsFront}
-use Rattle.hard_disks.specs.declared.status.Status.{Status}
-use Rattle.hard_disks.specs.declared.status.Status.TheVariants.{Done, BadWords, SceneRefused, SpeedLimit, RoundLimit, ReadFault, WriteFault, NoMemory, Wrong}
-use Rattle.hard_disks.specs.Answers.{Wrote, WroteWhole, WrotePrefix, Answers, LeavesNothing, CountsReads, CountsWrites}
-use Rattle.hard_disks.specs.Output.{IsOutput}
+use Rattle.program_modes.specs.declared.status.Status.{Status}
+use Rattle.program_modes.specs.declared.status.Status.TheVariants.{Done, BadWords, SceneRefused, SpeedLimit, RoundLimit, ReadFault, WriteFault, NoMemory, Wrong}
+use Rattle.program_modes.specs.Answers.{Wrote, WroteWhole, WrotePrefix, Answers, LeavesNothing, CountsReads, CountsWrites}
+use Rattle.program_modes.specs.Output.{IsOutput}
 use Rattle.hard_disks.specs.Gathers.{IsFresh, Finishes}
 
 -- the front of a prefix is a prefix
@@ -107,13 +107,6 @@ counted_whole above below status none unfailed counts =
 pub counted_torn : (below : ℕ) → 1 ≤ below → CountsWrites 0 below WriteFault
 counted_torn below some = (omega arith, inl (omega (arith, some)))
 
--- a count that rose from nothing, or stands at its end
-pub risen : (n : ℕ) → Rose 0 n → 1 ≤ n
-risen n rose = elim rose [
-  | inl some ↦ some
-  | inr most ↦ omega (arith, most)
-]
-
 -- ---- the status after the rest was given
 pub left_nothing : (left left' : Option (List ℕ)) (status last : Status) (below : ℕ) → Finishes status below last
     → LeavesNothing left left' status → LeavesNothing left left' last
@@ -156,22 +149,3 @@ pub counted_below : (before above above' below : ℕ) (status last : Status) →
     → (CountsWrites 0 above' status → CountsWrites 0 below last) → CountsWrites above above' status → CountsWrites before below last
 counted_below before above above' below status last none first finishes c =
     subst (λ (n : ℕ). CountsWrites n below last) (sym none) (finishes (subst (λ (n : ℕ). CountsWrites n above' status) first c))
-
-none_unless : (n : ℕ) → (1 ≤ n → ⊥) → n ≡ 0
-none_unless zero unmet = refl
-none_unless (suc n) unmet = absurd (unmet (omega arith))
-
-pub completed_below : (before above above' below : ℕ) (status last own : Status) → before ≡ 0 → above ≡ 0 → (below ≡ 0 → above' ≡ 0)
-    → Finishes status below last → (¬ Rose above above' → (status ≡ own) ⊎ (status ≡ NoMemory))
-    → ¬ Rose before below → (last ≡ own) ⊎ (last ≡ NoMemory)
-completed_below before above above' below status last own none first whole is done still =
-    let unfailed : below ≡ 0 = none_unless below (λ some. still (inl (omega (arith, some, none)))) in
-    let calm : ¬ Rose above above' = λ rose.
-    absurd (omega (arith, risen above' (subst (λ (n : ℕ). Rose n above') first rose), whole unfailed)) in
-    elim is [
-      | inl same ↦ elim (done calm) [
-        | inl own_is ↦ inl (same ∙ own_is)
-        | inr out ↦ inr (same ∙ out)
-      ]
-      | inr torn ↦ absurd (omega (arith, unfailed, torn.2))
-    ]

@@ -1,20 +1,19 @@
 //! The top call over a sink that gathers the pieces that it is given.
 
-ghost use Rattle.std.specs.Prelude.{◌≡◌, ◌⊎◌, map, Option, List, ℕ};
-ghost use Rattle.report_ports.specs.Ports.{Rose};
+ghost use Rattle.std.specs.Prelude.{◌≡◌, [], map, Option, List, ℕ};
 ghost use Rattle.command_words.specs.declared.settings.Settings.{Settings};
 ghost use Rattle.command_words.specs.Words.{settings_of};
-ghost use Rattle.hard_disks.specs.Output.{Input, IsOutput};
-ghost use Rattle.hard_disks.specs.Answers.{Answers, MayAnswer, Decides, ReadsScene, LeavesNothing, CountsReads, CountsWrites};
-ghost use Rattle.hard_disks.specs.Gathers.{IsFresh, Finishes};
+ghost use Rattle.program_modes.specs.Answers.{Answers, MayAnswer, CountsWrites};
+ghost use Rattle.hard_disks.specs.Gathers.{IsFresh, Finishes, Serves};
 
 use crate::calls::top_watched;
-use crate::status::Status;
 use gathered_sink::GatheringSink;
-use live_progress::Board;
+use live_progress::{Board, Pen};
+use program_modes::Status;
 use region_core::Gate;
 use report_ports::{Given, Sink, Source};
 use std::alloc::Global;
+use std::sync::Wait;
 use std::thread::Threads;
 use std::time::Clock;
 use terminal_line::Timely;
@@ -25,7 +24,7 @@ use terminal_line::Timely;
 ///
 /// If the rest can't be given, the status is [`Status::WriteFault`], whatever it was before. The gathering takes memory
 /// only for the room; if there is none, each piece is given at once.
-pub fn top_gathered<R: Threads + Sync, S: Source, K: Sink, G: Gate, C: Clock>(
+pub fn top_gathered<R: Threads + Wait + Sync, S: Source, K: Sink, G: Gate, C: Clock>(
     rt: &R,
     alloc: Global,
     words: &[&str],
@@ -39,48 +38,53 @@ pub fn top_gathered<R: Threads + Sync, S: Source, K: Sink, G: Gate, C: Clock>(
     requires whole { K.faults sink ≡ 0 }
     requires allowed { MayAnswer (settings_of (map (λ w. w.now) words.now)) (S.left source.old)
         (K.allows (K.lasting sink)) (K.taken sink) }
-    ensures headline { Answers (settings_of (map (λ w. w.now) words.now)) (S.left source.old)
-        (K.taken sink) (K.taken result.1) result.0 }
-    ensures untouched { ¬ ReadsScene (settings_of (map (λ w. w.now) words.now)) →
-        source.new ≡ source.old }
-    ensures emptied { ReadsScene (settings_of (map (λ w. w.now) words.now)) →
-        LeavesNothing (S.left source.old) (S.left source.new) result.0 }
-    ensures complete { (input : Input) (text : List ℕ) (own : Status) →
-        Decides (settings_of (map (λ w. w.now) words.now)) (S.left source.old) input →
-        IsOutput (settings_of (map (λ w. w.now) words.now)) input text own →
-        ¬ Rose (S.faults source.old) (S.faults source.new) →
-        ¬ Rose (K.faults sink) (K.faults result.1) →
-        (result.0 ≡ own) ⊎ (result.0 ≡ Status.NoMemory) }
-    ensures reads { CountsReads (S.faults source.old) (S.faults source.new) result.0 }
-    ensures writes { CountsWrites (K.faults sink) (K.faults result.1) result.0 }
+    ensures serves { Serves S.left S.faults K.taken K.faults (settings_of (map (λ w. w.now) words.now))
+        source.old source.new sink result.1 result.0 }
 {
     let Ok((board, mut pen)) = Board::open(alloc) else {
         return (Status::NoMemory, sink);
     };
+    gather(
+        rt, alloc, words, source, sink, room, gate, clock, &board, &mut pen,
+    )
+}
+
+// Does the same, and publishes the changes of the run on a board that is handed in.
+pub(crate) fn gather<R: Threads + Wait + Sync, S: Source, K: Sink, G: Gate, C: Clock>(
+    rt: &R,
+    alloc: Global,
+    words: &[&str],
+    source: &mut S,
+    sink: K,
+    room: usize,
+    gate: &G,
+    clock: &C,
+    board: &Board,
+    pen: &mut Pen,
+) -> (Status, K)
+    requires fresh { IsFresh (K.taken sink) }
+    requires whole { K.faults sink ≡ 0 }
+    requires board { pen.old.board ≡ board.now }
+    requires unwritten { pen.old.list ≡ [] }
+    requires allowed { MayAnswer (settings_of (map (λ w. w.now) words.now)) (S.left source.old)
+        (K.allows (K.lasting sink)) (K.taken sink) }
+    ensures serves { Serves S.left S.faults K.taken K.faults (settings_of (map (λ w. w.now) words.now))
+        source.old source.new sink result.1 result.0 }
+{
     let gathered = GatheringSink::new(alloc, sink, room);
     let mut timely = Timely::new(clock, gathered);
-    let status = top_watched(
-        rt,
-        alloc,
-        words,
-        source,
-        &mut timely,
-        gate,
-        &board,
-        &mut pen,
-    );
+    let status = top_watched(rt, alloc, words, source, &mut timely, gate, board, pen);
     finish(timely.gathered, status)
 }
 
 // Gives the rest of what was gathered, after the call that gathered it ended with the status.
-#[tactic(auto, using(crate::proofs::PassedOn::answered_torn, crate::proofs::PassedOn::answered_unread, crate::proofs::PassedOn::answered_whole, crate::proofs::PassedOn::writes, crate::proofs::PassedOn::counted_whole, crate::proofs::PassedOn::counted_torn, crate::proofs::PassedOn::risen,))]
-pub(crate) fn finish<K: Sink>(mut gathered: GatheringSink<K>, status: Status) -> (Status, K)
+#[tactic(auto, using(crate::proofs::PassedOn::answered_torn, crate::proofs::PassedOn::answered_unread, crate::proofs::PassedOn::answered_whole, crate::proofs::PassedOn::writes, crate::proofs::PassedOn::counted_whole, crate::proofs::PassedOn::counted_torn,))]
+fn finish<K: Sink>(mut gathered: GatheringSink<K>, status: Status) -> (Status, K)
     ensures answers { (settings : Option Settings) (left taken : Option (List ℕ)) → IsFresh taken →
         Answers settings left taken gathered.told status →
         Answers settings left taken (K.taken result.1) result.0 }
     ensures writes { CountsWrites 0 gathered.faults status → CountsWrites 0 (K.faults result.1) result.0 }
     ensures kept { Finishes status (K.faults result.1) result.0 }
-    ensures whole { K.faults result.1 ≡ 0 → gathered.faults ≡ 0 }
 {
     match status {
         Status::ReadFault => (Status::ReadFault, gathered.into_sink()),

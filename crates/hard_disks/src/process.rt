@@ -6,21 +6,20 @@
 //! and sink.
 
 ghost use Rattle.std.specs.Prelude.{◌≡◌, [], map, None, Some, IsSome, string_bytes};
-ghost use Rattle.hard_disks.specs.Answers.{Answers, MayAnswer, ReadsScene};
+ghost use Rattle.program_modes.specs.Answers.{Answers, MayAnswer};
 ghost use Rattle.hard_disks.specs.Gathers.{IsFresh, Serves};
 ghost use Rattle.command_words.specs.Words.{settings_of};
 
-use crate::calls::top_watched;
-use crate::gathering::{finish, top_gathered};
-use crate::status::Status;
-use gathered_sink::GatheringSink;
+use crate::gathering::{gather, top_gathered};
 use live_progress::{Board, Pen};
+use program_modes::Status;
 use report_ports::{Sink, Source, StdSink, StdSource};
 use std::io::{Read, Write};
+use std::sync::Wait;
 use std::thread::Threads;
 use std::time::Clock;
 use std::{io, thread};
-use terminal_line::{BesideLine, ProgressLine, Terminal, TimeSharing, Timely};
+use terminal_line::{BesideLine, ProgressLine, Terminal, TimeSharing};
 
 // How many bytes of output are written together, unless it goes to a terminal: what a pipe holds.
 const ROOM: usize = 65_536;
@@ -41,7 +40,7 @@ pub struct Terminals {
 ///
 /// What is read and written is what [`top`] says.
 pub fn run_process<
-    R: AllocGlobal + Input + Print + Eprint + Threads + Clock + Sync,
+    R: AllocGlobal + Input + Print + Eprint + Threads + Wait + Clock + Sync,
     T: Terminal + Sync,
 >(rt: &R, words: &[String], terminals: Terminals, terminal: &T) -> Status
     ensures { Answers (settings_of (map string_bytes words.now)) None None None result }
@@ -62,7 +61,7 @@ pub fn run_process<
 /// Does over any reader and writer whose bytes are known what [`run_process`] does over standard input and output. The
 /// writer holds none yet, and is given back.
 pub fn run_process_over<
-    R: AllocGlobal + Eprint + Threads + Clock + Sync,
+    R: AllocGlobal + Eprint + Threads + Wait + Clock + Sync,
     I: Read + Drop,
     O: Write + Drop,
     T: Terminal + Sync,
@@ -79,7 +78,7 @@ pub fn run_process_over<
 }
 
 /// Does what [`run_process_over`] does if standard error is no terminal. `is_terminal` says whether the writer is one.
-pub fn run_streams<R: AllocGlobal + Threads + Clock + Sync, I: Read + Drop, O: Write + Drop>(
+pub fn run_streams<R: AllocGlobal + Threads + Wait + Clock + Sync, I: Read + Drop, O: Write + Drop>(
     rt: &R,
     words: &[&str],
     input: I,
@@ -93,31 +92,10 @@ pub fn run_streams<R: AllocGlobal + Threads + Clock + Sync, I: Read + Drop, O: W
 {
     let mut source = StdSource::telling(input);
     let sink = StdSink::telling(output);
-    let (status, sink) = run_between(rt, words, &mut source, sink, is_terminal);
-    (status, sink.into_writer())
-}
-
-// The top call as the process makes it: the output is gathered, and workers pass the gate `TimeSharing`.
-fn run_between<R: AllocGlobal + Threads + Clock + Sync, S: Source, K: Sink>(
-    rt: &R,
-    words: &[&str],
-    source: &mut S,
-    sink: K,
-    is_terminal: bool,
-) -> (Status, K)
-    requires fresh { IsFresh (K.taken sink) }
-    requires whole { K.faults sink ≡ 0 }
-    requires allowed { MayAnswer (settings_of (map (λ w. w.now) words.now)) (S.left source.old)
-        (K.allows (K.lasting sink)) (K.taken sink) }
-    ensures serves { Serves (settings_of (map (λ w. w.now) words.now))
-        (S.left source.old) (S.left source.new) (S.faults source.old) (S.faults source.new)
-        (K.taken sink) (K.taken result.1) (K.faults sink) (K.faults result.1) result.0 }
-    ensures untouched { ¬ ReadsScene (settings_of (map (λ w. w.now) words.now)) →
-        source.new ≡ source.old }
-{
     let gate = TimeSharing::new(rt, rt.alloc());
     let room = room_of(is_terminal);
-    top_gathered(rt, rt.alloc(), words, source, sink, room, &gate, rt)
+    let (status, written) = top_gathered(rt, rt.alloc(), words, &mut source, sink, room, &gate, rt);
+    (status, written.into_writer())
 }
 
 // How many bytes are gathered: on a terminal each line is shown at once.
@@ -129,7 +107,7 @@ fn room_of(is_terminal: bool) -> usize {
 /// sink tells its bytes, it has taken none, and no call of it has failed. Of each byte that it is given, at any time, it
 /// may ask that it extends what was taken to a prefix of an output.
 pub fn run_over<
-    R: AllocGlobal + Eprint + Threads + Clock + Sync,
+    R: AllocGlobal + Eprint + Threads + Wait + Clock + Sync,
     S: Source + Drop,
     K: Sink + Drop,
     T: Terminal + Sync,
@@ -145,11 +123,8 @@ pub fn run_over<
     requires whole { K.faults sink ≡ 0 }
     requires allowed { MayAnswer (settings_of (map (λ w. w.now) words.now)) (S.left source)
         (K.allows (K.lasting sink)) (K.taken sink) }
-    ensures serves { Serves (settings_of (map (λ w. w.now) words.now))
-        (S.left source) (S.left result.1) (S.faults source) (S.faults result.1)
-        (K.taken sink) (K.taken result.2) (K.faults sink) (K.faults result.2) result.0 }
-    ensures untouched { ¬ ReadsScene (settings_of (map (λ w. w.now) words.now)) →
-        result.1 ≡ source }
+    ensures serves { Serves S.left S.faults K.taken K.faults (settings_of (map (λ w. w.now) words.now))
+        source result.1 sink result.2 result.0 }
 {
     let is_shared = terminals.output;
     if terminals.errors
@@ -157,13 +132,15 @@ pub fn run_over<
     {
         return run_shown(rt, words, source, sink, is_shared, terminal, &board, pen);
     }
-    let (status, sink) = run_between(rt, words, &mut source, sink, is_shared);
+    let gate = TimeSharing::new(rt, rt.alloc());
+    let room = room_of(is_shared);
+    let (status, sink) = top_gathered(rt, rt.alloc(), words, &mut source, sink, room, &gate, rt);
     (status, source, sink)
 }
 
-// Another thread shows the line while the run goes on.
+// Another thread shows the line while the run goes on; then the line is ended.
 fn run_shown<
-    R: AllocGlobal + Eprint + Threads + Clock + Sync,
+    R: AllocGlobal + Eprint + Threads + Wait + Clock + Sync,
     S: Source + Drop,
     K: Sink + Drop,
     T: Terminal + Sync,
@@ -183,13 +160,10 @@ fn run_shown<
     requires unwritten { pen.list ≡ [] }
     requires allowed { MayAnswer (settings_of (map (λ w. w.now) words.now)) (S.left source)
         (K.allows (K.lasting sink)) (K.taken sink) }
-    ensures serves { Serves (settings_of (map (λ w. w.now) words.now))
-        (S.left source) (S.left result.1) (S.faults source) (S.faults result.1)
-        (K.taken sink) (K.taken result.2) (K.faults sink) (K.faults result.2) result.0 }
-    ensures untouched { ¬ ReadsScene (settings_of (map (λ w. w.now) words.now)) →
-        result.1 ≡ source }
+    ensures serves { Serves S.left S.faults K.taken K.faults (settings_of (map (λ w. w.now) words.now))
+        source result.1 sink result.2 result.0 }
 {
-    let glass = board.glass(&mut pen);
+    let glass = board.glass(rt, &mut pen);
     let line = ProgressLine::new();
     let (_, ended) = thread::join(
         rt,
@@ -199,61 +173,34 @@ fn run_shown<
                 × (pen.board ≡ board.now) × (pen.list ≡ [])
                 × MayAnswer (settings_of (map (λ w. w.now) words.now)) (S.left source)
                 (K.allows (K.lasting sink)) (K.taken sink) }
-            ensures serves { Serves (settings_of (map (λ w. w.now) words.entry.now))
-                (S.left source) (S.left result.1) (S.faults source) (S.faults result.1)
-                (K.taken sink) (K.taken result.2) (K.faults sink) (K.faults result.2) result.0 }
-            ensures untouched { ¬ ReadsScene (settings_of (map (λ w. w.now) words.entry.now)) →
-                result.1 ≡ source }
-        { run_beside(rt, words, source, sink, is_shared, &line, board, pen) },
+            ensures serves { Serves S.left S.faults K.taken K.faults (settings_of (map (λ w. w.now) words.entry.now))
+                source result.1 sink result.2 result.0 }
+        {
+            let (mut source, mut pen) = (source, pen);
+            let line = &line;
+            let beside = BesideLine {
+                rt,
+                line,
+                is_shared,
+                sink,
+            };
+            let gate = TimeSharing::new(rt, rt.alloc());
+            let room = room_of(is_shared);
+            let (status, beside) = gather(
+                rt,
+                rt.alloc(),
+                words,
+                &mut source,
+                beside,
+                room,
+                &gate,
+                rt,
+                board,
+                &mut pen,
+            );
+            line.end(rt);
+            (status, source, beside.sink)
+        },
     );
     ended
-}
-
-// Runs, and then ends the line.
-fn run_beside<R: AllocGlobal + Eprint + Threads + Clock + Sync, S: Source + Drop, K: Sink>(
-    rt: &R,
-    words: &[&str],
-    mut source: S,
-    sink: K,
-    is_shared: bool,
-    line: &ProgressLine,
-    board: &Board,
-    mut pen: Pen,
-) -> (Status, S, K)
-    requires fresh { IsFresh (K.taken sink) }
-    requires whole { K.faults sink ≡ 0 }
-    requires board { pen.board ≡ board.now }
-    requires unwritten { pen.list ≡ [] }
-    requires allowed { MayAnswer (settings_of (map (λ w. w.now) words.now)) (S.left source)
-        (K.allows (K.lasting sink)) (K.taken sink) }
-    ensures serves { Serves (settings_of (map (λ w. w.now) words.now))
-        (S.left source) (S.left result.1) (S.faults source) (S.faults result.1)
-        (K.taken sink) (K.taken result.2) (K.faults sink) (K.faults result.2) result.0 }
-    ensures untouched { ¬ ReadsScene (settings_of (map (λ w. w.now) words.now)) →
-        result.1 ≡ source }
-{
-    let beside = BesideLine {
-        rt,
-        line,
-        is_shared,
-        sink,
-    };
-    let mut timely = Timely::new(
-        rt,
-        GatheringSink::new(rt.alloc(), beside, room_of(is_shared)),
-    );
-    let gate = TimeSharing::new(rt, rt.alloc());
-    let status = top_watched(
-        rt,
-        rt.alloc(),
-        words,
-        &mut source,
-        &mut timely,
-        &gate,
-        board,
-        &mut pen,
-    );
-    let (status, beside) = finish(timely.gathered, status);
-    line.end(rt);
-    (status, source, beside.sink)
 }

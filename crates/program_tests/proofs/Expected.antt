@@ -7,9 +7,9 @@ use Rattle.std.proofs.lemmas.Slice.Eq.{starts_is}
 use Rattle.std.proofs.Math.Seq.{drop-append_seam, take-append-add, take-append_seam, take-length}
 use Rattle.report_ports.specs.Ports.{MayTake}
 use Rattle.command_words.specs.Words.{settings_of}
-use Rattle.hard_disks.specs.declared.status.Status.TheVariants.{Done}
-use Rattle.hard_disks.specs.Answers.{Answers, MayAnswer}
-use Rattle.hard_disks.specs.Laws.{Begins, PrefixesMayBeAsked}
+use Rattle.program_modes.specs.declared.status.Status.TheVariants.{Done}
+use Rattle.program_modes.specs.Answers.{Answers, MayAnswer}
+use Rattle.program_modes.specs.Laws.{Begins, PrefixesMayBeAsked}
 
 -- the text goes on with the piece
 goes_on : (want piece : List ℕ) (at : ℕ) → MayTake (Begins want) (Some (take at want)) piece →

@@ -5,6 +5,7 @@ mod expecting;
 mod faults;
 mod gathering;
 mod helpers;
+mod line;
 mod live;
 mod made_scenes;
 mod process;

@@ -1,5 +1,4 @@
 -- The lemmas of the crate.
-mod Multiples
 mod Inside
 mod Summable
 mod Due

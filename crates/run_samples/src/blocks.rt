@@ -1,7 +1,6 @@
 //! The sums at some ticks, written to a sink.
 
-ghost use Rattle.std.specs.Prelude.{◌≡◌, ◌+◌, ◌-◌, ◌*◌, ◌≤◌, ◌^◌, ◌∷◌, ◌++◌, [], length};
-ghost use Rattle.std.specs.List.{flat_map};
+ghost use Rattle.std.specs.Prelude.{◌≡◌, ◌+◌, ◌*◌, ◌≤◌, ◌^◌, ◌++◌, length};
 ghost use Rattle.report_ports.specs.Ports.{MayTake};
 ghost use Rattle.fixed_motion.specs.declared.rules.TheConstants.{MAX_END};
 ghost use Rattle.fixed_motion.specs.Rules.{IsChecked};
@@ -10,15 +9,14 @@ ghost use Rattle.event_rules.specs.Outcomes.{IsOutcomeOf};
 ghost use Rattle.event_rules.specs.Run.{spot_of, spots_of};
 ghost use Rattle.event_rules.specs.Conservation.{spot_velocity, square_of};
 ghost use Rattle.plane_vectors.specs.Vectors.{IsWithin};
-ghost use Rattle.collision_report.specs.Blocks.{numbers_from, times};
 ghost use Rattle.collision_report.specs.Bounds.{AllHaveBegun, AreSlow};
 ghost use Rattle.collision_report.specs.Writes.{Writes};
 ghost use Rattle.run_samples.specs.declared.sample.Sample.TheVariants.{Sums as Summed};
 ghost use Rattle.collision_sums.specs.Sums as the;
-ghost use Rattle.collision_sums.specs.SumLines.{sums_block, inside_line, sides_line};
+ghost use Rattle.collision_sums.specs.SumLines.{inside_line, sides_line};
 ghost use Rattle.run_samples.specs.Samples.{sample_of, samples_of, last_sums};
 
-use collision_report::{StateTable, give_line, spot_at};
+use collision_report::{Snapshot, StateTable, give_line, spot_at, write_multiples};
 use collision_sums::{Sums, inside_line, is_spot_in_part, sides_line};
 use event_rules::{Deaf, Outcome, Spot};
 use fixed_motion::{Disk, Rules, Scene};
@@ -48,65 +46,33 @@ pub(crate) fn write_due_sums<K: Sink>(
         return Ok(());
     };
     let last = tick.min(table.rules().end.saturating_sub(1));
-    let (from, to) = (table.shown() / every, last / every);
-    write_multiples(
-        sink,
-        table.rules(),
-        table.disks(),
+    let sums = SumsAt {
+        rules: table.rules(),
+        disks: table.disks(),
         margin,
         sums,
-        every,
-        from,
-        to,
-    )
+    };
+    write_multiples(sink, &sums, every, table.shown() / every, last / every)
 }
 
-// Writes the sums at the multiples of `every`, from the one after `from` times `every` up to `to` times `every`.
-fn write_multiples<K: Sink>(
-    sink: &mut K,
-    rules: &Rules,
-    disks: &[Disk],
+// The sums over the collisions so far, and the disks that are in the part meanwhile.
+#[derive(Drop)]
+struct SumsAt<'t> {
+    rules: &'t Rules,
+    disks: &'t [Disk],
     margin: u32,
-    sums: &Sums,
-    every: u64,
-    from: u64,
-    to: u64,
-) -> Result<(), Deaf>
-    requires rules { IsChecked rules.now }
-    requires disks { AllHaveBegun rules.now ((from + 1) * every) disks.now }
-    requires count { length disks.now ≤ 65536 }
-    requires last { to * every ≤ MAX_END }
-    requires most { to ≤ MAX_END }
-    requires allowed { MayTake (K.allows (K.lasting sink.old)) (K.taken sink.old)
-        (flat_map (sample_of (Summed margin) rules.now disks.now sums.now) (times every (numbers_from (from + 1) (to - from)))) }
-    ensures { Writes K.taken K.faults K.lasting sink.old sink.new result
-        (flat_map (sample_of (Summed margin) rules.now disks.now sums.now) (times every (numbers_from (from + 1) (to - from)))) }
-{
-    for count in from..to {
-        write_block(sink, rules, disks, margin, sums, (count + 1) * every)?;
+    sums: &'t Sums,
+}
+
+impl Snapshot for SumsAt<'_> {
+    ghost text = { λ s. sample_of (Summed s.margin) s.rules.now s.disks.now s.sums.now };
+
+    ghost stands = { λ s tick. IsChecked s.rules.now × AllHaveBegun s.rules.now tick s.disks.now × (length s.disks.now ≤ 65536) };
+
+    fn write<K: Sink>(&self, sink: &mut K, tick: u64) -> Result<(), Deaf> {
+        let inside = inside_at(self.rules, self.disks, self.margin, tick);
+        write_lines(sink, tick, inside, self.sums)
     }
-    Ok(())
-}
-
-// Writes the sums at a tick. No disk's base tick is after it.
-fn write_block<K: Sink>(
-    sink: &mut K,
-    rules: &Rules,
-    disks: &[Disk],
-    margin: u32,
-    sums: &Sums,
-    tick: u64,
-) -> Result<(), Deaf>
-    requires rules { IsChecked rules.now }
-    requires disks { AllHaveBegun rules.now tick disks.now }
-    requires count { length disks.now ≤ 65536 }
-    requires tick { tick ≤ MAX_END }
-    requires allowed { MayTake (K.allows (K.lasting sink.old)) (K.taken sink.old)
-        (sums_block rules.now margin sums.now tick (spots_of tick disks.now)) }
-    ensures { Writes K.taken K.faults K.lasting sink.old sink.new result
-        (sums_block rules.now margin sums.now tick (spots_of tick disks.now)) }
-{
-    write_lines(sink, tick, inside_at(rules, disks, margin, tick), sums)
 }
 
 fn inside_at(rules: &Rules, disks: &[Disk], margin: u32, tick: u64) -> Inside

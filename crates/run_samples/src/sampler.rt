@@ -4,7 +4,6 @@ ghost use base.Fml.{GName};
 ghost use Rattle.std.specs.Prelude.{◌≡◌, true, Some, OnOk, OnErr};
 ghost use Rattle.std.specs.Io.KnownBytes.{Appends};
 ghost use Rattle.report_ports.specs.Ports.{AppendsPrefix, MayTake};
-ghost use Rattle.event_rules.specs.Laws.{last_tick};
 ghost use Rattle.event_rules.specs.Outcomes.{IsOutcomeOf};
 ghost use Rattle.event_rules.specs.Told.{CountsRefusal};
 ghost use Rattle.collision_report.specs.Meaning.{IsSceneOf, takes_part};
@@ -15,9 +14,9 @@ ghost use Rattle.run_samples.specs.Samples.{summed};
 
 use crate::Sample;
 use crate::blocks::{write_due_sums, write_last};
-use collision_report::{Format, StateTable, write_due, write_end};
+use collision_report::{Format, StateTable, last_tick, write_due, write_end};
 use collision_sums::Sums;
-use event_rules::{Change, Deaf, Limit, Listener, Outcome};
+use event_rules::{Change, Deaf, Listener, Outcome};
 use fixed_motion::Scene;
 use report_ports::Sink;
 
@@ -159,17 +158,6 @@ fn add_change(sample: Sample, table: &StateTable, sums: &mut Sums, change: &Chan
 {
     if let Sample::Sums(margin) = sample {
         sums.add(table.rules(), margin, table.disks(), change);
-    }
-}
-
-// The tick up to which the state of a run with this outcome is known.
-fn last_tick(scene: &Scene, outcome: &Outcome) -> u64
-    ensures { result ≡ last_tick scene.now outcome.now }
-{
-    match outcome {
-        Outcome::Done(_) => scene.rules.end,
-        Outcome::Limit(Limit::Rounds(stamp)) => stamp.tick,
-        Outcome::Limit(Limit::Speed(stamp)) => stamp.tick,
     }
 }
 

@@ -9,7 +9,7 @@ use Rattle.event_rules.proofs.OneRun.{one_run}
 use Rattle.resume.specs.Parts.{before_scene, rest_scene}
 use Rattle.resume.specs.Laws.{Resumes}
 use Rattle.scene_reader.specs.Says.{says}
-use Rattle.hard_disks.specs.Laws.{IsRest}
+use Rattle.program_modes.specs.Laws.{IsRest}
 use Rattle.worked_laws.specs.Rows.{box_until}
 use Rattle.worked_laws.specs.Pair.{pair_scene, pair_disks}
 use Rattle.worked_outputs.proofs.Before.{run_before}

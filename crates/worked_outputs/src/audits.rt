@@ -5,12 +5,12 @@ ghost use Rattle.text_lines.specs.Lines.{ended};
 ghost use Rattle.command_words.specs.declared.settings.Mode.TheVariants.{Audit};
 ghost use Rattle.command_words.specs.declared.settings.Settings.{Settings};
 ghost use Rattle.report_audit.specs.Laws.{joined};
-ghost use Rattle.hard_disks.specs.declared.status.Status.{Status};
-ghost use Rattle.hard_disks.specs.declared.status.Status.TheVariants.{Done, Wrong};
-ghost use Rattle.hard_disks.specs.Laws.{IsOutputFor, IsReportFor};
+ghost use Rattle.program_modes.specs.declared.status.Status.{Status};
+ghost use Rattle.program_modes.specs.declared.status.Status.TheVariants.{Done, Wrong};
+ghost use Rattle.program_modes.specs.Laws.{IsOutputFor, IsReportFor};
 ghost use Rattle.worked_laws.specs.Texts.{hit_line, pair_report};
 
-use hard_disks::{audits_accept, audits_refuse};
+use program_modes::{audits_accept, audits_refuse};
 
 /// By `audits_accept` an audit of the pair's report, of eight lines, writes `audit ok 8`. A law of some other text, or of
 /// another status, doesn't say it.

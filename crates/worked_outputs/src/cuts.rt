@@ -9,12 +9,12 @@ ghost use Rattle.resume.specs.Shift.{shifted, later_outcome};
 ghost use Rattle.scene_reader.specs.Says.{says};
 ghost use Rattle.command_words.specs.declared.settings.OutputFormat.TheVariants.{Lines};
 ghost use Rattle.command_words.specs.declared.settings.Settings.{Settings};
-ghost use Rattle.hard_disks.specs.declared.status.Status.TheVariants.{Done};
-ghost use Rattle.hard_disks.specs.Laws.{IsOutputFor, IsCutAgain, CutsAt};
+ghost use Rattle.program_modes.specs.declared.status.Status.TheVariants.{Done};
+ghost use Rattle.program_modes.specs.Laws.{IsOutputFor, IsCutAgain, CutsAt};
 ghost use Rattle.worked_laws.specs.Pair.{pair_scene, the_hit, pair_end};
 ghost use Rattle.worked_outputs.specs.Rests.{rest_at_one, rest_at_two};
 
-use hard_disks::{cuts_add_up, cuts_resume};
+use program_modes::{cuts_add_up, cuts_resume};
 
 /// By `cuts_resume` what is written when the pair's scene is cut at tick 2 states the two at x = 12 and 18, with three
 /// ticks left; and any run of that, two ticks later, is the hit at tick 3 and the pair's end. A law of the text alone, or

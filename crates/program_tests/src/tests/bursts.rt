@@ -14,6 +14,7 @@ use scene_maker::scene_text;
 use std::alloc::{AllocError, Global};
 use std::mem;
 use std::process::Abort;
+use std::sync::Wait;
 use std::test::Fail;
 use std::thread::Threads;
 use test_scenes::{FOUR_IN_A_ROW, LONG, MISLED, scene, scene_of};
@@ -130,7 +131,7 @@ fn valid(rt: &impl Abort, alloc: Global, rows: &str) -> Result<Scene, AllocError
 
 // Stops a test if the four disks, with their report or with another one, have another verdict over this burst.
 fn expect_verdicts<B: Burst<Idle, ()>>(
-    rt: &(impl Threads + Sync + Abort),
+    rt: &(impl Threads + Wait + Sync + Abort),
     alloc: Global,
     burst: &mut B,
 ) -> Result<(), AllocError> {
@@ -144,7 +145,7 @@ fn expect_verdicts<B: Burst<Idle, ()>>(
 // The number of lines, if the claim is the report of the four disks, or that of the first wrong one; 0 if there is no
 // verdict.
 fn verdict_on<B: Burst<Idle, ()>>(
-    rt: &(impl Threads + Sync),
+    rt: &(impl Threads + Wait + Sync),
     alloc: Global,
     claim: &str,
     burst: &mut B,

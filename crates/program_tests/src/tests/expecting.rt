@@ -2,8 +2,8 @@
 
 ghost use Rattle.std.specs.Prelude.{◌≡◌, ◌≤◌, [], map, length, take, Some, IfOk, IfSome, List, ℕ};
 ghost use Rattle.command_words.specs.Words.{settings_of};
-ghost use Rattle.hard_disks.specs.Answers.{Answers};
-ghost use Rattle.hard_disks.specs.Laws.{Begins};
+ghost use Rattle.program_modes.specs.Answers.{Answers};
+ghost use Rattle.program_modes.specs.Laws.{Begins};
 
 use super::helpers::{
     AMPLE_ROOM, MEETING, MEETING_REPORT, MEETING_STATES, MEETING_SUMS, PLAIN, RUN,
@@ -15,6 +15,7 @@ use report_ports::{Given, MemorySink, MemorySource, Sink};
 use std::alloc::{AllocError, Global};
 use std::io;
 use std::process::Abort;
+use std::sync::Wait;
 use std::sync::atomic::{AtomicU64, Ordering};
 use std::test::Fail;
 use std::thread::Threads;
@@ -84,7 +85,7 @@ fn a_sink_may_ask_for_the_output(rt: HostRuntime) -> Result<(), Fail> {
 }
 
 fn expect_taken(
-    rt: &(impl Threads + Sync + Abort),
+    rt: &(impl Threads + Wait + Sync + Abort),
     alloc: Global,
     words: &[&str],
     scene: &[u8],
@@ -107,7 +108,7 @@ fn expect_taken(
 
 // The output, if the call ends well.
 fn output_of(
-    rt: &(impl Threads + Sync),
+    rt: &(impl Threads + Wait + Sync),
     alloc: Global,
     words: &[&str],
     scene: &[u8],
@@ -125,7 +126,7 @@ fn output_of(
 
 // How a call ends whose sink asks for the output, and how many bytes that sink has taken then.
 fn taken_bare(
-    rt: &(impl Threads + Sync),
+    rt: &(impl Threads + Wait + Sync),
     alloc: Global,
     words: &[&str],
     scene: &[u8],
@@ -146,7 +147,7 @@ const ROOM: usize = 30;
 
 // The same under a sink that gathers.
 fn taken_gathered(
-    rt: &(impl Threads + Sync),
+    rt: &(impl Threads + Wait + Sync),
     alloc: Global,
     words: &[&str],
     scene: &[u8],
@@ -164,7 +165,7 @@ fn taken_gathered(
 
 // The same under one that holds nothing for long.
 fn taken_timely(
-    rt: &(impl Threads + Sync),
+    rt: &(impl Threads + Wait + Sync),
     alloc: Global,
     words: &[&str],
     scene: &[u8],

@@ -8,6 +8,7 @@ use hard_disks::Status;
 use report_ports::{MemorySink, MemorySource};
 use std::alloc::{AllocError, Global};
 use std::process::Abort;
+use std::sync::Wait;
 use std::test::Fail;
 use std::thread::Threads;
 
@@ -53,7 +54,7 @@ fn writes_nothing_where_a_take_fails(rt: HostRuntime) -> Result<(), Fail> {
 
 // A source in steps of one byte gives the input call by call, and says in one call more that nothing is left.
 fn expect_all_taken(
-    rt: &(impl Threads + Sync + Abort),
+    rt: &(impl Threads + Wait + Sync + Abort),
     alloc: Global,
     &(words, text, want): &TakeRow,
 ) -> Result<(), AllocError> {
@@ -66,7 +67,7 @@ fn expect_all_taken(
 
 // Stops a test if the call with an input, of which this take fails, has another result.
 fn expect_taken(
-    rt: &(impl Threads + Sync + Abort),
+    rt: &(impl Threads + Wait + Sync + Abort),
     alloc: Global,
     words: &[&str],
     text: &str,
@@ -81,7 +82,7 @@ fn expect_taken(
 
 // What is written of an input, of which this take fails, and the status.
 fn output_without_take(
-    rt: &(impl Threads + Sync),
+    rt: &(impl Threads + Wait + Sync),
     alloc: Global,
     words: &[&str],
     text: &str,
@@ -120,7 +121,7 @@ fn writes_the_lines_before_the_give_that_fails(rt: HostRuntime) -> Result<(), Fa
 }
 
 fn expect_all_given(
-    rt: &(impl Threads + Sync + Abort),
+    rt: &(impl Threads + Wait + Sync + Abort),
     alloc: Global,
     words: &[&str],
 ) -> Result<(), AllocError> {
@@ -131,7 +132,7 @@ fn expect_all_given(
 }
 
 fn expect_given(
-    rt: &(impl Threads + Sync + Abort),
+    rt: &(impl Threads + Wait + Sync + Abort),
     alloc: Global,
     words: &[&str],
     row: &GiveRow,
@@ -141,7 +142,7 @@ fn expect_given(
 }
 
 fn expect_text(
-    rt: &(impl Threads + Sync + Abort),
+    rt: &(impl Threads + Wait + Sync + Abort),
     alloc: Global,
     words: &[&str],
     &(failing, room, status, _): &GiveRow,
@@ -156,7 +157,7 @@ fn expect_text(
 // What is written of a text to a sink with this room, if these calls of the source and of the sink fail, and the
 // status.
 fn output_with(
-    rt: &(impl Threads + Sync),
+    rt: &(impl Threads + Wait + Sync),
     alloc: Global,
     words: &[&str],
     text: &str,
@@ -210,7 +211,7 @@ fn writes_no_line_where_the_first_call_fails(rt: HostRuntime) -> Result<(), Fail
 }
 
 fn expect_untold(
-    rt: &(impl Threads + Sync + Abort),
+    rt: &(impl Threads + Wait + Sync + Abort),
     alloc: Global,
     &(words, text, takes, gives, status): &UntoldRow,
 ) -> Result<(), AllocError> {

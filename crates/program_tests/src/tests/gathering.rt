@@ -9,6 +9,7 @@ use region_core::OpenGate;
 use report_ports::{Given, MemorySink, MemorySource, Sink};
 use std::alloc::{AllocError, Global};
 use std::process::Abort;
+use std::sync::Wait;
 use std::sync::atomic::Ordering;
 use std::test::Fail;
 use std::thread::Threads;
@@ -58,7 +59,7 @@ fn writes_the_pieces_before_the_give_that_fails(rt: HostRuntime) -> Result<(), F
 }
 
 fn expect_rows(
-    rt: &(impl Threads + Sync + Abort),
+    rt: &(impl Threads + Wait + Sync + Abort),
     alloc: Global,
     words: &[&str],
 ) -> Result<(), AllocError> {
@@ -74,7 +75,7 @@ fn expect_rows(
 // What is written of the meeting through this room, if these calls of the source and this one of the sink fail, and the
 // status. No time passes.
 fn gathered_output(
-    rt: &(impl Threads + Sync),
+    rt: &(impl Threads + Wait + Sync),
     alloc: Global,
     words: &[&str],
     takes: &[u64],
@@ -126,7 +127,7 @@ fn a_fault_at_the_end_is_told(rt: HostRuntime) -> Result<(), Fail> {
 }
 
 fn expect_end(
-    rt: &(impl Threads + Sync + Abort),
+    rt: &(impl Threads + Wait + Sync + Abort),
     alloc: Global,
     &(words, takes, failed, status, want): &EndRow,
 ) -> Result<(), AllocError> {
@@ -167,6 +168,8 @@ const TIMES: &[TimeRow] = &[
     (550_006, 85),
     (649_999, 85),
     (650_000, 100),
+    // A whole second later there is no less time between.
+    (1_600_000, 105),
 ];
 
 #[test]

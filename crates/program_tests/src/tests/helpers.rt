@@ -7,6 +7,7 @@ use std::alloc::{AllocError, Global};
 use std::fmt::Debug;
 use std::io;
 use std::process::Abort;
+use std::sync::Wait;
 use std::sync::atomic::{AtomicU64, Ordering};
 use std::thread::Threads;
 use std::time::{Clock, Duration};
@@ -78,14 +79,16 @@ pub const FOUR_IN_A_ROW_REPORT: &str = "4 0 pair 0 1 0 0 8 0\n\
 /// More bytes than each report of a test has.
 pub const AMPLE_ROOM: usize = 65_536;
 
-// How many microseconds each sleep takes.
-const SLEEP: u64 = 50;
+// How many microseconds a sleep takes at least, as that of a system does.
+const LEAST_SLEEP: u64 = 50;
 
 /// A clock that stands still except while somebody sleeps.
 #[derive(Drop)]
 pub struct StandingClock {
     /// The time that it shows.
     pub micros: AtomicU64,
+    // How many microseconds a sleep takes at least.
+    least: u64,
 }
 
 impl StandingClock {
@@ -93,6 +96,15 @@ impl StandingClock {
     pub fn new() -> StandingClock {
         StandingClock {
             micros: AtomicU64::new(0),
+            least: LEAST_SLEEP,
+        }
+    }
+
+    /// A clock that shows 0, and by which each sleep is as long as it is to be.
+    pub fn exact() -> StandingClock {
+        StandingClock {
+            micros: AtomicU64::new(0),
+            least: 0,
         }
     }
 }
@@ -106,8 +118,10 @@ impl Clock for StandingClock {
         self.monotonic()
     }
 
-    fn sleep(&self, _duration: Duration) {
-        self.micros.fetch_add(SLEEP, Ordering::SeqCst);
+    fn sleep(&self, duration: Duration) {
+        let micros = (duration.as_micros() % (1 << 62)) as u64;
+        self.micros
+            .fetch_add(micros.max(self.least), Ordering::SeqCst);
     }
 }
 
@@ -135,7 +149,7 @@ pub fn row_source(alloc: Global) -> Result<MemorySource, AllocError> {
 
 /// What the top call writes to a sink, and its status.
 pub fn output_between(
-    rt: &(impl Threads + Sync),
+    rt: &(impl Threads + Wait + Sync),
     alloc: Global,
     words: &[&str],
     source: MemorySource,
@@ -146,7 +160,7 @@ pub fn output_between(
 
 /// The same through a gate.
 pub fn output_through<G: Gate>(
-    rt: &(impl Threads + Sync),
+    rt: &(impl Threads + Wait + Sync),
     alloc: Global,
     words: &[&str],
     mut source: MemorySource,

@@ -36,7 +36,8 @@ const PAIRS: [Progress; 4] = [
 
 // A sink that looks at a board before each piece that it takes, and keeps the first four pairs.
 #[derive(Drop)]
-struct Looking<'b> {
+struct Looking<'b, R: Wait> {
+    rt: &'b R,
     board: &'b Board,
     glass: Glass,
     pieces: usize,
@@ -44,7 +45,7 @@ struct Looking<'b> {
     ghost of_board: { glass.board ≡ board.now },
 }
 
-impl Sink for Looking<'_> {
+impl<R: Wait> Sink for Looking<'_, R> {
     ghost Lasting = { Unit {0} };
 
     ghost lasting = { λ _. tt };
@@ -60,7 +61,7 @@ impl Sink for Looking<'_> {
     }
 
     fn give(&mut self, _piece: &[u8]) -> Given {
-        let shown = self.board.look(&mut self.glass);
+        let shown = self.board.look(self.rt, &mut self.glass);
         if let Some(place) = self.seen.get_mut(self.pieces) {
             *place = shown;
         }
@@ -114,15 +115,16 @@ fn seen_on<R: Threads + Wait + Sync>(
     requires unwritten { pen.old.list ≡ [] }
 {
     let mut sink = Looking {
+        rt,
         board,
-        glass: board.glass(pen),
+        glass: board.glass(rt, pen),
         pieces: 0,
         seen: [NOTHING; 4],
     };
     let gate = &OpenGate;
     let status = top_watched(rt, alloc, words, &mut source, &mut sink, gate, board, pen);
-    let mut after = board.glass(pen);
-    (status, sink.seen, board.look(&mut after))
+    let mut after = board.glass(rt, pen);
+    (status, sink.seen, board.look(rt, &mut after))
 }
 
 const LOAD: &[&str] = &[
@@ -162,7 +164,7 @@ fn watched_on<R: Threads + Wait + Sync>(
     requires board { pen.board ≡ board.now }
     requires unwritten { pen.list ≡ [] }
 {
-    let glass = board.glass(&mut pen);
+    let glass = board.glass(rt, &mut pen);
     let over = AtomicBool::new(false);
     thread::join(
         rt,
@@ -220,7 +222,7 @@ fn rising<R: Wait>(rt: &R, board: &Board, mut glass: Glass, over: &AtomicBool) -
     let mut last = NOTHING;
     for _ in rt.forever() {
         let is_over = over.load(Ordering::SeqCst);
-        let shown = board.look(&mut glass);
+        let shown = board.look(rt, &mut glass);
         if shown.events < last.events || shown.tick < last.tick {
             return None;
         }

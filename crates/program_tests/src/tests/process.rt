@@ -7,6 +7,7 @@ use hard_disks::{Status, Terminals, run_over, run_process_over};
 use report_ports::{MemorySink, MemorySource};
 use std::alloc::{AllocError, Global};
 use std::process::Abort;
+use std::sync::Wait;
 use std::test::Fail;
 use std::thread::Threads;
 use std::time::Clock;
@@ -56,7 +57,7 @@ fn any_source_and_sink_are_served(rt: HostRuntime) -> Result<(), Fail> {
 }
 
 fn expect_served(
-    rt: &(impl AllocGlobal + Eprint + Threads + Clock + Sync + Abort),
+    rt: &(impl AllocGlobal + Eprint + Threads + Wait + Clock + Sync + Abort),
     alloc: Global,
     words: &[&str],
     &(terminals, takes, gives, status, want): &Row,

@@ -7,6 +7,7 @@ use hard_disks::Status;
 use report_ports::{MemorySink, MemorySource};
 use std::alloc::{AllocError, Global};
 use std::process::Abort;
+use std::sync::Wait;
 use std::test::Fail;
 use std::thread::Threads;
 
@@ -185,7 +186,7 @@ fn samples_of_scenes(rt: HostRuntime) -> Result<(), Fail> {
 }
 
 fn expect_samples(
-    rt: &(impl Threads + Sync + Abort),
+    rt: &(impl Threads + Wait + Sync + Abort),
     alloc: Global,
     &(words, text, status, want): &Row,
 ) -> Result<(), AllocError> {
@@ -196,7 +197,7 @@ fn expect_samples(
 
 // What is written of a scene to a sink of which these calls fail, and the status.
 fn output_without_give(
-    rt: &(impl Threads + Sync),
+    rt: &(impl Threads + Wait + Sync),
     alloc: Global,
     words: &[&str],
     text: &str,
@@ -224,7 +225,7 @@ fn writes_the_lines_before_the_give_that_fails(rt: HostRuntime) -> Result<(), Fa
 
 // Each line is a piece, so the sink is called as often as there are lines.
 fn expect_each_given(
-    rt: &(impl Threads + Sync + Abort),
+    rt: &(impl Threads + Wait + Sync + Abort),
     alloc: Global,
     words: &[&str],
     want: &str,
@@ -239,7 +240,7 @@ fn expect_each_given(
 // Stops a test if the call of whose sink this give fails has another status than this, or has not written the lines
 // before it.
 fn expect_given(
-    rt: &(impl Threads + Sync + Abort),
+    rt: &(impl Threads + Wait + Sync + Abort),
     alloc: Global,
     words: &[&str],
     call: usize,

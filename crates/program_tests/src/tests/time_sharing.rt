@@ -64,6 +64,14 @@ const COMINGS: &[ComingRow] = &[
     (1, Phase, 39_950, false),
     (1, Phase, 40_052, false),
     (1, Phase, 40_053, true),
+    // It is late by more than half a second, in the next second of the clock.
+    (2, Turn(0), 999_500, false),
+    (2, Phase, 1_600_000, false),
+    (2, Phase, 1_600_900, false),
+    (2, Phase, 1_601_800, false),
+    (2, Phase, 1_602_700, false),
+    (2, Phase, 1_603_000, false),
+    (2, Phase, 1_603_001, true),
     // The last of all workers, and one that can't exist.
     (63, Phase, 200_000, false),
     (63, Phase, 200_900, false),
@@ -103,4 +111,23 @@ fn sleeps(clock: &StandingClock, gate: &impl Gate, worker: u32, coming: Coming, 
         Phase => gate.pause(worker),
     }
     clock.micros.load(Ordering::SeqCst) != now
+}
+
+// A worker, and for how many microseconds it rests.
+const RESTS: &[(u32, u64)] = &[(0, 20), (3, 20), (4, 40), (24, 1_280), (63, 1_280)];
+
+#[test]
+fn workers_that_are_seldom_needed_rest_longer(rt: HostRuntime) {
+    let clock = StandingClock::exact();
+    let gate = TimeSharing::new(&clock, rt.alloc());
+    for &(worker, micros) in RESTS {
+        assert_eq!(rt; rest_at(&clock, &gate, worker), micros, "worker {worker}");
+    }
+}
+
+// For how long the worker rests when the gate lets it.
+fn rest_at(clock: &StandingClock, gate: &impl Gate, worker: u32) -> u64 {
+    clock.micros.store(0, Ordering::SeqCst);
+    gate.rest(worker);
+    clock.micros.load(Ordering::SeqCst)
 }

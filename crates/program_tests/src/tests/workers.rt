@@ -6,6 +6,7 @@ use region_core::Gate;
 use report_ports::MemorySink;
 use std::alloc::{AllocError, Global};
 use std::process::Abort;
+use std::sync::Wait;
 use std::sync::atomic::{AtomicBool, AtomicU64, Ordering};
 use std::test::Fail;
 use std::thread;
@@ -13,7 +14,7 @@ use std::thread::Threads;
 
 // Stops a test if the four disks don't write their report with these words and through this gate.
 fn expect_report_through<G: Gate>(
-    rt: &(impl Threads + Sync + Abort),
+    rt: &(impl Threads + Wait + Sync + Abort),
     alloc: Global,
     words: &[&str],
     gate: &G,
@@ -25,7 +26,7 @@ fn expect_report_through<G: Gate>(
 
 // What is written of the four disks with these words and through this gate, and the status.
 fn output_of_row<G: Gate>(
-    rt: &(impl Threads + Sync),
+    rt: &(impl Threads + Wait + Sync),
     alloc: Global,
     words: &[&str],
     gate: &G,
@@ -116,7 +117,7 @@ fn bursts_do_the_work(rt: HostRuntime) -> Result<(), Fail> {
 
 // How many bursts of one turn with `steps` steps there are.
 fn turns_with(
-    rt: &(impl Threads + Sync + Abort),
+    rt: &(impl Threads + Wait + Sync + Abort),
     alloc: Global,
     steps: &str,
 ) -> Result<u64, AllocError> {

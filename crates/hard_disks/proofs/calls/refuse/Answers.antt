@@ -1,7 +1,7 @@
 use Rattle.std.proofs.Common.{◌∙◌, ℕ, List, sym, subst}
 use Rattle.report_ports.specs.Ports.{MayTake}
-use Rattle.hard_disks.specs.declared.status.Status.TheVariants.{SceneRefused}
-use Rattle.hard_disks.specs.Shows.{WritesText}
+use Rattle.program_modes.specs.declared.status.Status.TheVariants.{SceneRefused}
+use Rattle.program_modes.specs.Shows.{WritesText}
 use Rattle.hard_disks.proofs.calls.refuse.Goals as goal
 
 pub returns-in_default : goal.returns-in_default

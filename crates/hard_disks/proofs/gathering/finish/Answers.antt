@@ -1,5 +1,5 @@
 -- What has been written if the rest isn't given, or can't be.
-use Rattle.std.proofs.Common.{◌≤◌, inr, refl, sym, subst, arith, Option, List, ℕ}
+use Rattle.std.proofs.Common.{◌≤◌, inr, refl, sym, subst, Option, List, ℕ}
 use Rattle.gathered_sink.specs.Gathered.{IsFront}
 use Rattle.hard_disks.proofs.PassedOn.{IsWriting, answered_torn, counted_torn, writes}
 use Rattle.hard_disks.proofs.gathering.finish.Goals as goal
@@ -21,5 +21,4 @@ returns-in-Failed g c = let K = g.K.Sink in
           (writes c.args.status c.in_default.not-ReadFault) fresh front answers;
       writes = λ counts. counted_torn (K.faults below) torn;
       kept = inr (refl, c.in_default.not-ReadFault, torn);
-      whole = λ none. absurd (omega (arith, torn, none));
     }

@@ -1,6 +1,6 @@
 -- The report has eight lines.
 use Rattle.std.specs.Fmt.{digits}
-use Rattle.hard_disks.specs.declared.status.Status.TheVariants.{Done}
+use Rattle.program_modes.specs.declared.status.Status.TheVariants.{Done}
 use Rattle.worked_laws.specs.Texts.{pair_report}
 use Rattle.worked_outputs.proofs.audits.the_report_is_accepted.Goals as goal
 

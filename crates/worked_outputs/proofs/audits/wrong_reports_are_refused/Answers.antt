@@ -2,7 +2,7 @@
 use Rattle.std.proofs.Common.{◌≡◌, ◌++◌, length, ap, arith}
 use Rattle.std.specs.Prelude.{codes}
 use Rattle.text_lines.specs.Lines.{ended}
-use Rattle.hard_disks.specs.declared.status.Status.TheVariants.{Done}
+use Rattle.program_modes.specs.declared.status.Status.TheVariants.{Done}
 use Rattle.worked_laws.specs.Texts.{hit_line, pair_report}
 use Rattle.worked_outputs.proofs.audits.wrong_reports_are_refused.Goals as goal
 

@@ -3,7 +3,7 @@ use Rattle.std.proofs.Common.{ℕ, [], ◌∷◌, arith, subst}
 use Rattle.event_rules.specs.declared.outcome.Outcome.TheVariants.{Done as DoneOutcome}
 use Rattle.event_rules.proofs.OneRun.{one_run}
 use Rattle.resume.specs.Shift.{shifted, later_outcome}
-use Rattle.hard_disks.specs.Laws.{IsRest}
+use Rattle.program_modes.specs.Laws.{IsRest}
 use Rattle.worked_laws.specs.Pair.{pair_rules, pair_disks, pair_scene, the_hit, pair_end}
 use Rattle.worked_laws.proofs.PairRun.{pair_run}
 use Rattle.worked_outputs.proofs.Left.{states_rest, resumes_rest}

@@ -1,7 +1,7 @@
 -- The sum of both ticks is 2.
 use Rattle.std.proofs.Common.{ℕ, arith, subst}
 use Rattle.command_words.specs.declared.settings.OutputFormat.TheVariants.{Lines}
-use Rattle.hard_disks.specs.Laws.{IsRest}
+use Rattle.program_modes.specs.Laws.{IsRest}
 use Rattle.worked_laws.specs.Pair.{pair_scene}
 use Rattle.worked_outputs.proofs.Left.{states_rest}
 use Rattle.worked_outputs.proofs.cuts.two_cuts_are_one.Goals as goal

@@ -1,0 +1,88 @@
+use Rattle.std.proofs.Common.{◌∙◌, ℕ, ap, sym, subst, refl}
+use Rattle.event_rules.specs.declared.outcome.Outcome.{Outcome}
+use Rattle.event_rules.proofs.Fits.{outcomes_fit}
+use Rattle.collision_report.specs.Meaning.{nothing_yet, told_on_loan, IsAwaitedOnLoan}
+use Rattle.collision_report.specs.Report.{report}
+use Rattle.collision_report.proofs.Awaited.{run_awaits}
+use Rattle.live_progress.specs.Watching.{pairs_of}
+use Rattle.live_progress.proofs.Watches.{watched_awaits}
+use Rattle.program_modes.specs.declared.status.Status.{Status}
+use Rattle.program_modes.specs.Reports.{IsReport, status_of}
+use Rattle.program_modes.specs.Answers.{Wrote, CountsWrites}
+use Rattle.program_modes.specs.Publishes.{PublishesPairs}
+use Rattle.program_modes.proofs.Wrote.{broken_wrote}
+use Rattle.program_modes.proofs.Published.{ended_published, broken_published}
+use Rattle.program_modes.proofs.Reported.{reporting, makes_report}
+use Rattle.program_modes.proofs.Watched.{told_all, told_part, told_may, broken_counts}
+use Rattle.program_modes.proofs.showing.report_run.Goals as goal
+
+pub run-requires-clause-awaited : goal.run-requires-clause-awaited
+run-requires-clause-awaited g c κs within =
+    let inner = c.args.watched.now.inner in let scene = c.args.scene.now in
+    let K = g.K.Sink in
+    λ changes later steps. watched_awaits told_on_loan (IsAwaitedOnLoan (λ loan. K.allows loan.1)) _ changes
+    (run_awaits (λ loan. K.allows loan.1) inner.format scene (K.taken inner.sink.now) _ changes later c.requires.valid c.requires.first
+    (λ all outcome run. c.requires.allowed (report inner.format scene all outcome) (status_of outcome) (all, outcome, run, refl, refl)) steps)
+
+pub end_report-requires-clause-allowed : goal.end_report-requires-clause-allowed
+end_report-requires-clause-allowed g c =
+    let K = g.K.Sink in let inner = c.args.watched.now.inner in let scene = c.args.scene.now in let outcome = c.in-Ok.outcome in
+    let start = nothing_yet inner.format scene (K.taken inner.sink.now) in
+    told_may reporting (report inner.format) scene start (makes_report inner.format scene (K.taken inner.sink.now) c.requires.valid)
+    (λ loan. K.allows loan.1) outcome _ _ _ _ c.in-Ok.ensures.run refl refl c.requires.valid c.requires.unwritten c.requires.first
+    (λ changes run. c.requires.allowed (report inner.format scene changes outcome) (status_of outcome) (changes, outcome, run, refl, refl))
+
+pub end_report-requires-clause-outcome : goal.end_report-requires-clause-outcome
+end_report-requires-clause-outcome g c =
+    let run = c.in-Ok.ensures.run in
+    outcomes_fit c.args.scene.now run.0 c.in-Ok.outcome c.requires.valid run.1
+
+pub end_report-requires-clause-scene : goal.end_report-requires-clause-scene
+end_report-requires-clause-scene g c =
+    let K = g.K.Sink in let inner = c.args.watched.now.inner in let scene = c.args.scene.now in
+    let start = nothing_yet inner.format scene (K.taken inner.sink.now) in
+    let told = told_all reporting (report inner.format) scene start (makes_report inner.format scene (K.taken inner.sink.now) c.requires.valid)
+    c.in-Ok.outcome _ _ _ _ c.in-Ok.ensures.run refl refl c.requires.valid c.requires.unwritten c.requires.first in
+    told.table
+
+pub returns-in-Ok : goal.returns-in-Ok
+returns-in-Ok g c =
+    let K = g.K.Sink in let inner = c.args.watched.now.inner in let scene = c.args.scene.now in let end = c.end_report.ensures in
+    let start = nothing_yet inner.format scene (K.taken inner.sink.now) in
+    let told = told_all reporting (report inner.format) scene start (makes_report inner.format scene (K.taken inner.sink.now) c.requires.valid)
+    c.in-Ok.outcome _ _ _ _ c.in-Ok.ensures.run refl refl c.requires.valid c.requires.unwritten c.requires.first in
+    let all = ended_published c.in-Ok.outcome _ _ _ c.end_report.result (pairs_of told.changes) c.run.new.listener.pen.now.list
+    end.text told.list in record {
+      pen_loan = told.pen;
+      loan = end.loan ∙ ap (λ l. l.0) told.sink;
+      lasts = end.lasts ∙ ap (λ l. l.1) told.sink;
+      wrote = told.ended _ _ end.text;
+      of_scene = end.of_scene;
+      counts = subst (λ (n : ℕ). CountsWrites n (K.faults c.end_report.new.reporter.sink.now) c.end_report.result) c.in-Ok.ensures.counts end.counts;
+      board_kept = told.board;
+      published = (told.changes, c.in-Ok.outcome, told.run, all);
+    }
+
+pub returns-in-Err : goal.returns-in-Err
+returns-in-Err g c =
+    let K = g.K.Sink in let inner = c.args.watched.now.inner in let scene = c.args.scene.now in let status = sym c.status_of_fault.ensures.status in
+    let after = c.run.new.listener in
+    let start = nothing_yet inner.format scene (K.taken inner.sink.now) in
+    let told = told_part reporting (report inner.format) scene start (makes_report inner.format scene (K.taken inner.sink.now) c.requires.valid)
+    _ _ _ _ _ c.in-Err.ensures.cut_short refl refl c.requires.valid c.requires.unwritten c.requires.first in record {
+      pen_loan = told.pen;
+      loan = ap (λ l. l.0) told.sink;
+      lasts = ap (λ l. l.1) told.sink;
+      wrote = subst (λ (s : Status). Wrote (IsReport inner.format scene) (K.taken inner.sink.now) (K.taken after.inner.sink.now) s)
+          status (broken_wrote _ _ _ c.in-Err.fault told.prefix);
+      of_scene = c.status_of_fault.ensures.of_scene;
+      counts = subst (λ (s : Status). CountsWrites (K.faults inner.sink.now) (K.faults after.inner.sink.now) s)
+          status (broken_counts Outcome _ _ _ c.in-Err.fault c.in-Err.ensures.counts refl);
+      board_kept = told.board;
+      published = (
+        told.changes,
+        told.outcome,
+        told.run,
+        subst (λ (s : Status). PublishesPairs (pairs_of told.changes) s after.pen.now.list) status (broken_published c.in-Err.fault _ _ told.list),
+      );
+    }

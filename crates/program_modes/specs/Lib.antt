@@ -1,0 +1,12 @@
+pub mod Refusals
+pub mod Reports
+pub mod Audits
+pub mod Verdicts
+pub mod Output
+pub mod Cut
+pub mod Answers
+pub mod Codes
+pub mod Shows
+pub mod Laws
+pub mod Publishes
+pub mod Runs
