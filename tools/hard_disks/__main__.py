@@ -23,14 +23,19 @@ def other_python():
     return None
 
 
-def has_numpy():
-    return sys.version_info >= (3, 11) and importlib.util.find_spec("numpy") is not None
+def lacks():
+    """What this Python lacks; nothing if all is there."""
+    if sys.version_info < (3, 11):
+        return "is older than 3.11"
+    return "" if importlib.util.find_spec("numpy") else "has no numpy"
 
 
 def main():
-    if not has_numpy():
+    if lacks():
         path = other_python()
         if path:
+            if sys.stderr is not None:
+                print(f"hard_disks: run by {path}, as {sys.executable} {lacks()}", file=sys.stderr)
             os.execv(path, [path, str(Path(__file__).resolve().parent), *sys.argv[1:]])
         if sys.version_info < (3, 11):
             sys.exit("hard_disks: there is no Python from 3.11 on here; tools/setup says what to install")

@@ -8,7 +8,7 @@ from pathlib import Path
 
 from .scene_text import GOES_ON, parse_scene, read_scene
 from .scenes import MOST_DISKS, MOST_TICK, Refused
-from .words import bounds, by_measure, fractions, not_negative, positive, sizes, whole, window
+from .words import bounds, bounds_of, by_measure, fractions, not_negative, positive, sizes, whole, window
 
 ABOUT = "From a packing fraction to a figure: scenes for the program hard_disks, and what its reports say."
 TIMES = "times are in sigma/v, with sigma the mean diameter and v the root mean square of a velocity component"
@@ -22,6 +22,7 @@ class Kind:
     about: str
     most: str = ""  # what --most bounds, and how far it goes without
     has_width: bool = False
+    has_wave: bool = False
     has_series: bool = False
 
     def load(self):
@@ -47,6 +48,15 @@ MEASURES = {
     ),
     "msd": Kind("dynamics.Displacement", "the mean squared displacement, and D by its slope", "time between states (10)"),
     "vacf": Kind("dynamics.VelocityCorrelation", "the velocity correlation, and D by its integral", "time between states (10)"),
+    "paths": Kind(
+        "paths.Paths", "free times and free paths, impact parameters, and how often disks collide by their speed",
+        "all of these (5)", has_width=True,
+    ),
+    "viscosity": Kind("viscosity.Viscosity", "the shear viscosity by Helfand's sum", "time between sums (2)"),
+    "scatter": Kind(
+        "scattering.Scattering", "Fs(k,t), F(k,t) and the non-Gaussian parameter", "time between states (10)", has_wave=True
+    ),
+    "local": Kind("local.LocalFraction", "packing fractions of squares, whose side is the width", has_width=True),
     "speeds": Kind(
         "dynamics.Speeds", "the distribution of speeds beside Maxwell's", "speed, in v (5)", has_width=True, has_series=True
     ),
@@ -86,6 +96,7 @@ def parser():
     add_convert(commands)
     add_check(commands)
     add_equation(commands)
+    add_compare(commands)
     return words
 
 
@@ -131,6 +142,9 @@ def add_scene(commands):
     words.add_argument(
         "--lattice", choices=["hex", "square", "random", "soft"], default="hex", help="where disks begin (%(default)s)"
     )
+    words.add_argument(
+        "--speeds", choices=["normal", "equal"], default="normal", help="equal: all of one speed, which Boltzmann's H falls from (%(default)s)"
+    )
     add_times(words, 40.0)
 
 
@@ -143,35 +157,55 @@ def run_scene(asked):
         if asked.phi_inside >= 1:
             raise Refused(f"no packing fraction is {asked.phi_inside:g}")
         phi = whole_fraction(asked.phi_inside, asked.disks, asked.sizes)
-    made = make(asked.disks, phi, asked.sizes, asked.seed, asked.lattice, asked.time, asked.every)
+    made = make(asked.disks, phi, asked.sizes, asked.seed, asked.lattice, asked.time, asked.every, asked.speeds)
     sys.stdout.write(made.text())
 
 
 def add_fit(commands):
     words = add_command(commands, "fit", run_fit, "writes a scene of your own disks, in any units",
-                        "Comma-separated values with a first line x,y,vx,vy,diameter are read from standard input.")
-    words.add_argument("--width", type=positive, required=True, help="of the box, which begins at (0, 0), in your units")
-    words.add_argument("--height", type=positive, required=True)
+                        "Without FILE comma-separated values with a first line x,y,vx,vy,diameter are read from standard input.")
+    words.add_argument("file", nargs="?", metavar="FILE",
+                       help="what ASE reads, as extended XYZ; data of LAMMPS (.data, .lmp, .lammps), or .gsd; the last frame")
+    words.add_argument("--width", type=positive, help="of the box, which begins at (0, 0), in your units; a FILE says it")
+    words.add_argument("--height", type=positive)
+    words.add_argument("--diameter", type=positive, help="of all disks, in your units, whatever the file says")
+    words.add_argument("--cut", type=window, metavar="X:X,Y:Y",
+                       help="takes the disks that are wholly in this window, which becomes the box; as --cut=-5:5,-5:5")
+    words.add_argument("--seed", type=whole(0, MOST_TICK), default=1, help="of velocities, where the file has none (%(default)s)")
     add_times(words, 40.0)
 
 
-def run_fit(asked):
-    import csv
-    from statistics import fmean
+def disks_of(asked):
+    """The disks that are asked for, each with a velocity."""
+    from dataclasses import replace
 
+    import numpy
+
+    from .importing import read_file, read_table
+
+    if asked.file is None and None in (asked.width, asked.height):
+        raise Refused("a table says no box: give its --width and --height")
+    if asked.file is not None and (asked.width or asked.height):
+        raise Refused("--width and --height are of a table: a file says its own box")
+    found = read_file(asked.file) if asked.file else read_table(standard_input("a table"), asked.width, asked.height)
+    if asked.diameter is not None:
+        found = replace(found, diameters=numpy.full(len(found.places), asked.diameter))
+    found = found.moving(asked.seed)
+    return found.cut(*asked.cut) if asked.cut else found
+
+
+def run_fit(asked):
     from .fitting import fit
 
-    names = ["x", "y", "vx", "vy", "diameter"]
-    table = csv.DictReader(standard_input("a table"))
-    if missing := set(names) - set(table.fieldnames or []):
-        raise Refused(f"the first line has no {', '.join(it for it in names if it in missing)}")
+    disks = disks_of(asked)
+    rows, (width, height) = disks.rows(), disks.sides
     try:
-        disks = [[float(row[name]) for name in names] for row in table]
-    except (TypeError, ValueError, csv.Error) as why:
-        raise Refused(f"line {table.line_num}: {why}") from why
-    scene = fit(asked.width, asked.height, disks, asked.time, asked.every)
+        scene = fit(width, height, rows, asked.time, asked.every)
+    except Refused as why:
+        hint = "; its box repeats, and one with walls is wanted: take --cut" if disks.is_periodic and "inside the box" in str(why) else ""
+        raise Refused(f"{why}{hint}") from why
     # What a mean diameter is of the greater side, in the scene and as it was given.
-    lost = 1 - scene.sigma / max(scene.width, scene.height) * max(asked.width, asked.height) / fmean(row[4] for row in disks)
+    lost = 1 - scene.sigma / max(scene.width, scene.height) * max(width, height) / rows[:, 4].mean()
     if lost > 1e-5:
         say(f"diameters are {lost:.2%} smaller: disks that touch have no room to move in")
     sys.stdout.write(scene.text())
@@ -261,6 +295,8 @@ def add_measure(commands):
                        help=f"how far a table goes: {bounds}; of several, as gr=4,sk=9")
     words.add_argument("--width", type=by_measure, default={}, metavar="NUMBER",
                        help=f"the width of a bin: {those_with('has_width')}; of several, as gr=0.01,sk=0.1")
+    words.add_argument("--wave", type=by_measure, default={}, metavar="NUMBER",
+                       help=f"the wave number k, in 1/sigma: {those_with('has_wave')} (6.5)")
 
 
 def those_with(option):
@@ -271,7 +307,7 @@ def those_with(option):
 def options_of(asked):
     """For each measure that is asked for its own options."""
     options = {name: {} for name in asked.measures}
-    for option, takes in (("most", "most"), ("width", "has_width")):
+    for option, takes in (("most", "most"), ("width", "has_width"), ("wave", "has_wave")):
         for name, number in getattr(asked, option).items():
             takers = [it for it in asked.measures if getattr(MEASURES[it], takes) and name in ("", it)]
             if len(takers) != 1:
@@ -330,9 +366,11 @@ def add_plot(commands):
     words = add_command(commands, "plot", run_plot, "draws tables, with errors, and theory where a table has it",
                         "Tables of one kind share a panel; those of one row each, as of several runs, are one curve over phi.")
     words.add_argument("tables", nargs="*", metavar="TABLE", help="files that measure or equation wrote (standard input)")
-    words.add_argument("--log", choices=["x", "y", "xy"], default="", help="which axes are logarithmic")
+    words.add_argument("--panels", metavar="PANEL,..", help="which are drawn, by the names of their columns, as g,Z (all)")
+    words.add_argument("--log", choices=["x", "y", "xy"], default="", help="which axes are logarithmic (both of C)")
     words.add_argument("--x", type=bounds, metavar="FROM:TO", help="what part of the x axis is shown")
-    words.add_argument("--y", type=bounds, metavar="FROM:TO")
+    words.add_argument("--y", type=bounds_of, action="append", default=[], metavar="[PANEL=]FROM:TO",
+                       help="of the y axes, or of a panel named by its column, as Z=3:5")
     add_figure(words, "ends in .svg, .png or .pdf")
 
 
@@ -352,10 +390,11 @@ def run_plot(asked):
             tables += read_tables(file, name)
     if not tables:
         raise Refused("there is no table to draw")
-    ranges = {name: value for name in "xy" if (value := getattr(asked, name)) is not None}
-    if any(name in asked.log and low <= 0 for name, (low, _) in ranges.items()):
+    ranges = {("", "x"): asked.x} if asked.x else {}
+    ranges |= {(panel, "y"): value for panel, value in asked.y}
+    if any(name in asked.log and low <= 0 for (_, name), (low, _) in ranges.items()):
         raise Refused("a logarithmic axis begins above 0")
-    plot(tables, asked.output, asked.log, ranges, asked.dpi or DPI)
+    plot(tables, asked.output, asked.log, ranges, asked.dpi or DPI, asked.panels and asked.panels.split(","))
 
 
 def names_of(paths):
@@ -396,8 +435,9 @@ def run_draw(asked):
 
 def add_convert(commands):
     words = add_command(commands, "convert", run_convert, "writes frames or collisions for other programs",
-                        "xyz: frames as extended XYZ; ase: as a trajectory of ASE; csv: collisions.")
-    words.add_argument("format", choices=["xyz", "csv", "ase"])
+                        "xyz: frames as extended XYZ; ase: as a trajectory of ASE; gsd: as HOOMD's, for freud; dump: as LAMMPS's"
+                        " text, in sigma and v all; csv: collisions.")
+    words.add_argument("format", choices=["xyz", "csv", "ase", "gsd", "dump"])
     add_report(words)
     words.add_argument("-o", "--output", required=True, metavar="FILE")
 
@@ -411,32 +451,25 @@ def run_convert(asked):
 
 
 def add_check(commands):
-    words = add_command(commands, "check", run_check, "checks what a report says of momentum and energy",
+    words = add_command(commands, "check", run_check, "checks a report by momentum, energy and the virial theorem",
                         "These laws are proved of each run; docs/PHYSICS.md says them.")
-    words.add_argument("scene", metavar="SCENE", nargs="?", help="the scene's file; the report is read from standard input")
-    words.add_argument("--drawn", type=whole(1, 1_000_000), metavar="N", help="checks the reports of N drawn scenes by the program")
-    words.add_argument("--program", help="the program that runs them (that which is built here, or the variable HARD_DISKS)")
+    add_report(words)
 
 
 def run_check(asked):
-    from .conservation import check, check_drawn
-    from .program import find_program
+    from .conservation import check
     from .reports import read_report
 
-    if (asked.scene is None) == (asked.drawn is None):
-        raise Refused("check wants a scene's file, or --drawn N")
-    if asked.drawn is None:
-        print(check(read_scene(asked.scene), read_report(standard_input("a report"))))
-    else:
-        for found in check_drawn(asked.drawn, find_program(asked.program)):
-            print(found)
+    print(check(read_scene(asked.scene), read_report(standard_input("a report"))))
 
 
 def add_equation(commands):
     words = add_command(commands, "equation", run_equation, "runs fluids and writes the pressure of each beside equations of state")
-    words.add_argument(
+    phi = words.add_mutually_exclusive_group()
+    phi.add_argument(
         "--phi", type=fractions, default=[0.2, 0.35, 0.5, 0.6], metavar="PHI,..", help="packing fractions (0.2,0.35,0.5,0.6)"
     )
+    phi.add_argument("--phi-inside", type=fractions, metavar="PHI,..", help="those away from the walls, to 0.003 or so")
     words.add_argument("--disks", type=whole(1, MOST_DISKS), default=2000, help="(%(default)s)")
     words.add_argument("--time", type=positive, default=100.0, help=f"of each run; {TIMES} (%(default)s)")
     words.add_argument("--every", type=positive, help="has states written, and Z found by g at contact too: the time between two")
@@ -451,13 +484,38 @@ def run_equation(asked):
     from .equation import Series, equation_of_state
     from .program import find_program
 
-    series = Series(asked.disks, asked.time, asked.seed, asked.seeds, asked.every, asked.margin)
-    for place, table in enumerate(equation_of_state(asked.phi, series, find_program(asked.program))):
+    series = Series(asked.disks, asked.time, asked.seed, asked.seeds, asked.every, asked.margin, asked.phi_inside is not None)
+    for place, table in enumerate(equation_of_state(asked.phi_inside or asked.phi, series, find_program(asked.program))):
         if place:
+            table.write_notes(sys.stdout)
             table.write_rows(sys.stdout)
         else:
             table.write(sys.stdout)
         sys.stdout.flush()
+
+
+def add_compare(commands):
+    words = add_command(commands, "compare", run_compare, "compares another code's events with the exact run, in windows of time",
+                        "Each state of the other code begins a window. The status is 1 if disks part without a tie.")
+    words.add_argument("events", metavar="EVENTS",
+                       help="its events: lines t,first,second with disks from 0 on; second is -1 to -4 at the left, right, lower and"
+                            " upper wall")
+    words.add_argument("states", metavar="STATES", help="its states: lines t,x,y,vx,vy,diameter, for each t one for each disk")
+    words.add_argument("--width", type=positive, required=True, help="of the box, which begins at (0, 0), in its units")
+    words.add_argument("--height", type=positive, required=True)
+    words.add_argument("--program", help="the program that is exact (that which is built here, or the variable HARD_DISKS)")
+
+
+def run_compare(asked):
+    from .comparing import compare, read_numbers
+    from .program import find_program
+
+    events, states = read_numbers(asked.events, "t,first,second"), read_numbers(asked.states, "t,x,y,vx,vy,diameter")
+    found = compare(events, states, asked.width, asked.height, find_program(asked.program))
+    found.table().write(sys.stdout)
+    if found.unexplained:
+        sys.stdout.flush()
+        sys.exit(1)
 
 
 def main(words=None):

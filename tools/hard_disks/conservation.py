@@ -1,16 +1,13 @@
-"""Checks what a report says of momentum and energy.
+"""Checks what a report says of momentum and energy, and the virial theorem.
 
 Disks are followed from the scene on. A collision of two disks has to leave the sum of their velocities, and may change
 the sum of their squared speeds by at most 3 (|u_x| + |u_y|) + 4, with u their relative velocity before it; one with a
 side turns one component of one disk round. So over the whole run momentum changes by what the sides turned alone, and
-energy by at most pairs (12 speed_limit + 4). The lines at the end have to say what was found."""
-import io
-import random
-import subprocess
-from typing import Iterator
+energy by at most pairs (12 speed_limit + 4). The lines at the end have to say what was found.
 
-from .reports import Collision, Collisions, Limit, Sums, read_report
-from .scene_text import parse_scene
+At each tick whose state a report has, the sum of r.v is that at the start, plus the squared speeds of all disks over the ticks
+since, plus r.J of each pair, plus r.(what a side adds to v): exactly."""
+from .reports import Collision, Collisions, Limit, State, Sums
 from .scenes import Refused, Scene
 
 
@@ -20,6 +17,16 @@ def squared(velocity: tuple[int, int]) -> int:
 
 def momentum(velocities) -> tuple[int, int]:
     return tuple(map(sum, zip(*velocities))) or (0, 0)
+
+
+def gain(place, before, after) -> int:
+    """r.(what v changes by)"""
+    return sum(r * (new - old) for r, old, new in zip(place, before, after))
+
+
+def outward(rows) -> int:
+    """The sum of r.v over disks, each by x, y, vx and vy."""
+    return sum(x * vx + y * vy for x, y, vx, vy in rows)
 
 
 def pair_change(tick: int, before, after) -> tuple[int, int]:
@@ -50,22 +57,46 @@ class Kept:
         self.limit, self.start, self.energy = scene.speed_limit, momentum(self.velocities), sum(map(squared, self.velocities))
         self.walls = self.pairs = self.change = self.bound = 0
         self.turned = (0, 0)
+        self.starts = [(row[:2], 0) for row in scene.disks]  # where each disk's last event left it, and at which tick
+        self.outward = outward(row[:4] for row in scene.disks)
+        self.tick = self.flown = self.virial = self.pushed = 0
+
+    def fly(self, tick: int) -> None:
+        """Goes on to a tick."""
+        self.flown += (self.energy + self.change) * (tick - self.tick)
+        self.tick = tick
+
+    def place(self, disk: int) -> tuple[int, ...]:
+        place, since = self.starts[disk]
+        return tuple(r + v * (self.tick - since) for r, v in zip(place, self.velocities[disk]))
 
     def add(self, event: Collision) -> None:
         """Checks a collision, and sets its disks on."""
         named = max(event.first, event.second)
         if named >= len(self.velocities):
             raise Refused(f"an event of disk {named}, which the scene hasn't")
+        self.fly(event.tick)
         before, after = self.velocities[event.first], (event.vx1, event.vy1)
+        place = self.place(event.first)
         if event.second < 0:
             self.walls += 1
+            self.pushed += gain(place, before, after)
             self.turned = momentum([self.turned, wall_change(event.tick, event.side, before, after)])
         else:
             pair = before, self.velocities[event.second]
             change, bound = pair_change(event.tick, pair, (after, (event.vx2, event.vy2)))
             self.pairs, self.change, self.bound = self.pairs + 1, self.change + change, self.bound + bound
-            self.velocities[event.second] = event.vx2, event.vy2
-        self.velocities[event.first] = after
+            other = self.place(event.second)
+            self.virial += gain((place[0] - other[0], place[1] - other[1]), before, after)
+            self.starts[event.second], self.velocities[event.second] = (other, event.tick), (event.vx2, event.vy2)
+        self.starts[event.first], self.velocities[event.first] = (place, event.tick), after
+
+    def check_state(self, state: State) -> None:
+        """The virial theorem at a tick."""
+        self.fly(state.tick)
+        found, wanted = outward(state.rows()), self.outward + self.flown + self.virial + self.pushed
+        if found != wanted:
+            raise Refused(f"tick {state.tick}: the sum of r.v is {found}, and by the virial theorem it is {wanted}")
 
     def check(self, sums: Sums) -> None:
         """That the end of the report has what was found, and that its own numbers keep both laws."""
@@ -82,9 +113,18 @@ class Kept:
         if abs(sums.energies[1] - sums.energies[0]) > most:
             raise Refused(f"the report says energy {sums.energies}, which differ by more than {most}")
 
+    def said(self) -> str:
+        found = f"walls {self.walls}  pairs {self.pairs}  energy {self.energy} changed by {self.change}, at most {self.bound}"
+        return f"{found}  virial {self.virial}"
+
 
 def check(scene: Scene, report) -> str:
     """Follows the report, and answers what was found."""
+    kept, end = follow(scene, report)
+    return kept.said() + end
+
+
+def follow(scene: Scene, report) -> tuple[Kept, str]:
     kept, end = Kept(scene), ""
     for item in report:
         if isinstance(item, Collisions):
@@ -92,37 +132,8 @@ def check(scene: Scene, report) -> str:
                 kept.add(event)
         elif isinstance(item, Limit):
             end = f"  limit {item.name} at {item.tick}"
+        elif isinstance(item, State):
+            kept.check_state(item)
         elif isinstance(item, Sums):
             kept.check(item)
-    found = f"walls {kept.walls}  pairs {kept.pairs}  energy {kept.energy} changed by {kept.change}, at most {kept.bound}"
-    return found + end
-
-
-def draw(seed: int) -> str:
-    """The text of a scene: some disks on a lattice, in coarse or fine units, of one size or of several."""
-    chance = random.Random(seed)
-    unit, speed = chance.choice([(10, 4), (1_000, 40), (1_000_000, 2_000)])
-    across, up = chance.randint(1, 7), chance.randint(1, 7)
-    diameter, gap = 2 * unit, 2 * unit + chance.randint(unit // 5, 2 * unit)
-    limit = chance.choice([2, 10, 10, 10]) * speed
-    rows = []
-    for i in range(across * up):
-        x, y = gap * (i % across) + gap // 2 + 1, gap * (i // across) + gap // 2 + 1
-        vx, vy = chance.randint(-speed, speed), chance.randint(-speed, speed)
-        size = f", {2 * chance.randint(1, unit)}" if chance.random() < 0.3 else ""
-        rows.append(f"  [{x}, {y}, {vx}, {vy}{size}],")
-    numbers = f"width = {gap * across + 2}\nheight = {gap * up + 2}\ndiameter = {diameter}\nspeed_limit = {limit}\n"
-    return numbers + f"round_limit = 64\nend = {40 * unit // speed}\ndisks = [\n" + "\n".join(rows) + "\n]\n"
-
-
-def check_drawn(count: int, program: str) -> Iterator[str]:
-    """Runs drawn scenes by a program, and yields what is found of each report."""
-    for seed in range(count):
-        text = draw(seed)
-        ran = subprocess.run([program, "--mode", "run"], input=text, capture_output=True, text=True)
-        if ran.returncode not in (0, 4, 5):
-            raise Refused(f"scene {seed}: the program ends with {ran.returncode}: {ran.stdout}{ran.stderr}")
-        try:
-            yield f"scene {seed}: {check(parse_scene(text), read_report(io.StringIO(ran.stdout)))}"
-        except Refused as why:
-            raise Refused(f"scene {seed}: {why}") from why
+    return kept, end

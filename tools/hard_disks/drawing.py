@@ -8,7 +8,7 @@ import numpy as np
 from .figures import DPI, WIDTH, new_figure, save
 from .runs import Frame, Run
 from .scenes import Refused, Scene
-from .structure import bond_order
+from .bonds import bond_order
 
 # The colour of a disk with fewer than five, five, six, seven, and more than seven neighbours.
 NEIGHBOUR_COLOURS = ["#542788", "#998ec3", "#d4d4d4", "#f1a340", "#b35806"]

@@ -10,15 +10,17 @@ from .measuring import Measure, together, watch
 from .part_sums import margin_in_units
 from .pressure import Pressure
 from .runs import Run
-from .sampling import Stated, Table, sampling
+from .sampling import Definition, OfErrors, Stated, Table, sampling
 from .scenes import Scene
 from .structure import CONTACT_Z, PairDistribution
-from .theory import cautions
+from .theory import cautions, whole_fraction
 
 # How far g(r) is counted to find it at contact, in σ.
 NEAR = 1.5
 # In how many times of a run the program sums up, if no states are asked for.
 SUMS = 1_250
+# How notes begin that say why a number may be wrong.
+CAUTION = "CAUTION"
 
 
 @contextmanager
@@ -42,10 +44,13 @@ class Series:
     seeds: int = 1
     every: float | None = None
     margin: float | None = None
+    # Whether the packing fractions asked for are those away from the walls.
+    is_inside: bool = False
 
     def measured(self, phi: float, seed: int, program: str) -> list[Measure]:
         """The measures of one run."""
-        scene = make(self.disks, phi, seed=seed, time=self.time, every=self.every or self.time / SUMS)
+        whole = whole_fraction(phi, self.disks, [(1.0, 1.0)]) if self.is_inside else phi
+        scene = make(self.disks, whole, seed=seed, time=self.time, every=self.every or self.time / SUMS)
         part = sampling(scene, margin=self.margin)
         found, words = [Pressure(part)], ["--format", "sums", "--margin", str(margin_in_units(part))]
         if self.every is not None:
@@ -62,8 +67,11 @@ class Series:
         for note in (it for table in others for it in table.notes):
             if isinstance(note, Stated) and note.name == CONTACT_Z:
                 columns, row = [*columns, "Z_contact", "Z_contact_error"], [*row, note.value, note.error]
-        notes = [it for it in pressure.notes if str(it).startswith(("Z", "P"))]
-        return Table(columns, [row], self.notes() + notes + (runs[0][0].errors.notes() if self.seeds == 1 else []))
+        texts = [it for it in pressure.notes if isinstance(it, str)]
+        kept = [it for it in texts if isinstance(it, (Definition, OfErrors)) and not it.startswith(CAUTION)]
+        # Up to where equations of state hold is said once for all rows.
+        own = [it for it in texts if it.startswith(CAUTION) and it not in cautions(1.0)]
+        return Table(columns, [row], [*self.notes(), *kept, *(it.replace(CAUTION, f"{CAUTION} at {phi:g}", 1) for it in own)])
 
     def notes(self) -> list[str]:
         by = f"by the spread over {self.seeds} runs" if self.seeds > 1 else "by one run"
@@ -71,9 +79,10 @@ class Series:
 
 
 def equation_of_state(fractions: list[float], series: Series, program: str) -> Iterator[Table]:
-    """For each packing fraction a table of one row, as soon as it is known."""
-    for phi in fractions:
+    """For each packing fraction a table of one row, as soon as it is known; after the first one the notes are those that are
+    of its row alone."""
+    for place, phi in enumerate(fractions):
         table = series.row(phi, program)
-        # Notes are written above the first row, and stand for all.
-        table.notes += cautions(max(fractions))
+        own = f"{CAUTION} at"
+        table.notes = [it for it in table.notes if it.startswith(own)] if place else [*table.notes, *cautions(max(fractions))]
         yield table

@@ -15,7 +15,7 @@ import numpy as np
 from .heat import Heat
 from .order import SLOW
 from .sampling import Sampling, rough
-from .spectra import LEAST_FOR_FIT, MOST, cosines, slowest
+from .spectra import LEAST_FOR_FIT, MOST, cosines, sines, slowest
 
 # Into how many blocks the time is cut.
 BLOCKS = 120
@@ -25,6 +25,8 @@ LEAST, FOR_SLOPE = 3, 12
 FOR_GROWTH, GROWTH = 12, 1.9
 # A measure that is shorter than so many times that of heat has errors that are rough.
 HEAT_TIMES = 5
+# What is left where the heat's part is taken off is no less than this share of what it was.
+LEFT = 0.5
 
 
 def spread_error(values: np.ndarray) -> np.ndarray:
@@ -55,7 +57,9 @@ class Errors:
     def __init__(self, sampling: Sampling):
         self.sampling, self.heat = sampling, Heat(sampling)
         self.time = (sampling.scene.end - sampling.start) / sampling.scene.time
-        self.used = 0
+        # How many waves were used at least, from which lag on there were too few, and what was added to what they say.
+        self.used, self.too_late = 0, np.inf
+        self.parts: list[str] = []
         self.growth: list[float] = []
 
     def of(
@@ -64,14 +68,18 @@ class Errors:
         """A value and its error, where `value` takes sums over time: arrays whose first axis is the sampling's blocks.
 
         If states are compared that are `lag` apart, in σ / v, the sums are by the earlier one. What is the same all over
-        the box follows sound instead of the heat of the inside, so its blocks are as long as sound takes."""
+        the box follows sound instead of the heat of the inside."""
         with np.errstate(invalid="ignore", divide="ignore"):
             whole = np.asarray(value(*(it.sum(axis=0) for it in sums)), float)
-        waves = self.waves(value, sums, lag, follows_heat)
-        if waves is None:
+        series = self.series(value, sums, lag)
+        if series is None:
             return whole, np.full(whole.shape, np.nan)
+        waves = self.waves(series, lag)
         entropy = self.entropy(lag, len(waves)) if follows_heat else None
-        squares = self.squares(waves, lag) if entropy is None else self.with_heat(waves, entropy, lag)
+        if not follows_heat:
+            squares = self.with_sound(series, waves, lag)
+        else:
+            squares = self.squares(waves, lag) if entropy is None else self.with_heat(waves, entropy, lag)
         return whole, known_errors(squares, whole.ravel()).reshape(whole.shape)
 
     def ratio(self, sums: np.ndarray, weights: np.ndarray, lag: float = 0.0) -> tuple[np.ndarray, np.ndarray]:
@@ -84,7 +92,8 @@ class Errors:
 
         In the long run the value `follow[i]` has the slope by the packing fraction that the value i has."""
         whole = np.asarray(value(*(it.sum(axis=0) for it in sums)), float)
-        waves = self.waves(value, sums, 0.0)
+        series = self.series(value, sums, 0.0)
+        waves = None if series is None else self.waves(series, 0.0)
         if waves is None or len(waves) < LEAST_FOR_FIT or not waves[:, 0].any():
             errors = np.full(whole.shape, np.nan) if waves is None else known_errors(self.squares(waves, 0.0), whole)
             return whole, errors, np.full(whole.shape, np.nan)
@@ -105,15 +114,16 @@ class Errors:
         by_order = max(int(time / (SLOW * memory)), LEAST_FOR_FIT) if memory else MOST
         return int(np.clip(min(time / max(lag, self.heat.times[0]), by_order), LEAST, MOST))
 
-    def waves(
-        self, value: Callable, sums: tuple[np.ndarray, ...], lag: float, is_fine: bool = True
-    ) -> np.ndarray | None:
-        """The slowest waves of values of blocks, by leaving out each in turn; blocks that aren't fine are as long as a half of
-        the fastest wave's period. None if there is too little for two blocks, or too little for what order remembers."""
-        if len(self.heat.rows) < 2 or self.time < 2 * lag or self.heat.order.is_unknown:
+    def series(self, value: Callable, sums: tuple[np.ndarray, ...], lag: float) -> np.ndarray | None:
+        """Values of blocks, by leaving out each in turn. None if there is too little for two blocks, for waves that are slow
+        beside the lag, or for what order remembers."""
+        if lag and round(self.time / lag) - 1 < LEAST:
+            self.too_late = min(self.too_late, lag)
+            return None
+        if len(self.heat.rows) < 2 or self.heat.order.is_unknown:
             return None
         used = (1 - lag / self.time) * len(sums[0])
-        count = max(int(min(BLOCKS if is_fine else self.counted(lag), used, len(self.heat.rows) / 2)), 2)
+        count = max(int(min(BLOCKS, used, len(self.heat.rows) / 2)), 2)
         edges = np.rint(np.arange(count + 1) / count * used).astype(int)
         if (np.diff(edges) < 1).any():
             return None
@@ -122,8 +132,12 @@ class Errors:
         with np.errstate(invalid="ignore", divide="ignore"):
             whole = np.asarray(value(*totals), float)
             others = [value(*(total - it[place] for total, it in zip(totals, parts))) for place in range(count)]
-            values = (count * whole - (count - 1) * np.array(others, float)).reshape(count, -1)
-            return cosines(values, min(max(self.counted(lag), FOR_SLOPE), count - 1))
+            return (count * whole - (count - 1) * np.array(others, float)).reshape(count, -1)
+
+    def waves(self, series: np.ndarray, lag: float) -> np.ndarray:
+        """The slowest waves of a series, as many as there may be need of."""
+        with np.errstate(invalid="ignore"):
+            return cosines(series, min(max(self.counted(lag), FOR_SLOPE), len(series) - 1))
 
     def squares(self, waves: np.ndarray, lag: float, left: np.ndarray | None = None) -> np.ndarray:
         """The squared errors of means by those waves that count; `left` is which share of each a regression has left."""
@@ -138,19 +152,32 @@ class Errors:
         return found
 
     def entropy(self, lag: float, count: int) -> np.ndarray | None:
-        """The slowest waves of the mean entropy of the inside; none if it isn't known all the time, or says too little."""
+        """The slowest waves of the mean entropy of the inside, from one to the other of two states that are compared; none if it
+        isn't known all the time, or says too little."""
         if not self.heat.is_known or self.heat.order.is_dense or count < LEAST_FOR_FIT:
             return None
-        values = self.heat.until(self.sampling.scene.end - lag * self.sampling.scene.time, 4 * count)
+        ticks = lag * self.sampling.scene.time
+        values = self.heat.until(self.sampling.scene.end - ticks, 4 * count, ticks)
         return None if values is None else cosines(values[:, None], count)[:, 0]
+
+    def with_sound(self, series: np.ndarray, waves: np.ndarray, lag: float) -> np.ndarray:
+        """The squared errors of means of what follows sound: that is even over the box in the long run, so a mean over time has
+        a part that is by what is there at both ends. Cosines see that part twice, sines don't."""
+        with np.errstate(invalid="ignore"):
+            by_sines = slowest(sines(series, max(self.counted(lag) // 2, 1)) ** 2)
+        return (self.squares(waves, lag) + by_sines) / 2
 
     def with_heat(self, waves: np.ndarray, entropy: np.ndarray, lag: float) -> np.ndarray:
         """The squared errors of means of what follows the heat of the inside."""
         slope, rest, left = slopes(waves, entropy)
-        squares = self.squares(rest, lag, left)
-        # The square of a slope is too great by that of its error.
-        share = self.heat.variance_of_mean(self.time - lag) / (entropy**2).sum()
-        return squares * max(1 - share, 0) + slope**2 * share * (entropy**2).sum()
+        squares, power = self.squares(rest, lag, left), (entropy**2).sum()
+        variance = self.heat.variance_of_mean(self.time - lag)
+        if lag:
+            # Few waves are slow beside a lag: their slope is too rough to count beyond what they have.
+            variance = min(variance, power)
+        # The square of a slope is too great by that of its error, which each wave makes by what is left of it.
+        of_slope = entropy**2 @ (rest**2 / left[:, None]) / power**2
+        return np.maximum(squares + (slope**2 - of_slope) * variance, LEFT * squares)
 
     def of_density(self, waves: np.ndarray) -> float:
         """The squared error of the mean packing fraction, whose slope by the heat is known: it comes and goes at one
@@ -166,22 +193,32 @@ class Errors:
         """By how many waves errors are, and why they may be wrong."""
         order = self.heat.order
         if np.isinf(order.memory):
-            return ["CAUTION: so few states don't say for how long order remembers, so errors are unknown"]
+            return [
+                "CAUTION: so few states, or sums alone, don't say the correlation time of psi6, so errors are unknown: take several seeds"
+            ]
         if order.is_unknown:
             return [
-                f"CAUTION: order remembers for some {rough(order.memory)} sigma/v, so {self.time:.4g} are too short, and errors are"
-                f" unknown: take {rough(2 * order.least_time)} or more, or several seeds"
+                f"CAUTION: the correlation time of psi6 is some {rough(order.memory)} sigma/v, so {self.time:.4g} are too short, and"
+                f" errors are unknown: take {rough(2 * order.least_time)} or more, or several seeds"
             ]
+        late = []
+        if self.too_late < np.inf:
+            late.append(
+                f"CAUTION: from the time {self.too_late:.4g} sigma/v on errors are unknown, as fewer than {LEAST} modes are slow beside"
+                " it: take a longer run, or several seeds"
+            )
         if not self.used:
-            return ["errors are unknown: two blocks of time or more are wanted"]
+            return late or ["errors are unknown: two blocks of time or more are wanted"]
         sound, heat = self.heat.times
-        also = f"order, which remembers for {rough(order.memory)}" if order.is_dense else f"heat, which changes in {heat:.3g}"
-        found = [f"errors: by the {self.used} slowest waves of each series or more, and by the {also} sigma/v"]
+        also = f"the correlation time of psi6, {rough(order.memory)}"
+        if not order.is_dense:
+            also = f"energy fluctuations, which take {heat:.3g}"
+        found = [f"errors: by the {self.used} slowest modes of each series or more, and by {also} sigma/v", *self.parts, *late]
         if self.used < LEAST_FOR_FIT or not order.is_dense and self.time < HEAT_TIMES * heat:
             found.append(
                 f"CAUTION: {self.time:.4g} sigma/v are short, so errors are rough: take {rough(10 * max(sound, heat))} or more, or"
                 " several seeds"
             )
         if self.growth and np.mean(self.growth) > GROWTH:
-            found.append("CAUTION: the slower the waves the greater they are, so errors are the least that they can be")
+            found.append("CAUTION: the slower the modes the greater they are, so errors are the least that they can be")
         return found

@@ -24,7 +24,7 @@ WAVES = 24
 # The equation of state is that of a fluid. What is denser is taken to be like the densest.
 DENSEST = 0.69
 # By how much heat leaves faster than by Enskog's conductivity: what is left of it in means over 8 to 96 σ/v says 1.25 to 1.3,
-# in 49 runs of 2,000 disks at φ = 0.5.
+# in 49 runs of 2,000 disks at φ = 0.5. The script tools/tests/heat_factor.py, in as many again, says 1.0 to 1.4, each to 0.15.
 FASTER = 1.25
 # What share of the time that sound takes to cross the box is short beside the time of heat.
 SHORT = 0.25
@@ -81,6 +81,11 @@ def waves(length: float, margin: float) -> tuple[np.ndarray, np.ndarray]:
 
 def share_left(sampling: Sampling, fluid: Fluid, time: float) -> float:
     """Which share of the variance of the heat inside at one time is left in its mean over a time, in σ / v."""
+    return left_in_mean(sampling, FASTER * fluid.heat_diffusion, time)
+
+
+def left_in_mean(sampling: Sampling, diffusion: float, time: float) -> float:
+    """The same of what goes by this diffusion, in σ v."""
     scene = sampling.scene
     (kx, share_x), (ky, share_y) = (waves(it / scene.sigma, sampling.margin / scene.sigma) for it in (scene.width, scene.height))
     share = np.outer(share_x, share_y)
@@ -88,11 +93,16 @@ def share_left(sampling: Sampling, fluid: Fluid, time: float) -> float:
     if share.sum() < 1e-12:
         return 0.0
     squares = kx[:, None] ** 2 + ky**2
-    # Heat goes by no way faster than disks fly.
-    steps = np.minimum(FASTER * fluid.heat_diffusion * squares, np.sqrt(squares)) * time
-    steps[0, 0] = 1
-    left = 2 * (steps - 1 + np.exp(-steps)) / steps**2
-    return float((share * left).sum() / share.sum())
+    # Nothing goes faster than disks fly.
+    steps = np.minimum(diffusion * squares, np.sqrt(squares)) * time
+    return float((share * left_in(steps)).sum() / share.sum())
+
+
+def left_in(steps: np.ndarray) -> np.ndarray:
+    """Which share of the variance of what falls exponentially is left in its mean over a time in which it falls by so many
+    steps."""
+    steps = np.maximum(steps, 1e-4)
+    return 2 * (steps - 1 + np.exp(-steps)) / steps**2
 
 
 class Heat:
@@ -140,8 +150,9 @@ class Heat:
         found = temperature / temperature.mean() - self.fluid.factor * disks / disks.mean()
         return found - found.mean()
 
-    def until(self, end: float, most: int) -> np.ndarray | None:
-        """Its means over blocks of time up to a tick, as many as there may be at most; none if one has no tick."""
+    def until(self, end: float, most: int, lag: float = 0.0) -> np.ndarray | None:
+        """Its means over blocks of time up to a tick, as many as there may be at most; none if one has no tick. That of a tick
+        is the mean of all up to `lag` ticks later."""
         start, count = self.sampling.start, int(min(most, (self.ticks <= end).sum() / 2))
         block = ((self.ticks - start) / (end - start) * count).astype(int)
         block[self.ticks == end] = count - 1
@@ -149,7 +160,10 @@ class Heat:
         numbers = np.bincount(block[used], minlength=count)
         if count < 1 or not numbers.all():
             return None
-        return np.bincount(block[used], self.entropy[used], count) / numbers
+        sums = np.append(0, np.cumsum(self.entropy))
+        first, last = np.arange(len(self.ticks)), np.searchsorted(self.ticks, self.ticks + lag, "right")
+        means = (sums[last] - sums[first]) / (last - first)
+        return np.bincount(block[used], means[used], count) / numbers
 
     def variance_of_mean(self, time: float) -> float:
         """That of the mean of the entropy over the time of the measure, in σ / v.

@@ -1,7 +1,7 @@
 """How far bond order reaches: the correlation g6(r) of ψ6, by states."""
 import numpy as np
 
-from .bonds import bond_order
+from .bonds import order_of
 from .measuring import Measure
 from .runs import Frame
 from .sampling import Sampling, Stated, Table, bin_edges
@@ -35,7 +35,7 @@ class BondCorrelation(Measure):
     def add_state(self, frame: Frame) -> None:
         sampling, places = self.sampling, frame.rows[:, :2]
         block, inside = sampling.block(frame.tick), sampling.inside(places)
-        order = bond_order(places)[0][inside]
+        order = order_of(frame.rows)[0][inside]
         products, numbers = self.pairs.sums((places[inside] - sampling.margin) / self.scene.sigma, order)
         self.sums[block] += products
         self.weights[block] += numbers
@@ -50,13 +50,15 @@ class BondCorrelation(Measure):
         least = min(row[4] for row in self.scene.disks) / self.scene.sigma
         known = (self.edges[1:] > least + 2 * STEP) & (self.weights.sum(axis=0) > 0)
         distance = (self.edges[:-1] + self.width / 2)[known]
-        rows = list(zip(distance, correlation[known], errors[known], correlation[known] / own))
+        # The slowest fall that a fluid may have: where it melts into hexatic order.
+        power = correlation[known][:1] * (distance / distance[:1]) ** -0.25
+        rows = list(zip(distance, correlation[known], errors[known], correlation[known] / own, power))
         notes = [
             f"{self.frames} frames; g6 is the mean of psi6* psi6' over two disks at a distance, so divided by g(r);"
             " g6_relative is divided by that at 0 too",
             Stated("there it is the mean of |psi6|^2", own, own_error),
         ]
-        return Table(["r", "g6", "g6_error", "g6_relative"], rows, [*notes, *self.notes()])
+        return Table(["r", "g6", "g6_error", "g6_relative", "g6_quarter_power"], rows, [*notes, *self.notes()])
 
 
 class Pairs:

@@ -64,7 +64,8 @@ def relative_sizes(count: int, sizes, chance: np.random.Generator) -> np.ndarray
 
 
 def make(
-    count: int, phi: float, sizes=((1.0, 1.0),), seed: int = 1, lattice: str = "hex", time: float = 40.0, every: float | None = None
+    count: int, phi: float, sizes=((1.0, 1.0),), seed: int = 1, lattice: str = "hex", time: float = 40.0, every: float | None = None,
+    speeds: str = "normal",
 ) -> Scene:
     """The scene of so many disks at a packing fraction over the whole box; times are reduced."""
     if not 1 <= count <= MOST_DISKS:
@@ -91,7 +92,7 @@ def make(
     else:
         places = settle(shape.sites, gap * unit, count, chance)
     speed = thermal_speed(diameters, LIMIT_SPEEDS)
-    rows = np.column_stack([places, velocities(count, speed, chance), diameters])
+    rows = np.column_stack([places, VELOCITIES[speeds](count, speed, chance), diameters])
     scene = Scene(
         int(box[0]), int(box[1]), int(diameters.max()), round(LIMIT_SPEEDS * speed), ROUND_LIMIT, 0, None,
         tuple(map(tuple, rows.tolist())),
@@ -115,11 +116,27 @@ def velocities(count: int, speed: float, chance: np.random.Generator) -> np.ndar
     drawn = chance.normal(size=(count, 2))
     if count > 1:
         drawn -= drawn.mean(axis=0)
-    whole = np.rint(drawn * speed / np.sqrt((drawn**2).mean())).astype(np.int64)
-    if count > 1:
-        for axis, left in enumerate(whole.sum(axis=0)):
-            whole[: abs(left), axis] -= np.sign(left)
-    return whole
+    return balanced(np.rint(drawn * speed / np.sqrt((drawn**2).mean())).astype(np.int64))
+
+
+def equal_velocities(count: int, speed: float, chance: np.random.Generator) -> np.ndarray:
+    """Velocities of one size and drawn directions, each two opposite to each other; of an odd number three share the circle."""
+    shared = 3 if count % 2 and count > 1 else count % 2
+    turns = chance.uniform(0, 2 * np.pi, (count - shared) // 2)
+    turns = np.concatenate([turns, turns + np.pi, chance.uniform(0, 2 * np.pi) + 2 * np.pi / 3 * np.arange(shared)])
+    drawn = np.sqrt(2) * speed * np.column_stack([np.cos(turns), np.sin(turns)])
+    return balanced(np.rint(chance.permutation(drawn)).astype(np.int64))
+
+
+def balanced(velocities: np.ndarray) -> np.ndarray:
+    """The same with what rounding left of their sum taken from the first ones, a unit each, if there are two or more."""
+    if len(velocities) > 1:
+        for axis, left in enumerate(velocities.sum(axis=0)):
+            velocities[: abs(left), axis] -= np.sign(left)
+    return velocities
+
+
+VELOCITIES = {"normal": velocities, "equal": equal_velocities}
 
 
 def throw(box: np.ndarray, diameters: np.ndarray, chance: np.random.Generator) -> np.ndarray:

@@ -2,18 +2,23 @@
 
 A measure is shown what the report says, adds it up by blocks of time, and makes a table of it in the end. It keeps no more
 of the report than it compares, so a report may be as long as it likes."""
+import re
 from typing import Iterable
 
 import numpy as np
 
+from .columns import column
 from .errors import Errors, spread_error
 from .heat import Heat
 from .motion import Followed
 from .order import Order
 from .reports import PartSums
 from .runs import Frame, Run, Sample
-from .sampling import Sampling, Stated, Table
+from .sampling import OfErrors, Sampling, Stated, Table
 from .scenes import Refused
+
+
+NUMBER = re.compile(r"\d[\d.e+-]*")
 
 
 class Measure:
@@ -44,7 +49,7 @@ class Measure:
 
     def notes(self) -> list[str]:
         """What every table says of the part of the run, and of its errors, which have to be made before."""
-        return [*self.errors.notes(), *self.sampling.notes()]
+        return [*map(OfErrors, self.errors.notes()), *self.sampling.notes()]
 
     def conclusions(self, table: Table) -> list[str]:
         """Notes that follow from a table's numbers and their errors, of one run or of several together."""
@@ -120,10 +125,12 @@ def together(runs: list[Measure]) -> Table:
     # An axis for the runs, one for rows, one for columns.
     numbers = np.array([it.rows[:count] for it in tables], float)
     means, errors = numbers.mean(axis=0), spread_error(numbers)
-    for place, name in enumerate(first.columns):
-        if f"{name}_error" in first.columns:
-            means[:, first.columns.index(f"{name}_error")] = errors[:, place]
-        if name.endswith("_error_given_phi"):
+    for place, it in enumerate(map(column, first.columns)):
+        if it.error_of and not it.is_given_phi:
+            # What can't be otherwise has no error, by one run or by several.
+            is_sure = (numbers[:, :, place] == 0).all(axis=0)
+            means[:, place] = np.where(is_sure, 0, errors[:, first.columns.index(it.error_of)])
+        if it.is_given_phi:
             # By the runs that know it.
             known = np.isfinite(numbers[:, :, place])
             squares = np.where(known, numbers[:, :, place], 0) ** 2
@@ -143,8 +150,9 @@ def notes_together(notes: list[list[str | Stated]]) -> list[str | Stated]:
         if isinstance(note, Stated):
             alike = [it for own in notes for it in own if isinstance(it, Stated) and it.name == note.name]
             values = [it.value for it in alike]
-            after = note.after if all(it.after == note.after for it in alike) else ""
+            # Seeds differ in the last digits of a time; what is said is that of the first.
+            after = note.after if len({NUMBER.sub("", it.after) for it in alike}) == 1 else ""
             found.append(Stated(note.name, float(np.mean(values)), float(spread_error(values)), after))
-        elif all(note in own for own in notes) and "errors are" not in note and not note.startswith("errors"):
+        elif all(note in own for own in notes) and not isinstance(note, OfErrors):
             found.append(note)
     return found

@@ -1,5 +1,6 @@
 """Where disks are between their collisions: many collisions are followed at once, exactly, in whole numbers."""
 from dataclasses import dataclass
+from typing import Sequence
 
 import numpy as np
 
@@ -21,10 +22,30 @@ class Followed:
     place_second: np.ndarray
     before_first: np.ndarray
     after_first: np.ndarray
+    before_second: np.ndarray
 
     @property
     def is_pair(self) -> np.ndarray:
         return self.second >= 0
+
+
+@dataclass
+class Turns:
+    """Changes of velocity, sorted by disk, then by their order: when, where, and the velocities before and after."""
+
+    disk: np.ndarray
+    tick: np.ndarray
+    place: np.ndarray
+    before: np.ndarray
+    after: np.ndarray
+
+    def last(self, disks: int, tick: int) -> tuple[np.ndarray, np.ndarray]:
+        """Which disks turned before a tick, and the last turn of each of these."""
+        # No tick has more than 41 bits, and no disk's number more than 16.
+        each = np.arange(disks)
+        found = np.searchsorted((self.disk << 41) + self.tick, (each << 41) + tick) - 1
+        turned = np.flatnonzero((found >= 0) & (self.disk[found] == each))
+        return turned, found[turned]
 
 
 class Motion:
@@ -39,22 +60,32 @@ class Motion:
         """Rows of x, y, vx and vy at a tick, if nothing happens before."""
         return np.hstack([self.place + self.velocity * (tick - self.since)[:, None], self.velocity])
 
-    def follow(self, events: np.ndarray) -> Followed:
-        """Collisions, in their order; the disks are set on."""
-        pairs = np.flatnonzero(events[:, 4] >= 0)
-        disk = np.concatenate([events[:, 3], events[pairs, 4]])
-        event = np.concatenate([np.arange(len(events)), pairs])
-        after = np.concatenate([events[:, 5:7], events[pairs, 7:9]])
-        order = np.lexsort((event, disk))
-        place, before = np.empty_like(after), np.empty_like(after)
-        place[order], before[order] = self.set_on(disk[order], events[event[order], 0], after[order])
-        second = np.zeros((len(events), 2), np.int64)
-        second[pairs] = place[len(events):]
-        whole = slice(len(events))
-        return Followed(*events[:, [0, 2, 3, 4]].T, place[whole], second, before[whole], after[whole])
+    def among(self, turns: Turns, tick: int) -> np.ndarray:
+        """The same, where this happens before."""
+        rows = self.at(tick)
+        disks, last = turns.last(len(rows), tick)
+        after = turns.after[last]
+        rows[disks] = np.hstack([turns.place[last] + after * (tick - turns.tick[last])[:, None], after])
+        return rows
 
-    def set_on(self, disk: np.ndarray, tick: np.ndarray, after: np.ndarray) -> tuple[np.ndarray, np.ndarray]:
-        """Places and velocities before each change of velocity; the changes are sorted by disk, then by their order."""
+    def follow(self, events: np.ndarray, ticks: Sequence[int] = ()) -> tuple[Followed, list[np.ndarray]]:
+        """Collisions, in their order, and all disks at some ticks that are no later than the last of these; the disks are
+        set on."""
+        # Both disks of each in turn; a side is none.
+        disk = events[:, 3:5].ravel()
+        moved = np.flatnonzero(disk >= 0)
+        # Numbers of disks have 16 bits, which are sorted without comparing.
+        moved = moved[np.argsort(disk[moved].astype(np.uint16), kind="stable")]
+        turns = self.turns(disk[moved], events[moved // 2, 0], events[:, 5:9].reshape(-1, 2)[moved])
+        place, before = np.zeros((2, 2 * len(events), 2), np.int64)
+        place[moved], before[moved] = turns.place, turns.before
+        found = Followed(*events[:, [0, 2, 3, 4]].T, place[::2], place[1::2], before[::2], events[:, 5:7], before[1::2])
+        rows = [self.among(turns, tick) for tick in ticks]
+        self.set_on(turns)
+        return found, rows
+
+    def turns(self, disk: np.ndarray, tick: np.ndarray, after: np.ndarray) -> Turns:
+        """Changes of velocity, which are sorted, with what was before each."""
         begins = np.append(True, disk[1:] != disk[:-1])
         last_tick = np.where(begins, self.since[disk], np.roll(tick, 1))
         before = np.where(begins[:, None], self.velocity[disk], np.roll(after, 1, axis=0))
@@ -65,6 +96,10 @@ class Motion:
         starts = np.flatnonzero(begins)
         counts = np.diff(np.append(starts, len(disk)))
         place = self.place[disk] + moved - np.repeat(moved[starts] - steps[starts], counts, axis=0)
-        ends = starts + counts - 1
-        self.place[disk[ends]], self.velocity[disk[ends]], self.since[disk[ends]] = place[ends], after[ends], tick[ends]
-        return place, before
+        return Turns(disk, tick, place, before, after)
+
+    def set_on(self, turns: Turns) -> None:
+        """Has each disk go on from the last of its turns."""
+        ends = np.flatnonzero(np.append(turns.disk[1:] != turns.disk[:-1], True))
+        disks = turns.disk[ends]
+        self.place[disks], self.velocity[disks], self.since[disks] = turns.place[ends], turns.after[ends], turns.tick[ends]

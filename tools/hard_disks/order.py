@@ -7,7 +7,7 @@ from functools import cached_property
 
 import numpy as np
 
-from .bonds import bond_order
+from .bonds import order_of
 from .sampling import DENSE, Sampling
 from .scenes import Refused
 from .spectra import LEAST_FOR_FIT, MOST, cosines, slowest
@@ -40,17 +40,17 @@ class Order:
         # Disks on one line have no order.
         with suppress(Refused):
             if inside.any():
-                order = bond_order(rows[:, :2])[0][inside]
+                order = order_of(rows)[0][inside]
                 self.rows.append((tick, float(np.abs(order).mean()), float(abs(order.mean()))))
 
     @cached_property
     def memory(self) -> float:
         """The integrated autocorrelation time of both, before and after, in σ / v; 0 where it needn't be known, and infinite
-        where too few ticks say nothing of it."""
-        values = np.array(self.rows, float).reshape(-1, 3)[:, 1:]
-        if not self.is_dense or not len(values) or not (values.std(axis=0) > 0).all():
+        where nothing says it: too few ticks, sums alone, or an order that never changes."""
+        if not self.is_dense:
             return 0.0
-        if len(values) < 2 * LEAST_FOR_FIT:
+        values = np.array(self.rows, float).reshape(-1, 3)[:, 1:]
+        if len(values) < 2 * LEAST_FOR_FIT or not (values.std(axis=0) > 0).all():
             return math.inf
         time = (self.sampling.scene.end - self.sampling.start) / self.sampling.scene.time
         squares = cosines(values, min(MOST, len(values) // 2)) ** 2

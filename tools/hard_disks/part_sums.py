@@ -7,7 +7,7 @@ import math
 import numpy as np
 
 from .reports import PartSums
-from .sampling import DENSE, Sampling
+from .sampling import Sampling
 from .scenes import Refused
 
 # At its start a run has summed up nothing.
@@ -70,6 +70,4 @@ class Between:
         found = [f"by sums of the program with --margin {margin_in_units(self.sampling)}"]
         if not self.sampling.scene.has_one_size:
             found.append("CAUTION: phi inside is by the sizes of the whole box, as sums don't tell which disks are inside")
-        if self.sampling.scene.phi >= DENSE[0]:
-            found.append("CAUTION: sums don't tell how long order remembers near freezing, so errors may be too small: take several seeds")
         return found

@@ -9,33 +9,17 @@ from typing import Iterator, TextIO
 
 import numpy as np
 
+from .columns import column
 from .figures import COLOURS, DPI, WIDTH, new_figure, save
 from .scenes import Refused
 
 # The axes, in the order in which a table's is looked for, with their labels.
 AXES = {
     "r": "r / σ", "k": "k σ", "time": "time / (σ/v)", "speed": "speed / v", "distance": "distance from the walls / σ",
-    "phi": "φ inside",
+    "phi": "φ inside", "phi_local": "φ of a square", "x": "free time, free path by their means; b / σ; speed / v",
 }
-# The labels of panels; one that isn't here has its column's name.
-LABELS = {
-    "g": "g(r)", "g6": "g6(r)", "S": "S(k)", "C": "C(t)", "D": "D(t) / σ v", "msd": "mean squared displacement / σ²",
-    "Z": "Z = P A / (N T)", "P": "P σ² / v²", "phi": "φ", "T": "T / v²", "psi6": "|ψ6|", "order": "bond order",
-    "density": "density of speeds", "shape": "⟨v⁴⟩ / ⟨v²⟩²", "rate": "collisions of a disk in σ/v", "free_path": "free path / σ",
-}
-# Columns that share a panel with others, and how they are called there.
-KINDS = {
-    "local": ("order", "mean |ψ6|"), "whole": ("order", "|mean ψ6|"), "six_neighbours": ("order", "share with six neighbours"),
-    "Maxwell": ("density", "Maxwell"), "g6_relative": ("g6", "divided by that at 0"),
-}
-# Where a panel has a level to go by, as that of an ideal gas.
-LEVELS = {"g": 1, "S": 1, "C": 0, "shape": 2}
-PANELS_WITH_VARIANTS = ("g", "Z", "P", "rate")
 # Equations of state beside which Z is looked at, the best first.
 EQUATIONS = ("reference", "virial", "mixture", "Henderson")
-THEORIES = ("Henderson", "virial", "mixture", "Enskog", "Maxwell", "reference")
-ERRORS = ("_error", "_error_given_phi")
-NOT_DRAWN = {"asked_for", "collisions", "runs", "disks"}
 # From so many rows on a column is a line with a band for its errors, not points with bars.
 MANY = 40
 GREYS = ["#333333", "#888888"]
@@ -57,12 +41,13 @@ class Columns:
 
     def drawn(self) -> list[str]:
         """The columns that are drawn over the axis."""
-        return [it for it in self.values if it != self.axis() and it not in NOT_DRAWN and not it.endswith(ERRORS)]
+        return [it for it in self.values if it != self.axis() and column(it).is_drawn]
 
     def error(self, name: str) -> np.ndarray | None:
         """The errors of a column: over φ those at this φ, where there are some."""
-        endings = reversed(ERRORS) if self.axis() == "phi" else ERRORS
-        return next((self.values[name + it] for it in endings if name + it in self.values), None)
+        errors = [it for it in map(column, self.values) if it.error_of == name]
+        errors.sort(key=lambda it: it.is_given_phi, reverse=self.axis() == "phi")
+        return self.values[errors[0].name] if errors else None
 
 
 @dataclass
@@ -105,14 +90,6 @@ def number(text: str) -> float:
     return value if abs(value) < MOST_NUMBER else np.nan
 
 
-def panel_of(column: str) -> tuple[str, str]:
-    """The panel of a column, and how it is called there beside the panel's own column."""
-    if column in KINDS:
-        return KINDS[column]
-    own, _, variant = column.partition("_")
-    return (own, variant) if own in PANELS_WITH_VARIANTS else (column, "")
-
-
 def joined(tables: list[Columns]) -> list[Columns]:
     """Tables of one row each that have the same columns, as those of runs at several φ, are one table together."""
     alike: dict[tuple[str, ...], list[Columns]] = {}
@@ -134,11 +111,10 @@ def curves_by_panel(tables: list[Columns]) -> dict[tuple[str, str], list[Curve]]
         axis = table.axis()
         if axis is None:
             raise Refused(f"{table.name}: the table has none of the columns {', '.join(AXES)} to be drawn over")
-        for column in table.drawn():
-            panel, variant = panel_of(column)
-            x, y = table.values[axis], table.values[column]
-            curve = Curve(table.name, variant, x, y, table.error(axis), table.error(column), variant in THEORIES)
-            found.setdefault((axis, panel), []).append(curve)
+        for it in map(column, table.drawn()):
+            x, y = table.values[axis], table.values[it.name]
+            curve = Curve(table.name, it.variant, x, y, table.error(axis), table.error(it.name), it.is_theory)
+            found.setdefault((axis, it.panel or it.name), []).append(curve)
         if axis == "phi" and (theory := next((it for it in EQUATIONS if f"Z_{it}" in table.values), None)):
             found.setdefault((axis, f"Z by {theory}"), []).extend(deviations(table, theory))
     if not found:
@@ -169,12 +145,11 @@ def draw_curve(axes, curve: Curve, colour: str, label: str) -> None:
 def deviations(table: Columns, theory: str) -> Iterator[Curve]:
     """How far each Z is from that of an equation, in percent."""
     phi, wanted = table.values["phi"], table.values[f"Z_{theory}"]
-    for column in table.drawn():
-        panel, variant = panel_of(column)
-        if panel == "Z" and variant not in THEORIES:
-            errors = table.error(column)
-            share = 100 * (table.values[column] / wanted - 1)
-            yield Curve(table.name, variant, phi, share, None, None if errors is None else 100 * errors / wanted, False)
+    for it in map(column, table.drawn()):
+        if "Z" in (it.name, it.panel) and not it.is_theory:
+            errors = table.error(it.name)
+            share = 100 * (table.values[it.name] / wanted - 1)
+            yield Curve(table.name, it.variant, phi, share, None, None if errors is None else 100 * errors / wanted, False)
 
 
 def smooth(curve: Curve) -> tuple[np.ndarray, np.ndarray]:
@@ -196,10 +171,16 @@ def known(errors: np.ndarray | None) -> np.ndarray | None:
 
 
 def plot(
-    tables: list[Columns], path, logarithmic: str = "", ranges: dict[str, tuple[float, float]] | None = None, dpi: int = DPI
+    tables: list[Columns], path, logarithmic: str = "", ranges: dict[tuple[str, str], tuple[float, float]] | None = None,
+    dpi: int = DPI, wanted: list[str] | None = None,
 ) -> None:
-    """A figure of tables, a panel below the other; `logarithmic` names axes, of x and y, and `ranges` bounds them."""
+    """A figure of tables, a panel below the other, or of the panels that are wanted; `logarithmic` names axes, of x and y,
+    and `ranges` bounds them: of a panel that is named, or of all."""
     panels = curves_by_panel(joined(tables))
+    if wanted is not None:
+        if missing := set(wanted) - {name for _, name in panels}:
+            raise Refused(f"no panel {', '.join(sorted(missing))}: there are {', '.join(name for _, name in panels)}")
+        panels = {key: curves for key, curves in panels.items() if key[1] in wanted}
     figure = new_figure((WIDTH, PANEL_HEIGHT * len(panels) + 0.3))
     all_axes = figure.subplots(len(panels), squeeze=False)
     # matplotlib warns of each point that a logarithmic axis leaves out.
@@ -207,12 +188,13 @@ def plot(
         warnings.simplefilter("ignore", UserWarning)
         for axes, ((axis, panel), curves) in zip(all_axes[:, 0], panels.items()):
             draw_panel(axes, panel, curves)
-            label = f"Z less that {panel[2:]}, in %" if panel.startswith("Z by ") else LABELS.get(panel, panel)
+            label = f"Z less that {panel[2:]}, in %" if panel.startswith("Z by ") else column(panel).label or panel
             axes.set(xlabel=AXES[axis], ylabel=label)
-            for name in logarithmic:
+            for name in logarithmic or column(panel).logarithmic:
                 axes.set(**{f"{name}scale": "log"})
-            for name, bounds in (ranges or {}).items():
-                axes.set(**{f"{name}lim": bounds})
+            for (of, name), bounds in (ranges or {}).items():
+                if of in ("", panel):
+                    axes.set(**{f"{name}lim": bounds})
         save(figure, path, dpi)
 
 
@@ -234,7 +216,7 @@ def label_of(curve: Curve, curves: list[Curve]) -> str:
 def draw_panel(axes, panel: str, curves: list[Curve]) -> None:
     """Draws what is measured in colours, and theory in greys."""
     colours, greys = cycle(COLOURS), cycle(GREYS)
-    level = 0 if panel.startswith("Z by ") else LEVELS.get(panel)
+    level = 0 if panel.startswith("Z by ") else column(panel).level
     if level is not None:
         axes.axhline(level, color="#bbbbbb", linewidth=0.8, zorder=0)
     for curve in without_twins(curves):

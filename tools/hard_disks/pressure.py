@@ -16,12 +16,13 @@ from functools import cached_property
 
 import numpy as np
 
+from .composition import Composition
 from .measuring import Measure
 from .motion import Followed
 from .part_sums import Between
 from .reports import PartSums
 from .runs import Sample
-from .sampling import Sampling, Table
+from .sampling import Definition, Sampling, Table
 from .theory import EQUATIONS, cautions, collision_rate, mixture
 
 # At how many ticks the disks inside are counted, at least.
@@ -57,8 +58,7 @@ class Colliding(Measure):
         self.counted = Counts(*np.zeros((8, sampling.blocks)), np.full(sampling.blocks, sampling.block_time()))
         self.sums: list[PartSums] = []
         self.sizes = np.array([row[4] for row in sampling.scene.disks], float)
-        # How often each disk was inside.
-        self.presence = np.zeros(len(self.sizes))
+        self.composition = Composition(sampling)
 
     def sample_ticks(self) -> list[int]:
         samples = math.ceil(SAMPLES / self.sampling.blocks) * self.sampling.blocks
@@ -95,7 +95,7 @@ class Colliding(Measure):
         counts."""
         counts, inside = self.counted, self.sampling.inside(sample.rows[:, :2])
         block = self.sampling.block(sample.tick)
-        self.presence += inside
+        self.composition.add(inside)
         counts.samples[block] += 1
         counts.disks[block] += inside.sum()
         counts.covered[block] += math.pi / 4 * (self.sizes[inside] ** 2).sum()
@@ -108,17 +108,23 @@ class Colliding(Measure):
     def estimate(self) -> tuple[np.ndarray, ...]:
         """The four values of the whole time, their errors, and what these were if the packing fraction were known."""
         # The pressure at the walls is that inside, so in the long run both Z have one slope.
-        return self.errors.by_density(self.values_of, *vars(self.counts).values(), follow=[0, 1, 1, 3])
+        values, errors, known = self.errors.by_density(self.values_of, *vars(self.counts).values(), follow=[0, 1, 1, 3])
+        if self.between and not self.scene.has_one_size:
+            # Sums don't tell which sizes are inside, so nothing is known of what follows the packing fraction.
+            known = np.full(len(known), np.nan)
+        return values, np.hypot(errors, self.composition.errors()), known
 
     def composition_notes(self) -> list[str]:
-        """That other disks are inside than in the scene, if their mean area differs: walls and chance sort sizes."""
-        if self.scene.has_one_size or not self.presence.any():
-            return []
-        squares = self.sizes**2
-        more = (self.presence @ squares) / self.presence.sum() / squares.mean() - 1
+        """That other disks are inside than in the scene, if their mean area differs: walls and chance sort sizes. And that it
+        stays so."""
+        presence, squares, notes = self.composition.presence, self.sizes**2, self.composition.notes()
+        if self.scene.has_one_size or not presence.any():
+            return notes
+        more = (presence @ squares) / presence.sum() / squares.mean() - 1
         if abs(more) < OTHER_SIZES:
-            return []
-        return [f"CAUTION: the mean area of disks inside is {abs(more):.1%} {'more' if more > 0 else 'less'} than that of all"]
+            return notes
+        said = f"CAUTION: the mean area of disks inside is {abs(more):.1%} {'more' if more > 0 else 'less'} than that of all"
+        return [said, *notes]
 
     def values_of(self, *sums: np.ndarray) -> np.ndarray:
         return values(Counts(*sums), self.sampling)
@@ -183,11 +189,14 @@ class Pressure(Colliding):
         if scene.has_one_size:
             names, row = [*names, *(f"Z_{it.name}" for it in EQUATIONS)], [*row, *(it(phi) for it in EQUATIONS)]
         else:
-            names, row = [*names, "Z_mixture"], [*row, mixture(phi, self.sizes, self.presence)]
+            presence = self.composition.presence
+            names, row = [*names, "Z_mixture"], [*row, mixture(phi, self.sizes, presence if presence.any() else None)]
+        of_sizes, shares = self.composition.columns()
+        names, row = [*names, *of_sizes], [*row, *shares]
         notes = [
-            "Z = P A / (N T): by the virial of collisions inside, and by the walls away from corners; phi is that inside",
-            "Z_error is that of the mean Z; beside an equation of state at the phi of this row Z_error_given_phi counts",
-            "P is in v^2 / sigma^2, with disks of mass 1: by the virial inside, and the same all over the box",
+            Definition("Z = P A / (N T): by the virial of collisions inside, and by the walls away from corners; phi is that inside"),
+            Definition("Z_error is that of the mean Z; beside an equation of state at the phi of this row Z_error_given_phi counts"),
+            Definition("P is in v^2 / sigma^2, with disks of mass 1: by the virial inside, and the same all over the box"),
         ]
         early = counts.virial.sum() / counts.touching.sum() - 1 if counts.collisions.any() else 0
         notes.append(
@@ -210,5 +219,7 @@ class Rate(Colliding):
         names = ["phi", "collisions", "rate", "rate_error", "free_path", "free_path_error"]
         if self.scene.has_one_size:
             names, row = [*names, "rate_Enskog"], [*row, collision_rate(phi) if phi > 0 else math.nan]
+        of_sizes, shares = self.composition.columns()
+        names, row = [*names, *of_sizes], [*row, *shares]
         notes = ["collisions of a disk in the time sigma/v; free_path is the mean speed divided by that, in sigma"]
         return Table(names, [row], [*notes, *cautions(phi), *self.composition_notes(), *self.notes()])

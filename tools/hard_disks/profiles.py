@@ -6,7 +6,7 @@ from dataclasses import dataclass
 
 import numpy as np
 
-from .bonds import bond_order
+from .bonds import order_of
 from .errors import Errors
 from .measuring import Measure
 from .runs import Frame
@@ -76,7 +76,7 @@ class Profile(Measure):
         block = self.sampling.block(frame.tick)
         depth, is_used = self.strips.depths(places / scene.sigma)
         squares = (frame.rows[:, 2:].astype(float) ** 2).sum(axis=1) / (2 * scene.speed**2)
-        each = [np.ones(len(places)), np.pi / 4 * self.sizes**2, squares, np.abs(bond_order(places)[0])]
+        each = [np.ones(len(places)), np.pi / 4 * self.sizes**2, squares, np.abs(order_of(frame.rows)[0])]
         for total, values in zip(self.sums, each):
             total[block] += np.histogram(depth[is_used], self.edges, weights=values[is_used])[0]
         self.touching[block] += np.histogram((depth - self.sizes / 2)[is_used], self.gaps)[0]

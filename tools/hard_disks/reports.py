@@ -16,13 +16,15 @@ except ImportError:
 from .scenes import Refused
 
 PIECE = 1 << 18  # characters that are read at once
-WHOLE, SIGNED = r"\d{1,18}", r"-?\d{1,18}"
+WHOLE, SIGNED = "[0-9]{1,18}+", "-?[0-9]{1,18}+"
 LONG = r"\d{1,39}"  # sums have up to 128 bits
 COLLISION = rf"{WHOLE} {WHOLE} (?:pair {WHOLE} {WHOLE} {SIGNED} {SIGNED}|wall {WHOLE} [0-3]) {SIGNED} {SIGNED}\n"
 DISK = rf"disk {WHOLE} {SIGNED} {SIGNED} {SIGNED} {SIGNED}\n"
 # As many like lines as follow each other; a line that is neither stands alone.
 SECTION = re.compile(rf"(?P<collisions>(?:{COLLISION})++)|(?P<disks>(?:{DISK})++)|(?P<line>.*\n)", re.A)
 WALL = re.compile(r" wall (\d+) (\d) (.*)", re.A)
+# What stands for the word `wall` at first: no second disk is -2.
+SIDE = "0 0 -2"
 BROKEN = "the report breaks off before its end"
 
 
@@ -123,7 +125,7 @@ def read_report(stream: TextIO) -> Iterator[Collisions | State | PartSums | Limi
                 yield Sums(*sections.numbers("walls", 1), *sections.numbers("pairs", 1))
                 return
             case _:
-                raise Refused(f"no line of a report of a run: {text.splitlines()[0]}")
+                raise Refused(f"no line of a report of a run, as ./hard_disks writes one: {text.splitlines()[0]}")
 
 
 def done(end: int, sections: "Sections") -> Iterator[State | PartSums | Sums]:
@@ -140,7 +142,16 @@ def done(end: int, sections: "Sections") -> Iterator[State | PartSums | Sums]:
 
 def collision_numbers(text: str):
     """The numbers of lines of collisions, in the order of `Collision`."""
-    return numbers(WALL.sub(r" \2 \1 -1 \3 0 0", text.replace("pair", "-1")))
+    text = text.replace("pair", "-1")
+    if numpy is None:
+        return numbers(WALL.sub(r" \2 \1 -1 \3 0 0", text))
+    # Lines of sides are made as long as the others, and put in order as numbers: so no line is touched alone.
+    found = numbers(text.replace("wall", SIDE)).reshape(-1, len(Collision._fields))
+    at_side = numpy.flatnonzero(found[:, 4] == -2)
+    tick, turn, _, _, _, disk, side, vx, vy = found[at_side].T
+    none = numpy.zeros_like(tick)
+    found[at_side] = numpy.column_stack([tick, turn, side, disk, none - 1, vx, vy, none, none])
+    return found.ravel()
 
 
 def numbers(text: str):

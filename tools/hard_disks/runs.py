@@ -76,8 +76,9 @@ class Run:
                 yield item.numbers.reshape(-1, FIELDS)
 
     def followed(self, samples: list[int]) -> Iterator[Followed | Sample | Frame | PartSums]:
-        """Collisions with the disks' places and velocities, and a sample at each of these ticks, in order. Between them are
-        the frames: the scene's own, those of the report, and the end. Of a report that has sums it is these, in their order."""
+        """Collisions with the disks' places and velocities, many at once, and behind those a sample at each of these ticks
+        that lies among them. Between them are the frames: the scene's own, those of the report, and the end. Of a report that
+        has sums it is these, in their order."""
         motion, waiting = Motion(self.scene), deque(samples)
         yield self.start()
         for item in self.items():
@@ -89,13 +90,10 @@ class Run:
             if not isinstance(item, Collisions):
                 continue
             events = item.numbers.reshape(-1, FIELDS)
-            while len(events):
-                due = np.searchsorted(events[:, 0], waiting[0]) if waiting else len(events)
-                if due:
-                    yield motion.follow(events[:due])
-                    events = events[due:]
-                if len(events) and waiting:
-                    yield Sample(waiting[0], motion.at(waiting.popleft()))
+            due = [waiting.popleft() for _ in takewhile(lambda tick: tick <= events[-1, 0], tuple(waiting))]
+            found, rows = motion.follow(events, due)
+            yield found
+            yield from map(Sample, due, rows)
         yield from (Sample(tick, motion.at(tick)) for tick in waiting)
 
     def items(self, is_about_states: bool = False) -> Iterator[Collisions | State | PartSums | Sums]:

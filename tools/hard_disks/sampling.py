@@ -98,6 +98,14 @@ def bin_edges(most: float, width: float) -> np.ndarray:
     return np.arange(0, most + width / 2, width)
 
 
+class Definition(str):
+    """A note that says what columns are."""
+
+
+class OfErrors(str):
+    """A note on how sure the numbers of one run are. Of several runs nothing of that is said: their spread is."""
+
+
 @dataclass(frozen=True)
 class Stated:
     """A note about a number that has an error; `after` is what else it says."""
@@ -123,9 +131,12 @@ class Table:
     notes: list[str | Stated] = field(default_factory=list)
 
     def write(self, out: TextIO) -> None:
-        out.writelines(f"# {note}\n" for note in self.notes)
+        self.write_notes(out)
         csv.writer(out, lineterminator="\n").writerow(self.columns)
         self.write_rows(out)
+
+    def write_notes(self, out: TextIO) -> None:
+        out.writelines(f"# {note}\n" for note in self.notes)
 
     def write_rows(self, out: TextIO) -> None:
         csv.writer(out, lineterminator="\n").writerows([as_text(value) for value in row] for row in self.rows)

@@ -21,6 +21,12 @@ def cosines(values: np.ndarray, count: int) -> np.ndarray:
     return np.sqrt(2) / len(values) * (np.cos(phases) @ (values - values.mean(axis=0)))
 
 
+def sines(values: np.ndarray, count: int) -> np.ndarray:
+    """The slowest waves that are whole sines: what is the difference of something at two ends alone doesn't show in them."""
+    phases = 2 * np.pi * np.outer(np.arange(1, count + 1), np.arange(len(values)) + 0.5) / len(values)
+    return np.sqrt(2) / len(values) * (np.sin(phases) @ values)
+
+
 def slowest(squares: np.ndarray, left: np.ndarray | None = None) -> np.ndarray:
     """What columns of squares of waves are in the limit of slow ones; `left` is which share of each a regression has left."""
     left = np.ones(len(squares)) if left is None else left

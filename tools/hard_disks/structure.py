@@ -5,7 +5,8 @@ from typing import NamedTuple
 import numpy as np
 from numpy.polynomial import Polynomial
 
-from .bonds import bond_order
+from .bonds import order_of
+from .composition import Composition, Squares
 from .errors import Errors
 from .measuring import Measure
 from .runs import Frame
@@ -35,7 +36,7 @@ class PairDistribution(Measure):
         self.edges = bin_edges(most, width) - 1e-9
         self.pairs = np.zeros((sampling.blocks, len(self.edges) - 1))
         self.looked_at, self.inside, self.frames = np.zeros((3, sampling.blocks, 1))
-        self.partial = Partial(scene, self.pairs.shape)
+        self.partial, self.composition = Partial(scene, self.pairs.shape), Composition(sampling)
 
     def add_state(self, frame: Frame) -> None:
         from scipy.spatial import cKDTree
@@ -47,6 +48,7 @@ class PairDistribution(Measure):
         self.looked_at[block] += len(chosen)
         self.inside[block] += is_inside.sum()
         self.frames[block] += 1
+        self.composition.add(is_inside)
         self.partial.look_at(block, is_chosen, is_inside)
         if len(chosen):
             near = cKDTree(chosen / sigma).sparse_distance_matrix(cKDTree(places / sigma), self.most, output_type="ndarray")
@@ -62,13 +64,19 @@ class PairDistribution(Measure):
         # Of each block by its own density: that of all changes with the same disks.
         ideal = Ideal(area, shells)
         g, errors = self.errors.of(ideal.ratio, self.pairs, self.looked_at, self.inside, self.frames)
-        names, columns = self.partial.columns(self.errors, ideal, self.frames)
+        names, columns = self.partial.columns(self.errors, ideal, self.frames, edges)
+        errors[edges[1:] <= self.partial.touching(0, 0)] = 0
+        if self.partial.both:
+            added = self.partial.of_shares(g, columns[::2], self.composition, float(self.looked_at.sum() / frames))
+            errors, *columns[1::2] = [np.hypot(*it) for it in zip([errors, *columns[1::2]], added)]
         rows = list(zip(edges[:-1] + self.width / 2, g, errors, *columns))
         notes = [f"{frames} frames; g of the disks inside and {self.most:.4g} sigma from the walls; density {density:.6g} per sigma^2"]
         if scene.has_one_size and self.most > FIT:
             sums = self.pairs, self.looked_at, self.inside, self.frames
             notes += contact_notes(*self.errors.of(lambda *sums: at_contact(ideal, *sums, edges), *sums), np.pi / 4 * density)
-        return Table(["r", "g", "g_error", *names], rows, [*notes, *self.partial.notes(), *self.notes()])
+        of_sizes, shares = self.composition.columns()
+        rows, about = [(*row, *shares) for row in rows], [*self.partial.notes(), *self.composition.notes(bool(self.partial.both))]
+        return Table(["r", "g", "g_error", *names, *of_sizes], rows, [*notes, *about, *self.notes()])
 
 
 class Ideal(NamedTuple):
@@ -106,13 +114,33 @@ class Partial:
         for place, (a, b) in enumerate(self.both):
             self.pairs[place, block] += np.histogram(distance[(low == a) & (high == b)], edges)[0]
 
-    def columns(self, errors: Errors, ideal: Ideal, frames: np.ndarray) -> tuple[list[str], list]:
+    def columns(self, errors: Errors, ideal: Ideal, frames: np.ndarray, edges: np.ndarray) -> tuple[list[str], list]:
         """The columns and their names."""
         names, columns = [], []
         for pairs, (a, b) in zip(self.pairs, self.both):
             names += [f"g_{a}{b}", f"g_{a}{b}_error"]
-            columns += errors.of(partial(between, ideal, a, b), pairs, self.looked_at, self.inside, frames)
+            g, error = errors.of(partial(between, ideal, a, b), pairs, self.looked_at, self.inside, frames)
+            columns += [g, np.where(edges[1:] <= self.touching(a, b), 0, error)]
         return names, columns
+
+    def touching(self, a: int, b: int) -> float:
+        """How far apart disks of two sizes are at least: g is 0 up to there, without an error."""
+        return (self.sizes[a] + self.sizes[b]) / 2
+
+    def of_shares(self, g: np.ndarray, parts: list[np.ndarray], composition: Composition, looked_at: float) -> list[np.ndarray]:
+        """What the shares of sizes add to the errors of g and of its parts. Pairs follow the shares at the centres; and they are
+        divided by densities inside, from which those at the centres differ."""
+        inside, shares = composition.inside(), np.bincount(self.size) / len(self.size)
+        density, part_of = composition.densities(), np.zeros((len(shares), len(shares), len(g)))
+        for (a, b), part in zip(self.both, parts):
+            part_of[a, b] = part_of[b, a] = np.nan_to_num(part)
+        # By one disk more of each size, which may be either disk of a pair.
+        pairs = 2 * np.einsum("abr,b->ra", part_of, shares)[:, self.size]
+        found = [composition.drawn(pairs, inside) + composition.drawn(pairs + np.outer(g, density), looked_at, inside)]
+        for (a, b), part in zip(self.both, parts):
+            near = ((self.size == a) / shares[a] + (self.size == b) / shares[b]) / 2 + density
+            found.append(composition.drawn(np.outer(part, near), looked_at, inside))
+        return [np.sqrt(it) for it in found]
 
     def notes(self) -> list[str]:
         if not self.both:
@@ -200,15 +228,22 @@ class HexaticOrder(Measure):
     def __init__(self, sampling: Sampling, series: bool = False):
         super().__init__(sampling)
         self.has_series = series
+        self.composition = Composition(sampling)
+        self.squares = Squares(self.composition, 3)
         self.found: list[list[float]] = []
         self.ticks: list[int] = []
 
     def add_state(self, frame: Frame) -> None:
         inside = self.sampling.inside(frame.rows[:, :2])
-        order, counts = bond_order(frame.rows[:, :2])
+        order, counts = order_of(frame.rows)
+        self.composition.add(inside)
         if inside.any():
-            order = order[inside]
-            self.found.append([np.abs(order).mean(), abs(order.mean()), (counts[inside] == 6).mean()])
+            order, has_six = order[inside], counts[inside] == 6
+            self.found.append([np.abs(order).mean(), abs(order.mean()), has_six.mean()])
+            if not self.scene.has_one_size:
+                # What ψ6 of all is like doesn't follow from that of each.
+                local = [np.abs(order), np.zeros(len(order)), has_six]
+                self.squares.add(frame.rows[inside, :2], inside, np.column_stack(local))
             self.ticks.append(frame.tick)
 
     def table(self) -> Table:
@@ -224,5 +259,8 @@ class HexaticOrder(Measure):
         np.add.at(sums, blocks, self.found)
         np.add.at(frames, blocks, 1)
         mean, errors = self.errors.ratio(sums, frames)
+        errors = np.hypot(errors, self.squares.errors())
         columns = [name for it in names for name in (it, f"{it}_error")]
-        return Table(columns, [np.column_stack([mean, errors]).ravel().tolist()], [*notes, *self.notes()])
+        of_sizes, shares = self.composition.columns()
+        row = [*np.column_stack([mean, errors]).ravel().tolist(), *shares]
+        return Table([*columns, *of_sizes], [row], [*notes, *self.composition.notes(self.squares.is_known), *self.notes()])

@@ -11,6 +11,7 @@ import math
 from dataclasses import dataclass
 from typing import Callable, NamedTuple
 
+import numpy as np
 from numpy.polynomial import Polynomial
 
 # B_n / B_2^(n - 1) for n from 1 on.
@@ -92,8 +93,13 @@ def mixture(phi: float, sizes, weights=None) -> float:
     first, second = (sum(weight * size**power for size, weight in zip(sizes, weights)) for power in (1, 2))
     if not second > 0:
         return math.nan
-    share = first**2 / (sum(weights) * second)
-    return (1 - share) / (1 - phi) + share * REFERENCE(phi)
+    return mixture_of(phi, first / sum(weights), second / sum(weights)) if phi <= REFERENCE.most else math.nan
+
+
+def mixture_of(phi: float, mean: float, square: float) -> float:
+    """The same by the mean diameter and the mean of its square; any φ will do."""
+    share = mean**2 / square
+    return (1 - share) / (1 - phi) + share * reference(phi)
 
 
 def contact(factor: float, phi: float) -> float:
@@ -107,9 +113,31 @@ def diffusion(phi: float) -> float:
     return math.sqrt(math.pi) / (8 * phi * contact(REFERENCE(phi), phi))
 
 
+def viscosity(phi: float) -> float:
+    """The shear viscosity η in v / σ of disks of mass 1, by Enskog's theory (Gass 1971, from memory)."""
+    excess = REFERENCE(phi) - 1
+    return 1.022 / (2 * math.sqrt(math.pi)) * 2 * phi * (1 / excess + 1 + 0.8729 * excess) if phi > 0 else math.nan
+
+
+def velocity_tail(phi: float, times):
+    """C(t) = 1 / (8 π ρ (D + ν) t), by which it falls at long times as mode coupling has it, with Enskog's D and ν = η / ρ;
+    not a number at the time 0. In reduced units."""
+    density = 4 * phi / math.pi
+    spread = diffusion(phi) + viscosity(phi) / density
+    return [1 / (8 * math.pi * density * spread * time) if time else math.nan for time in times]
+
+
 def collision_rate(phi: float) -> float:
     """Collisions of a disk in the time σ / v, by Enskog's 2 √π ρ σ² g with g of the reference."""
     return 8 * phi * contact(REFERENCE(phi), phi) / math.sqrt(math.pi)
+
+
+def rate_by_speed(phi: float, speeds: np.ndarray) -> np.ndarray:
+    """Collisions in the time σ / v of a disk of each speed, in v: Enskog's mean over Maxwell's velocities of the others."""
+    from scipy.special import ive
+
+    x = np.asarray(speeds) ** 2 / 4
+    return collision_rate(phi) / math.sqrt(2) * ((1 + 2 * x) * ive(0, x) + 2 * x * ive(1, x))
 
 
 def whole_fraction(inside: float, count: int, sizes) -> float:

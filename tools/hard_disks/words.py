@@ -62,6 +62,12 @@ def bounds(text):
     return tuple(map(float, numbers))
 
 
+def bounds_of(text):
+    """Z=1:3 as the name of a panel and two numbers; 1:3 alone is for all panels."""
+    name, _, numbers = text.rpartition("=")
+    return name, bounds(numbers)
+
+
 def window(text):
     """0:10,5:15 as four numbers."""
     across, comma, up = text.partition(",")

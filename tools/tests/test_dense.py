@@ -19,6 +19,7 @@ from physics_scenes import column, end_of, fluid, main, noted, np, read_text, re
 from places import TOOLS
 
 from hard_disks import errors, theory
+from hard_disks.bonds import bond_order
 from hard_disks.commands import main as command
 from hard_disks.hexatic import STEP, BondCorrelation, Pairs
 from hard_disks.making import hexagonal, make
@@ -28,7 +29,7 @@ from hard_disks.profiles import Profile, Strips, level_notes
 from hard_disks.program import find_program
 from hard_disks.sampling import sampling
 from hard_disks.scenes import Refused
-from hard_disks.structure import HexaticOrder, bond_order
+from hard_disks.structure import HexaticOrder
 from hard_disks.waves import Waves, check_grid
 
 MIXTURE = ((1.0, 0.5), (1.4, 0.5))
@@ -157,11 +158,21 @@ class Profiles(unittest.TestCase):
 class Order(unittest.TestCase):
     def test_near_freezing_errors_are_known_only_if_the_memory_of_order_is(self):
         # In a box so small order remembers for a few σ / v: enough states in a long time, too few, and a short time.
-        for most, every, said in [(160.0, 1.0, "order, which remembers for"), (60.0, 6.0, "so few states"), (4.0, 0.2, "are too short")]:
+        for most, every, said in [(160.0, 1.0, "by the correlation time of psi6"), (60.0, 6.0, "so few states"), (4.0, 0.2, "are too short")]:
             scene = make(200, 0.7, lattice="soft", time=most, every=every)
             table = measured(read_text(report_of(scene), scene), HexaticOrder(sampling(scene)))
             self.assertTrue(any(said in note for note in table.notes), (most, table.notes))
-            self.assertEqual(np.isnan(value(table, "local_error")), "remembers for" not in said)
+            self.assertEqual(np.isnan(value(table, "local_error")), "by the" not in said)
+
+    def test_sums_alone_tell_no_errors_near_freezing(self):
+        words = ["equation", "--phi", "0.3,0.67", "--disks", "200", "--time", "12", "--margin", "2", "--program", find_program()]
+        with contextlib.redirect_stdout(io.StringIO()) as out:
+            command(list(map(str, words)))
+        dilute, dense = (line.split(",") for line in out.getvalue().splitlines() if line.startswith("0."))
+        place = next(line for line in out.getvalue().splitlines() if line.startswith("asked_for")).split(",").index("Z_error")
+        self.assertNotEqual(dilute[place], "unknown")
+        self.assertEqual(dense[place], "unknown")
+        self.assertIn("CAUTION at 0.67: so few states, or sums alone", out.getvalue())
 
     def test_thinner_fluids_and_disks_on_a_line_have_none(self):
         for rows, width in [([(500, 500, 1, 0), (610, 500, 0, 0), (500, 650, 0, 0)], 1_000),

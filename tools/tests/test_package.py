@@ -5,6 +5,7 @@
 
 What can't be tested, without a library or the program, is said."""
 import contextlib
+import inspect
 import io
 import os
 import pty
@@ -14,24 +15,29 @@ import tempfile
 import time
 import unittest
 from dataclasses import replace
+from importlib.util import find_spec
 from pathlib import Path
 from unittest import mock
 
 from places import TOOLS
 from physics_scenes import NAMES, SCENES, end_of, fluid, main, needs, np, read_text, report_of, run_of, scene_of
 
+from hard_disks.columns import column
 from hard_disks.commands import MEASURES
 from hard_disks.commands import main as command
 from hard_disks.commands import names_of
 from hard_disks.converting import FORMATS, write_csv, write_xyz
 from hard_disks.fitting import fit
+from hard_disks.importing import corner, read_file
 from hard_disks.making import make
-from hard_disks.plotting import Columns, curves_by_panel, joined, read_tables
+from hard_disks.measuring import notes_together
+from hard_disks.plotting import AXES, Columns, curves_by_panel, joined, read_tables
+from hard_disks.reports import Collisions, collision_numbers
 from hard_disks.runs import Frame, Sample, read
-from hard_disks.sampling import sampling
+from hard_disks.sampling import Definition, OfErrors, Stated, sampling
 from hard_disks.scene_text import parse_scene, read_scene
 from hard_disks.scenes import Refused
-from hard_disks.structure import bond_order
+from hard_disks.bonds import bond_order
 from hard_disks.theory import whole_fraction
 
 
@@ -88,6 +94,13 @@ class Reading(unittest.TestCase):
                            (falls, "ticks fall"), (states.replace("done 5", "done 6"), "ends at tick 6")]:
             with self.subTest(said), self.assertRaisesRegex(Refused, said):
                 list(read_text(text, scene).followed([]))
+
+    def test_lines_are_read_alike_without_numpy(self):
+        text = "1 0 pair 0 12 -3 4 5 -6\n1 0 wall 7 3 -8 9\n2 1 wall 0 0 1 2\n"
+        wanted = [(1, 0, -1, 0, 12, -3, 4, 5, -6), (1, 0, 3, 7, -1, -8, 9, 0, 0), (2, 1, 0, 0, -1, 1, 2, 0, 0)]
+        for numpy in (np, None):
+            with mock.patch("hard_disks.reports.numpy", numpy):
+                self.assertEqual(list(Collisions(collision_numbers(text)).rows()), wanted)
 
     def test_a_line_takes_few_microseconds(self):
         line = "123456 0 pair 123 99 -1234 5678 -9012 3456\n"
@@ -209,7 +222,8 @@ class Making(unittest.TestCase):
 @needs("ase")
 class Ase(unittest.TestCase):
     def written(self, name, form):
-        path = Path(self.enterContext(tempfile.TemporaryDirectory())) / f"frames.{'traj' if form == 'ase' else form}"
+        ending = "traj" if form == "ase" else form
+        path = Path(self.enterContext(tempfile.TemporaryDirectory())) / f"frames.{ending}"
         FORMATS[form](run_of(name), path)
         return path
 
@@ -225,17 +239,98 @@ class Ase(unittest.TestCase):
                     for atoms, frame in zip(back, frames):
                         wanted = scene.reduced(frame.rows)
                         np.testing.assert_allclose(atoms.positions[:, :2], wanted[:, :2], atol=1e-7)
-                        np.testing.assert_allclose(atoms.get_velocities()[:, :2], wanted[:, 2:], atol=1e-7)
+                        # They are there once, as long as a file is by its numbers.
+                        self.assertEqual("velo" in atoms.arrays, "momenta" not in atoms.arrays)
+                        velocities = atoms.arrays["velo"] if form == "xyz" else atoms.get_velocities()
+                        np.testing.assert_allclose(velocities[:, :2], wanted[:, 2:], atol=1e-7)
                         sizes = sorted({it[4] for it in scene.disks})
                         self.assertEqual(atoms.get_tags().tolist(), [sizes.index(it[4]) for it in scene.disks])
                     if form == "xyz":
                         sizes = back[-1].arrays["radius"] * 2 * scene.sigma
                         np.testing.assert_allclose(sizes, [it[4] for it in scene.disks], rtol=1e-6)
 
+    def test_written_frames_are_fitted(self):
+        run = run_of("fluid")
+        *_, last = run.frames()
+        size = str(run.scene.sigma / run.scene.sigma)
+        for form, words in [("xyz", []), ("ase", ["--diameter", size]), ("dump", ["--diameter", size]), ("gsd", [])]:
+            if form == "gsd" and not find_spec("gsd"):
+                continue
+            with self.subTest(form):
+                out = io.StringIO()
+                with contextlib.redirect_stdout(out), contextlib.redirect_stderr(io.StringIO()):
+                    command(["fit", str(self.written("fluid", form)), *words, "--time", "1"])
+                found, share = parse_scene(out.getvalue()), max(run.scene.width, run.scene.height) / 2**30
+                rows = np.array(found.disks)
+                np.testing.assert_allclose(rows[:, :2] * share / run.scene.sigma, last.rows[:, :2] / run.scene.sigma, atol=1e-5)
+                wanted = last.rows[:, 2:] / np.sqrt((last.rows[:, 2:] ** 2).mean())
+                np.testing.assert_allclose(rows[:, 2:4] / found.speed, wanted, atol=2e-3)
+
     def test_a_summary_is_refused(self):
         scene = scene_of([(400, 500, 3, 0)])
         with self.assertRaisesRegex(Refused, "no state"):
             write_xyz(read_text("done 100\nwalls 0\npairs 0\nmomentum 3 0\nenergy 9 9\n", scene), os.devnull)
+
+
+# Two disks of the diameters 1 and 2 in a box that is centred at 0, one of them an image away, and one over the edge.
+DATA = """LAMMPS data
+
+3 atoms
+1 atom types
+-5 5 xlo xhi
+-4 4 ylo yhi
+-0.5 0.5 zlo zhi
+
+Atoms # sphere
+
+2 1 2 1 11 -1 0
+1 1 1 1 -2 1 0
+3 1 1 1 0 3.8 0
+
+Velocities
+
+1 3 4 0 0 0 0
+3 1 1 0 0 0 0
+2 0 -2 0 0 0 0
+"""
+
+
+class OwnFiles(unittest.TestCase):
+    def file(self, text, ending=".data"):
+        path = Path(self.enterContext(tempfile.TemporaryDirectory()), f"own{ending}")
+        path.write_text(text)
+        return str(path)
+
+    def test_data_of_lammps_is_read_with_its_corner_and_diameters(self):
+        found = read_file(self.file(DATA))
+        wanted = [[3, 5, 3, 4, 1], [6, 3, 0, -2, 2], [5, 7.8, 1, 1, 1]]
+        np.testing.assert_allclose(found.rows(), wanted)
+        np.testing.assert_allclose(found.sides, [10, 8])
+        np.testing.assert_allclose(found.cut(-3, 3, -2, 4).rows(), [[1, 3, 3, 4, 1], [4, 1, 0, -2, 2]])
+        self.assertEqual(len(found.cut(-3, 3, -1.9, 4).rows()), 1)
+        for window, said in [((-6, 1, 0, 1), "beyond the box"), ((0, 1, 0, 1), "no disk")]:
+            with self.assertRaisesRegex(Refused, said):
+                found.cut(*window)
+
+    def test_where_there_are_no_velocities_they_are_maxwells(self):
+        text = DATA.split("Velocities")[0].replace("# sphere", "").replace(" 2 1 11 -1", " 11 -1").replace(" 1 1 1 -2", " 1 -2")
+        found = read_file(self.file(text.replace("3 1 1 1 0", "3 1 0")))
+        self.assertIsNone(found.velocities)
+        first, second, same = (found.moving(seed).velocities for seed in (1, 2, 1))
+        np.testing.assert_array_equal(first, same)
+        self.assertFalse((first == second).any())
+        np.testing.assert_allclose(first.sum(axis=0), 0, atol=1e-12)
+        with self.assertRaisesRegex(Refused, "give one by --diameter"):
+            found.moving(1).rows()
+
+    def test_boxes_that_are_centred_begin_at_their_corner(self):
+        for places, wanted in [([[-4, 1], [4, 0]], [-5, -4]), ([[1, 1], [4, 3]], [0, 0]), ([[-1, 1], [9, 7]], [0, 0])]:
+            np.testing.assert_array_equal(corner(np.array(places), np.array([10, 8])), wanted)
+
+    def test_what_is_no_data_is_refused(self):
+        for text, said in [("a\n", "no data of LAMMPS"), (DATA.replace("sphere", "hybrid"), "not hybrid"), (DATA.replace("11 -1", "x -1"), "'x'")]:
+            with self.assertRaisesRegex(Refused, said):
+                read_file(self.file(text))
 
 
 @needs("pandas")
@@ -275,7 +370,7 @@ class Commands(unittest.TestCase):
         return status, out.getvalue(), error.getvalue()
 
     def test_each_command_has_help(self):
-        for words in [[], ["scene"], ["fit"], ["explain"], ["rest"], ["continue"], ["measure"], ["plot"], ["draw"], ["convert"], ["check"], ["equation"]]:
+        for words in [[], ["scene"], ["fit"], ["explain"], ["rest"], ["continue"], ["measure"], ["plot"], ["draw"], ["convert"], ["check"], ["equation"], ["compare"]]:
             status, out, _ = self.command(*words, "--help")
             self.assertEqual((status, out.startswith("usage: python3 -m hard_disks")), (0, True), words)
 
@@ -291,13 +386,30 @@ class Commands(unittest.TestCase):
 
     def test_each_measure_writes_a_table(self):
         scene = SCENES / "fluid.toml"
-        for name in set(MEASURES) - {"msd", "vacf"}:
+        # The others compare states, of which this report has but one.
+        for name in set(MEASURES) - {"msd", "vacf", "scatter"}:
             with self.subTest(name):
                 status, out, error = self.command("measure", name, scene, "--margin", "4", report="fluid")
                 lines = [it for it in out.splitlines() if not it.startswith("#")]
                 self.assertEqual((status, error), (0, ""))
                 self.assertEqual({it.count(",") for it in lines}, {lines[0].count(",")})
+                self.check_columns(lines[0].split(","))
                 self.assertIn("along the walls are left out", out)
+
+    def check_columns(self, names):
+        """That errors stand beside what they are of, and what is drawn has a label, or another one's panel."""
+        for it in map(column, names):
+            self.assertTrue(not it.error_of or it.error_of in names, it)
+            self.assertTrue(not it.is_drawn or it.label or it.panel or it.name in AXES, it)
+
+    def test_each_measure_takes_the_options_that_are_stated(self):
+        for name, kind in MEASURES.items():
+            with self.subTest(name):
+                takes = dict(inspect.signature(kind.load()).parameters)
+                stated = {"most": kind.most, "width": kind.has_width, "wave": kind.has_wave, "series": kind.has_series}
+                self.assertEqual({"sampling", *(option for option, has in stated.items() if has)}, set(takes))
+                if kind.most and takes["most"].default is not None:
+                    self.assertIn(f"({takes['most'].default:g})", kind.most)
 
     def test_several_measures_are_had_in_one_pass(self):
         scene, names = SCENES / "fluid.toml", ["pressure", "gr", "psi6"]
@@ -329,6 +441,10 @@ class Commands(unittest.TestCase):
         found = self.row(out)
         self.assertAlmostEqual(found["Z"], np.mean(values), delta=1e-5)
         self.assertAlmostEqual(found["Z_error"], np.std(values, ddof=1) / np.sqrt(3), delta=1e-5)
+
+    def test_several_runs_keep_the_notes_of_all_but_not_those_on_errors(self):
+        runs = [[Definition("Z is that"), OfErrors("errors: by 3"), f"seed {seed}", Stated("D", seed, 0.1)] for seed in (1, 2)]
+        self.assertEqual(list(map(str, notes_together(runs))), ["Z is that", "D = 1.5 +/- 0.5"])
 
     @staticmethod
     def row(text):
@@ -374,6 +490,8 @@ class Commands(unittest.TestCase):
         drawn = [name for name in MEASURES if name != "psi6"]
         for name in drawn:
             with self.subTest(name):
+                (table,) = read_tables(io.StringIO((folder / f"{name}.csv").read_text()), name)
+                self.check_columns(table.values)
                 words = ["plot", folder / f"{name}.csv", "-o", folder / f"{name}.svg"]
                 self.assertEqual(self.command(*words), (0, "", ""))
         first = (folder / "gr.svg").read_bytes()
@@ -385,7 +503,7 @@ class Commands(unittest.TestCase):
             path = folder / f"all.{ending}"
             self.assertEqual(self.command("plot", *(folder / f"{name}.csv" for name in drawn), "-o", path, "--dpi", "30"), (0, "", ""))
             self.assertTrue(path.read_bytes().startswith(begins))
-            words = ["plot", "-o", path, "--x", "0.5:3", "--log", "y", "--dpi", "30"]
+            words = ["plot", "-o", path, "--x", "0.5:3", "--log", "y", "--y", "Z=1:3", "--y", "0.1:9", "--dpi", "30", "--panels", "Z,order"]
             self.assertEqual(self.command(*words, report=tables), (0, "", ""))
             self.assertTrue(path.read_bytes().startswith(begins))
 
@@ -459,7 +577,6 @@ class Commands(unittest.TestCase):
             (["measure", "speeds", scene, "--width", "1e-300"], "states", "bins"),
             (["draw", scene, "--tick", "1.5", "-o", "a.png"], "states", "isn't a whole number"),
             (["draw", scene, "-o", folder / "gone" / "a.png"], "states", "No such file"),
-            (["check", "--drawn", "-3"], "states", "isn't a whole number"),
             (["draw", scene, "-o", "a.png", "--window", "0:99,0:1"], "states", "isn't a part of the box"),
             (["draw", scene, "-o", "a.png", "--window", "1,0:1"], "states", "LEFT:RIGHT|FROM:TO"),
             (["draw", scene, "-o", "a.png", "--fps", "3"], "states", "--movie isn't there"),

@@ -18,21 +18,32 @@ from physics_scenes import column, disks_at, end_of, fluid, main, noted, np, rea
 from error_ratios import numbers
 
 from hard_disks import theory
+from hard_disks.bonds import bond_order
 from hard_disks.commands import MEASURES
-from hard_disks.dynamics import Displacement, Speeds, VelocityCorrelation
+from hard_disks.comparing import compare
+from hard_disks.composition import Composition, Squares, slopes
+from hard_disks.dynamics import Displacement, Earlier, Speeds, VelocityCorrelation
 from hard_disks.errors import Errors, spread_error
-from hard_disks.heat import FASTER, Fluid, share_left, waves
-from hard_disks.measuring import measured, watch
+from hard_disks.heat import FASTER, Fluid, left_in, share_left, waves
+from hard_disks.local import LocalFraction
+from hard_disks.making import make
+from hard_disks.measuring import measured, together, watch
+from hard_disks.motion import Followed
 from hard_disks.part_sums import margin_in_units
+from hard_disks.paths import Paths
 from hard_disks.pressure import Pressure, Rate
 from hard_disks.program import find_program
 from hard_disks.reports import read_report
 from hard_disks.rests import rest
 from hard_disks.runs import Run
 from hard_disks.sampling import sampling
+from hard_disks.scattering import Scattering
 from hard_disks.scene_text import parse_scene
 from hard_disks.scenes import Refused
-from hard_disks.structure import PairDistribution, StructureFactor, bond_order
+from hard_disks.spectra import cosines, slowest
+from hard_disks.structure import HexaticOrder, PairDistribution, Partial, StructureFactor
+from hard_disks.viscosity import Stress, Viscosity
+from hard_disks.vortices import Vortices, seen
 
 
 class ByHand(unittest.TestCase):
@@ -69,6 +80,16 @@ class ByHand(unittest.TestCase):
         counted = value(table, "phi") * 800**2 / (math.pi / 4 * 100**2)
         self.assertAlmostEqual(value(table, "Z_wall"), 20 / (3200 * 100) / (counted * 50 / 800**2))
 
+    def test_stress_of_two_disks(self):
+        # They carry 9 in each tick, and hand over half of 104 · 6 at once.
+        scene = scene_of([(400, 500, 3, 0), (600, 500, -3, 0)])
+        rows, found = np.array([row[:4] for row in scene.disks]), []
+        stress = Stress(rows, 4.0)
+        for item in read_text(end_of(scene, ["16 0 pair 0 1 -3 0 3 0", "99 0 wall 0 0 3 0"]), scene).followed([]):
+            if isinstance(item, Followed):
+                found += stress.add(item).tolist()
+        np.testing.assert_allclose(found, [9 * tick + 312 * (tick >= 16) for tick in range(4, 100, 4)])
+
     def test_pair_distribution_of_three_disks(self):
         # One in the middle, one at 2.1 and one at 2.5 diameters from it.
         scene = scene_of([(500, 500, 1, 0), (710, 500, 0, 0), (500, 750, 0, 0)])
@@ -83,11 +104,20 @@ class ByHand(unittest.TestCase):
         # 10 times 10 diameters, and only that in the middle is looked at.
         scene = scene_of([(500, 500, 1, 0, 100), (710, 500, 0, 0, 70), (500, 750, 0, 0, 70)])
         table = measured(read_text(end_of(scene), scene), PairDistribution(sampling(scene, 0, 1.25, 2), most=4.0, width=0.1))
-        self.assertEqual(table.columns[3:], [f"g_{it}{end}" for it in ("00", "01", "11") for end in ("", "_error")])
+        names = [f"g_{it}{end}" for it in ("00", "01", "11") for end in ("", "_error")]
+        self.assertEqual(table.columns[3:], [*names, "share_0", "share_1"])
+        self.assertEqual([value(table, "share_0"), value(table, "share_1")], [2 / 3, 1 / 3])
         g, r = column(table, "g_01"), column(table, "r")
         np.testing.assert_allclose(r[g > 0], [2.65, 3.15])
         np.testing.assert_allclose(g[g > 0], [1 / (2 / 100 * math.pi * (b**2 - a**2)) for a, b in [(2.6, 2.7), (3.1, 3.2)]])
         self.assertTrue((column(table, "g_11")[r > 1] == 0).all())
+        # Two great ones are no nearer than 1.25, and so on: there is no error, for several runs neither.
+        both = [PairDistribution(sampling(scene, 0, 1.25, 2), most=4.0, width=0.1) for _ in "ab"]
+        for it in both:
+            watch(read_text(end_of(scene), scene), [it])
+        for found in (table, together(both)):
+            for name, touching in [("g_11", 1.25), ("g_01", 1.0625), ("g", 0.875)]:
+                self.assertEqual((column(found, f"{name}_error") == 0).tolist(), (r + 0.05 < touching + 1e-6).tolist())
         self.assertTrue(any("sizes: 0 has 0.875 sigma, 1 has 1.25 sigma" in it for it in table.notes))
 
     def test_structure_factor_of_two_disks(self):
@@ -125,12 +155,25 @@ class ByHand(unittest.TestCase):
         np.testing.assert_allclose(column(found, "time"), [t / scene.time for t in (0, 5, 10)], atol=1e-3)
         np.testing.assert_allclose(column(found, "C"), [1, 1, 1])
         np.testing.assert_allclose(column(found, "D"), [scene.speed * t / scene.sigma for t in (0, 5, 10)])
+        # At half a turn for each diameter Fs is the mean of cos(k · Δr) along four directions; normal displacements have twice
+        # the square of the mean square as their mean fourth power.
+        found = of(Scattering, most, math.pi)
+        for place, t in ((1, 5), (2, 10)):
+            turns = [math.pi * way * math.cos(angle) * t / 100 for way in (3, 4) for angle in np.arange(4) * math.pi / 4]
+            self.assertAlmostEqual(column(found, "Fs")[place], np.mean(np.cos(turns)))
+            self.assertAlmostEqual(column(found, "alpha2")[place], (3**4 + 4**4) / 2 / (2 * 12.5**2) - 1)
         # v = 2.5, so σ / v is 40 ticks; by Enskog's theory C falls within some thousand.
         self.assertTrue(any("times are too short" in it for it in of(Displacement, most).notes))
         self.assertFalse(any("walls" in it and "CAUTION" in it for it in of(Displacement, most).notes))
         # v = 2.5, so the speeds are 1.2 and 1.6.
         table = of(Speeds, 3.0, 0.25)
         np.testing.assert_allclose(column(table, "speed")[column(table, "density") > 0], [1.125, 1.625])
+
+    def test_squared_ways_may_be_greater_than_whole_numbers(self):
+        # Twenty disks are 10⁹ units away along both axes, and come back.
+        earlier, none = Earlier(1, np.zeros((20, 2), np.int64)), np.zeros((20, 4), np.int64)
+        earlier.add(0, none + [10**9, 10**9, 0, 0], np.ones(20, bool))
+        np.testing.assert_allclose(earlier.squared_ways(none), [20 * 2e18])
 
     def test_diffusion_near_walls_is_cautioned(self):
         # In 10 ticks it goes 0.3 diameters along x, and in a diffusion as far along y.
@@ -244,11 +287,60 @@ class MadeUp(unittest.TestCase):
         self.assertAlmostEqual(float(following) / wanted, 1, delta=0.05)
         self.assertLess(float(alone), 0.001)
 
+    def test_what_follows_the_heat_between_two_states_has_its_error(self):
+        # A mean over the next 60 blocks of what changes within some hundred.
+        heat, lag = np.sin(np.arange(540) / 25), 60
+        later = np.convolve(heat, np.ones(lag) / lag, "valid")[:480]
+        errors = self.errors(heat[:480])
+        _, following = errors.ratio(later, np.ones(480), float(lag))
+        slope = heat[:480].std() / errors.heat.entropy.std()
+        wanted = slope * math.sqrt(errors.heat.variance_of_mean(errors.time - lag))
+        self.assertAlmostEqual(float(following) / wanted, 1, delta=0.15)
+
+    def test_what_has_nothing_to_do_with_the_heat_keeps_its_error(self):
+        # Whatever share of the heat's variance is left in the mean: nearly all of it, as it hardly changes.
+        random = np.random.default_rng(6)
+        drawn, heat = random.normal(size=(300, 540)).cumsum(axis=1), self.remembering(200, 7, 300)
+        values = drawn[:, 60:] - drawn[:, :-60]
+        stated = [float(self.errors(20 * own).ratio(series, np.ones(480), 60.0)[1]) for series, own in zip(values, heat)]
+        self.assertAlmostEqual(math.sqrt(np.mean(np.square(stated))) / values[:, :420].mean(axis=1).std(), 1, delta=0.2)
+
+    def test_what_is_by_both_ends_has_its_error(self):
+        # The changes of waves of some 5 blocks: their mean is by both ends, of which cosines alone would say √2 as much.
+        random, values, stated = np.random.default_rng(8), [], []
+        for a, b, time in zip(*random.normal(size=(2, 400)), random.uniform(4.5, 5.5, 400)):
+            phases = 2 * math.pi * np.arange(481) / time
+            series = np.diff(a * np.sin(phases) + b * np.cos(phases))
+            value, error = self.errors().of(np.divide, series, np.ones(480), follows_heat=False)
+            values, stated = [*values, float(value)], [*stated, float(error)]
+        self.assertAlmostEqual(math.sqrt(np.mean(np.square(stated))) / np.std(values), 1, delta=0.15)
+
+    def test_errors_beside_which_too_few_modes_are_slow_are_unknown(self):
+        values = np.random.default_rng(9).normal(size=480)
+        for lag, is_known in [(120.0, True), (160.0, False)]:
+            errors = self.errors()
+            self.assertEqual(np.isfinite(errors.ratio(values, np.ones(480), lag)[1]), is_known)
+            self.assertEqual(any("several seeds" in it and "unknown" in it for it in errors.notes()), not is_known)
+
     def test_blocks_that_never_are_long_enough_are_cautioned(self):
         for values, is_growing in [(np.arange(480.0), True), (np.random.default_rng(5).normal(size=480), False)]:
             errors = self.errors()
             errors.ratio(values, np.ones(480))
             self.assertEqual(any("the least that they can be" in it for it in errors.notes()), is_growing)
+
+
+class Equal(unittest.TestCase):
+    def test_equal_speeds_fall_to_maxwells(self):
+        for count in (1, 2, 3, 200, 201):
+            velocities = np.array([row[2:4] for row in make(count, 0.2, speeds="equal").disks])
+            self.assertLess(abs(np.hypot(*velocities.T) / math.sqrt(2) / make(count, 0.2).speed - 1).max(), 0.01 if count > 1 else 1)
+            self.assertEqual(np.abs(velocities.sum(axis=0)).max() == 0, count > 1)
+        scene = make(200, 0.4, time=6.0, every=1.0, speeds="equal")
+        table = measured(read_text(report_of(scene), scene), Speeds(sampling(scene, 0.0), series=True))
+        falling = column(table, "H")
+        self.assertGreater(falling[0], 0)
+        self.assertAlmostEqual(falling[-1], -1 - math.log(2 * math.pi), delta=0.3)
+        self.assertAlmostEqual(column(table, "shape")[0], 1, delta=1e-3)
 
 
 class HeatInside(unittest.TestCase):
@@ -259,6 +351,12 @@ class HeatInside(unittest.TestCase):
         self.assertAlmostEqual(gas.sound_speed, math.sqrt(2), delta=1e-3)
         # The conductivity has no density in it: 2 / √π, times 1.029.
         self.assertAlmostEqual(gas.heat_diffusion * 4e-5 / math.pi * 2, 1.029 * 2 / math.sqrt(math.pi), delta=1e-3)
+        # Nor has the viscosity: 1 / (2 √π), times 1.022. So the tail of C(t) is thinner, the greater both D and ν are.
+        self.assertAlmostEqual(theory.viscosity(1e-5), 1.022 / (2 * math.sqrt(math.pi)), delta=1e-3)
+        none, tail = theory.velocity_tail(0.45, [0.0, 5.0])
+        self.assertTrue(math.isnan(none))
+        density, spread = 4 * 0.45 / math.pi, theory.diffusion(0.45) + theory.viscosity(0.45) / (4 * 0.45 / math.pi)
+        self.assertAlmostEqual(tail, 1 / (8 * math.pi * density * spread * 5))
 
     def test_waves_make_up_the_inside(self):
         # The squares of all parts of a function that is 1 inside add up to its width.
@@ -274,6 +372,135 @@ class HeatInside(unittest.TestCase):
         self.assertTrue(0.6 * slowest < share_left(part, fluid, 1e4) < slowest)
         # The whole box keeps its heat.
         self.assertEqual(share_left(sampling(scene, 0, 0), fluid, 1.0), 0)
+
+
+class Flows(unittest.TestCase):
+    """Vortices of a box of 56 times 56 diameters."""
+
+    def vortices(self, margin):
+        scene = scene_of([(400, 500, 1, 0), (600, 500, -1, 0)], width=5_600, height=5_600)
+        return Vortices(sampling(scene, 0, margin), 0.5)
+
+    def test_each_has_its_own_energy(self):
+        # Over the whole box none has a part in another, and the mean square of each is 1 / N.
+        whole = self.vortices(0).products
+        np.testing.assert_allclose(whole, np.eye(len(whole)) / 2, atol=1e-12)
+        # The middle half moves with 1 - 2 / π of the squared mean sine and so on: the slowest one is slow there.
+        self.assertLess(self.vortices(14).products[0, 0], 0.8 / 2)
+
+    def test_the_slowest_falls_by_viscosity(self):
+        rate = theory.viscosity(0.5) / (4 * 0.5 / math.pi) * 2 * (math.pi / 56) ** 2
+        self.assertAlmostEqual(self.vortices(10).rates[0] / rate, 1)
+
+    def test_they_carry_disks_along(self):
+        # In a short time as far as velocities go; in a long one as a walk does, by 2 t over the rate.
+        vortices = self.vortices(10)
+        ways, integrals = (of(np.array([1e-3, 1e6])) for of in (vortices.ways, vortices.integrals))
+        np.testing.assert_allclose(ways[0, 0, 0], 1e-6, rtol=1e-3)
+        np.testing.assert_allclose(ways[1, 0, 0], 2e6 / vortices.rates[0], rtol=1e-3)
+        # Half of what is by the velocity, as D is; it comes to half over the rate.
+        np.testing.assert_allclose(integrals[:, 0, 0], [5e-4, 0.5 / vortices.rates[0]], rtol=1e-3)
+
+    def test_what_a_series_shows_and_what_it_does_not_are_the_error(self):
+        # The squares of an amplitude that falls by so much in a block; of the waves of 480 blocks 8 count.
+        random = np.random.default_rng(10)
+        for rate in (0.001, 0.01, 0.1):
+            amplitudes, share = random.normal(size=(2000, 480)), math.exp(-rate)
+            amplitudes[:, 1:] *= math.sqrt(1 - share**2)
+            for block in range(1, 480):
+                amplitudes[:, block] += share * amplitudes[:, block - 1]
+            squares, steps = amplitudes**2, np.array([2 * rate * 480])
+            shown = slowest(cosines(squares.T, 8) ** 2).mean()
+            self.assertAlmostEqual(shown / 2, float(seen(steps, 8)[0]), delta=0.06)
+            self.assertAlmostEqual(squares.mean(axis=1).var() / 2, float(left_in(steps)[0]), delta=0.06)
+
+    def test_what_is_slow_beside_a_measure_is_unseen(self):
+        vortices = self.vortices(10)
+        moved = vortices.ways(np.array([10.0]))[0]
+        short, long = (vortices.unseen(moved, time, 8) for time in (5.0, 50_000.0))
+        whole = math.sqrt(2 * ((vortices.products * moved) ** 2).sum())
+        self.assertTrue(0.5 * whole < short < whole)
+        self.assertAlmostEqual(vortices.unseen(moved, 0.0, 8) / whole, 1, delta=0.01)
+        self.assertLess(long, 0.01 * whole)
+
+
+class Shares(unittest.TestCase):
+    SIZES = ((1.0, 0.5), (1.4, 0.5))
+
+    def test_what_follows_shares_at_one_pressure(self):
+        # A tenth of a percent more great disks, where the packing fraction is found anew.
+        from scipy.optimize import brentq
+
+        def at(share, pressure=None):
+            sizes, weights = np.array([1, 1.4]) / 1.2, [1 - share, share]
+            mean, square = (np.average(sizes**power, weights=weights) for power in (1, 2))
+
+            def pressure_of(phi):
+                return 4 * phi / (math.pi * square) * theory.mixture_of(phi, mean, square)
+
+            phi = 0.55 if pressure is None else brentq(lambda it: pressure_of(it) - pressure, 0.4, 0.65)
+            return mean, square, phi, theory.mixture_of(phi, mean, square), pressure_of(phi)
+
+        first = at(0.5)
+        second = at(0.501, first[-1])
+        found = (np.array(second[:2]) - first[:2]) @ slopes(0.55, *first[:2])
+        np.testing.assert_allclose(found[:2], np.array(second[2:4]) - first[2:4], rtol=5e-3)
+
+    def test_the_spread_of_shares_is_that_of_drawn_disks(self):
+        # Z by the shares inside at the start of 160 scenes, at one pressure; so short a time leaves all of it.
+        found, stated = [], []
+        for seed in range(160):
+            scene = make(200, 0.5, self.SIZES, seed, time=0.01)
+            part = sampling(scene)
+            composition = Composition(part)
+            composition.add(part.inside(np.array(scene.disks)[:, :2]))
+            small = composition.columns()[1][0]
+            powers = (np.array([[1.0], [1.4]]) / 1.2) ** [1, 2]
+            follows = slopes(composition.phi(), *powers.mean(axis=0))[:, 1]
+            found.append([small - 0.5, 0.5 - small] @ powers @ follows)
+            stated.append(composition.errors()[1])
+        self.assertAlmostEqual(math.sqrt(np.mean(np.square(stated))) / np.std(found), 1, delta=0.2)
+        # Of some that are drawn from these the mean differs by as much less as there are more of them.
+        shares = composition.diameters[None] > 1
+        some, whole = composition.drawn(shares, 25), composition.drawn(shares, 50)
+        np.testing.assert_allclose(some, whole + composition.drawn(shares, 25, 50))
+        # It is less in a mean over a time in which sizes mix.
+        longer = Composition(sampling(replace(scene, end=scene.ticks(10 * composition.time()))))
+        longer.presence, longer.looks = composition.presence, composition.looks
+        self.assertLess(longer.errors()[1], 0.4 * stated[-1])
+        self.assertEqual((len(composition.notes()), longer.notes()), (1, []))
+
+
+    def composition(self):
+        """That of 300 disks of two sizes, 100 of which are inside."""
+        scene = make(300, 0.5, self.SIZES, time=0.01)
+        found = Composition(sampling(scene))
+        found.add(np.arange(300) < 100)
+        return scene, found
+
+    def test_pairs_follow_the_shares_at_their_centres(self):
+        scene, composition = self.composition()
+        parts, one = Partial(scene, (1, 1)), np.ones(1)
+        half = composition.drawn(np.array([parts.size == 0]), 50, 100)[0] ** 0.5
+        with mock.patch.object(Composition, "densities", lambda _: np.zeros(300)):
+            # If each part is 1, pairs are as many whatever the shares; but a part is by the share of its size, which is 1/2.
+            whole, first, mixed, last = parts.of_shares(one, [one, one, one], composition, 50.0)
+            np.testing.assert_allclose([whole, first, mixed, last], [[0], [2 * half], [0], [2 * half]], atol=1e-12)
+            # If the small ones alone have pairs, at each centre and around it: twice the half of the part's own.
+            whole = parts.of_shares(one / 4, [one, 0 * one, 0 * one], composition, 50.0)[0]
+            np.testing.assert_allclose(whole, composition.drawn(np.array([parts.size == 0]), 50) ** 0.5)
+
+    def test_order_follows_sizes_by_squares(self):
+        # Values are three times the diameter, and what has nothing to do with it.
+        scene, composition = self.composition()
+        places, inside = np.array(scene.disks)[:, :2], np.ones(300, bool)
+        squares, random = Squares(composition, 2), np.random.default_rng(11)
+        for _ in range(50):
+            values = np.column_stack([3 * composition.diameters, np.zeros(300)]) + random.normal(size=(300, 2)) / 10
+            squares.add(random.permutation(places), inside, values)
+        wanted = 3 * composition.drawn(composition.diameters[None], 100)[0] ** 0.5
+        np.testing.assert_allclose(squares.errors() / wanted, [1, 0], atol=0.1)
+        self.assertFalse(Squares(composition, 2).is_known)
 
 
 class Theory(unittest.TestCase):
@@ -355,6 +582,43 @@ class Fluids(unittest.TestCase):
         self.agree((by_rate, value(found, "rate_error")), (value(table, "Z"), value(table, "Z_error")))
         self.assertAlmostEqual(value(found, "rate") / value(found, "rate_Enskog"), 1, delta=0.02)
 
+    def test_flights_and_meetings_are_as_enskog_has_them(self):
+        found, table = self.measured(Rate), self.measured(Paths)
+        # A flight is over at each collision of a disk; those that leave the inside are left out, mostly long ones.
+        self.assertAlmostEqual(noted(table, "mean free time")[0] * value(found, "rate"), 1, delta=0.04)
+        self.assertAlmostEqual(noted(table, "mean free path")[0] / value(found, "free_path"), 1, delta=0.06)
+        x, impacts = column(table, "x"), column(table, "impact_density")
+        np.testing.assert_allclose(impacts[x < 1], 1, atol=0.08)
+        self.assertEqual(impacts[x > 1].sum(), 0)
+        rates, wanted = column(table, "speed_rate"), column(table, "speed_rate_Enskog")
+        np.testing.assert_allclose(rates[(0.3 < x) & (x < 2.5)], wanted[(0.3 < x) & (x < 2.5)], rtol=0.08)
+
+    def test_the_viscosity_is_as_enskog_has_it(self):
+        scene, report = fluid(100, 0.5, 400.0, None)
+        table = measured(read_text(report, scene), Viscosity(sampling(scene), 2.0))
+        self.assertAlmostEqual(value(table, "viscosity_Enskog") / noted(table, "eta")[0], 1, delta=0.25)
+        # At once there is the part of collisions alone: half of r · Δv has the mean square 1/2.
+        found, rate = column(table, "viscosity"), value(measured(read_text(report, scene), Rate(sampling(scene))), "rate")
+        at_once = found[0] - (found[1] - found[0])
+        self.assertAlmostEqual(at_once / (len(scene.disks) / (scene.width * scene.height) * scene.sigma**2 * rate / 8), 1, delta=0.1)
+
+    def test_scattering_is_by_what_structure_and_displacements_say(self):
+        table = self.measured(Scattering, 0.45, 0.05, 1.0, 3.0)
+        self.assertAlmostEqual(value(table, "F") / np.interp(3.0, *self.structure(0.05)), 1, delta=0.1)
+        # Up to the second order in the exponent; at 3 / σ and up to σ / v that is enough.
+        normal, shape = column(table, "Fs_Gauss")[1:], column(table, "alpha2")[1:]
+        np.testing.assert_allclose(column(table, "Fs")[1:], normal * (1 + shape * np.log(normal) ** 2 / 2), atol=0.02)
+
+    def structure(self, every):
+        table = self.measured(StructureFactor, 0.45, every, 4.0)
+        return column(table, "k"), column(table, "S")
+
+    def test_local_fractions_make_up_the_whole(self):
+        table = self.measured(LocalFraction, 0.45, 0.5, 4.0)
+        middles, density = column(table, "phi_local"), column(table, "share")
+        self.assertAlmostEqual(density.sum() * 0.02, 1)
+        self.assertAlmostEqual(middles @ density * 0.02, value(self.measured(Rate), "phi"), delta=0.01)
+
     def test_displacements_and_velocities_give_the_same_diffusion(self):
         moved, turned = (self.measured(it, 0.45, 0.05, 5.0) for it in (Displacement, VelocityCorrelation))
         self.agree(noted(moved, "D"), noted(turned, "D"))
@@ -416,8 +680,18 @@ class Fluids(unittest.TestCase):
         self.assertAlmostEqual(column(table, "S")[1] * slope, 1, delta=0.25)
 
     def test_a_mixture_has_the_pressure_that_is_published(self):
-        scene, report = fluid(400, 0.4, 8.0, None, ((1.0, 0.7), (1.4, 0.3)))
+        scene, report = fluid(400, 0.4, 8.0, 0.5, ((1.0, 0.7), (1.4, 0.3)))
         table = measured(read_text(report, scene), Pressure(sampling(scene)))
+        for measure in (Pressure, Rate, PairDistribution, HexaticOrder):
+            found = measured(read_text(report, scene), measure(sampling(scene)))
+            shares = [value(found, f"share_{number}") for number in (0, 1)]
+            np.testing.assert_allclose([sum(shares), shares[0]], [1, 0.7], atol=0.05)
+            self.assertTrue(any("CAUTION: sizes mix in some" in it for it in found.notes), measure)
+        # Sums don't tell which disks are inside.
+        sums = report_of(scene, "--format", "sums", "--margin", str(margin_in_units(sampling(scene))))
+        by_sums = measured(read_text(sums, scene), Pressure(sampling(scene)))
+        self.assertAlmostEqual(value(by_sums, "Z_mixture") / value(table, "Z_mixture"), 1, delta=0.03)
+        self.assertTrue(np.isnan([value(by_sums, it) for it in ("share_0", "Z_error_given_phi")]).all())
         self.assertNotIn("Z_Henderson", table.columns)
         self.agree((value(table, "Z"), value(table, "Z_error")), (value(table, "Z_mixture"), 0))
 
@@ -431,6 +705,28 @@ class Fluids(unittest.TestCase):
             # One disk alone is a fluid of one size.
             if said:
                 self.assertAlmostEqual(value(table, "Z_mixture"), theory.reference(value(table, "phi")))
+
+    def test_the_same_code_is_compared_and_a_wrong_one_found(self):
+        scene, report = fluid(200, 0.4, 1.0, 0.1)
+        run, sizes = read_text(report, scene), np.array([row[4] for row in scene.disks]) / scene.sigma
+        states = [
+            np.column_stack([np.full(len(sizes), it.tick / scene.time), scene.reduced(it.rows), sizes])
+            for it in read_text(report, scene).frames()
+        ]
+        found = np.concatenate(list(run.events()))
+        events = np.column_stack([found[:, 0] / scene.time, found[:, 3], np.where(found[:, 4] < 0, -1 - found[:, 2], found[:, 4])])
+        box, program = (scene.width / scene.sigma, scene.height / scene.sigma), find_program()
+        right = compare(events, np.concatenate(states), *box, program)
+        self.assertEqual((right.unexplained, right.count), ([], 10))
+        self.assertGreater(len(right.same), 0.9 * len(events))
+        self.assertLess(np.median(np.abs(right.table().rows[-1][2])), 1e-3)
+        # It misses a collision, and has disks overlap in a state.
+        missed = np.flatnonzero(events[:, 2] >= 0)[5]
+        wrong = compare(np.delete(events, missed, axis=0), np.concatenate(states), *box, program)
+        self.assertEqual(len(wrong.unexplained) + wrong.explained, 1 + right.explained)
+        states[1][0, 1:3] = states[1][1, 1:3] + 0.3
+        overlapping = compare(events, np.concatenate(states[:3]), *box, program)
+        self.assertTrue(any("can't be" in it for it in overlapping.unexplained))
 
     def test_a_rest_by_the_report_is_what_cut_leaves(self):
         scene, report = fluid(200, 0.4, 1.0, 0.25)

@@ -43,6 +43,28 @@ WAYS = [
 ]
 
 
+# All formats of a run.
+FORMATS = ["lines", "states", "summary", "sums"]
+# More workers than a machine mostly has processors: in full groups, in one more, and as many as there may be; and the
+# tick up to which they run the strip. On a table so many look at each other's slots that a long run takes seconds.
+MANY_WORKERS = [
+    ("--workers 16 --burst locks", 100),
+    ("--workers 33 --burst locks", 100),
+    ("--workers 64 --burst locks", 100),
+    ("--workers 16 --burst table", 20),
+    ("--workers 33 --burst table", 5),
+    ("--workers 64 --burst table", 5),
+]
+
+
+def strip(end):
+    """The text of a scene that ends at this tick, whose box has 64 columns of cells, and so room for as many regions."""
+    draw = random.Random(64)
+    rows = [[10 * i + 5, draw.randint(4, 36), draw.randint(-2, 2), draw.randint(-2, 2)] for i in range(128)]
+    numbers = "width = 1280\nheight = 40\ndiameter = 4\nspeed_limit = 8\nround_limit = 64\nevery = 2\n"
+    return f"{numbers}end = {end}\ndisks = {rows}\n"
+
+
 def output(words, text=""):
     """What the program writes with these words and this input, and its status."""
     ran = subprocess.run([PROGRAM, *words.split()], input=text.encode(), capture_output=True, timeout=LONG)
@@ -212,6 +234,15 @@ class Outputs(unittest.TestCase):
                     words = f"--regions {regions} --workers {workers} --burst {burst}"
                     with self.subTest(words):
                         self.assert_output(words, scene, DONE, want)
+
+    def test_many_workers_write_what_no_worker_does(self):
+        for form in FORMATS:
+            ends = {end for _, end in MANY_WORKERS}
+            want = {end: output(f"--mode plain --format {form}", strip(end)) for end in ends}
+            for workers, end in MANY_WORKERS:
+                words = f"--regions 64 {workers} --format {form}"
+                with self.subTest(words):
+                    self.assertEqual(output(words, strip(end)), want[end])
 
     def test_a_table_writes_what_locks_write(self):
         scene = "--mode load --number 7 --disks 100 --regions 8"

@@ -35,7 +35,7 @@ LATE = 0.5
 FEW = ["--mode", "load", "--disks", "36"]
 # In mode `plain` each event of so many disks takes some milliseconds, and the first 65,536 bytes many seconds.
 SLOW_DISKS = 1_600
-DONE, WRITE_FAULT = 0, 7
+DONE, SCENE_REFUSED, WRITE_FAULT = 0, 3, 7
 # Runs for some seconds, by short bursts that take most of the time, and writes little.
 LONG = "--mode load --disks 60000 --format summary --regions 16 --workers 1 --turns 4 --steps 8".split()
 # The line is shown after a second, and some times in each that follows.
@@ -43,6 +43,9 @@ SHOWN_FOR = 3
 # How long, in seconds, such a run may take.
 AGES = 100
 COLUMNS = 20
+# How many seconds later than beside no terminal a run ends at most; and how often both are timed, on a busy machine.
+LATER = 0.1
+TIMES = 10
 
 
 def start(words=WORDS, stdin=subprocess.DEVNULL, **streams):
@@ -291,6 +294,29 @@ class Lines(unittest.TestCase):
         self.assertEqual(self.end(pid), DONE)
         self.assertEqual((self.screen.shown(), self.screen.row, self.screen.column), ([], 0, 0))
 
+    def test_a_run_too_short_for_a_line_leaves_the_row_above_alone(self):
+        pid = self.begin(FEW)
+        self.assertEqual(("".join(read_for(self.terminal, AGES)), self.end(pid)), ("", DONE))
+
+    def test_a_run_whose_end_is_never_known_ends_too(self):
+        pid = self.begin(["--mode", "run"])
+        self.assertEqual(("".join(read_for(self.terminal, SOON)), self.end(pid)), ("", SCENE_REFUSED))
+
+    def test_a_run_ends_as_soon_as_beside_no_terminal(self):
+        beside_none = min(self.lasts(FEW, is_at_terminal=False) for _ in range(TIMES))
+        self.assertLess(min(self.lasts(FEW, is_at_terminal=True) for _ in range(TIMES)), beside_none + LATER)
+
+    def lasts(self, words, is_at_terminal):
+        """How many seconds the program runs."""
+        begin = time.monotonic()
+        if is_at_terminal:
+            pid = self.begin(words)
+            list(read_for(self.terminal, AGES))
+            self.end(pid)
+        else:
+            subprocess.run([PROGRAM, *words], stdin=subprocess.DEVNULL, capture_output=True, check=True)
+        return time.monotonic() - begin
+
     def test_whoever_writes_after_a_request_to_end_begins_a_row(self):
         for number in (signal.SIGINT, signal.SIGTERM, signal.SIGHUP):
             with self.subTest(number):
@@ -309,9 +335,10 @@ class Lines(unittest.TestCase):
             self.assertGreater(os.fstat(file.fileno()).st_size, 0)
 
     def test_nothing_is_shown_beside_a_pipe_unless_it_is_asked_for(self):
-        for is_asked in (False, True):
+        for value in (None, "1", "", os.fsdecode(b"\xff")):
+            is_asked = value is not None
             reader, writer = os.pipe()
-            with self.subTest(is_asked), mock.patch.dict(os.environ, {"HARD_DISKS_LINE": "1"} if is_asked else {}):
+            with self.subTest(value), mock.patch.dict(os.environ, {"HARD_DISKS_LINE": value} if is_asked else {}):
                 pid = self.begin(LONG, output=writer)
                 os.close(writer)
                 text = "".join(read_for(self.terminal, AGES))
@@ -328,6 +355,8 @@ class Lines(unittest.TestCase):
 def main():
     global PROGRAM
     PROGRAM = program_of_words()
+    # (a shell that starts this beside other work has it, and all that it starts, ignore interrupts)
+    signal.signal(signal.SIGINT, signal.default_int_handler)
     unittest.main()
 
 

@@ -3,6 +3,7 @@
 What needs numpy is tested by test_physics.py.
 
     python3 tools/tests/test_tools.py"""
+import contextlib
 import dataclasses
 import io
 import os
@@ -10,6 +11,7 @@ import re
 import subprocess
 import sys
 import tempfile
+import tomllib
 import unittest
 from pathlib import Path
 from unittest import mock
@@ -17,8 +19,11 @@ from unittest import mock
 from places import SCENES, TOOLS
 
 import check_docs
+import check_returns
+from check_drawn import check_drawn, check_sums, draw
+import hard_disks.__main__ as package_main
 from hard_disks import reports
-from hard_disks.conservation import check, check_drawn, draw
+from hard_disks.conservation import check, follow
 from hard_disks.explaining import explain
 from hard_disks.program import find_program
 from hard_disks.reports import Collision, Collisions, Limit, State, Sums, read_report
@@ -63,6 +68,23 @@ class Reports(unittest.TestCase):
     def test_what_a_side_turned_is_in_the_momentum(self):
         with self.assertRaisesRegex(Refused, r"momentum \(8, 0\), and it is \(-8, 0\)"):
             checked("row", report_of("row").replace("momentum -8 0", "momentum 8 0"))
+
+    def test_places_keep_the_virial_theorem(self):
+        for line, other, tick in [("disk 0 11 10 -1 0", "disk 0 12 10 -1 0", 5), ("disk 1 18 10 -1 0", "disk 1 17 10 -1 0", 2)]:
+            with self.subTest(tick), self.assertRaisesRegex(Refused, f"tick {tick}: .* virial theorem"):
+                checked("states", report_of("states").replace(line, other))
+
+    def test_sums_of_parts_add_up(self):
+        text, scene = Path(scene_file("pair")).read_text(), read_scene(scene_file("pair"))
+        kept, _ = follow(scene, read_report(io.StringIO(report_of("pair"))))
+        whole, none, walls = (1, 8, 0, 0, 0, 0, 0), (0,) * 7, (0, 0, 1, 4, 0, 0, 0)
+        for first, rest, all_of, said in [
+            (none, whole, whole, None), (whole, none, whole, None), (none, none, whole, "cut at tick 2"), (walls, whole, whole, "cut at tick 2"),
+            (none, none, none, "the sums say"),
+        ]:
+            program = mock.Mock(**{"output.return_value": (0, "rest"), "sums.side_effect": [all_of, first, rest] * 2})
+            with self.subTest(said), self.assertRaisesRegex(Refused, said) if said else contextlib.nullcontext():
+                check_sums(text, scene, kept, program)
 
     def test_drawn_scenes_are_valid_and_move(self):
         for seed in range(20):
@@ -261,6 +283,25 @@ def lines_of(name):
     return found
 
 
+class OtherPython(unittest.TestCase):
+    def test_it_is_said_which_one_runs_a_command(self):
+        error = io.StringIO()
+        with (
+            mock.patch.multiple(package_main, lacks=lambda: "has no numpy", other_python=lambda: "/other/python3"),
+            mock.patch("os.execv", side_effect=SystemExit) as call, mock.patch("sys.argv", ["hard_disks", "scene"]),
+            contextlib.redirect_stderr(error), self.assertRaises(SystemExit),
+        ):
+            package_main.main()
+        path, (name, folder, *words) = call.call_args.args
+        self.assertEqual((path, name, folder, words), ("/other/python3", path, str(TOOLS / "hard_disks"), ["scene"]))
+        self.assertEqual(error.getvalue(), f"hard_disks: run by /other/python3, as {sys.executable} has no numpy\n")
+
+    def test_the_installed_script_is_the_command(self):
+        scripts = tomllib.loads((TOOLS / "pyproject.toml").read_text(encoding="utf-8"))["project"]["scripts"]
+        self.assertEqual(scripts, {"hard-disks": "hard_disks.__main__:main"})
+        self.assertTrue(callable(package_main.main))
+
+
 class Commands(unittest.TestCase):
     """What a Python without numpy does as well."""
 
@@ -272,7 +313,7 @@ class Commands(unittest.TestCase):
 
     def test_a_report_is_checked(self):
         status, out, _ = self.command("check", scene_file("row"), text=report_of("row"))
-        self.assertEqual((status, out), (0, "walls 1  pairs 3  energy 64 changed by 0, at most 84\n"))
+        self.assertEqual((status, out), (0, "walls 1  pairs 3  energy 64 changed by 0, at most 84  virial 160\n"))
 
     def test_a_scene_is_explained(self):
         self.assertEqual(self.command("explain", scene_file("row")), (0, "nothing is wrong with this scene\n", ""))
@@ -317,7 +358,7 @@ class Commands(unittest.TestCase):
             (["check", scene_file("row")], report_of("pair"), "counts|momentum"),
             (["check", scene_file("row")], "no report\n", "no line of a report"),
             (["check", scene_file("gone")], "", "No such file"),
-            (["check"], "", "wants a scene's file"),
+            (["check"], "", "required: SCENE"),
             (["check", str(SCENES / "row.report")], "", "no TOML"),
             (["frob"], "", "invalid choice"),
             (["explain", scene_file("gone")], "", "No such file"),
@@ -368,6 +409,36 @@ class Documents(unittest.TestCase):
         ]:
             with self.subTest(fault):
                 self.assertIn(fault, self.faults(text))
+
+
+class Returns(unittest.TestCase):
+    def test_the_sources_bounds_are_those_that_are_named(self):
+        self.assertEqual([*check_returns.faults_of_sources()], [])
+
+    def test_a_bound_is_found_where_it_stands(self):
+        for text, found in [
+            ("use std::sync::Wait;\n// A `Wait`.\nfn f() {}\n", []),
+            ("fn f() {}\nfn g<R: Wait>(\n", [(2, "g", "Wait")]),
+            ("fn f<\n    R: Abort,\n", [(2, "f", "Abort")]),
+            ("impl<R: Wait> Sink for Looking<R> {\n", [(1, "Looking", "Wait")]),
+            ("fn f() {}\nimpl<R: Wait> Looking<R> {\n", [(2, None, "Wait")]),
+        ]:
+            with self.subTest(text):
+                self.assertEqual([*check_returns.bounds_in(text)], found)
+
+    def test_what_the_checks_say_is_compared(self):
+        for name, words, count in [
+            ("live_progress", "functions=20 may-wait=8 sum=1", 0),
+            ("live_progress", "functions=20 may-wait=9 sum=1", 1),
+            ("region_view", "functions=9 may-wait=1 sum=1", 1),
+            ("hard_disks_program", "functions=12 main=Threads+Wait may-wait=1 sum=1", 0),
+            ("hard_disks_program", "functions=12 main=Net+Threads may-wait=1 sum=1", 1),
+            ("hard_disks_program", "functions=12 main=Threads+Wait may-wait=2 sum=1", 1),
+            ("worker_tests: its tests", "functions=3 may-wait=5 main=Abort sum=1", 0),
+        ]:
+            with self.subTest(words):
+                text = f"== {name}\nlogic=proved {words}\n"
+                self.assertEqual(len([*check_returns.faults_of_checks(text)]), count)
 
 
 if __name__ == "__main__":
