@@ -22,8 +22,8 @@ from unittest import mock
 from places import program_of_words
 
 PROGRAM = ""  # which one is tested is found at the end
-# Runs for about a second, and writes some megabytes from its beginning on.
-WORDS = ["--mode", "load", "--disks", "10000"]
+# Runs for a second or more, and writes many megabytes from its beginning on.
+WORDS = ["--mode", "load", "--disks", "30000"]
 # What a pipe holds is less, so a run that wrote so much into a file, or has a reader that read so much and no
 # more, is in the midst of its report.
 SOME = 200_000
@@ -38,8 +38,9 @@ SLOW_DISKS = 1_600
 DONE, SCENE_REFUSED, WRITE_FAULT = 0, 3, 7
 # Runs for some seconds, by short bursts that take most of the time, and writes little.
 LONG = "--mode load --disks 60000 --format summary --regions 16 --workers 1 --turns 4 --steps 8".split()
-# The line is shown after a second, and some times in each that follows.
-SHOWN_FOR = 3
+# Runs for much longer, as no burst does more than one event; whoever starts it ends it.
+LONGER = "--mode load --disks 65536 --format summary --regions 16 --workers 1 --turns 1 --steps 1".split()
+LINE = re.compile(r"tick [0-9]+ of 1000 \(")
 # How long, in seconds, such a run may take.
 AGES = 100
 COLUMNS = 20
@@ -276,17 +277,29 @@ class Lines(unittest.TestCase):
         _, status = os.waitpid(pid, 0)
         return os.waitstatus_to_exitcode(status)
 
-    def show_for(self, seconds):
+    def show_for(self, seconds, is_enough=lambda: False):
         for text in read_for(self.terminal, seconds):
             self.screen.take(text)
             self.assertLessEqual(len(self.screen.shown()), 1)
+            if is_enough():
+                return
+
+    def show_some_lines(self):
+        """Until the line has been written anew some times: however fast the machine is, the run isn't over then."""
+        lines = set()
+
+        def is_enough():
+            lines.update(row for row in self.screen.shown() if LINE.match(row))
+            return len(lines) == 3
+
+        self.show_for(AGES, is_enough)
 
     def test_the_line_is_one_row_of_a_narrow_terminal(self):
-        pid = self.begin(LONG)
-        self.show_for(SHOWN_FOR)
+        pid = self.begin(LONGER)
+        self.show_some_lines()
         os.kill(pid, signal.SIGKILL)
         self.end(pid)
-        self.assertRegex(self.screen.rows[0], r"^tick [0-9]+ of 1000 \(")
+        self.assertRegex(self.screen.rows[0], LINE)
 
     def test_it_is_gone_once_the_run_is_over(self):
         pid = self.begin(LONG)
@@ -320,8 +333,8 @@ class Lines(unittest.TestCase):
     def test_whoever_writes_after_a_request_to_end_begins_a_row(self):
         for number in (signal.SIGINT, signal.SIGTERM, signal.SIGHUP):
             with self.subTest(number):
-                pid = self.begin(LONG)
-                self.show_for(SHOWN_FOR)
+                pid = self.begin(LONGER)
+                self.show_some_lines()
                 os.kill(pid, number)
                 self.show_for(SOON)
                 self.assertEqual(self.end(pid), -number)
