@@ -33,7 +33,7 @@ pub nearby_listed : (finder : Finder) (view : ViewData) (at other : ℕ) (block 
     AreListed view finder.lists.cells → IsBlockBeside finder.grid at block →
     (IsTrue whole ↔ ((finder.strip.first ≤ block.left) × (block.right ≤ finder.strip.end))) → IsListedWithin finder.lists block other →
     IsNearby finder view at whole other
-nearby_listed finder view at other block whole ready listed beside owned x q row = (beside q.cell (ready.valid.cell other q row) within, owns)
+nearby_listed finder view at other block whole ready listed beside owned x q row = (beside.adjacent q.cell (ready.valid.cell other q row) within, owns)
   where
     same : x.0 ≡ q.cell
     same = let e : Some x.0 ≡ Some q.cell = sym x.1 ∙ listed_at view finder.lists other q listed row in cc

@@ -10,7 +10,7 @@ use Rattle.event_rules.specs.Events.{IsPairEvent, NeverHit}
 use Rattle.cell_grid.specs.Grid.{GridData, IsCell, IsAdjacent, Owns, column_of, row_of}
 use Rattle.cell_lists.specs.declared.near.Block.{Block}
 use Rattle.cell_lists.specs.Listing.{IsListed}
-use Rattle.cell_lists.specs.Nearby.{IsBlock, IsWithinBlock}
+use Rattle.cell_lists.specs.Nearby.{IsWithinBlock}
 use Rattle.region_view.specs.declared.action.Placed.{Placed}
 use Rattle.region_view.specs.Events.{IsNear}
 use Rattle.region_view.specs.Views.{ViewData, rows_in}
@@ -21,17 +21,17 @@ use Rattle.region_queue.proofs.Candidates.{native_is, native_order, pair_low, pa
 
 -- ---- cells
 -- a cell of the block, by its row and column
-pub cell_within : (grid : GridData) (block : Block) (at row column : ℕ) → IsBlock grid block → IsBlockBeside grid at block → block.low ≤ row →
+pub cell_within : (grid : GridData) (block : Block) (at row column : ℕ) → IsBlockBeside grid at block → block.low ≤ row →
     row < block.high → block.left ≤ column → column < block.right →
     IsCell grid (row * grid.columns + column) × IsAdjacent grid at (row * grid.columns + column)
-cell_within grid block at row column is beside low high left right = (cell, beside (row * grid.columns + column) cell within)
+cell_within grid block at row column is low high left right = (cell, is.adjacent (row * grid.columns + column) cell within)
   where
     inside : column < grid.columns
-    inside = let most = is.most_columns in omega arith
+    inside = let most = is.sides.most_columns in omega arith
 
     cell : IsCell grid (row * grid.columns + column)
     cell =
-        let most : block.high ≤ grid.rows = is.most_rows in
+        let most : block.high ≤ grid.rows = is.sides.most_rows in
         let next : row + 1 ≤ grid.rows = omega arith in
         let rows : (row + 1) * grid.columns ≤ grid.rows * grid.columns = mul-le-mul_right grid.columns next in
         let within = inside in

@@ -18,11 +18,11 @@ use Rattle.region_view.specs.Views.{ViewData, rows_in}
 use Rattle.region_queue.specs.declared.finder.Finder.{Finder}
 use Rattle.region_view.specs.Naming.{Names, IsPairOf, IsMoved}
 use Rattle.region_view.proofs.Naming.{same_row, near_pair, native_stays, natives_stay}
-use Rattle.region_queue.specs.Finding.{IsFound, IsLowKey, IsPaired, IsPairedBeyond, IsExtended, IsTakenAt, cell_in}
-use Rattle.region_queue.specs.Covering.{IsKey, Covers}
+use Rattle.region_queue.specs.Finding.{IsFound, IsBestSingle, IsBestPair, IsLowKey, IsLowPair, IsLowBeyond, IsPaired, IsPairedBeyond, IsTaken, IsTakenAt, IsLoweredAt, cell_in}
+use Rattle.region_queue.specs.Covering.{IsKey, IsLowered, Covers}
 use Rattle.region_queue.proofs.Again.{lowered_one, taken_low}
 use Rattle.region_queue.proofs.Back.{names_decides}
-use Rattle.region_queue.proofs.Candidates.{adjacent_back, names_pair}
+use Rattle.region_queue.proofs.Candidates.{adjacent_back, names_pair, best_of_both}
 use Rattle.region_queue.proofs.Covered.{SinglesOf, PairsOf, least_not_after, key_stays, covers_again}
 use Rattle.region_queue.proofs.Outside.{placed_in}
 use Rattle.region_queue.proofs.Unchanged.{all_but_moved, the_only}
@@ -228,13 +228,37 @@ others_stay finder before view disk s moved not =
     native_stays finder.rules finder.grid finder.region before view s
     (λ i names. moved.0 i (λ same. not (subst (Names s) same names)))
 
-pub moved_covers : (finder : Finder) (before view : ViewData) (disk cell : ℕ) (old new : EntriesData) → IsMoved disk before view →
-    Some cell ≡ cell_in before disk → IsOwnerKept finder view disk cell → IfSome (key_at old.bounds disk) (λ s. s.kind ≡ Pair) →
-    IsExtended finder view disk cell old new → Covers (IsFound finder before) old.keys old.bounds → Covers (IsFound finder view) new.keys new.bounds
-moved_covers finder before view disk cell old new moved at owner known is covers =
-    extended_covers (IsFound finder before) (IsFound finder view) (IsPairedBeyond finder view disk cell) disk is.0 is.1 old new covers
+pub moved_covers : (finder : Finder) (before view : ViewData) (disk cell : ℕ) (single beyond : Key) (old new : EntriesData) →
+    IsMoved disk before view → Some cell ≡ cell_in before disk → IsOwnerKept finder view disk cell →
+    IfSome (key_at old.bounds disk) (λ s. s.kind ≡ Pair) → IsBestSingle finder view disk single → IsLowBeyond finder view disk cell beyond →
+    IsEntered disk (earlier_of single (earlier_of (key_at old.bounds disk) beyond), earlier_of (key_at old.bounds disk) beyond) old new →
+    Covers (IsFound finder before) old.keys old.bounds → Covers (IsFound finder view) new.keys new.bounds
+moved_covers finder before view disk cell single beyond old new moved at owner known least low entered covers =
+    extended_covers (IsFound finder before) (IsFound finder view) (IsPairedBeyond finder view disk cell) disk single beyond old new covers
     (λ s not. others_stay finder before view disk s moved not) (λ s pair. old_or_beyond finder before view disk cell s moved at owner pair)
-    (λ s b. (b.1, names_pair s disk b.2.0 b.1 b.2.2)) known is.2 is.3 is.4
+    (λ s b. (b.1, names_pair s disk b.2.0 b.1 b.2.2)) known least low entered
+
+-- ---- the entry of one disk
+-- the least candidate of the disk by itself, and a key that isn't after its pairs
+pub entered_low : (finder : Finder) (view : ViewData) (disk : ℕ) (single pair : Key) (old new : EntriesData) →
+    IsEntered disk (earlier_of single pair, pair) old new → IsBestSingle finder view disk single → IsLowPair finder view disk pair →
+    IsLoweredAt finder view disk old new
+entered_low finder view disk single pair old new entered least low = record {
+  lowered = subst (IsLowered (IsFound finder view) disk) (sym entered.set) (record {
+    key = joined_is_key (IsFound finder view) disk single pair least low.pair;
+    pairs = λ s found is named. low.low s (found, is, named);
+  });
+  others = entered.others;
+}
+
+-- the least ones
+pub entered_best : (finder : Finder) (view : ViewData) (disk : ℕ) (single pair : Key) (old new : EntriesData) →
+    IsEntered disk (earlier_of single pair, pair) old new → IsBestSingle finder view disk single → IsBestPair finder view disk pair →
+    IsTakenAt finder view disk old new
+entered_best finder view disk single pair old new entered least pairs = record {
+  taken = subst (IsTaken finder view disk) (sym entered.set) (best_of_both finder view disk single pair least pairs, pairs);
+  others = entered.others;
+}
 
 -- the keys cover the candidates again also if the disk's key and bound are taken again
 pub taken_covers : (finder : Finder) (before view : ViewData) (disk : ℕ) (old new : EntriesData) → IsMoved disk before view →

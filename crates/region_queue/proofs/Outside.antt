@@ -133,18 +133,22 @@ in_block block known part column row is x =
     let d = x.1.1 in
     ((omega arith, omega arith), (omega arith, omega arith))
 
+-- the block around a cell
+pub block_beside : (grid : GridData) (cell : ℕ) (block : Block) → IsBlock grid block → IsAround grid cell block → IsBlockBeside grid cell block
+block_beside grid cell block is around = record { sides = is; adjacent = λ other of within. (around other of).1 within }
+
 pub part_beside : (grid : GridData) (cell : ℕ) (block known part : Block) → IsBlockBeside grid cell block → IsPart block known part →
     IsBlockBeside grid cell part
-part_beside grid cell block known part beside is other of x =
-    beside other of (in_block block known part (column_of grid other) (row_of grid other) is x)
-
-pub part_in_grid : (grid : GridData) (block known part : Block) → IsBlock grid block → IsPart block known part → IsBlock grid part
-part_in_grid grid block known part is of =
+part_beside grid cell block known part is of =
     let right = of.right in
     let high = of.high in
-    let most_columns = is.most_columns in
-    let most_rows = is.most_rows in
-    record { columns = of.columns; most_columns = omega arith; rows = of.rows; most_rows = omega arith }
+    let most_columns = is.sides.most_columns in
+    let most_rows = is.sides.most_rows in
+    record {
+      sides = record { columns = of.columns; most_columns = omega arith; rows = of.rows; most_rows = omega arith };
+      adjacent = λ other cell x.
+          is.adjacent other cell (in_block block known part (column_of grid other) (row_of grid other) of x);
+    }
 
 part_outside : (lists : ListsData) (block known part : Block) (i : ℕ) → IsPart block known part → IsListedWithin lists part i →
     IsListedOutside lists block known i

@@ -17,7 +17,7 @@ use Rattle.region_view.specs.Views.{ViewData, rows_in}
 use Rattle.region_queue.specs.declared.finder.Finder.{Finder}
 use Rattle.region_view.specs.Naming.{Names, IsSameBut, IsSameButBy, IsMoved}
 use Rattle.region_view.proofs.Naming.{native_stays, natives_stay}
-use Rattle.region_queue.specs.Finding.{Cells, cell_in, KeepCells, AreListed, AreRelisted, AreRelistedOf, AreRetaken, AreGiven, IsFound, IsReady}
+use Rattle.region_queue.specs.Finding.{Cells, cell_in, KeepCells, AreListed, AreRelisted, AreRelistedOf, AreRetaken, AreGiven, IsFound, IsReady, Settles}
 use Rattle.region_queue.specs.Queue.{QueueData, queue_of, StandsFor, IsSoundQueue}
 use Rattle.region_queue.specs.Covering.{Covers, IsSettled}
 use Rattle.region_queue.proofs.Covered.{covers_again}
@@ -37,13 +37,12 @@ lists_again before after Such old new listed same again i = from (again i)
 -- ---- the queue
 -- if the keys cover the candidates of a view, and are settled after that, the queue stands for it
 pub stands_settled : {E : Type 0} (done : Result ⊤ E) (finder : Finder) (view : ViewData) (mid new : EntriesData) →
-    OnOk done (AreListed view finder.lists.cells → Covers (IsFound finder view) mid.keys mid.bounds → Covers (IsFound finder view) new.keys new.bounds) →
-    OnOk done (AreListed view finder.lists.cells → Covers (IsFound finder view) mid.keys mid.bounds → IsSettled (IsFound finder view) new.keys) →
+    OnOk done (Settles finder view mid new) →
     OnOk done (AreListed view finder.lists.cells → Covers (IsFound finder view) mid.keys mid.bounds →
     StandsFor (queue_of finder.rules finder.grid finder.region finder.lists.cells new.keys new.bounds) view)
 unfolding StandsFor
-stands_settled (Ok done) finder view mid new covers settled = λ listed again. (listed, (covers listed again, settled listed again))
-stands_settled (Err e) finder view mid new covers settled = tt
+stands_settled (Ok done) finder view mid new settled = λ listed again. (listed, settled listed again)
+stands_settled (Err e) finder view mid new settled = tt
 
 -- after changes of some disks
 pub stands_again : (finder : Finder) (before after : ViewData) (was : Cells) (ids : List ℕ) (old mid : EntriesData) →

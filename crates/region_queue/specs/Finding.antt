@@ -1,5 +1,5 @@
 -- What is found and kept for one disk.
-use Rattle.std.specs.Prelude.{◌≡◌, ◌≢◌, ◌⊎◌, ℕ, ◌<◌, ℤ, ◌*ℤ◌, Bool, IsTrue, List, Option, Some, IfSome, option_map}
+use Rattle.std.specs.Prelude.{◌≡◌, ◌≢◌, ◌⊎◌, ◌↔◌, ℕ, ◌<◌, ℤ, ◌*ℤ◌, Bool, IsTrue, List, Option, Some, IfSome, option_map}
 use Rattle.std.specs.Ordering.{nat_cmp}
 use Rattle.std.specs.FinMap as map
 use Rattle.std.specs.List.{Contains}
@@ -8,16 +8,16 @@ use Rattle.fixed_motion.specs.declared.disk.Disk.{Disk}
 use Rattle.fixed_motion.specs.Rules.{IsChecked}
 use Rattle.event_stamps.specs.declared.Stamp.{Stamp}
 use Rattle.event_stamps.specs.declared.Kind.TheVariants.{Pair}
-use Rattle.event_stamps.specs.Least.{IsLeastOf, earlier_of}
-use Rattle.event_tree.specs.Entries.{EntriesData, IsEntered, entry_at}
+use Rattle.event_stamps.specs.Least.{IsLeastOf}
+use Rattle.event_tree.specs.Entries.{EntriesData, entry_at}
 use Rattle.event_tree.specs.Keys.{Key, IsNotAfter, key_at}
-use Rattle.region_queue.specs.Covering.{IsLowered}
+use Rattle.region_queue.specs.Covering.{IsLowered, Covers, IsSettled}
 use Rattle.event_rules.specs.Events.{NeverHit}
 use Rattle.event_rules.specs.Pairs.{IsValidPair, reach_of}
 use Rattle.cell_grid.specs.Grid.{GridData, IsGridOf, IsRegion, IsCell, IsAdjacent, IsStripOf, Owns}
 use Rattle.cell_lists.specs.declared.near.Block.{Block}
 use Rattle.cell_lists.specs.Listing.{ListsData, IsListed, IsUnlisted}
-use Rattle.cell_lists.specs.Nearby.{IsWithinBlock, IsListedWithin}
+use Rattle.cell_lists.specs.Nearby.{IsBlock, IsWithinBlock, IsListedWithin}
 use Rattle.region_view.specs.declared.action.Placed.{Placed}
 use Rattle.region_view.specs.Events.{IsAlone, IsNear}
 use Rattle.region_view.specs.Placing.{IsNative, IsValidPlacing}
@@ -74,6 +74,12 @@ pub record IsReady (finder : Finder) (view : ViewData) : Type 0 where
   pub lists : finder.lists.grid ≡ finder.grid
   pub valid : IsValidPlacing finder.rules finder.grid (rows_in view)
 
+-- such a region and view, which has the disk placed so; and whether the region owns its cell
+pub record IsSubject (finder : Finder) (view : ViewData) (disk : ℕ) (p : Placed) (is_own : Bool) : Type 0 where
+  pub ready : IsReady finder view
+  pub placed : rows_in view disk ≡ Some p
+  pub own : IsTrue is_own ↔ Owns finder.grid finder.region p.cell
+
 -- a native candidate of the region in the view
 abbrev pub IsFound : Finder → ViewData → Stamp → Type 0
 IsFound finder view s = IsNative finder.rules finder.grid finder.region (rows_in view) s
@@ -101,9 +107,10 @@ abbrev pub IsNearby : Finder → ViewData → ℕ → Bool → ℕ → Type 0
 IsNearby finder view cell whole other = (q : Placed) → rows_in view other ≡ Some q →
     IsAdjacent finder.grid cell q.cell × (IsTrue whole → Owns finder.grid finder.region q.cell)
 
--- the cells of the block are adjacent to a cell
-abbrev pub IsBlockBeside : GridData → ℕ → Block → Type 0
-IsBlockBeside grid cell block = (other : ℕ) → IsCell grid other → IsWithinBlock grid block other → IsAdjacent grid cell other
+-- a block of the grid, all of whose cells are adjacent to a cell
+pub record IsBlockBeside (grid : GridData) (cell : ℕ) (block : Block) : Type 0 where
+  pub sides : IsBlock grid block
+  pub adjacent : (other : ℕ) → IsCell grid other → IsWithinBlock grid block other → IsAdjacent grid cell other
 
 -- each of some disks is listed in the block
 abbrev pub AreAllWithin : ListsData → Block → List ℕ → Type 0
@@ -142,6 +149,10 @@ pub record AreKept (IsOut : ℕ → Type 0) (old new : List ℕ) : Type 0 where
 -- a native event of a disk with one of some others
 abbrev pub IsNativeWith : Finder → ViewData → ℕ → (ℕ → Type 0) → Stamp → Type 0
 IsNativeWith finder view disk With s = (other : ℕ) × With other × IsNativePair finder view disk other s
+
+-- if the disks are listed as the view has them, the least such event
+abbrev pub IsBestWith : Finder → ViewData → ℕ → (ℕ → Type 0) → Key → Type 0
+IsBestWith finder view disk With key = AreListed view finder.lists.cells → IsLeastOf (IsNativeWith finder view disk With) key
 
 -- the least native candidate that names the disk; none if there is none
 abbrev pub IsBest : Finder → ViewData → ℕ → Key → Type 0
@@ -215,12 +226,10 @@ abbrev pub AreRetaken : Finder → ViewData → List ℕ → EntriesData → Ent
 AreRetaken finder view disks old new = (i : ℕ) →
     IsLowered (IsFound finder view) i (entry_at new i) ⊎ ((entry_at new i ≡ entry_at old i) × ¬ Contains disks i)
 
--- the disk's new bound is the earlier of the old one and a key that isn't after its pairs beyond the cells adjacent to
--- this one, and its key is the earlier of the new bound and its least candidate by itself
-abbrev pub IsExtended : Finder → ViewData → ℕ → ℕ → EntriesData → EntriesData → Type 0
-IsExtended finder view disk cell old new = (single : Key) × (beyond : Key) × IsBestSingle finder view disk single
-    × IsLowBeyond finder view disk cell beyond
-    × IsEntered disk (earlier_of single (earlier_of (key_at old.bounds disk) beyond), earlier_of (key_at old.bounds disk) beyond) old new
+-- if the disks are listed as the view has them, keys that covered its candidates still do, and the least is one of these
+abbrev pub Settles : Finder → ViewData → EntriesData → EntriesData → Type 0
+Settles finder view old new = AreListed view finder.lists.cells → Covers (IsFound finder view) old.keys old.bounds →
+    Covers (IsFound finder view) new.keys new.bounds × IsSettled (IsFound finder view) new.keys
 
 -- the keys and bounds of an event's disks are its stamp, and the others are as they were
 pub record AreGiven (s : Stamp) (old new : EntriesData) : Type 0 where

@@ -1,8 +1,8 @@
 //! The native candidates of two disks in adjacent cells, like two that have just hit each other.
 
-ghost use Rattle.std.specs.Prelude.{◌≡◌, ◌↔◌, ◌≤◌, ◌^◌, Some, None, IsTrue, IfSome, false, slice_index_or};
-ghost use Rattle.std.specs.FinMap as map;
+ghost use Rattle.std.specs.Prelude.{◌≡◌, ◌≤◌, ◌^◌, Some, None, IsTrue, IfSome, false, slice_index_or};
 ghost use Rattle.std.specs.List.{Contains};
+ghost use Rattle.std.specs.FinMap as map;
 ghost use Rattle.fixed_motion.specs.Rules.{IsChecked};
 ghost use Rattle.fixed_motion.specs.declared.rules.Rules.{Rules};
 ghost use Rattle.event_rules.specs.Rounded.{IsReachOf, TellsRounded};
@@ -13,7 +13,7 @@ ghost use Rattle.cell_grid.specs.Grid.{GridData, IsCell, Owns};
 ghost use Rattle.cell_lists.specs.Nearby.{IsBlock};
 ghost use Rattle.region_view.specs.declared.action.Placed.{Placed};
 ghost use Rattle.region_view.specs.Views.{rows_in};
-ghost use Rattle.region_queue.specs.Finding.{IsReady, IsNativePair, IsNativeWith, IsBestSingle, IsLowKey, IsLowOf, IsMissed, AreKept, AreListed, HasNearby, IsWider};
+ghost use Rattle.region_queue.specs.Finding.{IsReady, IsSubject, IsNativePair, IsNativeWith, IsBestSingle, IsLowKey, IsLowOf, IsMissed, AreKept, AreListed, HasNearby, IsWider};
 
 use crate::finder::{Codes, Finder, TICKS_OF_CODES, have_rows, owns_lower};
 use cell_lists::{Block, Gathered, block_around};
@@ -134,9 +134,7 @@ impl Finder {
         others: &Gathered,
         whole: bool,
     ) -> Option<Code>
-        requires ready { IsReady self.now view.now }
-        requires placed { map.get view.now disk ≡ Some placed.now }
-        requires own { IsTrue own ↔ Owns self.now.grid self.now.region placed.now.cell }
+        requires { IsSubject self.now view.now disk placed.now own }
         ensures { IfSome result (IsLowKey (IsNativeWith self.now view.now disk (λ i. Contains others.now i)) disk) }
     {
         let others = others.as_slice();
@@ -160,9 +158,7 @@ impl Finder {
         other: u32,
         whole: bool,
     ) -> Option<Code>
-        requires ready { IsReady self.now view.now }
-        requires placed { map.get view.now disk ≡ Some placed.now }
-        requires own { IsTrue own ↔ Owns self.now.grid self.now.region placed.now.cell }
+        requires { IsSubject self.now view.now disk placed.now own }
         ensures { IfSome result (IsLowKey (IsNativePair self.now view.now disk other) disk) }
     {
         let _placed = placed;
@@ -190,22 +186,17 @@ impl Finder {
     // the rows of both where they lie. None says nothing: it has no code.
     #[inline(never)]
     fn low_key(&self, view: &View, disk: u32, other: u32) -> Option<Code>
-        requires ready { IsReady self.now view.now }
+        requires { IsReady self.now view.now }
         ensures { IfSome result (IsLowKey (IsNativePair self.now view.now disk other) disk) }
     {
-        code_of_pair(self.low_stamp(view, disk, other))
-    }
-
-    // The stamp of this key.
-    #[inline(always)]
-    fn low_stamp(&self, view: &View, disk: u32, other: u32) -> Option<Stamp>
-        requires ready { IsReady self.now view.now }
-        ensures range { IfSome result IsInRange }
-        ensures low { IsLowKey (IsNativePair self.now view.now disk other) disk result }
-    {
-        let placed = view.get(disk)?;
-        let near = view.get(other)?;
-        chance_between(&self.rules, disk, &placed.disk, other, &near.disk)
+        let Some(placed) = view.get(disk) else {
+            return Some(Code::none());
+        };
+        let Some(near) = view.get(other) else {
+            return Some(Code::none());
+        };
+        let pair = chance_between(&self.rules, disk, &placed.disk, other, &near.disk);
+        code_of_pair(pair)
     }
 }
 
@@ -266,31 +257,11 @@ fn keep_both(
         return false;
     };
     let rows = view.compact();
-    keep_reached_by(rows, one.disk, other.disk, reach, near, near_other)
-}
-
-// The same for these two.
-#[inline(always)]
-fn keep_reached_by(
-    rows: &[Compact],
-    one: Disk,
-    other: Disk,
-    reach: EachReach,
-    near: &mut Gathered,
-    near_other: &mut Gathered,
-) -> bool
-    requires base { one.base ≡ other.base }
-    requires same { near_other.old ≡ near.old }
-    ensures one { IsTrue result →
-        AreKept (λ i. IsMissed (λ rules. IsReachOf rules one other reach) one (slice_index_or rows.now i None)) near.old near.new }
-    ensures other { IsTrue result →
-        AreKept (λ i. IsMissed (λ rules. IsReachOf rules one other reach) other (slice_index_or rows.now i None)) near.old near_other.new }
-{
     let mut kept = 0;
     let mut kept_other = 0;
     for place in 0..near.len() {
         let disk = near.at(place);
-        let Some(may) = may_reach_either(rows, one, other, reach, disk) else {
+        let Some(may) = may_reach_either(rows, one.disk, other.disk, reach, disk) else {
             return false;
         };
         near.put(kept, disk);

@@ -7,14 +7,13 @@ ghost use Rattle.fixed_motion.specs.Rules.{IsChecked};
 ghost use Rattle.fixed_motion.specs.Motion.{IsValidDisk};
 ghost use Rattle.event_stamps.specs.declared.Kind.TheVariants.{Pair};
 ghost use Rattle.event_stamps.specs.Least.{IsLeastOf, HasNone};
-ghost use Rattle.event_stamps.specs.Order.{IsInRange};
 ghost use Rattle.cell_grid.specs.Grid.{IsCell, IsAdjacent, IsStripOf, Owns};
 ghost use Rattle.cell_grid.specs.Crossing.{IsCrossEvent};
 ghost use Rattle.cell_lists.specs.Listing.{IsListed};
-ghost use Rattle.cell_lists.specs.Nearby.{IsBlock, IsListedWithin, columns_to};
+ghost use Rattle.cell_lists.specs.Nearby.{IsListedWithin, columns_to};
 ghost use Rattle.region_view.specs.declared.action.Placed.{Placed};
 ghost use Rattle.region_view.specs.Events.{IsAlone};
-ghost use Rattle.region_queue.specs.Finding.{IsReady, IsFound, IsAloneAt, IsPairPlaced, IsNativePair, IsNativeWith, IsBestSingle, IsBestPair, IsLowKey, IsLowBeyond, IsBlockBeside, IsListedBeyond, IsNearby, AreAllWithin, IsMissed, IsReachSquare, AreKept, AreListed};
+ghost use Rattle.region_queue.specs.Finding.{IsReady, IsSubject, IsBestWith, IsFound, IsAloneAt, IsPairPlaced, IsNativePair, IsNativeWith, IsBestSingle, IsBestPair, IsLowKey, IsLowBeyond, IsBlockBeside, IsListedBeyond, IsNearby, AreAllWithin, IsMissed, IsReachSquare, AreKept, AreListed};
 
 use crate::parts::{line_beyond, parts_outside};
 use cell_grid::{Departure, Grid, Strip};
@@ -185,9 +184,7 @@ impl Finder {
     // always it is a crossing, which is found here; the rare cases are kept apart.
     #[inline(always)]
     pub fn best_alone(&self, view: &View, disk: u32, placed: &Placed, own: bool) -> Packed
-        requires ready { IsReady self.now view.now }
-        requires placed { map.get view.now disk ≡ Some placed.now }
-        requires own { IsTrue own ↔ Owns self.now.grid self.now.region placed.now.cell }
+        requires { IsSubject self.now view.now disk placed.now own }
         ensures { IsLeastOf (IsAloneAt self.now disk placed.now) result }
     {
         if !own {
@@ -209,10 +206,8 @@ impl Finder {
     // The same as a code. None says nothing: it has none.
     #[inline(always)]
     pub fn code_alone(&self, view: &View, disk: u32, placed: &Placed, own: bool) -> Option<Code>
-        requires ready { IsReady self.now view.now }
+        requires subject { IsSubject self.now view.now disk placed.now own }
         requires codes { self.now.rules.end ≤ 2 ^ 27 }
-        requires placed { map.get view.now disk ≡ Some placed.now }
-        requires own { IsTrue own ↔ Owns self.now.grid self.now.region placed.now.cell }
         ensures { IfSome result (IsLeastOf (IsAloneAt self.now disk placed.now)) }
     {
         if !own {
@@ -281,13 +276,9 @@ impl Finder {
         own: bool,
         block: Block,
     ) -> Packed
-        requires ready { IsReady self.now view.now }
-        requires placed { map.get view.now disk ≡ Some placed.now }
-        requires own { IsTrue own ↔ Owns self.now.grid self.now.region placed.now.cell }
-        requires block { IsBlock self.now.grid block }
+        requires subject { IsSubject self.now view.now disk placed.now own }
         requires beside { IsBlockBeside self.now.grid placed.now.cell block }
-        ensures { AreListed view.now self.now.lists.cells → IsLeastOf (IsNativeWith self.now view.now disk
-            (IsListedWithin self.now.lists block)) result }
+        ensures { IsBestWith self.now view.now disk (IsListedWithin self.now.lists block) result }
     {
         let mut near = Gathered::new();
         if self.lists.gather(block, &mut near) && have_rows(view, &near) {
@@ -308,9 +299,7 @@ impl Finder {
         own: bool,
         old: u32,
     ) -> Option<Code>
-        requires ready { IsReady self.now view.now }
-        requires placed { map.get view.now disk ≡ Some placed.now }
-        requires own { IsTrue own ↔ Owns self.now.grid self.now.region placed.now.cell }
+        requires subject { IsSubject self.now view.now disk placed.now own }
         requires old { IsCell self.now.grid old }
         ensures { IfSome result (λ key. AreListed view.now self.now.lists.cells → IsLowBeyond self.now view.now disk old key) }
     {
@@ -347,9 +336,7 @@ impl Finder {
         own: bool,
         old: u32,
     ) -> Option<Code>
-        requires ready { IsReady self.now view.now }
-        requires placed { map.get view.now disk ≡ Some placed.now }
-        requires own { IsTrue own ↔ Owns self.now.grid self.now.region placed.now.cell }
+        requires subject { IsSubject self.now view.now disk placed.now own }
         requires old { IsCell self.now.grid old }
         ensures { IfSome result (λ key. AreListed view.now self.now.lists.cells → IsLowBeyond self.now view.now disk old key) }
     {
@@ -374,13 +361,9 @@ impl Finder {
         own: bool,
         part: Block,
     ) -> Packed
-        requires ready { IsReady self.now view.now }
-        requires placed { map.get view.now disk ≡ Some placed.now }
-        requires own { IsTrue own ↔ Owns self.now.grid self.now.region placed.now.cell }
-        requires part { IsBlock self.now.grid part }
+        requires subject { IsSubject self.now view.now disk placed.now own }
         requires beside { IsBlockBeside self.now.grid placed.now.cell part }
-        ensures { AreListed view.now self.now.lists.cells → IsLeastOf (IsNativeWith self.now view.now disk
-            (IsListedWithin self.now.lists part)) result }
+        ensures { IsBestWith self.now view.now disk (IsListedWithin self.now.lists part) result }
     {
         if part.left >= part.right || part.low >= part.high {
             return Packed::new(None);
@@ -400,9 +383,7 @@ impl Finder {
         block: Block,
         near: &mut Gathered,
     ) -> Option<Code>
-        requires ready { IsReady self.now view.now }
-        requires placed { map.get view.now disk ≡ Some placed.now }
-        requires own { IsTrue own ↔ Owns self.now.grid self.now.region placed.now.cell }
+        requires { IsSubject self.now view.now disk placed.now own }
         ensures { IfSome result (IsLowKey (IsNativeWith self.now view.now disk (λ i. Contains near.old i)) disk) }
     {
         let whole = self.owns_columns(block.left, block.right);
@@ -422,9 +403,7 @@ impl Finder {
         block: Block,
         near: &mut Gathered,
     ) -> Packed
-        requires ready { IsReady self.now view.now }
-        requires placed { map.get view.now disk ≡ Some placed.now }
-        requires own { IsTrue own ↔ Owns self.now.grid self.now.region placed.now.cell }
+        requires subject { IsSubject self.now view.now disk placed.now own }
         requires beside { IsBlockBeside self.now.grid placed.now.cell block }
         ensures { AreListed view.now self.now.lists.cells → AreAllWithin self.now.lists block near.old →
             IsLeastOf (IsNativeWith self.now view.now disk (λ i. Contains near.old i)) result }
@@ -466,13 +445,9 @@ impl Finder {
         own: bool,
         block: Block,
     ) -> Packed
-        requires ready { IsReady self.now view.now }
-        requires placed { map.get view.now disk ≡ Some placed.now }
-        requires own { IsTrue own ↔ Owns self.now.grid self.now.region placed.now.cell }
-        requires block { IsBlock self.now.grid block }
+        requires subject { IsSubject self.now view.now disk placed.now own }
         requires beside { IsBlockBeside self.now.grid placed.now.cell block }
-        ensures { AreListed view.now self.now.lists.cells → IsLeastOf (IsNativeWith self.now view.now disk
-            (IsListedWithin self.now.lists block)) result }
+        ensures { IsBestWith self.now view.now disk (IsListedWithin self.now.lists block) result }
     {
         let mut best = Packed::new(None);
         for row in block.low..block.high {
@@ -491,15 +466,11 @@ impl Finder {
         block: Block,
         row: u32,
     ) -> Packed
-        requires ready { IsReady self.now view.now }
-        requires placed { map.get view.now disk ≡ Some placed.now }
-        requires own { IsTrue own ↔ Owns self.now.grid self.now.region placed.now.cell }
-        requires block { IsBlock self.now.grid block }
+        requires subject { IsSubject self.now view.now disk placed.now own }
         requires beside { IsBlockBeside self.now.grid placed.now.cell block }
         requires low { block.low ≤ row }
         requires high { row < block.high }
-        ensures { AreListed view.now self.now.lists.cells → IsLeastOf (IsNativeWith self.now view.now disk
-            (IsListedWithin self.now.lists (columns_to block row block.right))) result }
+        ensures { IsBestWith self.now view.now disk (IsListedWithin self.now.lists (columns_to block row block.right)) result }
     {
         let start = row * self.grid.columns();
         let mut best = Packed::new(None);
@@ -511,13 +482,10 @@ impl Finder {
 
     // The same for one cell beside the disk's own.
     fn best_in_cell(&self, view: &View, disk: u32, placed: &Placed, own: bool, cell: u32) -> Packed
-        requires ready { IsReady self.now view.now }
-        requires placed { map.get view.now disk ≡ Some placed.now }
-        requires own { IsTrue own ↔ Owns self.now.grid self.now.region placed.now.cell }
+        requires subject { IsSubject self.now view.now disk placed.now own }
         requires cell { IsCell self.now.grid cell }
         requires beside { IsAdjacent self.now.grid placed.now.cell cell }
-        ensures { AreListed view.now self.now.lists.cells → IsLeastOf (IsNativeWith self.now view.now disk
-            (IsListed self.now.lists cell)) result }
+        ensures { IsBestWith self.now view.now disk (IsListed self.now.lists cell) result }
     {
         let whole = self.owns(cell);
         let mut best = Packed::new(None);
@@ -542,39 +510,19 @@ impl Finder {
         other: u32,
         whole: bool,
     ) -> Packed
-        requires ready { IsReady self.now view.now }
-        requires placed { map.get view.now disk ≡ Some placed.now }
-        requires own { IsTrue own ↔ Owns self.now.grid self.now.region placed.now.cell }
+        requires { IsSubject self.now view.now disk placed.now own }
         ensures { IsNearby self.now view.now placed.now.cell whole other →
             IsLeastOf (IsNativePair self.now view.now disk other) result }
     {
-        Packed::new(self.pair_beside(view, disk, placed, own, other, whole))
-    }
-
-    // The stamp of this event.
-    #[inline(always)]
-    fn pair_beside(
-        &self,
-        view: &View,
-        disk: u32,
-        placed: &Placed,
-        own: bool,
-        other: u32,
-        whole: bool,
-    ) -> Option<Stamp>
-        requires ready { IsReady self.now view.now }
-        requires placed { map.get view.now disk ≡ Some placed.now }
-        requires own { IsTrue own ↔ Owns self.now.grid self.now.region placed.now.cell }
-        ensures range { IfSome result IsInRange }
-        ensures least { IsNearby self.now view.now placed.now.cell whole other →
-            IsLeastOf (IsNativePair self.now view.now disk other) result }
-    {
-        let near = view.get(other)?;
+        let Some(near) = view.get(other) else {
+            return Packed::new(None);
+        };
         let home = whole || self.owns(near.cell);
         if !owns_lower(disk, own, other, home) {
-            return None;
+            return Packed::new(None);
         }
-        event_between(&self.rules, disk, &placed.disk, other, &near.disk)
+        let pair = event_between(&self.rules, disk, &placed.disk, other, &near.disk);
+        Packed::new(pair)
     }
 }
 

@@ -1,21 +1,20 @@
 //! The keys of a region's disks, and when they are taken again.
 
-ghost use Rattle.std.specs.Prelude.{◌≡◌, ◌↔◌, ℕ, [], ◌∷◌, Some, IsTrue, IfSome, OnOk};
+ghost use Rattle.std.specs.Prelude.{◌≡◌, ◌↔◌, [], ◌∷◌, Some, IsTrue, IfSome, OnOk};
 ghost use Rattle.event_stamps.specs.declared.Kind.TheVariants.{Pair};
+ghost use Rattle.event_stamps.specs.Least.{earlier_of};
 ghost use Rattle.event_stamps.specs.Order.{IsInRange};
-ghost use Rattle.event_tree.specs.Keys.{key_at};
+ghost use Rattle.event_tree.specs.Entries.{IsEntered};
 ghost use Rattle.cell_grid.specs.Grid.{IsCell, Owns};
 ghost use Rattle.region_view.specs.declared.action.Placed.{Placed};
 ghost use Rattle.region_view.specs.Views.{ViewData, rows_in};
 ghost use Rattle.region_view.specs.Naming.{IsMoved};
-ghost use Rattle.region_queue.specs.declared.finder.Finder.{Finder};
-ghost use Rattle.region_queue.specs.Covering.{Covers, IsSettled};
-ghost use Rattle.region_queue.specs.Finding.{IsReady, IsFound, IsBestSingle, IsBestPair, AreListed, AreRetaken, AreRetakenOf, AreGiven};
-ghost use Rattle.region_queue.specs.Finding.{IsTakenAt, IsLoweredAt, IsLowPair, IsLowBeyond, IsExtended, HasKey, IsHolder, cell_in};
+ghost use Rattle.region_queue.specs.Covering.{Covers};
+ghost use Rattle.region_queue.specs.Finding.{IsReady, IsFound, AreListed, IsTakenAt, AreRetaken, AreRetakenOf, AreGiven, Settles, HasKey, IsHolder, cell_in};
 
 use crate::finder::{Best, Codes, Finder, has_stamp};
 use event_stamps::{Kind, Stamp};
-use event_tree::{Code, Entries, Packed};
+use event_tree::{Entries, Packed};
 use region_view::View;
 use std::alloc::{AllocError, Global};
 
@@ -83,8 +82,7 @@ fn take_key(
 
 // Makes `best` the key and the bound of a disk.
 fn set_best(alloc: Global, keys: &mut Entries, disk: u32, best: Best) -> Result<(), AllocError>
-    ensures { OnOk result ((finder : Finder) (view : ViewData) → IsBestSingle finder view disk best.single →
-        IsBestPair finder view disk best.pair → IsTakenAt finder view disk keys.old keys.new) }
+    ensures { OnOk result (IsEntered disk (earlier_of best.single best.pair, best.pair) keys.old keys.new) }
 {
     let key = best.single.earlier(best.pair);
     keys.set(alloc, disk, key, best.pair)
@@ -93,8 +91,7 @@ fn set_best(alloc: Global, keys: &mut Entries, disk: u32, best: Best) -> Result<
 // Makes `codes` the key and the bound of a disk.
 #[inline(always)]
 fn set_codes(alloc: Global, keys: &mut Entries, disk: u32, codes: Codes) -> Result<(), AllocError>
-    ensures { OnOk result ((finder : Finder) (view : ViewData) → IsBestSingle finder view disk codes.single →
-        IsLowPair finder view disk codes.pair → IsLoweredAt finder view disk keys.old keys.new) }
+    ensures { OnOk result (IsEntered disk (earlier_of codes.single codes.pair, codes.pair) keys.old keys.new) }
 {
     let key = codes.single.earlier(codes.pair);
     keys.set_codes(alloc, disk, key, codes.pair)
@@ -125,7 +122,8 @@ pub(crate) fn take_crossed(
         && known.is_pair_or_none()
         && let Some(beyond) = finder.codes_beyond(view, disk, cell)
     {
-        return extend_key(alloc, keys, disk, known, beyond);
+        let pair = known.earlier(beyond.pair);
+        return set_codes(alloc, keys, disk, Codes { pair, ..beyond });
     }
     take_key(alloc, finder, keys, view, disk)
 }
@@ -141,24 +139,6 @@ fn is_owner_kept(finder: &Finder, view: &View, disk: u32, cell: u32) -> bool
         Some(placed) => finder.owns(cell) == finder.owns(placed.cell),
         None => false,
     }
-}
-
-// Extends the key of a disk, given what was known of its pairs, and what is found beyond a cell.
-#[inline(always)]
-fn extend_key(
-    alloc: Global,
-    keys: &mut Entries,
-    disk: u32,
-    known: Code,
-    beyond: Codes,
-) -> Result<(), AllocError>
-    requires { known ≡ key_at keys.old.bounds disk }
-    ensures { OnOk result ((finder : Finder) (view : ViewData) (cell : ℕ) → IsBestSingle finder view disk beyond.single →
-        IsLowBeyond finder view disk cell beyond.pair → IsExtended finder view disk cell keys.old keys.new) }
-{
-    let bound = known.earlier(beyond.pair);
-    let key = beyond.single.earlier(bound);
-    keys.set_codes(alloc, disk, key, bound)
 }
 
 // Makes an event the key of its disks.
@@ -192,12 +172,7 @@ pub(crate) fn settle(
     view: &View,
 ) -> Result<(), AllocError>
     requires { IsReady finder.now view.now }
-    ensures covers { OnOk result (AreListed view.now finder.now.lists.cells →
-        Covers (IsFound finder.now view.now) keys.old.keys keys.old.bounds →
-        Covers (IsFound finder.now view.now) keys.new.keys keys.new.bounds) }
-    ensures settled { OnOk result (AreListed view.now finder.now.lists.cells →
-        Covers (IsFound finder.now view.now) keys.old.keys keys.old.bounds →
-        IsSettled (IsFound finder.now view.now) keys.new.keys) }
+    ensures { OnOk result (Settles finder.now view.now keys.old keys.new) }
 {
     // A key that is no pair's is that of a candidate.
     if let Some(top) = keys.top_code()
@@ -217,12 +192,7 @@ fn settle_pairs(
     view: &View,
 ) -> Result<(), AllocError>
     requires { IsReady finder.now view.now }
-    ensures covers { OnOk result (AreListed view.now finder.now.lists.cells →
-        Covers (IsFound finder.now view.now) keys.old.keys keys.old.bounds →
-        Covers (IsFound finder.now view.now) keys.new.keys keys.new.bounds) }
-    ensures settled { OnOk result (AreListed view.now finder.now.lists.cells →
-        Covers (IsFound finder.now view.now) keys.old.keys keys.old.bounds →
-        IsSettled (IsFound finder.now view.now) keys.new.keys) }
+    ensures { OnOk result (Settles finder.now view.now keys.old keys.new) }
 {
     let mut least = keys.top();
     while let Some(stamp) = least.key() {

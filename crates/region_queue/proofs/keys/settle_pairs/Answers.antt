@@ -30,23 +30,21 @@ loop-stamp-preserved c = λ listed covers.
       subst (λ (k : Key). IsLeastKey new.keys k) (sym same) c.top.ensures,
     )
 
-pub returns-then-is_fresh-clause-settled : goal.returns-then-is_fresh-clause-settled
-returns-then-is_fresh-clause-settled c = λ listed covers.
+pub returns-then-is_fresh : goal.returns-then-is_fresh
+returns-then-is_fresh c = λ listed covers.
     let C = IsFound c.args.finder.now c.args.view.now in
     let stamp = c.in-Some.stamp in
     let key : c.loop-stamp.least ≡ Some stamp = sym c.in-Some.ensures.value in
-    let was = c.loop-stamp.invariant listed covers in
-    fresh_settled C c.loop-stamp.keys.keys c.loop-stamp.keys.bounds stamp was.0 (subst (λ (k : Key). IsLeastKey c.loop-stamp.keys.keys k) key was.1)
-    (c.is_fresh.ensures.fresh c.if-is_fresh.true) (is_pair_or_not stamp.kind)
+    let was = c.loop-stamp.invariant listed covers in (
+      was.0,
+      fresh_settled C c.loop-stamp.keys.keys c.loop-stamp.keys.bounds stamp was.0 (subst (λ (k : Key). IsLeastKey c.loop-stamp.keys.keys k) key was.1)
+          (c.is_fresh.ensures.fresh c.if-is_fresh.true) (is_pair_or_not stamp.kind),
+    )
 
-pub returns-in_default-clause-settled : goal.returns-in_default-clause-settled
-returns-in_default-clause-settled c = λ listed covers.
-    none_left (IsFound c.args.finder.now c.args.view.now) c.loop-stamp.keys.keys
-    (subst (λ (key : Key). IsLeastKey c.loop-stamp.keys.keys key) (sym c.key.ensures.value ∙ c.in_default.is)
-    (c.loop-stamp.invariant listed covers).1)
-
-pub returns-in_default-clause-covers : goal.returns-in_default-clause-covers
-returns-in_default-clause-covers c = λ listed covers. (c.loop-stamp.invariant listed covers).0
-
-pub returns-then-is_fresh-clause-covers : goal.returns-then-is_fresh-clause-covers
-returns-then-is_fresh-clause-covers c = λ listed covers. (c.loop-stamp.invariant listed covers).0
+pub returns-in_default : goal.returns-in_default
+returns-in_default c = λ listed covers.
+    let was = c.loop-stamp.invariant listed covers in (
+      was.0,
+      none_left (IsFound c.args.finder.now c.args.view.now) c.loop-stamp.keys.keys
+          (subst (λ (key : Key). IsLeastKey c.loop-stamp.keys.keys key) (sym c.key.ensures.value ∙ c.in_default.is) was.1),
+    )

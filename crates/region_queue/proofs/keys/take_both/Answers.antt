@@ -1,11 +1,11 @@
 -- One after the other.
 use Rattle.std.proofs.Common.{[], ◌∷◌}
-use Rattle.event_tree.specs.Entries.{entry_at}
-use Rattle.region_view.specs.Views.{ViewData}
-use Rattle.region_queue.specs.declared.finder.Finder.{Finder}
+use Rattle.event_stamps.specs.Least.{earlier_of}
+use Rattle.event_tree.specs.Entries.{IsEntered, entry_at}
 use Rattle.region_queue.specs.Covering.{IsLowered}
-use Rattle.region_queue.specs.Finding.{AreListed, AreRetaken, IsFound, IsBestSingle, IsLowPair, IsTakenAt, IsLoweredAt}
+use Rattle.region_queue.specs.Finding.{AreListed, AreRetaken, IsFound, IsTakenAt}
 use Rattle.region_queue.proofs.Again.{on_ok, again_none, retaken_more, taken_low}
+use Rattle.region_queue.proofs.Moved.{entered_low}
 use Rattle.region_queue.proofs.keys.take_both.Goals as goal
 
 pub returns-in_ok-set_codes-in-Some : goal.returns-in_ok-set_codes-in-Some
@@ -19,13 +19,13 @@ returns-in_ok-set_codes-in-Some c =
     let new = c.set_codes-in-Some.new.keys in
     let one = c.in-Some.one in
     let other = c.in-Some.other in
-    on_ok c.set_codes-in-Some.result
-    ((f : Finder) (v : ViewData) → IsBestSingle f v j other.single → IsLowPair f v j other.pair → IsLoweredAt f v j mid new)
+    on_ok c.set_codes-in-Some.result (IsEntered j (earlier_of other.single other.pair, other.pair) mid new)
     (AreListed view finder.lists.cells → AreRetaken finder view (i ∷ j ∷ []) old new)
-    (λ set listed. retaken_more finder view (i ∷ []) j old mid new
+    (λ entered listed. retaken_more finder view (i ∷ []) j old mid new
     (retaken_more finder view [] i old old mid (again_none (IsLowered (IsFound finder view)) (entry_at old))
-    (c.in_ok-set_codes-in-Some.ensures finder view c.in-Some.ensures.first.0 (c.in-Some.ensures.first.1 listed)))
-    (set finder view c.in-Some.ensures.second.0 (c.in-Some.ensures.second.1 listed)))
+    (entered_low finder view i one.single one.pair old mid c.in_ok-set_codes-in-Some.ensures c.in-Some.ensures.first.0
+    (c.in-Some.ensures.first.1 listed)))
+    (entered_low finder view j other.single other.pair mid new entered c.in-Some.ensures.second.0 (c.in-Some.ensures.second.1 listed)))
     c.set_codes-in-Some.ensures
 
 pub returns-in_ok-take_key-in-None : goal.returns-in_ok-take_key-in-None

@@ -1,13 +1,14 @@
 -- What was known of the disk's pairs is kept, or all is taken again.
-use Rattle.std.proofs.Common.{◌≡◌, ℕ, sym, subst, ◌∙◌}
+use Rattle.std.proofs.Common.{◌≡◌, ℕ, sym, subst, ap, ◌∙◌}
 use Rattle.std.specs.Prelude.{Option, IfSome}
 use Rattle.event_stamps.specs.declared.Kind.TheVariants.{Pair}
-use Rattle.event_tree.specs.Keys.{Key}
+use Rattle.event_stamps.specs.Least.{earlier_of}
+use Rattle.event_tree.specs.Entries.{IsEntered}
+use Rattle.event_tree.specs.Keys.{Key, key_at}
 use Rattle.cell_grid.specs.Grid.{IsCell}
 use Rattle.region_view.specs.Views.{ViewData}
 use Rattle.region_view.specs.Naming.{IsMoved}
-use Rattle.region_queue.specs.Finding.{AreListed, IsFound, IsBestSingle, IsLowBeyond, IsTakenAt, IsExtended, cell_in}
-use Rattle.region_queue.specs.declared.finder.Finder.{Finder}
+use Rattle.region_queue.specs.Finding.{AreListed, IsFound, IsTakenAt, cell_in}
 use Rattle.region_queue.specs.Covering.{Covers}
 use Rattle.region_queue.proofs.Again.{on_ok}
 use Rattle.region_queue.proofs.Moved.{moved_covers, taken_covers}
@@ -45,17 +46,21 @@ returns c =
     let disk = c.args.disk in
     let cell = c.in-Some.cell in
     let old = c.args.keys.now in
-    let new = c.extend_key.new.keys in
+    let new = c.set_codes.new.keys in
     let beyond = c.in-Some-codes_beyond.beyond in
-    on_ok c.extend_key.result ((f : Finder) (v : ViewData) (n : ℕ) → IsBestSingle f v disk beyond.single → IsLowBeyond f v disk n beyond.pair →
-    IsExtended f v disk n old new)
+    let pair = c.earlier-pair.result in
+    let joined : pair ≡ earlier_of (key_at old.bounds disk) beyond.pair =
+    c.earlier-pair.ensures ∙ ap (λ (key : Key). earlier_of key beyond.pair) c.in-Some-bound_code.ensures in
+    on_ok c.set_codes.result (IsEntered disk (earlier_of beyond.single pair, pair) old new)
     (AreListed view finder.lists.cells → (before : ViewData) → IsMoved disk before view → c.args.cell ≡ cell_in before disk →
     Covers (IsFound finder before) old.keys old.bounds → Covers (IsFound finder view) new.keys new.bounds)
-    (λ extended listed before moved at covers.
-    moved_covers finder before view disk cell old new moved (sym c.in-Some.is ∙ at) (c.is_owner_kept.ensures c.if-is_owner_kept.true)
+    (λ entered listed before moved at covers.
+    moved_covers finder before view disk cell beyond.single beyond.pair old new moved (sym c.in-Some.is ∙ at)
+    (c.is_owner_kept.ensures c.if-is_owner_kept.true)
     (subst (λ (key : Key). IfSome key (λ s. s.kind ≡ Pair)) c.in-Some-bound_code.ensures (c.is_pair_or_none.ensures.0 c.if-is_pair_or_none.true))
-    (extended finder view cell (c.in-Some-codes_beyond.ensures.single) (c.in-Some-codes_beyond.ensures.pair listed)) covers)
-    c.extend_key.ensures
+    c.in-Some-codes_beyond.ensures.single (c.in-Some-codes_beyond.ensures.pair listed)
+    (subst (λ (key : Key). IsEntered disk (earlier_of beyond.single key, key) old new) joined entered) covers)
+    c.set_codes.ensures
 
 pub codes_beyond-requires-clause-old : goal.codes_beyond-requires-clause-old
 codes_beyond-requires-clause-old c = subst (λ (o : Option ℕ). IfSome o (IsCell c.args.finder.now.grid)) c.in-Some.is c.requires.cell

@@ -1,8 +1,9 @@
 -- What is found is set.
-use Rattle.region_view.specs.Views.{ViewData}
-use Rattle.region_queue.specs.declared.finder.Finder.{Finder}
-use Rattle.region_queue.specs.Finding.{AreListed, IsBestSingle, IsBestPair, IsTakenAt}
+use Rattle.event_stamps.specs.Least.{earlier_of}
+use Rattle.event_tree.specs.Entries.{IsEntered}
+use Rattle.region_queue.specs.Finding.{AreListed, IsTakenAt}
 use Rattle.region_queue.proofs.Again.{on_ok}
+use Rattle.region_queue.proofs.Moved.{entered_best}
 use Rattle.region_queue.proofs.keys.take_key.Goals as goal
 
 pub returns : goal.returns
@@ -13,8 +14,8 @@ returns c =
     let best = c.best-best.result in
     let old = c.args.keys.now in
     let new = c.set_best.new.keys in
-    on_ok c.set_best.result
-    ((f : Finder) (v : ViewData) → IsBestSingle f v disk best.single → IsBestPair f v disk best.pair → IsTakenAt f v disk old new)
+    on_ok c.set_best.result (IsEntered disk (earlier_of best.single best.pair, best.pair) old new)
     (AreListed view finder.lists.cells → IsTakenAt finder view disk old new)
-    (λ set listed. set finder view c.best-best.ensures.single (c.best-best.ensures.pair listed))
+    (λ entered listed.
+    entered_best finder view disk best.single best.pair old new entered c.best-best.ensures.single (c.best-best.ensures.pair listed))
     c.set_best.ensures

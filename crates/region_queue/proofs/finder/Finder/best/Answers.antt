@@ -2,6 +2,7 @@
 use Rattle.std.proofs.Common.{sym, subst, ◌∙◌}
 use Rattle.region_queue.specs.Finding.{IsBestSingle, IsBestPair}
 use Rattle.region_queue.proofs.Candidates.{best_single, best_pairs, no_single, no_pairs}
+use Rattle.region_queue.proofs.Outside.{block_beside}
 use Rattle.region_queue.proofs.finder.Finder.best.Goals as goal
 
 pub returns-in_default-clause-single : goal.returns-in_default-clause-single
@@ -24,7 +25,15 @@ pub block_around-block-requires : goal.block_around-block-requires
 block_around-block-requires c = c.requires.valid.cell c.args.disk c.in-Some.placed (sym c.in-Some.ensures)
 
 pub best_within-requires-clause-beside : goal.best_within-requires-clause-beside
-best_within-requires-clause-beside c = λ other cell within. (c.block_around-block.ensures.around other cell).1 within
+best_within-requires-clause-beside c =
+    let block = c.block_around-block in
+    block_beside c.args.self.now.grid c.in-Some.placed.cell block.result block.ensures.block block.ensures.around
+
+pub best_within-requires-clause-subject : goal.best_within-requires-clause-subject
+best_within-requires-clause-subject c = record { ready = c.requires; placed = sym c.in-Some.ensures; own = c.owns-own.ensures }
+
+pub best_alone-requires : goal.best_alone-requires
+best_alone-requires c = record { ready = c.requires; placed = sym c.in-Some.ensures; own = c.owns-own.ensures }
 
 pub returns-clause-single : goal.returns-clause-single
 returns-clause-single c =
@@ -35,9 +44,3 @@ pub returns-clause-pair : goal.returns-clause-pair
 returns-clause-pair c = λ listed.
     best_pairs c.args.self.now c.args.view.now c.args.disk c.in-Some.placed c.block_around-block.result c.best_within.result
     c.requires (sym c.in-Some.ensures) c.block_around-block.ensures.around listed (c.best_within.ensures listed)
-
-pub best_within-requires-clause-own : goal.best_within-requires-clause-own
-best_within-requires-clause-own c = c.owns-own.ensures
-
-pub best_alone-requires-clause-own : goal.best_alone-requires-clause-own
-best_alone-requires-clause-own c = c.owns-own.ensures

@@ -26,7 +26,7 @@ loop-other-preserved c = λ listed within.
     (sym (take_more others n 0 lt))
     (one_more c.args.self.now c.args.view.now c.args.disk other (take n others) c.loop-other.best c.key_beside.result
     (c.loop-other.invariant listed within) (c.key_beside.ensures
-    (nearby_listed c.args.self.now c.args.view.now c.args.placed.now.cell other c.args.block c.owns_columns-whole.result c.requires.ready
+    (nearby_listed c.args.self.now c.args.view.now c.args.placed.now.cell other c.args.block c.owns_columns-whole.result c.requires.subject.ready
     listed c.requires.beside c.owns_columns-whole.ensures (within other (Contains-get_or others n 0 lt))))))
 
 pub returns : goal.returns
@@ -41,9 +41,6 @@ returns c = λ listed within.
     least_of_all finder c.args.view.now c.args.disk c.args.near.now c.keep_candidates.new.near c.loop-other.best are
     (subst Least c.as_slice-others.ensures
     (subst Least (take_whole others c.loop-other.other-index (omega arith)) (c.loop-other.invariant listed left)))
-
-pub key_beside-requires-clause-own : goal.key_beside-requires-clause-own
-key_beside-requires-clause-own c = c.requires.own
 
 pub loop-other-init : goal.loop-other-init
 loop-other-init c = λ listed within.

@@ -29,12 +29,6 @@ pub returns : goal.returns
 returns c = λ listed.
     let finder = c.args.self.now in
     let whole : c.loop-row.row ≡ c.args.block.high =
-    (let most = c.loop-row.auto.row-end c.requires.block.rows in omega arith) in
+    (let most = c.loop-row.auto.row-end c.requires.beside.sides.rows in omega arith) in
     subst (λ (n : ℕ). IsLeastOf (IsNativeWith finder c.args.view.now c.args.disk
     (IsListedWithin finder.lists (rows_to c.args.block n))) c.loop-row.best) whole (c.loop-row.invariant listed)
-
-pub best_in_row-requires-clause-beside : goal.best_in_row-requires-clause-beside
-best_in_row-requires-clause-beside c = c.requires.beside
-
-pub best_in_row-requires-clause-own : goal.best_in_row-requires-clause-own
-best_in_row-requires-clause-own c = c.requires.own

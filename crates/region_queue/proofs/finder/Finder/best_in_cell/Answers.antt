@@ -52,6 +52,3 @@ returns c = λ listed.
     let finder = c.args.self.now in
     walk_ends finder c.args.view.now c.args.disk c.args.cell kept.0 c.loop-next.best
     (subst (λ (o : Option ℕ). IsFirstIn finder.lists c.args.cell kept.0 o) c.in_default.is kept.1) (kept.2 listed)
-
-pub key_beside-requires-clause-own : goal.key_beside-requires-clause-own
-key_beside-requires-clause-own c = c.requires.own

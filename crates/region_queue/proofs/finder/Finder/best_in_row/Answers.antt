@@ -27,22 +27,22 @@ loop-column-init c = λ listed.
 
 pub best_in_cell-requires-clause-cell : goal.best_in_cell-requires-clause-cell
 best_in_cell-requires-clause-cell c = rw c.columns.ensures.value
-    (cell_within c.args.self.now.grid c.args.block c.args.placed.now.cell c.args.row c.loop-column.column c.requires.block
-    c.requires.beside c.requires.low c.requires.high c.loop-column.auto.column c.loop-column-test.true).0
+    (cell_within c.args.self.now.grid c.args.block c.args.placed.now.cell c.args.row c.loop-column.column c.requires.beside
+    c.requires.low c.requires.high c.loop-column.auto.column c.loop-column-test.true).0
 
 pub best_in_cell-requires-clause-beside : goal.best_in_cell-requires-clause-beside
 best_in_cell-requires-clause-beside c = rw c.columns.ensures.value
-    (cell_within c.args.self.now.grid c.args.block c.args.placed.now.cell c.args.row c.loop-column.column c.requires.block
-    c.requires.beside c.requires.low c.requires.high c.loop-column.auto.column c.loop-column-test.true).1
+    (cell_within c.args.self.now.grid c.args.block c.args.placed.now.cell c.args.row c.loop-column.column c.requires.beside
+    c.requires.low c.requires.high c.loop-column.auto.column c.loop-column-test.true).1
 
 pub loop-column-preserved : goal.loop-column-preserved
 loop-column-preserved c = λ listed.
     let finder = c.args.self.now in
     let Found = IsNativeWith finder c.args.view.now c.args.disk in
     let column = c.loop-column.column in
-    let most : c.args.block.right ≤ c.args.self.now.grid.columns = c.requires.block.most_columns in
+    let most : c.args.block.right ≤ c.args.self.now.grid.columns = c.requires.beside.sides.most_columns in
     let same : c.args.self.now.lists.grid.columns ≡ c.args.self.now.grid.columns =
-    ap (λ (g : GridData). g.columns) c.requires.ready.lists in
+    ap (λ (g : GridData). g.columns) c.requires.subject.ready.lists in
     subst (λ (o : Option Stamp). IsLeastOf (Found (IsListedWithin finder.lists (columns_to c.args.block c.args.row (column + 1)))) o)
     (sym c.earlier-best.ensures)
     (column_more finder c.args.view.now c.args.disk c.args.block c.args.row column c.loop-column.best c.best_in_cell.result
@@ -54,23 +54,20 @@ pub returns : goal.returns
 returns c = λ listed.
     let finder = c.args.self.now in
     let whole : c.loop-column.column ≡ c.args.block.right =
-    (let most = c.loop-column.auto.column-end c.requires.block.columns in omega arith) in
+    (let most = c.loop-column.auto.column-end c.requires.beside.sides.columns in omega arith) in
     subst (λ (n : ℕ). IsLeastOf (IsNativeWith finder c.args.view.now c.args.disk
     (IsListedWithin finder.lists (columns_to c.args.block c.args.row n))) c.loop-column.best) whole (c.loop-column.invariant listed)
-
-pub best_in_cell-requires-clause-own : goal.best_in_cell-requires-clause-own
-best_in_cell-requires-clause-own c = c.requires.own
 
 pub overflow_add-start : goal.overflow_add-start
 overflow_add-start c =
     let sizes = c.columns.ensures.kept in
     omega (
       arith,
-      c.requires.block.most_columns,
-      start_small c.args.row c.columns.result (omega (arith, c.requires.block.most_rows)) (omega arith),
+      c.requires.beside.sides.most_columns,
+      start_small c.args.row c.columns.result (omega (arith, c.requires.beside.sides.most_rows)) (omega arith),
     )
 
 pub overflow_mul-start : goal.overflow_mul-start
 overflow_mul-start c =
     let sizes = c.columns.ensures.kept in
-    omega (arith, start_small c.args.row c.columns.result (omega (arith, c.requires.block.most_rows)) (omega arith))
+    omega (arith, start_small c.args.row c.columns.result (omega (arith, c.requires.beside.sides.most_rows)) (omega arith))

@@ -6,7 +6,7 @@ use Rattle.region_queue.proofs.Among.{best_gathered}
 use Rattle.region_queue.proofs.finder.Finder.best_within.Goals as goal
 
 pub gather-requires : goal.gather-requires
-gather-requires c = subst (λ (g : GridData). IsBlock g c.args.block) (sym c.requires.ready.lists) c.requires.block
+gather-requires c = subst (λ (g : GridData). IsBlock g c.args.block) (sym c.requires.subject.ready.lists) c.requires.beside.sides
 
 pub returns-then-have_rows : goal.returns-then-have_rows
 returns-then-have_rows c = λ listed.
@@ -14,15 +14,3 @@ returns-then-have_rows c = λ listed.
     best_gathered finder c.args.view.now c.args.disk c.args.block (IsListedWithin finder.lists c.args.block) c.new-near.result
     c.gather.new.gathered c.best_among.result (λ i x. x) c.new-near.ensures (c.gather.ensures c.if-gather.true)
     (c.best_among.ensures listed)
-
-pub best_among-requires-clause-beside : goal.best_among-requires-clause-beside
-best_among-requires-clause-beside c = c.requires.beside
-
-pub best_among-requires-clause-own : goal.best_among-requires-clause-own
-best_among-requires-clause-own c = c.requires.own
-
-pub best_by_rows-requires-clause-beside : goal.best_by_rows-requires-clause-beside
-best_by_rows-requires-clause-beside c = c.requires.beside
-
-pub best_by_rows-requires-clause-own : goal.best_by_rows-requires-clause-own
-best_by_rows-requires-clause-own c = c.requires.own

@@ -14,11 +14,11 @@ returns-clause-single c =
 pub returns-clause-pair : goal.returns-clause-pair
 returns-clause-pair c = c.in_ok-pair.ensures
 
-pub low_outside-requires-clause-own : goal.low_outside-requires-clause-own
-low_outside-requires-clause-own c = c.owns-own.ensures
-
-pub code_alone-requires-clause-own : goal.code_alone-requires-clause-own
-code_alone-requires-clause-own c = c.owns-own.ensures
-
 pub code_alone-requires-clause-codes : goal.code_alone-requires-clause-codes
 code_alone-requires-clause-codes c = c.has_codes.ensures c.if-not-has_codes.false
+
+pub low_outside-requires-clause-subject : goal.low_outside-requires-clause-subject
+low_outside-requires-clause-subject c = record { ready = c.requires.ready; placed = sym c.in_ok-placed.ensures; own = c.owns-own.ensures }
+
+pub code_alone-requires-clause-subject : goal.code_alone-requires-clause-subject
+code_alone-requires-clause-subject c = record { ready = c.requires.ready; placed = sym c.in_ok-placed.ensures; own = c.owns-own.ensures }

@@ -4,9 +4,6 @@ use Rattle.region_queue.specs.Finding.{IsNativeWith, IsLowKey}
 use Rattle.region_queue.proofs.Low.{low_of_all, told}
 use Rattle.region_queue.proofs.finder.Finder.low_among.Goals as goal
 
-pub low_pair-requires-clause-own : goal.low_pair-requires-clause-own
-low_pair-requires-clause-own c = c.requires.own
-
 pub returns : goal.returns
 returns c =
     let finder = c.args.self.now in

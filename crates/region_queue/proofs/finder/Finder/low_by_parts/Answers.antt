@@ -6,63 +6,35 @@ use Rattle.event_stamps.specs.Least.{IsLeastOf}
 use Rattle.region_queue.specs.Outside.{IsListedOutside}
 use Rattle.region_queue.specs.Finding.{AreListed, IsNativeWith, IsLowBeyond}
 use Rattle.region_queue.proofs.Low.{least_with_low, coded}
-use Rattle.region_queue.proofs.Outside.{best_of_parts, listed_outside, low_beyond, part_beside, part_in_grid}
+use Rattle.region_queue.proofs.Outside.{best_of_parts, listed_outside, low_beyond, block_beside, part_beside}
 use Rattle.region_queue.proofs.finder.Finder.low_by_parts.Goals as goal
-
-pub best_in_part-requires-clause-part : goal.best_in_part-requires-clause-part
-best_in_part-requires-clause-part c =
-    let parts = c.parts_outside-parts in
-    part_in_grid c.args.self.now.grid c.block_around-block.result c.block_around-known.result parts.result.left c.block_around-block.ensures.block parts.ensures.left
-
-pub best_in_part-requires-2-clause-part : goal.best_in_part-requires-2-clause-part
-best_in_part-requires-2-clause-part c =
-    let parts = c.parts_outside-parts in
-    part_in_grid c.args.self.now.grid c.block_around-block.result c.block_around-known.result parts.result.right c.block_around-block.ensures.block parts.ensures.right
-
-pub best_in_part-requires-3-clause-part : goal.best_in_part-requires-3-clause-part
-best_in_part-requires-3-clause-part c =
-    let parts = c.parts_outside-parts in
-    part_in_grid c.args.self.now.grid c.block_around-block.result c.block_around-known.result parts.result.low c.block_around-block.ensures.block parts.ensures.low
-
-pub best_in_part-requires-4-clause-part : goal.best_in_part-requires-4-clause-part
-best_in_part-requires-4-clause-part c =
-    let parts = c.parts_outside-parts in
-    part_in_grid c.args.self.now.grid c.block_around-block.result c.block_around-known.result parts.result.high c.block_around-block.ensures.block parts.ensures.high
 
 pub best_in_part-requires-clause-beside : goal.best_in_part-requires-clause-beside
 best_in_part-requires-clause-beside c =
-    let parts = c.parts_outside-parts in
-    part_beside c.args.self.now.grid c.args.placed.now.cell c.block_around-block.result c.block_around-known.result parts.result.left (λ other cell within. (c.block_around-block.ensures.around other cell).1 within) parts.ensures.left
+    let block = c.block_around-block in
+    part_beside c.args.self.now.grid c.args.placed.now.cell block.result c.block_around-known.result c.parts_outside-parts.result.left
+    (block_beside c.args.self.now.grid c.args.placed.now.cell block.result block.ensures.block block.ensures.around) c.parts_outside-parts.ensures.left
 
 pub best_in_part-requires-2-clause-beside : goal.best_in_part-requires-2-clause-beside
 best_in_part-requires-2-clause-beside c =
-    let parts = c.parts_outside-parts in
-    part_beside c.args.self.now.grid c.args.placed.now.cell c.block_around-block.result c.block_around-known.result parts.result.right (λ other cell within. (c.block_around-block.ensures.around other cell).1 within) parts.ensures.right
+    let block = c.block_around-block in
+    part_beside c.args.self.now.grid c.args.placed.now.cell block.result c.block_around-known.result c.parts_outside-parts.result.right
+    (block_beside c.args.self.now.grid c.args.placed.now.cell block.result block.ensures.block block.ensures.around) c.parts_outside-parts.ensures.right
 
 pub best_in_part-requires-3-clause-beside : goal.best_in_part-requires-3-clause-beside
 best_in_part-requires-3-clause-beside c =
-    let parts = c.parts_outside-parts in
-    part_beside c.args.self.now.grid c.args.placed.now.cell c.block_around-block.result c.block_around-known.result parts.result.low (λ other cell within. (c.block_around-block.ensures.around other cell).1 within) parts.ensures.low
+    let block = c.block_around-block in
+    part_beside c.args.self.now.grid c.args.placed.now.cell block.result c.block_around-known.result c.parts_outside-parts.result.low
+    (block_beside c.args.self.now.grid c.args.placed.now.cell block.result block.ensures.block block.ensures.around) c.parts_outside-parts.ensures.low
 
 pub best_in_part-requires-4-clause-beside : goal.best_in_part-requires-4-clause-beside
 best_in_part-requires-4-clause-beside c =
-    let parts = c.parts_outside-parts in
-    part_beside c.args.self.now.grid c.args.placed.now.cell c.block_around-block.result c.block_around-known.result parts.result.high (λ other cell within. (c.block_around-block.ensures.around other cell).1 within) parts.ensures.high
-
-pub best_in_part-requires-clause-own : goal.best_in_part-requires-clause-own
-best_in_part-requires-clause-own c = c.requires.own
-
-pub best_in_part-requires-2-clause-own : goal.best_in_part-requires-2-clause-own
-best_in_part-requires-2-clause-own c = c.requires.own
-
-pub best_in_part-requires-3-clause-own : goal.best_in_part-requires-3-clause-own
-best_in_part-requires-3-clause-own c = c.requires.own
-
-pub best_in_part-requires-4-clause-own : goal.best_in_part-requires-4-clause-own
-best_in_part-requires-4-clause-own c = c.requires.own
+    let block = c.block_around-block in
+    part_beside c.args.self.now.grid c.args.placed.now.cell block.result c.block_around-known.result c.parts_outside-parts.result.high
+    (block_beside c.args.self.now.grid c.args.placed.now.cell block.result block.ensures.block block.ensures.around) c.parts_outside-parts.ensures.high
 
 pub block_around-block-requires : goal.block_around-block-requires
-block_around-block-requires c = c.requires.ready.valid.cell c.args.disk c.args.placed.now c.requires.placed
+block_around-block-requires c = c.requires.subject.ready.valid.cell c.args.disk c.args.placed.now c.requires.subject.placed
 
 pub returns : goal.returns
 returns c =
@@ -81,7 +53,7 @@ returns c =
     (c.best_in_part-2.ensures listed) (c.best_in_part-3.ensures listed) (c.best_in_part-4.ensures listed) in
     let least = subst (λ (o : Option Stamp). IsLeastOf (IsNativeWith finder view disk Outside) o)
     (sym (rw c.earlier.ensures at (rw c.earlier-2.ensures at c.earlier-3.ensures))) all in
-    low_beyond finder view disk old p Outside c.earlier-3.result c.requires.ready c.requires.placed listed
-    (λ i beyond. listed_outside finder p.cell old block known i c.requires.ready.lists c.block_around-block.ensures.around
+    low_beyond finder view disk old p Outside c.earlier-3.result c.requires.subject.ready c.requires.subject.placed listed
+    (λ i beyond. listed_outside finder p.cell old block known i c.requires.subject.ready.lists c.block_around-block.ensures.around
     c.block_around-known.ensures.around beyond)
     (least_with_low finder view disk Outside c.earlier-3.result least))

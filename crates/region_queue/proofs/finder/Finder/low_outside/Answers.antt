@@ -13,11 +13,5 @@ returns-then-have_rows c =
     let With : ℕ → Type 0 = λ i. Contains c.gather_beyond.new.near i in
     told (IsLowKey (IsNativeWith finder view c.args.disk With) c.args.disk)
     (λ key. AreListed view finder.lists.cells → IsLowBeyond finder view c.args.disk c.args.old key) c.low_among.result c.low_among.ensures
-    (λ key low listed. low_beyond finder view c.args.disk c.args.old c.args.placed.now With key c.requires.ready c.requires.placed listed
+    (λ key low listed. low_beyond finder view c.args.disk c.args.old c.args.placed.now With key c.requires.subject.ready c.requires.subject.placed listed
     (c.gather_beyond.ensures c.if-gather_beyond.true) low)
-
-pub low_among-requires-clause-own : goal.low_among-requires-clause-own
-low_among-requires-clause-own c = c.requires.own
-
-pub low_by_parts-requires-clause-own : goal.low_by_parts-requires-clause-own
-low_by_parts-requires-clause-own c = c.requires.own

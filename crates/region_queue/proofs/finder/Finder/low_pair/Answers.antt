@@ -36,6 +36,3 @@ returns c =
     λ xs. IsLowKey (IsNativeWith c.args.self.now c.args.view.now c.args.disk (λ i. Contains xs i)) c.args.disk c.loop-other.best in
     subst Low c.as_slice-others.ensures
     (subst Low (take_whole others c.loop-other.other-index (omega arith)) c.loop-other.invariant)
-
-pub low_owned-requires-clause-own : goal.low_owned-requires-clause-own
-low_owned-requires-clause-own c = c.requires.own

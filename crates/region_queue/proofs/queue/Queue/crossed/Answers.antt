@@ -42,7 +42,7 @@ returns-clause-stands c =
     c.in_ok-list_one.ensures.listed)
     c.cell_of-cell.ensures.value c.in_ok-take_crossed.ensures moved stands in
     once is.0 is.1)
-    (stands_settled c.settle.result finder view mid new c.settle.ensures.covers c.settle.ensures.settled))
+    (stands_settled c.settle.result finder view mid new c.settle.ensures))
 
 pub settle-requires : goal.settle-requires
 settle-requires c =

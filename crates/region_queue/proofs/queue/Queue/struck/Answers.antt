@@ -29,7 +29,7 @@ returns-clause-stands c =
     (λ once before stands same kept.
     let is = stands_struck finder before view ids old mid c.in_ok-take_both.ensures same kept stands in
     once is.0 is.1)
-    (stands_settled c.settle.result finder view mid new c.settle.ensures.covers c.settle.ensures.settled))
+    (stands_settled c.settle.result finder view mid new c.settle.ensures))
 
 pub settle-requires : goal.settle-requires
 settle-requires c =

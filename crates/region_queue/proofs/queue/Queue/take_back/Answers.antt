@@ -53,7 +53,7 @@ returns-clause-stands c =
     (λ once later stands same.
     let is = stands_back finder s later view was old mid c.in_ok-list_event.ensures.listed least c.in_ok-give_key.ensures same stands in
     once is.0 is.1)
-    (stands_settled c.settle.result finder view mid new c.settle.ensures.covers c.settle.ensures.settled))
+    (stands_settled c.settle.result finder view mid new c.settle.ensures))
 
 pub settle-requires : goal.settle-requires
 settle-requires c =

@@ -36,7 +36,7 @@ returns-clause-stands c =
     (λ once before stands same.
     let is = stands_again finder before view was ids old mid c.in_ok-list_again.ensures.listed c.in_ok-take_keys.ensures same stands in
     once is.0 is.1)
-    (stands_settled c.settle.result finder view mid new c.settle.ensures.covers c.settle.ensures.settled))
+    (stands_settled c.settle.result finder view mid new c.settle.ensures))
 
 pub settle-requires : goal.settle-requires
 settle-requires c =
