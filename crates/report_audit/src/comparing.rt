@@ -2,8 +2,11 @@
 
 ghost use Rattle.std.specs.Prelude.{◌≡◌, ℕ, List, Some, [], is_some, true, IfOk, ◌++◌};
 ghost use Rattle.report_ports.specs.Ports.{Gives, CountsGive};
-ghost use Rattle.report_audit.specs.Comparing.{Grows, Advances, CountsJudged, HasNoWrongLine};
+ghost use Rattle.report_audit.specs.Comparing.{Grows, Advances, CountsJudged, HasNoWrongLine, ComparingData, IsCourse, CountsCourse};
 ghost use Rattle.report_audit.specs.Compared.{HasShortLines, Compares};
+ghost use Rattle.std.specs.Io.KnownBytes.{Consumes};
+ghost use Rattle.report_audit.specs.Parting.{all_left};
+ghost use Rattle.report_audit.specs.Place.{place_in};
 
 use crate::agreeing::{Course, agree};
 use crate::ahead::Ahead;
@@ -35,12 +38,6 @@ pub struct Comparing<C: Source> {
 }
 
 impl<C: Source> Model for Comparing<C> {
-    ghost use Rattle.std.specs.Prelude.{◌≡◌, ◌++◌};
-    ghost use Rattle.std.specs.Io.KnownBytes.{Consumes};
-    ghost use Rattle.report_audit.specs.Parting.{all_left};
-    ghost use Rattle.report_audit.specs.Comparing.{ComparingData, IsCourse, CountsCourse};
-    ghost use Rattle.report_audit.specs.Place.{place_in};
-
     ghost Value = { ComparingData C };
 
     ghost view = { λ c. record {

@@ -2,7 +2,7 @@
 
 ghost use Rattle.std.specs.Prelude.{◌≡◌, ◌<◌, ◌+◌, ◌-◌, ◌^◌, ℕ, List, ◌++◌, ◌∷◌, [], true, false, IfOk};
 ghost use Rattle.report_audit.specs.Compared.{newlines};
-ghost use Rattle.report_audit.specs.Place.{place_of, in_line, IsSame, IsLonger, IsWrong};
+ghost use Rattle.report_audit.specs.Place.{place_of, in_line, IsSame, IsLonger, IsWrong, PlaceData};
 
 use crate::lines::NEWLINE;
 use crate::verdict::{Line, Verdict};
@@ -22,8 +22,6 @@ pub struct Place {
 }
 
 impl Model for Place {
-    ghost use Rattle.report_audit.specs.Place.{PlaceData};
-
     ghost Value = { PlaceData };
 
     ghost view = { λ p. record { lines = p.lines; line = p.line } };

@@ -1,6 +1,6 @@
 //! The verdict of a comparison.
 
-ghost use Rattle.std.specs.Prelude.{◌≡◌, ◌≤◌, ◌++◌, ◌∷◌, [], take, length};
+ghost use Rattle.std.specs.Prelude.{◌≡◌, ◌≤◌, ◌++◌, ◌∷◌, [], take, length, ℕ, List};
 ghost use Rattle.report_audit.specs.declared.verdict.TheConstants.{MAX_LINE};
 
 use std::marker::Model;
@@ -16,8 +16,6 @@ pub struct Line {
 }
 
 impl Model for Line {
-    ghost use Rattle.std.specs.Prelude.{ℕ, List, ◌≤◌, take};
-
     ghost Value = { List ℕ };
 
     ghost view = { λ l. take l.size l.bytes };
