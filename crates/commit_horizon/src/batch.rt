@@ -1,5 +1,8 @@
 //! The actions that a commit made final.
 
+ghost use Rattle.std.specs.Prelude.{◌≡◌, List};
+ghost use Rattle.region_view.specs.declared.action.Action.{Action};
+
 use region_view::Action;
 use std::marker::Model;
 
@@ -10,15 +13,10 @@ pub struct Batch {
 }
 
 impl Model for Batch {
-    ghost use Rattle.std.specs.Prelude.{List};
-    ghost use Rattle.region_view.specs.declared.action.Action.{Action};
-
     ghost Value = { List Action };
 
     ghost view = { λ s. s.actions.items };
 }
-
-ghost use Rattle.std.specs.Prelude.{◌≡◌};
 
 impl Batch {
     /// The actions, in order.

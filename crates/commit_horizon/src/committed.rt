@@ -1,7 +1,23 @@
 //! The committed state, and the regions that stand on it.
 
+ghost use Rattle.std.specs.Prelude.{◌≡◌, IfOk, OnOk};
+ghost use Rattle.cell_grid.specs.Grid.{IsRegion, IsAsked};
+ghost use Rattle.cell_sequence.specs.State.{IsCellState, opening_state, later, followed_by, raised, CellStateData};
+ghost use Rattle.commit_horizon.specs.Horizon.{runs_of, IsHorizon, AllStand, AllKept};
+ghost use Rattle.commit_horizon.specs.Commits.{Adopts, Commits};
+ghost use Rattle.commit_horizon.specs.Following.{MayFollow};
+
+use crate::Batch;
+use crate::bounding::least_bound;
+use crate::cutting::commit_cutting;
+use crate::following::follow_all;
+use crate::untold::Untold;
 use cell_sequence::CellState;
+use event_stamps::Stamp;
+use fixed_motion::Scene;
 use region_core::{Differs, Region};
+use region_view::Placed;
+use std::alloc::{AllocError, Global};
 use std::marker::Model;
 
 /// The state of the cell run up to which all is final.
@@ -11,8 +27,6 @@ pub struct Committed {
 }
 
 impl Model for Committed {
-    ghost use Rattle.cell_sequence.specs.State.{CellStateData};
-
     ghost Value = { CellStateData };
 
     ghost view = { λ s. s.state };
@@ -26,23 +40,6 @@ pub enum Adopted {
     /// One that was opened again, and why the given one doesn't stand on the state.
     Made(Region, Differs),
 }
-
-ghost use Rattle.std.specs.Prelude.{◌≡◌, IfOk, OnOk};
-ghost use Rattle.cell_grid.specs.Grid.{IsRegion, IsAsked};
-ghost use Rattle.cell_sequence.specs.State.{IsCellState, opening_state, later, followed_by, raised};
-ghost use Rattle.commit_horizon.specs.Horizon.{runs_of, IsHorizon, AllStand, AllKept};
-ghost use Rattle.commit_horizon.specs.Commits.{Adopts, Commits};
-ghost use Rattle.commit_horizon.specs.Following.{MayFollow};
-
-use crate::Batch;
-use crate::bounding::least_bound;
-use crate::cutting::commit_cutting;
-use crate::following::follow_all;
-use crate::untold::Untold;
-use event_stamps::Stamp;
-use fixed_motion::Scene;
-use region_view::Placed;
-use std::alloc::{AllocError, Global};
 
 impl Committed {
     /// The state with which the cell run of a scene begins, on a grid for this many regions, 1 to

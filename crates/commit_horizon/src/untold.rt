@@ -1,8 +1,24 @@
 //! Actions that are final and weren't told yet.
 
-use crate::leading::{Leader, PackedHead};
+ghost use Rattle.std.specs.Prelude.{◌≡◌, ◌+◌, ◌<◌, List, [], ◌∷◌, length, map, drop, false, true, None, Some, IfSome, IfOk, OnOk, OnErr};
+ghost use Rattle.std.specs.Option.{IsSome};
+ghost use Rattle.event_rules.specs.Told.{Told, AwaitsAll, CountsRefusal};
+ghost use Rattle.region_view.specs.declared.action.Action.{Action};
+ghost use Rattle.cell_sequence.specs.Run.{hits};
+ghost use Rattle.event_log.specs.Logged.{entries_in, native_at};
+ghost use Rattle.commit_horizon.specs.Merging.{head_in, heads_in};
+ghost use Rattle.commit_horizon.specs.Telling.{MayBeTold, IsHitAwaited, HitRefused};
+ghost use Rattle.commit_horizon.specs.Untold.{actions_in, BeginsInRange, AllBeginInRange, IsNextHead, IsNextHit, AreFirstHeads, AllCanBeTold, CanBeTellings, lefts, merged_of, AreUntold};
+ghost use Rattle.commit_horizon.specs.TellingOn.{TellsFirst, TellsHits, TellsTorn};
+
+use crate::leading::{Leader, PackedHead, find_leader, leader_after, no_head};
 use event_log::EventLog;
+use event_rules::{Deaf, Listener};
+use event_tree::Packed;
+use region_view::Action;
+use std::alloc::{AllocError, Global};
 use std::marker::Model;
+use std::mem::replace;
 
 /// Actions that are final and are to be told, in the order of their stamps. They are in the logs of the regions that
 /// ran them, which are merged only when they are told.
@@ -17,36 +33,12 @@ pub struct Untold {
 }
 
 impl Model for Untold {
-    ghost use Rattle.std.specs.Prelude.{List, map};
-    ghost use Rattle.region_view.specs.declared.action.Action.{Action};
-    ghost use Rattle.event_log.specs.Logged.{entries_in};
-    ghost use Rattle.commit_horizon.specs.Merging.{heads_in};
-    ghost use Rattle.commit_horizon.specs.Untold.{lefts, merged_of, AreUntold};
-
     ghost Value = { List Action };
 
     ghost view = { λ s. merged_of (lefts (map entries_in s.logs.items) (heads_in s.heads.items)) };
 
     ghost invariant = { λ s. AreUntold (map entries_in s.logs.items) (heads_in s.heads.items) s.first };
 }
-
-ghost use Rattle.std.specs.Prelude.{◌≡◌, ◌+◌, ◌<◌, List, [], ◌∷◌, length, map, drop, false, true, None, Some, IfSome, IfOk, OnOk, OnErr};
-ghost use Rattle.std.specs.Option.{IsSome};
-ghost use Rattle.event_rules.specs.Told.{Told, AwaitsAll, CountsRefusal};
-ghost use Rattle.region_view.specs.declared.action.Action.{Action};
-ghost use Rattle.cell_sequence.specs.Run.{hits};
-ghost use Rattle.event_log.specs.Logged.{entries_in, native_at};
-ghost use Rattle.commit_horizon.specs.Merging.{head_in, heads_in};
-ghost use Rattle.commit_horizon.specs.Telling.{MayBeTold, IsHitAwaited, HitRefused};
-ghost use Rattle.commit_horizon.specs.Untold.{actions_in, BeginsInRange, AllBeginInRange, IsNextHead, IsNextHit, AreFirstHeads, AllCanBeTold, CanBeTellings};
-ghost use Rattle.commit_horizon.specs.TellingOn.{TellsFirst, TellsHits, TellsTorn};
-
-use crate::leading::{find_leader, leader_after, no_head};
-use event_rules::{Deaf, Listener};
-use event_tree::Packed;
-use region_view::Action;
-use std::alloc::{AllocError, Global};
-use std::mem::replace;
 
 impl Untold {
     /// Nothing.
@@ -64,11 +56,7 @@ impl Untold {
     pub(crate) fn take_logs(&mut self, alloc: Global) -> Vec<EventLog>
         ensures { self.new ≡ [] }
     {
-        let Untold {
-            logs,
-            heads: _,
-            first: _,
-        } = replace(self, Untold::new(alloc));
+        let Untold { logs, .. } = replace(self, Untold::new(alloc));
         logs
     }
 
