@@ -14,6 +14,10 @@ pub record StandOn (grid : GridData) (regions : List RegionData) (state : CellSt
   pub grid_is : state.grid ≡ grid
   pub stand : AllStand state regions
 
+-- it holds of each state on which regions of this grid stand
+abbrev pub OnEachState : GridData → List RegionData → (CellStateData → Type 0) → Type 0
+OnEachState grid regions P = (state : CellStateData) → StandOn grid regions state → P state
+
 -- whether the hearer was rewound
 abbrev pub is_rewound : Hearing → Bool
 is_rewound Same = false
@@ -29,6 +33,10 @@ pub record Heard (state : CellStateData) (old new : List RegionData) (more : Boo
   pub tells : more ≡ nat_lt 0 (rewinds calls)
   pub stand : AllStand state new
   pub covers : P calls
+
+-- the same on each state on which the first regions stand, by what is to hold of the calls there
+abbrev pub HeardOn : GridData → List RegionData → List RegionData → Bool → (CellStateData → List Call → Type 0) → Type 0
+HeardOn grid old new more P = OnEachState grid old (λ state. Heard state old new more (P state))
 
 -- region q hears region k, if they are linked
 abbrev pub HearsOne : CellStateData → ℕ → ℕ → List Call → Type 0

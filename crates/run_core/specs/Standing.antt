@@ -1,5 +1,5 @@
 -- Regions, and the state on which they stand.
-use Rattle.std.specs.Prelude.{◌≡◌, ℕ, zero, suc, List, [], ◌∷◌, ◌++◌, Option, None, length}
+use Rattle.std.specs.Prelude.{◌≡◌, ◌≤◌, ◌+◌, ℕ, zero, suc, List, [], ◌∷◌, ◌++◌, Option, None, length}
 use Rattle.std.specs.Option.{option_or, option_to_list}
 use Rattle.event_stamps.specs.declared.Stamp.{Stamp}
 use Rattle.region_view.specs.declared.action.Placed.{Placed}
@@ -41,3 +41,11 @@ pub record ComesOf (earlier : CellStateData) (floor : Stamp) (regions : List Reg
   pub grid_is : state.grid ≡ earlier.grid
   pub floor_is : state.floor ≡ floor
   pub stand : AllStand state regions
+
+-- it holds of each state that comes so of an earlier one, whatever its floor is
+abbrev pub OnEachFrom : CellStateData → List RegionData → (CellStateData → Type 0) → Type 0
+OnEachFrom earlier regions P = (state : CellStateData) → ComesOf earlier state.floor regions state → P state
+
+-- a burst that worked is of the run that it was of, and counts one burst more at most
+abbrev pub WorksOnce : {B : Type 0} → (B → Option CellStateData) → (B → ℕ) → B → B → Type 0
+WorksOnce of bursts old new = (of new ≡ of old) × (bursts new ≤ bursts old + 1)

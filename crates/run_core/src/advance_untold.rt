@@ -5,7 +5,7 @@ ghost use Rattle.cell_sequence.specs.State.{CellStateData};
 ghost use Rattle.commit_horizon.specs.Horizon.{runs_of, AllStand, AllKept};
 ghost use Rattle.run_core.specs.AdvancesUntold.{AdvanceMade, PartsMade, EventMade, answer_with};
 ghost use Rattle.run_core.specs.Simulates.{AdvancesBy};
-ghost use Rattle.run_core.specs.Standing.{ComesOf, GoesOnTo};
+ghost use Rattle.run_core.specs.Standing.{ComesOf, OnEachFrom, GoesOnTo};
 
 use crate::answers::AdvanceKind;
 use crate::one_event::run_event;
@@ -53,9 +53,8 @@ pub(crate) fn make_final(
 ) -> Result<(AdvanceKind, Final), AllocError>
     requires stand { (state : CellStateData) × ComesOf earlier.now state.floor regions.old state }
     requires told { untold.old ≡ [] }
-    ensures { IfOk result (λ advanced. (state : CellStateData) →
-        ComesOf earlier.now state.floor regions.old state →
-        AdvanceMade state regions.old advanced.0 untold.new advanced.1 regions.new) }
+    ensures { IfOk result (λ advanced. OnEachFrom earlier.now regions.old (λ state.
+        AdvanceMade state regions.old advanced.0 untold.new advanced.1 regions.new)) }
 {
     let at_once = commit_cutting(alloc, earlier.rules(), regions, untold)?;
     if at_once.last.is_some() {
@@ -73,9 +72,8 @@ fn agree_and_make(
 ) -> Result<(AdvanceKind, Final), AllocError>
     requires stand { (state : CellStateData) × ComesOf earlier.now state.floor regions.old state }
     requires told { untold.old ≡ [] }
-    ensures { IfOk result (λ advanced. (state : CellStateData) →
-        ComesOf earlier.now state.floor regions.old state →
-        PartsMade state regions.old advanced.0 untold.new advanced.1 regions.new) }
+    ensures { IfOk result (λ advanced. OnEachFrom earlier.now regions.old (λ state.
+        PartsMade state regions.old advanced.0 untold.new advanced.1 regions.new)) }
 {
     none_is_spent(regions);
     agree(alloc, earlier.grid(), regions)?;

@@ -4,7 +4,7 @@ ghost use Rattle.std.specs.Prelude.{◌≡◌, ◌<◌, length, map, IfOk, OnOk}
 ghost use Rattle.cell_grid.specs.Grid.{IsRegion};
 ghost use Rattle.cell_sequence.specs.State.{CellStateData};
 ghost use Rattle.commit_horizon.specs.Horizon.{AllKept};
-ghost use Rattle.run_core.specs.Passing.{StandOn};
+ghost use Rattle.run_core.specs.Passing.{StandOn, OnEachState};
 ghost use Rattle.run_core.specs.Taking.{IsNextHome, OneTookIn, AllTookIn, at_floor, Refreshed, RunsEvent, StandOnCells};
 
 use crate::pairs::{hear_at, step_at};
@@ -89,8 +89,7 @@ fn tell_all(
 ) -> Result<(), AllocError>
     requires stand { (state : CellStateData) × StandOn grid.now regions.old state }
     requires teller { home < length regions.old }
-    ensures { OnOk result ((state : CellStateData) → StandOn grid.now regions.old state →
-        AllTookIn state regions.old home regions.new) }
+    ensures { OnOk result (OnEachState grid.now regions.old (λ state. AllTookIn state regions.old home regions.new)) }
 {
     let number = regions[home].number();
     for hearer in 0..grid.regions() {
@@ -110,8 +109,7 @@ fn take_in(
     requires stand { (state : CellStateData) × StandOn grid.now regions.old state }
     requires hearer { IsRegion grid.now hearer }
     requires sender { IsRegion grid.now from }
-    ensures { OnOk result ((state : CellStateData) → StandOn grid.now regions.old state →
-        OneTookIn state regions.old regions.new from hearer) }
+    ensures { OnOk result (OnEachState grid.now regions.old (λ state. OneTookIn state regions.old regions.new from hearer)) }
 {
     if !grid.linked(from, hearer) {
         return Ok(());

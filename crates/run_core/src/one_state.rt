@@ -1,9 +1,26 @@
 //! Regions together with the cell state on which they stand.
 
+ghost use Rattle.std.specs.Prelude.{◌≡◌, ◌<◌, length, slice_get, Some, IfOk};
+ghost use Rattle.fixed_motion.specs.Rules.{IsChecked};
+ghost use Rattle.fixed_motion.specs.Motion.{IsValidDisk};
+ghost use Rattle.event_rules.specs.Run.{spots_of, spot_of};
+ghost use Rattle.cell_grid.specs.Grid.{IsAsked};
+ghost use Rattle.cell_sequence.specs.Run.{disks_of};
+ghost use Rattle.cell_sequence.specs.State.{CellStateData, IsCellState, opening_state};
+ghost use Rattle.run_floors.specs.Floors.{IsPast, IsAtFloor, IsOfRun};
+ghost use Rattle.commit_horizon.specs.Horizon.{AllStand};
+ghost use Rattle.run_core.specs.Standing.{GoesOnTo, WorksOnce, row_among, seen_as};
+
+use crate::run_burst::RunBurst;
 use commit_horizon::Committed;
+use event_rules::{FinalState, Spot};
 use event_stamps::Stamp;
-use region_core::Region;
+use fixed_motion::{Disk, Rules, Scene};
+use region_core::{Beside, Region};
+use region_view::Placed;
+use std::alloc::{AllocError, Global};
 use std::marker::Model;
+use std::thread::Threads;
 
 /// Regions that stand, by number, on one state of the cell run. Its rows are theirs, and are put together only if
 /// somebody asks for the state.
@@ -20,9 +37,6 @@ pub(crate) struct Standing {
 }
 
 impl Model for Standing {
-    ghost use Rattle.cell_sequence.specs.State.{CellStateData};
-    ghost use Rattle.run_core.specs.Standing.{seen_as, GoesOnTo};
-
     ghost Value = { CellStateData };
 
     ghost view = { λ s. seen_as s.earlier s.last s.floor s.regions.items };
@@ -30,25 +44,6 @@ impl Model for Standing {
     ghost invariant = { λ s. GoesOnTo s.earlier s.last s.floor s.regions.items
         (seen_as s.earlier s.last s.floor s.regions.items) };
 }
-
-ghost use Rattle.std.specs.Prelude.{◌≡◌, ◌<◌, ◌≤◌, ◌+◌, length, slice_get, Some, IfOk};
-ghost use Rattle.fixed_motion.specs.Rules.{IsChecked};
-ghost use Rattle.fixed_motion.specs.Motion.{IsValidDisk};
-ghost use Rattle.event_rules.specs.Run.{spots_of, spot_of};
-ghost use Rattle.cell_grid.specs.Grid.{IsAsked};
-ghost use Rattle.cell_sequence.specs.Run.{disks_of};
-ghost use Rattle.cell_sequence.specs.State.{CellStateData, IsCellState, opening_state};
-ghost use Rattle.run_floors.specs.Floors.{IsPast, IsAtFloor, IsOfRun};
-ghost use Rattle.commit_horizon.specs.Horizon.{AllStand};
-ghost use Rattle.run_core.specs.Standing.{GoesOnTo, row_among};
-
-use crate::run_burst::RunBurst;
-use event_rules::{FinalState, Spot};
-use fixed_motion::{Disk, Rules, Scene};
-use region_core::Beside;
-use region_view::Placed;
-use std::alloc::{AllocError, Global};
-use std::thread::Threads;
 
 impl Standing {
     /// The regions of the state with which the cell run of a scene begins, as many as are asked for, 1 to
@@ -115,8 +110,7 @@ impl Standing {
     ) -> Result<Standing, AllocError>
         requires of { IsOfRun (B.of burst.old) self }
         requires fits { S.fits beside.old lent.old }
-        ensures of { B.of burst.new ≡ B.of burst.old }
-        ensures counted { B.bursts burst.new ≤ B.bursts burst.old + 1 }
+        ensures once { WorksOnce B.of B.bursts burst.old burst.new }
         ensures state { IfOk result (λ worked. worked ≡ self) }
         ensures beside { S.goes beside.old lent.old beside.new lent.new }
     {
@@ -139,8 +133,7 @@ impl Standing {
         requires keeping { B.keeping burst.old }
         requires of { IsOfRun (B.of burst.old) self }
         requires fits { S.fits beside.old lent.old }
-        ensures of { B.of burst.new ≡ B.of burst.old }
-        ensures counted { B.bursts burst.new ≤ B.bursts burst.old + 1 }
+        ensures once { WorksOnce B.of B.bursts burst.old burst.new }
         ensures state { IfOk result (λ worked. worked ≡ self) }
         ensures beside { S.goes beside.old lent.old beside.new lent.new }
     {
@@ -165,8 +158,7 @@ impl Standing {
     ) -> Result<Standing, AllocError>
         requires of { IsOfRun (B.of burst.old) self }
         requires fits { S.fits beside.old lent.old }
-        ensures of { B.of burst.new ≡ B.of burst.old }
-        ensures counted { B.bursts burst.new ≤ B.bursts burst.old + 1 }
+        ensures once { WorksOnce B.of B.bursts burst.old burst.new }
         ensures state { IfOk result (λ worked. worked ≡ self) }
         ensures beside { S.goes beside.old lent.old beside.new lent.new }
     {

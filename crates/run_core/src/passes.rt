@@ -3,7 +3,7 @@
 ghost use Rattle.std.specs.Prelude.{◌≡◌, IfOk, OnOk};
 ghost use Rattle.cell_grid.specs.Grid.{IsRegion};
 ghost use Rattle.cell_sequence.specs.State.{CellStateData};
-ghost use Rattle.run_core.specs.Passing.{StandOn, is_rewound, Heard, HearsOne, HearsUpTo, AllHearUpTo, AgreeAndStand};
+ghost use Rattle.run_core.specs.Passing.{StandOn, OnEachState, is_rewound, HeardOn, HearsOne, HearsUpTo, AllHearUpTo, AgreeAndStand};
 
 use crate::pairs::hear_at;
 use cell_grid::Grid;
@@ -16,8 +16,7 @@ use std::alloc::{AllocError, Global};
 /// Out of memory.
 pub(crate) fn agree(alloc: Global, grid: &Grid, regions: &mut [Region]) -> Result<(), AllocError>
     requires { (state : CellStateData) × StandOn grid.now regions.old state }
-    ensures { OnOk result ((state : CellStateData) → StandOn grid.now regions.old state →
-        AgreeAndStand state regions.old regions.new) }
+    ensures { OnOk result (OnEachState grid.now regions.old (λ state. AgreeAndStand state regions.old regions.new)) }
 {
     'passes: loop {
         let more = pass(alloc, grid, regions)?;
@@ -33,8 +32,7 @@ pub(crate) fn agree(alloc: Global, grid: &Grid, regions: &mut [Region]) -> Resul
 /// Out of memory.
 pub(crate) fn pass(alloc: Global, grid: &Grid, regions: &mut [Region]) -> Result<bool, AllocError>
     requires { (state : CellStateData) × StandOn grid.now regions.old state }
-    ensures { IfOk result (λ more. (state : CellStateData) → StandOn grid.now regions.old state →
-        Heard state regions.old regions.new more (AllHearUpTo state state.grid.regions)) }
+    ensures { IfOk result (λ more. HeardOn grid.now regions.old regions.new more (λ state. AllHearUpTo state state.grid.regions)) }
 {
     let mut more = false;
     for hearer in 0..grid.regions() {
@@ -52,8 +50,7 @@ fn hear_all(
 ) -> Result<bool, AllocError>
     requires stand { (state : CellStateData) × StandOn grid.now regions.old state }
     requires hearer { IsRegion grid.now hearer }
-    ensures { IfOk result (λ more. (state : CellStateData) → StandOn grid.now regions.old state →
-        Heard state regions.old regions.new more (HearsUpTo state hearer state.grid.regions)) }
+    ensures { IfOk result (λ more. HeardOn grid.now regions.old regions.new more (λ state. HearsUpTo state hearer state.grid.regions)) }
 {
     let mut more = false;
     for from in 0..grid.regions() {
@@ -73,8 +70,7 @@ fn hear_one(
     requires stand { (state : CellStateData) × StandOn grid.now regions.old state }
     requires hearer { IsRegion grid.now hearer }
     requires sender { IsRegion grid.now from }
-    ensures { IfOk result (λ more. (state : CellStateData) → StandOn grid.now regions.old state →
-        Heard state regions.old regions.new more (HearsOne state hearer from)) }
+    ensures { IfOk result (λ more. HeardOn grid.now regions.old regions.new more (λ state. HearsOne state hearer from)) }
 {
     if !grid.linked(from, hearer) {
         return Ok(false);

@@ -1,6 +1,12 @@
 //! Steps and hearings of some regions in the order of a list.
 
-use region_core::{Hearing, Step};
+ghost use Rattle.std.specs.Prelude.{◌≡◌, ◌++◌, IfOk, OnOk, OnErr, List};
+ghost use Rattle.run_core.specs.Plays.{answers_of, PlaysOne, Plays, SpendsOneAtMost, PlaysSome, GoOnStanding};
+ghost use Rattle.run_core.specs.declared.playing.Answer.{Answer};
+
+use crate::pairs::{hear_at, step_at};
+use region_core::{Hearing, Region, Step};
+use std::alloc::{AllocError, Global};
 use std::marker::Model;
 
 /// A call on some regions, which are named by their places.
@@ -33,20 +39,10 @@ pub struct Played {
 }
 
 impl Model for Played {
-    ghost use Rattle.std.specs.Prelude.{List};
-    ghost use Rattle.run_core.specs.declared.playing.Answer.{Answer};
-
     ghost Value = { List Answer };
 
     ghost view = { λ s. s.answers.items };
 }
-
-ghost use Rattle.std.specs.Prelude.{◌≡◌, ◌++◌, IfOk, OnOk, OnErr};
-ghost use Rattle.run_core.specs.Plays.{answers_of, PlaysOne, Plays, SpendsOneAtMost, PlaysSome, GoOnStanding};
-
-use crate::pairs::{hear_at, step_at};
-use region_core::Region;
-use std::alloc::{AllocError, Global};
 
 impl Played {
     /// The answers, in order.

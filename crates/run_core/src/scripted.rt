@@ -1,7 +1,15 @@
 //! A burst that makes given calls.
 
-use crate::playing::CoreStep;
+ghost use Rattle.std.specs.Prelude.{◌≡◌, List, [], length, IfOk, OnOk};
+ghost use Rattle.run_core.specs.declared.playing.Answer.{Answer};
+ghost use Rattle.run_core.specs.Plays.{Plays};
+ghost use Rattle.run_core.specs.declared.playing.CoreStep.{CoreStep};
+
+use crate::playing::{CoreStep, play};
+use region_core::{Beside, Burst, Region};
+use std::alloc::{AllocError, Global};
 use std::marker::Model;
+use std::thread::Threads;
 
 /// Makes the calls of a list in one burst, and none in the next ones.
 #[derive(Drop)]
@@ -10,22 +18,10 @@ pub struct Scripted {
 }
 
 impl Model for Scripted {
-    ghost use Rattle.std.specs.Prelude.{List};
-    ghost use Rattle.run_core.specs.declared.playing.CoreStep.{CoreStep};
-
     ghost Value = { List CoreStep };
 
     ghost view = { λ s. s.steps.items };
 }
-
-ghost use Rattle.std.specs.Prelude.{◌≡◌, List, [], length, IfOk, OnOk};
-ghost use Rattle.run_core.specs.declared.playing.Answer.{Answer};
-ghost use Rattle.run_core.specs.Plays.{Plays};
-
-use crate::playing::play;
-use region_core::{Beside, Burst, Region};
-use std::alloc::{AllocError, Global};
-use std::thread::Threads;
 
 impl Scripted {
     /// The burst of these calls.

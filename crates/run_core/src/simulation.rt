@@ -1,6 +1,6 @@
 //! The run of a scene over regions.
 
-ghost use Rattle.std.specs.Prelude.{◌≡◌, ◌≤◌, ◌+◌, None, IfOk, IfErr};
+ghost use Rattle.std.specs.Prelude.{◌≡◌, None, IfOk, IfErr};
 ghost use Rattle.event_rules.specs.Told.{Told, AwaitsAll};
 ghost use Rattle.event_rules.specs.Tellings.{AwaitsRun, RunTold, RunCutShort, CountsRun};
 ghost use Rattle.cell_grid.specs.Grid.{IsAsked};
@@ -10,6 +10,7 @@ ghost use Rattle.run_floors.specs.Floors.{IsOfRun};
 ghost use Rattle.commit_horizon.specs.Telling.{HitsCutShort};
 ghost use Rattle.run_core.specs.AdvancesUntold.{answer_with};
 ghost use Rattle.run_core.specs.Simulates.{Advances, FewBursts};
+ghost use Rattle.run_core.specs.Standing.{WorksOnce};
 
 use crate::advance_untold::advance_untold;
 use crate::answers::AdvanceKind;
@@ -104,8 +105,7 @@ fn work<B: RunBurst<Telling, L>, R: Threads + Sync, L: Listener>(
     requires of { IsOfRun (B.of burst.old) standing }
     requires heard { telling.old.fault ≡ None }
     requires awaited { AwaitsAll L.after L.awaits (L.meaning listener.old) (hits telling.old.untold) }
-    ensures of { B.of burst.new ≡ B.of burst.old }
-    ensures counted { B.bursts burst.new ≤ B.bursts burst.old + 1 }
+    ensures once { WorksOnce B.of B.bursts burst.old burst.new }
     ensures advances { IfOk result (λ advanced.
         Advances standing (answer_with advanced.0 telling.new.untold) advanced.1) }
     ensures told { IfOk result (λ _.

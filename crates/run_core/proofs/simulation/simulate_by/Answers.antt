@@ -216,9 +216,9 @@ bursts-preserved g c =
       cell = cell_after c.in_ok-kind.ensures.advances;
       one = run_goes_on (opening_state c.args.scene.now c.args.regions) c.bursts.standing c.in_ok-kind.left
           c.bursts.invariant.one (one_after c.in_ok-kind.ensures.advances);
-      of = c.work.ensures.of ∙ c.bursts.invariant.of;
+      of = c.work.ensures.once.0 ∙ c.bursts.invariant.of;
       few = come_on c.bursts.invariant.few c.in_ok-kind.ensures.advances (ap (λ (v : AdvanceKind). answer_with v batch) c.in-Raised.is)
-          c.work.ensures.counted;
+          c.work.ensures.once.1;
       heard = c.in_ok-kind.ensures.heard;
       told = told_on L.torn c.args.regions valid c.requires.asked c.bursts.invariant.told
           (L.meaning c.work.new.listener) c.in_ok-kind.ensures.told c.in_ok-kind.ensures.advances batch
@@ -231,10 +231,10 @@ returns-in-bursts-clause-few_bursts g c =
     let batch = c.work.new.telling.untold in
     come_to_end c.bursts.invariant.few c.in_ok-kind.ensures.advances (ap (λ (v : AdvanceKind). answer_with v batch)
     (ends_else c.in_ok-kind.kind c.in_default.not-Raised c.in_default-kind.not-Limit))
-    c.work.ensures.counted c.in_ok-spots.spots c.in_ok-spots.ensures
+    c.work.ensures.once.1 c.in_ok-spots.spots c.in_ok-spots.ensures
 
 pub returns-in-Limit-clause-few_bursts : goal.returns-in-Limit-clause-few_bursts
 returns-in-Limit-clause-few_bursts g c =
     let batch = c.work.new.telling.untold in
     come_to_limit c.bursts.invariant.few c.in_ok-kind.ensures.advances (ap (λ (v : AdvanceKind). answer_with v batch) c.in-Limit.is)
-    c.work.ensures.counted
+    c.work.ensures.once.1
