@@ -1,5 +1,5 @@
 -- What contracts see of the table and its seats, and what their calls do to them.
-use Rattle.std.specs.Prelude.{◌≡◌, ℕ, ◌+◌, ◌<◌, ◌≤◌, ◌^◌, List, length, map, slice_get, slice_index, Some, None, IfSome, All, true, eqb, refl}
+use Rattle.std.specs.Prelude.{◌≡◌, ℕ, ◌+◌, ◌<◌, ◌≤◌, ◌^◌, List, [], length, map, slice_get, slice_index, Some, None, IfSome, All, true, eqb, refl}
 use Rattle.std.specs.List.{IsDistinct}
 use Rattle.std.specs.Coded.{Coded, code_by, coded×, coded_list}
 use Rattle.atomic_table.specs.Seated.{TableId, table_id_coded}
@@ -48,6 +48,10 @@ seat_code = code_by (TableId × TableView) (coded× table_id_coded view.the_row.
 pub record IsSeatOf (table : RegionTableData) (seat : SeatData) : Type 0 where
   pub table_is : seat.table ≡ table.id
   pub opened : seat.view.opened ≡ table.opened
+
+-- the seat is of this table, and holds no slot
+abbrev pub IsIdleSeat : RegionTableData → SeatData → Type 0
+IsIdleSeat table seat = IsSeatOf table seat × (slots_of seat.view.held ≡ [])
 
 -- the seat of a table that was just opened
 abbrev pub first_seat : RegionTableData → SeatData
@@ -105,11 +109,15 @@ pub record PutsBack (old : SeatData) (k : ℕ) (region : RegionData) (new : Seat
   pub took : All (λ (h : Hold). h.slot ≡ k → h.version ≡ version) old.view.held
   pub puts : new ≡ with_view old (putting old.view k (version + 1) (count_of region))
 
+-- a spent region with this number
+abbrev pub spent_at : ℕ → Rules → GridData → Stamp → RegionData
+spent_at k rules grid floor = record { home = record { number = k; rules = rules; grid = grid }; floor = floor; run = None }
+
 -- what is given back for slot k, by its word and what it holds
 abbrev pub ComesOfSlot : List ℕ → List Content → Rules → GridData → Stamp → ℕ → RegionData → Type 0
 ComesOfSlot words contents rules grid floor k region = (word : ℕ) (content : Content) → get_elem? words k ≡ some word → get_elem? contents k ≡ some content
     → (IsHomeWord word → IfSome content (λ (found : RegionData). region ≡ found))
-    × ((¬ IsHomeWord word) → region ≡ record { home = record { number = k; rules = rules; grid = grid }; floor = floor; run = None })
+    × ((¬ IsHomeWord word) → region ≡ spent_at k rules grid floor)
 
 -- what is found in slot k of a table that is closed: the region that was at home, or a spent one in its place
 pub record ClosesAt (opened : List RegionData) (s : State Content TableView) (k : ℕ) (region : RegionData) : Type 0 where

@@ -1,6 +1,6 @@
 //! The regions that a closed table gives back.
 
-ghost use Rattle.std.specs.Prelude.{◌≡◌, ℕ, ◌<◌, ◌≤◌, [], length, slice_get, vec_capacity, Some, None, IfSome};
+ghost use Rattle.std.specs.Prelude.{◌≡◌, ℕ, ◌<◌, ◌≤◌, [], length, slice_get, vec_capacity, Some, IfSome};
 ghost use Rattle.std.specs.Slots.{slots_items, slots_len, IsFull};
 ghost use Rattle.fixed_motion.specs.Rules.{IsChecked};
 ghost use Rattle.event_stamps.specs.Order.{Before, end_stamp};
@@ -8,7 +8,7 @@ ghost use Rattle.cell_grid.specs.Grid.{IsGridOf};
 ghost use Rattle.local_run.specs.LocalRun.{IsInPlace};
 ghost use Rattle.local_run.specs.Opening.{RegionData};
 ghost use Rattle.region_table.specs.Rule.{IsHomeWord};
-ghost use Rattle.region_table.specs.Tables.{ComesOfSlot};
+ghost use Rattle.region_table.specs.Tables.{spent_at, ComesOfSlot};
 
 use atomic_table::Closed;
 use cell_grid::Grid;
@@ -58,11 +58,7 @@ fn region_of(
     requires place { IsInPlace (record { number = number; rules = rules.now; grid = grid.now }) }
     requires in_time { ¬ Before (end_stamp rules.now.end) floor }
     ensures home { IsHomeWord word → IfSome content (λ region. result ≡ region) }
-    ensures out { (¬ IsHomeWord word) → result ≡ record {
-      home = record { number = number; rules = rules.now; grid = grid.now };
-      floor = floor;
-      run = None;
-    } }
+    ensures out { (¬ IsHomeWord word) → result ≡ spent_at number rules.now grid.now floor }
 {
     let Some(region) = content else {
         return Region::spent(number, rules, grid, floor);

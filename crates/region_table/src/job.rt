@@ -5,7 +5,7 @@ ghost use Rattle.std.specs.List.{filter, list_any};
 ghost use Rattle.cell_grid.specs.Grid.{IsRegion};
 ghost use Rattle.region_table.specs.Bases.{MayLieIn, StaysOrSpent};
 ghost use Rattle.region_table.specs.Rule.{slots_of, is_held};
-ghost use Rattle.region_table.specs.Tables.{IsSeatOf};
+ghost use Rattle.region_table.specs.Tables.{IsSeatOf, IsIdleSeat};
 
 use crate::calm::{Calm, Changes, Visit};
 use crate::pace::{TablePace, TableSlice};
@@ -39,8 +39,7 @@ impl<'a, G: Gate> TableJob<'a, G> {
     /// # Errors
     /// Out of memory.
     pub(crate) fn run(&self, seat: &mut TableSeat, turns: u32) -> Result<(), AllocError>
-        requires seat { IsSeatOf self.now.table.now seat.old }
-        requires idle { slots_of seat.old.view.held ≡ [] }
+        requires seat { IsIdleSeat self.now.table.now seat.old }
         ensures seat { IsSeatOf self.now.table.now seat.new }
         ensures idle { OnOk result (seat.new.view.held ≡ []) }
     {
@@ -54,10 +53,8 @@ impl<'a, G: Gate> TableJob<'a, G> {
 
     // Makes the steps of a turn in slices, as long as any region may have something to do.
     fn make_turn(&self, seat: &mut TableSeat, calm: &mut Calm<'_>) -> Result<(), AllocError>
-        requires seat { IsSeatOf self.now.table.now seat.old }
-        requires idle { slots_of seat.old.view.held ≡ [] }
-        ensures seat { IsSeatOf self.now.table.now seat.new }
-        ensures idle { slots_of seat.new.view.held ≡ [] }
+        requires seat { IsIdleSeat self.now.table.now seat.old }
+        ensures seat { IsIdleSeat self.now.table.now seat.new }
     {
         let mut left = self.steps;
         for _ in 0..self.steps {
@@ -87,10 +84,8 @@ impl<'a, G: Gate> TableJob<'a, G> {
         calm: &mut Calm<'_>,
         slice: &TableSlice,
     ) -> Result<(), AllocError>
-        requires seat { IsSeatOf self.now.table.now seat.old }
-        requires idle { slots_of seat.old.view.held ≡ [] }
-        ensures seat { IsSeatOf self.now.table.now seat.new }
-        ensures idle { slots_of seat.new.view.held ≡ [] }
+        requires seat { IsIdleSeat self.now.table.now seat.old }
+        ensures seat { IsIdleSeat self.now.table.now seat.new }
     {
         for region in 0..self.grid.regions() {
             let visit = self.visit(seat, region, slice)?;
@@ -107,10 +102,8 @@ impl<'a, G: Gate> TableJob<'a, G> {
         slice: &TableSlice,
     ) -> Result<Visit, AllocError>
         requires region { IsRegion self.now.grid.now region }
-        requires seat { IsSeatOf self.now.table.now seat.old }
-        requires idle { slots_of seat.old.view.held ≡ [] }
-        ensures seat { IsSeatOf self.now.table.now seat.new }
-        ensures idle { slots_of seat.new.view.held ≡ [] }
+        requires seat { IsIdleSeat self.now.table.now seat.old }
+        ensures seat { IsIdleSeat self.now.table.now seat.new }
     {
         let mut visit = self.step(seat, region, slice)?;
         for other in 0..self.grid.regions() {
@@ -129,10 +122,8 @@ impl<'a, G: Gate> TableJob<'a, G> {
         slice: &TableSlice,
     ) -> Result<Visit, AllocError>
         requires region { IsRegion self.now.grid.now region }
-        requires seat { IsSeatOf self.now.table.now seat.old }
-        requires idle { slots_of seat.old.view.held ≡ [] }
-        ensures seat { IsSeatOf self.now.table.now seat.new }
-        ensures idle { slots_of seat.new.view.held ≡ [] }
+        requires seat { IsIdleSeat self.now.table.now seat.old }
+        ensures seat { IsIdleSeat self.now.table.now seat.new }
     {
         let Some(value) = take(self.table, seat, region) else {
             return Ok(Visit {
@@ -158,8 +149,7 @@ impl<'a, G: Gate> TableJob<'a, G> {
         requires seat { IsSeatOf self.now.table.now seat.old }
         requires out { slots_of seat.old.view.held ≡ region ∷ [] }
         requires base { MayLieIn self.now.table.now.opened region value }
-        ensures seat { IsSeatOf self.now.table.now seat.new }
-        ensures idle { slots_of seat.new.view.held ≡ [] }
+        ensures seat { IsIdleSeat self.now.table.now seat.new }
     {
         let done = run(self.alloc, self.changes, self.pace, &mut value, slice);
         put(self.table, seat, region, value);
@@ -172,10 +162,8 @@ impl<'a, G: Gate> TableJob<'a, G> {
         requires hearer { IsRegion self.now.grid.now hearer }
         requires from { IsRegion self.now.grid.now from }
         requires apart { hearer ≢ from }
-        requires seat { IsSeatOf self.now.table.now seat.old }
-        requires idle { slots_of seat.old.view.held ≡ [] }
-        ensures seat { IsSeatOf self.now.table.now seat.new }
-        ensures idle { slots_of seat.new.view.held ≡ [] }
+        requires seat { IsIdleSeat self.now.table.now seat.old }
+        ensures seat { IsIdleSeat self.now.table.now seat.new }
     {
         if hearer < from {
             let Some((hears, tells)) = take_both(self.table, seat, hearer, from) else {
@@ -206,8 +194,7 @@ impl<'a, G: Gate> TableJob<'a, G> {
         requires both { filter (λ s. not (from == s)) (filter (λ s. not (hearer == s)) (slots_of seat.old.view.held)) ≡ [] }
         requires hears { MayLieIn self.now.table.now.opened hearer hears }
         requires tells { MayLieIn self.now.table.now.opened from tells }
-        ensures seat { IsSeatOf self.now.table.now seat.new }
-        ensures idle { slots_of seat.new.view.held ≡ [] }
+        ensures seat { IsIdleSeat self.now.table.now seat.new }
     {
         let done = hear(self.alloc, self.changes, self.pace, &mut hears, &mut tells);
         put(self.table, seat, hearer, hears);
@@ -226,8 +213,7 @@ fn take_both(
     requires first { first < length table.now.opened }
     requires second { second < length table.now.opened }
     requires apart { first ≢ second }
-    requires seat { IsSeatOf table.now seat.old }
-    requires idle { slots_of seat.old.view.held ≡ [] }
+    requires seat { IsIdleSeat table.now seat.old }
     ensures seat { IsSeatOf table.now seat.new }
     ensures out { IfSome result (λ both. MayLieIn table.now.opened first both.0
         × MayLieIn table.now.opened second both.1 × (slots_of seat.new.view.held ≡ second ∷ first ∷ [])) }

@@ -1,5 +1,7 @@
 //! The seat with which a worker takes regions out.
 
+ghost use Rattle.region_table.specs.Tables.{SeatData, seat_code, IsKeptSeat};
+
 use crate::rule::Token;
 use arrayvec::ArrayVec;
 use cell_grid::MAX_REGIONS;
@@ -20,8 +22,6 @@ pub struct TableSeat {
 }
 
 impl Model for TableSeat {
-    ghost use Rattle.region_table.specs.Tables.{SeatData, seat_code, IsKeptSeat};
-
     ghost Value = { SeatData };
 
     ghost coded = { seat_code };

@@ -1,10 +1,25 @@
 //! Regions in the slots of one table.
 
-use crate::rule::Slots;
+ghost use Rattle.std.specs.Prelude.{◌≡◌, ◌<◌, ◌≤◌, [], length, map, false, true, Some, IfOk};
+ghost use Rattle.cell_grid.specs.declared.grid.TheConstants.{MAX_REGIONS};
+ghost use Rattle.local_run.specs.Bursts.{AreTogether};
+ghost use Rattle.region_table.specs.Bases.{MayLieIn, AreReplaced};
+ghost use Rattle.region_table.specs.Rule.{HasAll, first_view, is_held, halved, copied, joined_views};
+ghost use Rattle.region_table.specs.Tables.{IsSeatOf, first_seat, with_view, TakesOut, PutsBack, AreLeft, Closes, RegionTableData, table_code, IsKeptTable};
+
+use crate::closing::gather;
+use crate::order::{place_of, turn};
+use crate::rule::{Copies, Joins, Puts, Slots, Takes, Token, Undoes};
+use crate::seat::MAX_HELD;
+use crate::{TableSeat, TakeOut};
+use arrayvec::ArrayVec;
 use cell_grid::Grid;
 use event_stamps::Stamp;
 use fixed_motion::Rules;
+use region_core::Region;
+use std::alloc::{AllocError, Global};
 use std::marker::Model;
+use std::snapshot::Snapshot;
 
 /// Regions, each in a slot of its own. A region is at home, or out with one seat.
 ///
@@ -18,8 +33,6 @@ pub struct RegionTable {
 }
 
 impl Model for RegionTable {
-    ghost use Rattle.region_table.specs.Tables.{RegionTableData, table_code, IsKeptTable};
-
     ghost Value = { RegionTableData };
 
     ghost coded = { table_code };
@@ -28,23 +41,6 @@ impl Model for RegionTable {
 
     ghost invariant = { λ s. IsKeptTable s.slots.shared.table_id s.slots.shared.key.value.items s.rules s.grid s.floor };
 }
-
-ghost use Rattle.std.specs.Prelude.{◌≡◌, ◌<◌, ◌≤◌, [], length, map, false, true, Some, IfOk};
-ghost use Rattle.cell_grid.specs.declared.grid.TheConstants.{MAX_REGIONS};
-ghost use Rattle.local_run.specs.Bursts.{AreTogether};
-ghost use Rattle.region_table.specs.Bases.{MayLieIn, AreReplaced};
-ghost use Rattle.region_table.specs.Rule.{HasAll, first_view, is_held, halved, copied, joined_views};
-ghost use Rattle.region_table.specs.Tables.{IsSeatOf, first_seat, with_view, TakesOut, PutsBack, AreLeft, Closes};
-
-use crate::closing::gather;
-use crate::order::{place_of, turn};
-use crate::rule::{Copies, Joins, Puts, Takes, Token, Undoes};
-use crate::seat::MAX_HELD;
-use crate::{TableSeat, TakeOut};
-use arrayvec::ArrayVec;
-use region_core::Region;
-use std::alloc::{AllocError, Global};
-use std::snapshot::Snapshot;
 
 // The word of a slot at home at the last version: each put counts on, and the lowest bit says that it is out.
 const LAST_HOME: u64 = u64::MAX - 1;

@@ -9,8 +9,7 @@ ghost use Rattle.std.specs.Prelude.{◌≡◌, [], length, All, IfOk, IsFalse};
 ghost use Rattle.local_run.specs.Bursts.{AreTogether};
 ghost use Rattle.local_run.specs.RunOn.{AreRunOn};
 ghost use Rattle.region_table.specs.Bases.{AreAlive};
-ghost use Rattle.region_table.specs.Rule.{slots_of};
-ghost use Rattle.region_table.specs.Tables.{IsSeatOf};
+ghost use Rattle.region_table.specs.Tables.{IsSeatOf, IsIdleSeat};
 
 use crate::calm::Changes;
 use crate::job::TableJob;
@@ -73,7 +72,7 @@ fn run_jobs<R: Threads + Sync, G: Gate>(
 {
     let changes = Changes::new();
     let run_one = |start: (u32, TableSeat)| -> Result<TableSeat, AllocError>
-        requires { IsSeatOf table.now start.1 × (slots_of start.1.view.held ≡ []) × (length table.now.opened ≡ grid.now.regions) }
+        requires { IsIdleSeat table.now start.1 × (length table.now.opened ≡ grid.now.regions) }
         ensures { IfOk result (λ seat. IsSeatOf table.entry.now seat × (seat.view.held ≡ [])) }
     {
         let (worker, mut seat) = start;
@@ -120,7 +119,7 @@ fn starts_of(
     requires seat { IsSeatOf table.now seat.old }
     ensures seat { IsSeatOf table.now seat.new }
     ensures held { seat.new.view.held ≡ seat.old.view.held }
-    ensures each { IfOk result (λ starts. All (λ start. IsSeatOf table.now start.1 × (slots_of start.1.view.held ≡ [])) starts.items) }
+    ensures each { IfOk result (λ starts. All (λ start. IsIdleSeat table.now start.1) starts.items) }
 {
     let mut starts = Vec::with_capacity(alloc, jobs as usize)?;
     for worker in 0..jobs {

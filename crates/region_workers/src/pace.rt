@@ -8,7 +8,7 @@
 //!
 //! Nothing is claimed of it: the locks keep the regions right, however far they run.
 
-ghost use Rattle.std.specs.Prelude.{◌≡◌, ◌<◌, ◌≤◌};
+ghost use Rattle.std.specs.Prelude.{◌<◌, ◌≤◌};
 
 use crate::marks::{Growth, LEAST_STEPS, Marks, UNKNOWN};
 use event_stamps::Stamp;

@@ -7,7 +7,7 @@ use lib.ListN.{get_elem?}
 use Rattle.std.specs.Slots.{slots_items, slots_filled, slots_len, slots_counts, IsFull}
 use Rattle.local_run.specs.Opening.{RegionData}
 use Rattle.region_table.specs.Rule.{Content, IsHomeWord}
-use Rattle.region_table.specs.Tables.{ComesOfSlot}
+use Rattle.region_table.specs.Tables.{spent_at, ComesOfSlot}
 use Rattle.region_table.proofs.Ends.{pushed_get}
 use Rattle.region_table.proofs.closing.gather.Goals as goal
 
@@ -40,7 +40,7 @@ loop-k-preserved c =
     let here : ComesOfSlot words contents c.args.rules.now c.args.grid.now c.args.floor k c.region_of-region.result = λ word content ew ec.
     let w : c.word-word.result ≡ word = some-injective _ _ (sym c.word-word.ensures ∙ (ap (λ z. get_elem? (slots_items z) k) i.1 ∙ ew)) in
     let x : c.take-content.result ≡ content = some-injective _ _ (sym t.value ∙ (ap (λ z. get_elem? z k) i.0 ∙ ec)) in
-    subst {A = ℕ × Content} (λ z. (IsHomeWord z.0 → Rattle.std.specs.Prelude.IfSome z.1 (λ (found : RegionData). c.region_of-region.result ≡ found)) × ((¬ IsHomeWord z.0) → c.region_of-region.result ≡ record { home = record { number = k; rules = c.args.rules.now; grid = c.args.grid.now }; floor = c.args.floor; run = Rattle.std.specs.Prelude.None }))
+    subst {A = ℕ × Content} (λ z. (IsHomeWord z.0 → Rattle.std.specs.Prelude.IfSome z.1 (λ (found : RegionData). c.region_of-region.result ≡ found)) × ((¬ IsHomeWord z.0) → c.region_of-region.result ≡ spent_at k c.args.rules.now c.args.grid.now c.args.floor))
     (λ j. (w j, x j)) (c.region_of-region.ensures.home, c.region_of-region.ensures.out) in (
       t.others.0 ∙ i.0,
       t.others.3 ∙ i.1,

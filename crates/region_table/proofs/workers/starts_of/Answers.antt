@@ -3,22 +3,19 @@ use Rattle.std.proofs.Common.{◌≡◌, ◌++◌, ◌∷◌, [], ap, ◌∙◌,
 use Rattle.std.specs.Prelude.{All}
 use Rattle.std.proofs.lemmas.List.Elements.{All-push}
 use Rattle.region_table.specs.Rule.{slots_of, halved, copied}
-use Rattle.region_table.specs.Tables.{RegionTableData, SeatData, IsSeatOf, with_view}
+use Rattle.region_table.specs.Tables.{RegionTableData, SeatData, IsSeatOf, IsIdleSeat, with_view}
 use Rattle.region_table.proofs.workers.starts_of.Goals as goal
-
-abbrev IsIdle : RegionTableData → SeatData → Type 0
-IsIdle table seat = IsSeatOf table seat × (slots_of seat.view.held ≡ [])
 
 split_from : (table : RegionTableData) (old new : SeatData) → IsSeatOf table old → new ≡ with_view old (halved old.view) → IsSeatOf table new
 split_from table old new h e = subst (IsSeatOf table) (sym e) record { table_is = h.table_is; opened = h.opened }
 
-split_off : (table : RegionTableData) (old new : SeatData) → IsSeatOf table old → new ≡ with_view old (copied old.view) → IsIdle table new
+split_off : (table : RegionTableData) (old new : SeatData) → IsSeatOf table old → new ≡ with_view old (copied old.view) → IsIdleSeat table new
 split_off table old new h e = (subst (IsSeatOf table) (sym e) record { table_is = h.table_is; opened = h.opened }, ap (λ (s : SeatData). slots_of s.view.held) e)
 
-one_more : (table : RegionTableData) (starts more : List (ℕ × SeatData)) (start : ℕ × SeatData) → All (λ start. IsIdle table start.1) starts → IsIdle table start.1 → more ≡ starts ++ start ∷ []
-    → All (λ start. IsIdle table start.1) more
+one_more : (table : RegionTableData) (starts more : List (ℕ × SeatData)) (start : ℕ × SeatData) → All (λ start. IsIdleSeat table start.1) starts → IsIdleSeat table start.1 → more ≡ starts ++ start ∷ []
+    → All (λ start. IsIdleSeat table start.1) more
 one_more table starts more start all one e =
-    subst (All (λ (start : ℕ × SeatData). IsIdle table start.1)) (sym e) (All-push (λ (start : ℕ × SeatData). IsIdle table start.1) starts start all one)
+    subst (All (λ (start : ℕ × SeatData). IsIdleSeat table start.1)) (sym e) (All-push (λ (start : ℕ × SeatData). IsIdleSeat table start.1) starts start all one)
 
 pub loop-worker-preserved : goal.loop-worker-preserved
 loop-worker-preserved c =

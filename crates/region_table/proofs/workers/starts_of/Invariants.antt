@@ -1,9 +1,8 @@
-use Rattle.std.proofs.Common.{◌≡◌, []}
+use Rattle.std.proofs.Common.{◌≡◌}
 use Rattle.std.specs.Prelude.{All}
-use Rattle.region_table.specs.Rule.{slots_of}
-use Rattle.region_table.specs.Tables.{IsSeatOf}
+use Rattle.region_table.specs.Tables.{IsSeatOf, IsIdleSeat}
 use Rattle.region_table.proofs.workers.starts_of.Given as goal
 
 abbrev pub invariant-loop-worker : goal.invariant-loop-worker
 invariant-loop-worker l = IsSeatOf l.fn.table l.seat × (l.seat.view.held ≡ l.fn.seat.view.held)
-    × All (λ start. IsSeatOf l.fn.table start.1 × (slots_of start.1.view.held ≡ [])) l.starts.items
+    × All (λ start. IsIdleSeat l.fn.table start.1) l.starts.items

@@ -14,5 +14,5 @@ put-requires-2-clause-base g c = subst (MayLieIn c.args.self.now.table.now.opene
 pub put-requires-2-clause-holds : goal.put-requires-2-clause-holds
 put-requires-2-clause-holds g c = ap (list_any (λ s. c.args.from == s)) c.put.ensures.left ∙ c.requires.from
 
-pub returns-clause-idle : goal.returns-clause-idle
-returns-clause-idle g c = c.put-2.ensures.left ∙ (ap (filter (λ s. not (c.args.from == s))) c.put.ensures.left ∙ c.requires.both)
+pub returns : goal.returns
+returns g c = record { seat = (c.put-2.ensures.seat, c.put-2.ensures.left ∙ (ap (filter (λ s. not (c.args.from == s))) c.put.ensures.left ∙ c.requires.both)) }

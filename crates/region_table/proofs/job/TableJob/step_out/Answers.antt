@@ -10,5 +10,5 @@ put-requires-clause-holds g c = held_alone c.args.region (slots_of c.args.seat.n
 pub put-requires-clause-base : goal.put-requires-clause-base
 put-requires-clause-base g c = lies_stay c.args.self.now.table.now.opened c.args.region c.args.value c.run-done.new.value c.requires.base c.run-done.ensures
 
-pub returns-clause-idle : goal.returns-clause-idle
-returns-clause-idle g c = c.put.ensures.left ∙ without_alone c.args.region (slots_of c.args.seat.now.view.held) c.requires.out
+pub returns : goal.returns
+returns g c = record { seat = (c.put.ensures.seat, c.put.ensures.left ∙ without_alone c.args.region (slots_of c.args.seat.now.view.held) c.requires.out) }
