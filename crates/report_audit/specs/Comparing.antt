@@ -69,6 +69,10 @@ Advances Differs course before after piece = Grows course before after piece
 Advances Wrong course before after piece = (course ≡ Wrong) × (after ≡ before)
 Advances Failed course before after piece = (course ≡ Failed) × (after ≡ before)
 
+-- a piece changes neither what was given nor the count of calls that failed
+abbrev pub KeepsTheRest : {C : Type 0} → ComparingData C → ComparingData C → Type 0
+KeepsTheRest old new = (new.given ≡ old.given) × (new.faults ≡ old.faults)
+
 -- each line that was told to its end is the claimed report's too
 abbrev pub HasNoWrongLine : List ℕ → List ℕ → Type 0
 HasNoWrongLine told claimed = (k : ℕ) → k < newlines told → slice_get (lines_of told) k ≡ slice_get (lines_of claimed) k

@@ -2,7 +2,7 @@
 
 ghost use Rattle.std.specs.Prelude.{◌≡◌, ℕ, List, Some, [], is_some, true, IfOk, ◌++◌};
 ghost use Rattle.report_ports.specs.Ports.{Gives, CountsGive};
-ghost use Rattle.report_audit.specs.Comparing.{Grows, Advances, CountsJudged, HasNoWrongLine, ComparingData, IsCourse, CountsCourse};
+ghost use Rattle.report_audit.specs.Comparing.{Grows, Advances, KeepsTheRest, CountsJudged, HasNoWrongLine, ComparingData, IsCourse, CountsCourse};
 ghost use Rattle.report_audit.specs.Compared.{HasShortLines, Compares};
 ghost use Rattle.std.specs.Io.KnownBytes.{Consumes};
 ghost use Rattle.report_audit.specs.Parting.{all_left};
@@ -78,8 +78,7 @@ impl<C: Source> Comparing<C> {
     fn compare(&mut self, piece: &[u8])
         requires { self.old.course ≡ Course.Agrees }
         ensures grows { Grows self.new.course self.old.taken self.new.taken piece.now }
-        ensures faults { self.new.faults ≡ self.old.faults }
-        ensures given { self.new.given ≡ self.old.given }
+        ensures rest { KeepsTheRest self.old self.new }
     {
         let (count, course) = agree(&mut self.claimed, &mut self.ahead, piece);
         let (same, rest) = piece.split_at(count);
@@ -96,8 +95,7 @@ impl<C: Source> Comparing<C> {
     fn go_on(&mut self, piece: &[u8])
         requires { self.old.course ≡ Course.Differs }
         ensures grows { Grows self.new.course self.old.taken self.new.taken piece.now }
-        ensures faults { self.new.faults ≡ self.old.faults }
-        ensures given { self.new.given ≡ self.old.given }
+        ensures rest { KeepsTheRest self.old self.new }
     {
         self.other.add(piece);
         self.course = in_line(&mut self.place, piece);
@@ -106,8 +104,7 @@ impl<C: Source> Comparing<C> {
     // Takes a piece, unless a line is wrong or the source failed.
     fn advance(&mut self, piece: &[u8])
         ensures advances { Advances self.old.course self.new.course self.old.taken self.new.taken piece.now }
-        ensures faults { self.new.faults ≡ self.old.faults }
-        ensures given { self.new.given ≡ self.old.given }
+        ensures rest { KeepsTheRest self.old self.new }
     {
         match self.course {
             Course::Agrees => self.compare(piece),
