@@ -1,23 +1,26 @@
 -- What a watched listener has published and written that was told a run, if what it writes makes a text of the run.
-use Rattle.std.proofs.Common.{◌≡◌, ◌∙◌, inl, ℕ, List, [], Option, Some, Err, ap, subst}
+use Rattle.std.proofs.Common.{◌≡◌, ◌∙◌, inl, inr, ℕ, ◌≤◌, List, [], Option, Some, Result, Ok, Err, sym, ap, subst}
 use Rattle.report_ports.specs.Ports.{MayTake}
 use Rattle.fixed_motion.specs.Scene.{SceneData, IsValidScene}
 use Rattle.event_rules.specs.declared.change.Change.{Change}
 use Rattle.event_rules.specs.declared.outcome.Outcome.{Outcome}
 use Rattle.event_rules.specs.declared.outcome.RunFault.{RunFault}
 use Rattle.event_rules.specs.declared.outcome.RunFault.TheVariants.{Listener, NoMemory}
+use Rattle.event_rules.specs.declared.listener.Deaf.{Deaf}
 use Rattle.event_rules.specs.Run.{IsRun}
 use Rattle.event_rules.specs.Told.{Told, PrefixTold}
 use Rattle.event_rules.specs.Tellings.{RunTold, RunBegun, RunCutShort, CountsRun}
 use Rattle.collision_report.specs.Meaning.{IsSceneOf}
+use Rattle.collision_report.specs.Writes.{Writes}
 use Rattle.live_progress.specs.Lists.{StartsWith}
 use Rattle.live_progress.specs.Watching.{SoFar, with_published, IsTorn, pairs_of}
 use Rattle.live_progress.proofs.Watches.{run_watched, cut_watched}
 use Rattle.program_modes.specs.Reports.{IsOfRun, status_of}
 use Rattle.program_modes.specs.declared.status.Status.{Status}
 use Rattle.program_modes.specs.Answers.{Wrote, WrotePrefix, CountsWrites}
-use Rattle.program_modes.specs.Shows.{WritesText, status_of_fault}
-use Rattle.program_modes.proofs.Writers.{Writer, Makes, next_on_loan, torn_on_loan, told_on, serves_scene, wrote_end, begun, failed_since, may_end}
+use Rattle.program_modes.specs.Shows.{WritesText, status_of_fault, status_at_end}
+use Rattle.program_modes.proofs.Wrote.{own_counts}
+use Rattle.program_modes.proofs.Writers.{Writer, Makes, next_on_loan, torn_on_loan, told_on, serves_scene, wrote_end, begun, failed_since, may_end, own}
 
 -- ---- the listener within, which always tells
 told_between : {M : Type 0} (next : M → Change → M) {before after : Option M} (a b : M) → before ≡ Some a → after ≡ Some b → (changes : List Change) →
@@ -119,3 +122,18 @@ pub broken_counts : (T : Type 0) (first before after : ℕ) (fault : RunFault) �
     CountsWrites first after (status_of_fault fault)
 broken_counts T first before after Listener h e = failed_since first before after e h
 broken_counts T first before after NoMemory h e = h ∙ e
+
+-- ---- the end of a text was given or refused
+pub given_text : {S Lasting : Type 0} {taken : S → Option (List ℕ)} {faults : S → ℕ} {lasting : S → Lasting} {old new : S} (given : Result (Unit {0}) Deaf)
+    (text : List ℕ) (outcome : Outcome) (status : Status) → status ≡ status_at_end given outcome → Writes taken faults lasting old new given text →
+    WritesText text (status_of outcome) (taken old) (taken new) status
+given_text (Ok u) text outcome status e w = inl (e, w.whole)
+given_text (Err d) text outcome status e w = inr (e, w.prefix)
+
+pub given_counts : {S Lasting : Type 0} {taken : S → Option (List ℕ)} {faults : S → ℕ} {lasting : S → Lasting} {old new : S} (given : Result (Unit {0}) Deaf)
+    (text : List ℕ) (outcome : Outcome) (status : Status) (first : ℕ) → status ≡ status_at_end given outcome → faults old ≡ first →
+    Writes taken faults lasting old new given text → CountsWrites first (faults new) status
+given_counts {faults} {old} {new} (Ok u) text outcome status first e same w =
+    subst (CountsWrites first (faults new)) (sym e) (own_counts first (faults new) (status_of outcome) (own outcome) (w.counts ∙ same))
+given_counts {faults} {old} {new} (Err d) text outcome status first e same w =
+    subst (CountsWrites first (faults new)) (sym e) (failed_since first (faults old) (faults new) same w.counts)

@@ -20,6 +20,7 @@ use event_rules::{Listener, Outcome, RunFault};
 use fixed_motion::Scene;
 use region_core::{Burst, Gate, Idle, OpenGate, Region};
 use region_locks::Origin;
+use region_table::burst_in_table;
 use region_workers::{Bell, ByRunCall, RunCall};
 use run_core::{Telling, simulate, simulate_by};
 use std::alloc::{AllocError, Global};
@@ -97,29 +98,16 @@ impl<'g, G: Gate, B: Burst<Idle, ()>> Engine<'g, G, B> {
     {
         match self {
             Engine::AllPairs => simulate_plain(alloc, scene, listener),
-            Engine::Regions(over) => over.run(rt, alloc, scene, listener),
+            // Here the proof picks the state with which the run begins, for which the type stands.
+            Engine::Regions(over) => over.run_of::<Brand, R, L>(rt, alloc, scene, listener),
             Engine::Burst(over) => simulate(rt, alloc, scene, over.regions, over, listener),
         }
     }
 }
 
 impl<'g, G: Gate> OverRegions<'g, G> {
-    // Runs a scene over the regions, on which the crew works between two commits.
-    fn run<R: Threads + Sync, L: Listener>(
-        &self,
-        rt: &R,
-        alloc: Global,
-        scene: &Scene,
-        listener: &mut L,
-    ) -> Ran
-        requires awaited { AwaitsRun L.after L.awaits scene.now (L.meaning listener.old) }
-        ensures { TellsRun L.after L.torn L.meaning L.faults scene.now listener.old listener.new result }
-    {
-        // Here the proof picks the state with which the run begins, for which a type stands.
-        self.run_of::<Brand, R, L>(rt, alloc, scene, listener)
-    }
-
-    // The same, of a run for which a type stands. The helpers live as long as the run.
+    // Runs a scene over the regions, on which the crew works between two commits. A type stands for the run. The helpers
+    // live as long as the run.
     fn run_of<O: Origin + Send + Sync, R: Threads + Sync, L: Listener>(
         &self,
         rt: &R,
@@ -186,7 +174,8 @@ impl<'g, G: Gate> OverRegions<'g, G> {
                         .crew
                         .workers
                         .burst(bell, alloc, regions, telling, lent),
-                    BurstKind::Table => self.crew.burst_in_table(rt, alloc, regions, telling, lent),
+                    // Here nothing is told beside.
+                    BurstKind::Table => burst_in_table(&self.crew.workers, rt, alloc, regions),
                 }
             },
             scene,

@@ -1,8 +1,6 @@
 //! What mode `cut` writes: the rest of a scene after a tick, as a scene of its own.
 
-ghost use Rattle.std.specs.Prelude.{◌≡◌, ◌≤◌};
-ghost use Rattle.fixed_motion.specs.Scene.{IsValidScene};
-ghost use Rattle.collision_report.specs.Meaning.{table_of};
+ghost use Rattle.std.specs.Prelude.{◌≤◌};
 ghost use Rattle.program_modes.specs.Output.{IsCutText};
 ghost use Rattle.program_modes.specs.Answers.{Wrote, CountsWrites, MayWrite};
 ghost use Rattle.program_modes.specs.Shows.{IsOfScene};
@@ -10,7 +8,7 @@ ghost use Rattle.program_modes.specs.Shows.{IsOfScene};
 use crate::cut::{Cut, cut_by};
 use crate::engines::Engine;
 use crate::refusals::late_cut_line;
-use crate::showing::{end_report, status_of_fault, write_scene, write_text};
+use crate::showing::{status_at_end, status_of_fault, write_scene, write_text};
 use crate::status::Status;
 use collision_report::{Format, Reporter, StateTable};
 use event_rules::Outcome;
@@ -63,33 +61,14 @@ fn write_rest<R: Threads + Sync, G: Gate, B: Burst<Idle, ()>, K: Sink>(
     let Ok(mut table) = StateTable::new(alloc, scene) else {
         return Status::NoMemory;
     };
-    write_left(rt, alloc, engine, format, at, scene, &mut table, sink)
-}
-
-// The same with the table of a run that begins. If the run passes a limit before the tick, its report is written, in
-// the short form, which has only the end.
-fn write_left<R: Threads + Sync, G: Gate, B: Burst<Idle, ()>, K: Sink>(
-    rt: &R,
-    alloc: Global,
-    engine: &mut Engine<'_, G, B>,
-    format: Format,
-    at: u64,
-    scene: &Scene,
-    table: &mut StateTable,
-    sink: &mut K,
-) -> Status
-    requires at { at ≤ scene.now.rules.end }
-    requires valid { IsValidScene scene.now }
-    requires table { table.old ≡ table_of scene.now }
-    requires allowed { MayWrite (IsCutText format at scene.now) (K.allows (K.lasting sink.old)) (K.taken sink.old) }
-    ensures wrote { Wrote (IsCutText format at scene.now) (K.taken sink.old) (K.taken sink.new) result }
-    ensures of_scene { IsOfScene result }
-    ensures counts { CountsWrites (K.faults sink.old) (K.faults sink.new) result }
-{
-    let mut reporter = Reporter::new(table, sink, Format::Summary);
+    // If the run passes a limit before the tick, its report is written, in the short form, which has only the end.
+    let mut reporter = Reporter::new(&mut table, sink, Format::Summary);
     match cut_by(rt, alloc, scene, at, engine, &mut reporter) {
         Ok(Cut::Rest(rest)) => write_scene(alloc, "rest", format, &rest, sink),
-        Ok(Cut::Limit(limit)) => end_report(&mut reporter, scene, &Outcome::Limit(limit)),
+        Ok(Cut::Limit(limit)) => {
+            let outcome = Outcome::Limit(limit);
+            status_at_end(reporter.end(scene, &outcome), &outcome)
+        }
         Err(fault) => status_of_fault(fault),
     }
 }

@@ -1,21 +1,17 @@
 //! Samples of a run: the states of all disks, or sums over the collisions.
 
 ghost use Rattle.std.specs.Prelude.{◌≡◌, []};
-ghost use Rattle.report_ports.specs.Ports.{MayTake};
 ghost use Rattle.fixed_motion.specs.Scene.{IsValidScene};
-ghost use Rattle.event_rules.specs.Outcomes.{IsOutcomeOf};
-ghost use Rattle.collision_report.specs.Meaning.{IsSceneOf};
-ghost use Rattle.run_samples.specs.Meaning.{sampled_so_far, nothing_sampled, sampled_end_text};
-ghost use Rattle.program_modes.specs.Reports.{status_of, IsSampled};
+ghost use Rattle.run_samples.specs.Meaning.{sampled_so_far, nothing_sampled};
+ghost use Rattle.program_modes.specs.Reports.{IsSampled};
 ghost use Rattle.program_modes.specs.Answers.{Wrote, CountsWrites, MayWrite};
-ghost use Rattle.program_modes.specs.Shows.{WritesText, IsOfScene};
+ghost use Rattle.program_modes.specs.Shows.{IsOfScene};
 ghost use Rattle.program_modes.specs.Publishes.{PublishesRun};
 
 use crate::engines::Engine;
-use crate::showing::{status_of, status_of_fault};
+use crate::showing::{status_at_end, status_of_fault};
 use crate::status::Status;
 use collision_report::StateTable;
-use event_rules::Outcome;
 use fixed_motion::Scene;
 use live_progress::{Board, Pen, Watched};
 use region_core::{Burst, Gate, Idle};
@@ -87,27 +83,7 @@ fn sample_run<R: Threads + Wait + Sync, G: Gate, B: Burst<Idle, ()>, K: Sink>(
     ensures published { PublishesRun scene.now result watched.new.pen.now.list }
 {
     match engine.run(rt, alloc, scene, watched) {
-        Ok(outcome) => end_samples(&mut watched.inner, scene, &outcome),
+        Ok(outcome) => status_at_end(watched.inner.end(scene, &outcome), &outcome),
         Err(fault) => status_of_fault(fault),
-    }
-}
-
-// Writes the end of the samples, and says how the program ends.
-fn end_samples<K: Sink>(sampler: &mut Sampler<'_, K>, scene: &Scene, outcome: &Outcome) -> Status
-    requires outcome { IsOutcomeOf scene.now outcome.now }
-    requires scene { IsSceneOf sampler.old.table.now scene.now }
-    requires allowed { MayTake (K.allows (K.lasting sampler.old.sink.now)) (K.taken sampler.old.sink.now)
-        (sampled_end_text (sampled_so_far sampler.old.sample sampler.old.table.now sampler.old.sums
-        (K.taken sampler.old.sink.now) sampler.old.walls sampler.old.pairs) scene.now outcome.now) }
-    ensures loan { sampler.new.sink.ghost_name ≡ sampler.old.sink.ghost_name }
-    ensures text { WritesText (sampled_end_text (sampled_so_far sampler.old.sample sampler.old.table.now
-        sampler.old.sums (K.taken sampler.old.sink.now) sampler.old.walls sampler.old.pairs) scene.now outcome.now)
-        (status_of outcome.now) (K.taken sampler.old.sink.now) (K.taken sampler.new.sink.now) result }
-    ensures of_scene { IsOfScene result }
-    ensures counts { CountsWrites (K.faults sampler.old.sink.now) (K.faults sampler.new.sink.now) result }
-{
-    match sampler.end(scene, outcome) {
-        Ok(()) => status_of(outcome),
-        Err(_) => Status::WriteFault,
     }
 }

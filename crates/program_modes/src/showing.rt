@@ -3,15 +3,13 @@
 ghost use Rattle.std.specs.Prelude.{◌≡◌, ◌≢◌, ◌≤◌, [], length};
 ghost use Rattle.report_ports.specs.Ports.{MayTake};
 ghost use Rattle.fixed_motion.specs.Scene.{IsValidScene};
-ghost use Rattle.event_rules.specs.Outcomes.{IsOutcomeOf};
-ghost use Rattle.collision_report.specs.Laws.{end_text};
-ghost use Rattle.collision_report.specs.Meaning.{IsSceneOf, so_far, nothing_yet};
+ghost use Rattle.collision_report.specs.Meaning.{so_far, nothing_yet};
 ghost use Rattle.collision_report.specs.Lines.{number_line};
 ghost use Rattle.command_words.specs.Ranges.{AreInRange};
 ghost use Rattle.program_modes.specs.Output.{format_of, Shows, OfMade, IsShownRun, IsSceneText};
 ghost use Rattle.program_modes.specs.Reports.{status_of, IsReport};
 ghost use Rattle.program_modes.specs.Answers.{Wrote, CountsWrites, MayWrite};
-ghost use Rattle.program_modes.specs.Shows.{WritesText, IsOfScene, status_of_fault};
+ghost use Rattle.program_modes.specs.Shows.{WritesText, IsOfScene, status_at_end, status_of_fault};
 ghost use Rattle.program_modes.specs.Publishes.{PublishesRun, PublishesMade, PublishesShown};
 
 use crate::engines::Engine;
@@ -20,7 +18,7 @@ use crate::samples::write_samples;
 use crate::status::Status;
 use collision_report::{Format, Reporter, StateTable};
 use command_words::{Mode, OutputFormat, Settings};
-use event_rules::{Limit, Outcome, RunFault};
+use event_rules::{Deaf, Limit, Outcome, RunFault};
 use fixed_motion::Scene;
 use live_progress::{Board, Pen, Watched};
 use region_core::{Burst, Gate, Idle};
@@ -222,31 +220,17 @@ fn report_run<R: Threads + Wait + Sync, G: Gate, B: Burst<Idle, ()>, K: Sink>(
     ensures published { PublishesRun scene.now result watched.new.pen.now.list }
 {
     match engine.run(rt, alloc, scene, watched) {
-        Ok(outcome) => end_report(&mut watched.inner, scene, &outcome),
+        Ok(outcome) => status_at_end(watched.inner.end(scene, &outcome), &outcome),
         Err(fault) => status_of_fault(fault),
     }
 }
 
-/// Writes the end of the report, and says how the program ends.
-pub fn end_report<K: Sink>(
-    reporter: &mut Reporter<'_, K>,
-    scene: &Scene,
-    outcome: &Outcome,
-) -> Status
-    requires outcome { IsOutcomeOf scene.now outcome.now }
-    requires scene { IsSceneOf reporter.old.table.now scene.now }
-    requires allowed { MayTake (K.allows (K.lasting reporter.old.sink.now)) (K.taken reporter.old.sink.now)
-        (end_text (so_far reporter.old.format reporter.old.table.now (K.taken reporter.old.sink.now)
-        reporter.old.walls reporter.old.pairs) scene.now outcome.now) }
-    ensures loan { reporter.new.sink.ghost_name ≡ reporter.old.sink.ghost_name }
-    ensures lasts { K.lasting reporter.new.sink.now ≡ K.lasting reporter.old.sink.now }
-    ensures text { WritesText (end_text (so_far reporter.old.format reporter.old.table.now
-        (K.taken reporter.old.sink.now) reporter.old.walls reporter.old.pairs) scene.now outcome.now)
-        (status_of outcome.now) (K.taken reporter.old.sink.now) (K.taken reporter.new.sink.now) result }
+/// How the program ends after a run with this outcome, the end of whose text was given or refused.
+pub fn status_at_end(given: Result<(), Deaf>, outcome: &Outcome) -> Status
+    ensures status { result ≡ status_at_end given outcome.now }
     ensures of_scene { IsOfScene result }
-    ensures counts { CountsWrites (K.faults reporter.old.sink.now) (K.faults reporter.new.sink.now) result }
 {
-    match reporter.end(scene, outcome) {
+    match given {
         Ok(()) => status_of(outcome),
         Err(_) => Status::WriteFault,
     }

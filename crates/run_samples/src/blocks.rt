@@ -1,13 +1,13 @@
 //! The sums at some ticks, written to a sink.
 
-ghost use Rattle.std.specs.Prelude.{◌≡◌, ◌+◌, ◌*◌, ◌≤◌, ◌^◌, ◌++◌, length};
+ghost use Rattle.std.specs.Prelude.{◌≡◌, ◌+◌, ◌≤◌, ◌^◌, ◌++◌, length};
 ghost use Rattle.report_ports.specs.Ports.{MayTake};
 ghost use Rattle.fixed_motion.specs.declared.rules.TheConstants.{MAX_END};
 ghost use Rattle.fixed_motion.specs.Rules.{IsChecked};
 ghost use Rattle.fixed_motion.specs.Motion.{IsValidDisk};
 ghost use Rattle.event_rules.specs.Outcomes.{IsOutcomeOf};
 ghost use Rattle.event_rules.specs.Run.{spot_of, spots_of};
-ghost use Rattle.event_rules.specs.Conservation.{spot_velocity, square_of};
+ghost use Rattle.event_rules.specs.Conservation.{spot_velocity};
 ghost use Rattle.plane_vectors.specs.Vectors.{IsWithin};
 ghost use Rattle.collision_report.specs.Bounds.{AllHaveBegun, AreSlow};
 ghost use Rattle.collision_report.specs.Writes.{Writes};
@@ -16,10 +16,11 @@ ghost use Rattle.collision_sums.specs.Sums as the;
 ghost use Rattle.collision_sums.specs.SumLines.{inside_line, sides_line};
 ghost use Rattle.run_samples.specs.Samples.{sample_of, samples_of, last_sums};
 
-use collision_report::{Snapshot, StateTable, give_line, spot_at, write_multiples};
+use collision_report::{Snapshot, StateTable, give_line, spot_at, squared_speed, write_multiples};
 use collision_sums::{Sums, inside_line, is_spot_in_part, sides_line};
 use event_rules::{Deaf, Outcome, Spot};
 use fixed_motion::{Disk, Rules, Scene};
+use plane_vectors::Vector;
 use report_ports::Sink;
 
 /// How many disks are in the part, and the sum of their squared speeds.
@@ -146,25 +147,12 @@ impl Inside {
     {
         if is_spot_in_part(rules, margin, spot) {
             self.disks += 1;
-            self.squares += squared_speed(spot);
+            self.squares += squared_speed(Vector {
+                x: spot.vx,
+                y: spot.vy,
+            });
         }
     }
-}
-
-fn squared_speed(spot: &Spot) -> u64
-    requires { IsWithin (2 ^ 20) (spot_velocity spot.now) }
-    ensures value { result ≡ square_of (spot_velocity spot.now) }
-    ensures most { result ≤ 2 ^ 41 }
-{
-    square(spot.vx.unsigned_abs()) + square(spot.vy.unsigned_abs())
-}
-
-fn square(size: u64) -> u64
-    requires { size ≤ 2 ^ 20 }
-    ensures value { result ≡ size * size }
-    ensures most { result ≤ 2 ^ 40 }
-{
-    size * size
 }
 
 fn write_lines<K: Sink>(sink: &mut K, tick: u64, inside: Inside, sums: &Sums) -> Result<(), Deaf>

@@ -2,10 +2,8 @@
 
 ghost use base.Fml.{GName};
 ghost use Rattle.std.specs.Prelude.{◌≡◌, true, Some, OnOk, OnErr};
-ghost use Rattle.std.specs.Io.KnownBytes.{Appends};
-ghost use Rattle.report_ports.specs.Ports.{AppendsPrefix, MayTake};
+ghost use Rattle.report_ports.specs.Ports.{MayTake};
 ghost use Rattle.event_rules.specs.Outcomes.{IsOutcomeOf};
-ghost use Rattle.event_rules.specs.Told.{CountsRefusal};
 ghost use Rattle.collision_report.specs.Meaning.{IsSceneOf, takes_part};
 ghost use Rattle.collision_report.specs.Writes.{Writes};
 ghost use Rattle.run_samples.specs.Meaning.{LentSamples, sampled_so_far, due_samples, sampled_text, table_with, sums_with, sampled_end_text, sampled_on_loan, IsSampleTornOnLoan, IsSampleAwaited};
@@ -67,43 +65,17 @@ impl<'k, K: Sink> Sampler<'k, K> {
             (sampled_end_text (sampled_so_far self.old.sample self.old.table.now self.old.sums (K.taken self.old.sink.now)
             self.old.walls self.old.pairs) scene.now outcome.now) }
         ensures loan { self.new.sink.ghost_name ≡ self.old.sink.ghost_name }
-        ensures lasts { K.lasting self.new.sink.now ≡ K.lasting self.old.sink.now }
-        ensures whole { OnOk result (Appends (K.taken self.old.sink.now) (K.taken self.new.sink.now)
+        ensures writes { Writes K.taken K.faults K.lasting self.old.sink.now self.new.sink.now result
             (sampled_end_text (sampled_so_far self.old.sample self.old.table.now self.old.sums (K.taken self.old.sink.now)
-            self.old.walls self.old.pairs) scene.now outcome.now)) }
-        ensures prefix { OnErr result (AppendsPrefix (K.taken self.old.sink.now) (K.taken self.new.sink.now)
-            (sampled_end_text (sampled_so_far self.old.sample self.old.table.now self.old.sums (K.taken self.old.sink.now)
-            self.old.walls self.old.pairs) scene.now outcome.now)) }
-        ensures counts { CountsRefusal (K.faults self.old.sink.now) (K.faults self.new.sink.now) result }
+            self.old.walls self.old.pairs) scene.now outcome.now) }
     {
-        let sample = self.sample;
-        write_samples(
-            self.sink,
-            sample,
-            self.table,
-            &self.sums,
-            last_tick(scene, outcome),
-        )?;
+        let (sample, walls, pairs) = (self.sample, self.walls, self.pairs);
+        let tick = last_tick(scene, outcome);
+        write_samples(self.sink, sample, self.table, &self.sums, tick)?;
         match sample {
-            Sample::States => {
-                write_end(
-                    self.sink,
-                    Format::Lines,
-                    scene,
-                    outcome,
-                    self.walls,
-                    self.pairs,
-                )
-            }
+            Sample::States => write_end(self.sink, Format::Lines, scene, outcome, walls, pairs),
             Sample::Sums(margin) => {
-                write_end(
-                    self.sink,
-                    Format::Summary,
-                    scene,
-                    outcome,
-                    self.walls,
-                    self.pairs,
-                )?;
+                write_end(self.sink, Format::Summary, scene, outcome, walls, pairs)?;
                 write_last(self.sink, scene, outcome, margin, &self.sums)
             }
         }

@@ -1,4 +1,4 @@
-use Rattle.std.proofs.Common.{◌∙◌, ℕ, ap, sym, subst, refl}
+use Rattle.std.proofs.Common.{◌∙◌, ap, sym, subst, refl}
 use Rattle.event_rules.specs.declared.outcome.Outcome.{Outcome}
 use Rattle.event_rules.proofs.Fits.{outcomes_fit}
 use Rattle.collision_report.specs.Meaning.{nothing_yet, told_on_loan, IsAwaitedOnLoan}
@@ -13,7 +13,7 @@ use Rattle.program_modes.specs.Publishes.{PublishesPairs}
 use Rattle.program_modes.proofs.Wrote.{broken_wrote}
 use Rattle.program_modes.proofs.Published.{ended_published, broken_published}
 use Rattle.program_modes.proofs.Reported.{reporting, makes_report}
-use Rattle.program_modes.proofs.Watched.{told_all, told_part, told_may, broken_counts}
+use Rattle.program_modes.proofs.Watched.{told_all, told_part, told_may, broken_counts, given_text, given_counts}
 use Rattle.program_modes.proofs.showing.report_run.Goals as goal
 
 pub run-requires-clause-awaited : goal.run-requires-clause-awaited
@@ -24,21 +24,21 @@ run-requires-clause-awaited g c κs within =
     (run_awaits (λ loan. K.allows loan.1) inner.format scene (K.taken inner.sink.now) _ changes later c.requires.valid c.requires.first
     (λ all outcome run. c.requires.allowed (report inner.format scene all outcome) (status_of outcome) (all, outcome, run, refl, refl)) steps)
 
-pub end_report-requires-clause-allowed : goal.end_report-requires-clause-allowed
-end_report-requires-clause-allowed g c =
+pub end-requires-clause-allowed : goal.end-requires-clause-allowed
+end-requires-clause-allowed g c =
     let K = g.K.Sink in let inner = c.args.watched.now.inner in let scene = c.args.scene.now in let outcome = c.in-Ok.outcome in
     let start = nothing_yet inner.format scene (K.taken inner.sink.now) in
     told_may reporting (report inner.format) scene start (makes_report inner.format scene (K.taken inner.sink.now) c.requires.valid)
     (λ loan. K.allows loan.1) outcome _ _ _ _ c.in-Ok.ensures.run refl refl c.requires.valid c.requires.unwritten c.requires.first
     (λ changes run. c.requires.allowed (report inner.format scene changes outcome) (status_of outcome) (changes, outcome, run, refl, refl))
 
-pub end_report-requires-clause-outcome : goal.end_report-requires-clause-outcome
-end_report-requires-clause-outcome g c =
+pub end-requires-clause-outcome : goal.end-requires-clause-outcome
+end-requires-clause-outcome g c =
     let run = c.in-Ok.ensures.run in
     outcomes_fit c.args.scene.now run.0 c.in-Ok.outcome c.requires.valid run.1
 
-pub end_report-requires-clause-scene : goal.end_report-requires-clause-scene
-end_report-requires-clause-scene g c =
+pub end-requires-clause-scene : goal.end-requires-clause-scene
+end-requires-clause-scene g c =
     let K = g.K.Sink in let inner = c.args.watched.now.inner in let scene = c.args.scene.now in
     let start = nothing_yet inner.format scene (K.taken inner.sink.now) in
     let told = told_all reporting (report inner.format) scene start (makes_report inner.format scene (K.taken inner.sink.now) c.requires.valid)
@@ -47,18 +47,19 @@ end_report-requires-clause-scene g c =
 
 pub returns-in-Ok : goal.returns-in-Ok
 returns-in-Ok g c =
-    let K = g.K.Sink in let inner = c.args.watched.now.inner in let scene = c.args.scene.now in let end = c.end_report.ensures in
+    let K = g.K.Sink in let inner = c.args.watched.now.inner in let scene = c.args.scene.now in let end = c.end.ensures in
+    let outcome = c.in-Ok.outcome in let status = c.status_at_end.result in let is = c.status_at_end.ensures.status in
+    let text = given_text c.end.result _ outcome status is end.writes in
     let start = nothing_yet inner.format scene (K.taken inner.sink.now) in
     let told = told_all reporting (report inner.format) scene start (makes_report inner.format scene (K.taken inner.sink.now) c.requires.valid)
     c.in-Ok.outcome _ _ _ _ c.in-Ok.ensures.run refl refl c.requires.valid c.requires.unwritten c.requires.first in
-    let all = ended_published c.in-Ok.outcome _ _ _ c.end_report.result (pairs_of told.changes) c.run.new.listener.pen.now.list
-    end.text told.list in record {
+    let all = ended_published outcome _ _ _ status (pairs_of told.changes) c.run.new.listener.pen.now.list text told.list in record {
       pen_loan = told.pen;
       loan = end.loan ∙ ap (λ l. l.0) told.sink;
-      lasts = end.lasts ∙ ap (λ l. l.1) told.sink;
-      wrote = told.ended _ _ end.text;
-      of_scene = end.of_scene;
-      counts = subst (λ (n : ℕ). CountsWrites n (K.faults c.end_report.new.reporter.sink.now) c.end_report.result) c.in-Ok.ensures.counts end.counts;
+      lasts = end.writes.lasts ∙ ap (λ l. l.1) told.sink;
+      wrote = told.ended _ _ text;
+      of_scene = c.status_at_end.ensures.of_scene;
+      counts = given_counts c.end.result _ outcome status (K.faults inner.sink.now) is c.in-Ok.ensures.counts end.writes;
       board_kept = told.board;
       published = (told.changes, c.in-Ok.outcome, told.run, all);
     }
